@@ -28,13 +28,13 @@ node_sized (Node-F.Literal text) = record { written = spelled text.items; measur
 node_sized (Node-F.Bytes ranges) = record { written = core.byte_in (is_in (pairs ranges.items)); measured = true }
 node_sized (Node-F.Characters table) = record { written = core.character (reader_of table); measured = true }
 node_sized (Node-F.Look l) = record { written = core.look l; measured = true }
-node_sized (Node-F.Cat split whole first second) = record {
+node_sized (Node-F.Cat whole first second) = record {
   written = core.cat first.value.written second.value.written;
-  measured = (split == width first.value.written) && (whole == split + width second.value.written) && first.value.measured && second.value.measured;
+  measured = (whole == width first.value.written + width second.value.written) && first.value.measured && second.value.measured;
 }
-node_sized (Node-F.Alt split whole first second) = record {
+node_sized (Node-F.Alt whole first second) = record {
   written = core.alt first.value.written second.value.written;
-  measured = (split == width first.value.written) && (whole == split + width second.value.written) && first.value.measured && second.value.measured;
+  measured = (whole == width first.value.written + width second.value.written) && first.value.measured && second.value.measured;
 }
 node_sized (Node-F.Repeat least most each body) = record {
   written = repeated least most body.value.written;

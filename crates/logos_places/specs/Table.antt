@@ -7,6 +7,7 @@ use Rattle.logos_places.specs.Core.{Reader}
 use Rattle.logos_places.specs.inside.Reader.{IsShut, Remainder}
 use Rattle.logos_places.specs.inside.Ranges.{in_ranges}
 use Rattle.logos_places.specs.declared.characters.ranges.CharRange.{CharRange}
+use Rattle.logos_places.specs.declared.characters.build.Block.{Block}
 use Rattle.logos_places.specs.declared.characters.build.Rest.{Rest}
 use Rattle.logos_places.specs.declared.characters.reader.Table.{Table}
 
@@ -60,6 +61,10 @@ pub record IsCell (ks : List Rest) (cells : List (Option ℕ)) (j : ℕ) : Type 
   pub row : Row
   pub at : IsAt ks (j / 64) row
   pub next : FindsNext ks row row.left (0x80 + j % 64) (slice_index_or cells j None)
+
+-- what a block stands for
+abbrev pub lead_of : Block → Lead
+lead_of b = record { left = b.left; start = b.start; floor = b.floor }
 
 -- how many rows there are, at most, from a place on where so many bytes are left
 abbrev pub led_to : ℕ → ℕ

@@ -1,5 +1,5 @@
 //! Trees, prepared for the automaton.
-ghost use Rattle.std.specs.Prelude.{◌≡◌, ◌^◌, ◌<◌, IsTrue};
+ghost use Rattle.std.specs.Prelude.{◌≡◌, ◌+◌, ◌*◌, ◌^◌, ◌<◌, IsTrue};
 ghost use Rattle.logos_places.specs.Core as core;
 ghost use Rattle.logos_places.specs.Node.{core_of, is_measured};
 ghost use Rattle.logos_places.specs.Repeat.{count_of};
@@ -24,8 +24,6 @@ pub enum Node {
     Look(Look),
     /// One tree after the other.
     Cat {
-        /// The number of places of the first.
-        split: usize,
         /// The number of places of both.
         width: usize,
         first: Box<Node>,
@@ -33,7 +31,7 @@ pub enum Node {
     },
     /// One of two trees.
     Alt {
-        split: usize,
+        /// The number of places of both.
         width: usize,
         first: Box<Node>,
         second: Box<Node>,
@@ -89,6 +87,20 @@ pub(crate) struct Spot {
     pub entered: bool,
 }
 
+impl Spot {
+    /// Returns the spot after the next `width` places.
+    pub fn after(self, width: usize, entered: bool) -> Spot
+        requires { self.base + width < 2 ^ 64 }
+        ensures base { result.base ≡ self.base + width }
+        ensures entered { result.entered ≡ entered }
+    {
+        Spot {
+            base: self.base + width,
+            entered,
+        }
+    }
+}
+
 /// Copies of the body of a repetition, one after another.
 #[derive(Clone, Copy)]
 pub(crate) struct Copies {
@@ -115,6 +127,18 @@ impl Copies {
             each,
             count,
             entered: spot.entered,
+        }
+    }
+
+    /// Returns the spot of the copy with this number.
+    pub fn at(self, number: usize, entered: bool) -> Spot
+        requires { self.base + self.each * number < 2 ^ 64 }
+        ensures base { result.base ≡ self.base + self.each * number }
+        ensures entered { result.entered ≡ entered }
+    {
+        Spot {
+            base: self.base + self.each * number,
+            entered,
         }
     }
 }

@@ -42,20 +42,17 @@ fn pair(alloc: Global, in_order: bool, first: Node, second: Node) -> Result<Node
         pair_up in_order (core_of first) (core_of second)) }
     ensures measured { IfOk result (λ node. IsTrue (is_measured node)) }
 {
-    let split = width(&first);
-    let width = split + width(&second);
+    let width = width(&first) + width(&second);
     let first = Box::new(alloc, first)?;
     let second = Box::new(alloc, second)?;
     if in_order {
         return Ok(Node::Cat {
-            split,
             width,
             first,
             second,
         });
     }
     Ok(Node::Alt {
-        split,
         width,
         first,
         second,

@@ -35,14 +35,14 @@ sized-Characters table = ap sized_of (sym (rolls-Characters table)) ∙ fold-rol
 sized-Look : (l : look_type.Look) → sized_of (Look l) ≡ record { written = core.look l; measured = true }
 sized-Look l = ap sized_of (sym (rolls-Look l)) ∙ fold-roll-Node Sized node_sized (Node-F.Look l)
 
-abbrev pair_measured : ℕ → ℕ → Node → Node → Bool
-pair_measured split whole a b = (split == width (core_of a)) && (whole == split + width (core_of b)) && is_measured a && is_measured b
+abbrev pair_measured : ℕ → Node → Node → Bool
+pair_measured whole a b = (whole == width (core_of a) + width (core_of b)) && is_measured a && is_measured b
 
-sized-Cat : (split whole : ℕ) (a b : Box Node Global) → sized_of (Cat split whole a b) ≡ record { written = core.cat (core_of a.value) (core_of b.value); measured = pair_measured split whole a.value b.value }
-sized-Cat split whole a b = ap sized_of (sym (rolls-Cat split whole a b)) ∙ fold-roll-Node Sized node_sized (Node-F.Cat split whole a b)
+sized-Cat : (whole : ℕ) (a b : Box Node Global) → sized_of (Cat whole a b) ≡ record { written = core.cat (core_of a.value) (core_of b.value); measured = pair_measured whole a.value b.value }
+sized-Cat whole a b = ap sized_of (sym (rolls-Cat whole a b)) ∙ fold-roll-Node Sized node_sized (Node-F.Cat whole a b)
 
-sized-Alt : (split whole : ℕ) (a b : Box Node Global) → sized_of (Alt split whole a b) ≡ record { written = core.alt (core_of a.value) (core_of b.value); measured = pair_measured split whole a.value b.value }
-sized-Alt split whole a b = ap sized_of (sym (rolls-Alt split whole a b)) ∙ fold-roll-Node Sized node_sized (Node-F.Alt split whole a b)
+sized-Alt : (whole : ℕ) (a b : Box Node Global) → sized_of (Alt whole a b) ≡ record { written = core.alt (core_of a.value) (core_of b.value); measured = pair_measured whole a.value b.value }
+sized-Alt whole a b = ap sized_of (sym (rolls-Alt whole a b)) ∙ fold-roll-Node Sized node_sized (Node-F.Alt whole a b)
 
 sized-Repeat : (least : ℕ) (most : Option ℕ) (each : ℕ) (body : Box Node Global) → sized_of (Repeat least most each body)
     ≡ record { written = repeated least most (core_of body.value); measured = is_ordered least most && (each == width (core_of body.value)) && is_measured body.value }
@@ -66,34 +66,32 @@ core-Characters table = ap (λ (s : Sized). s.written) (sized-Characters table)
 pub core-Look : (l : look_type.Look) → core_of (Look l) ≡ core.look l
 core-Look l = ap (λ (s : Sized). s.written) (sized-Look l)
 
-pub core-Cat : (split whole : ℕ) (a b : Box Node Global) → core_of (Cat split whole a b) ≡ core.cat (core_of a.value) (core_of b.value)
-core-Cat split whole a b = ap (λ (s : Sized). s.written) (sized-Cat split whole a b)
+pub core-Cat : (whole : ℕ) (a b : Box Node Global) → core_of (Cat whole a b) ≡ core.cat (core_of a.value) (core_of b.value)
+core-Cat whole a b = ap (λ (s : Sized). s.written) (sized-Cat whole a b)
 
-pub core-Alt : (split whole : ℕ) (a b : Box Node Global) → core_of (Alt split whole a b) ≡ core.alt (core_of a.value) (core_of b.value)
-core-Alt split whole a b = ap (λ (s : Sized). s.written) (sized-Alt split whole a b)
+pub core-Alt : (whole : ℕ) (a b : Box Node Global) → core_of (Alt whole a b) ≡ core.alt (core_of a.value) (core_of b.value)
+core-Alt whole a b = ap (λ (s : Sized). s.written) (sized-Alt whole a b)
 
 pub core-Repeat : (least : ℕ) (most : Option ℕ) (each : ℕ) (body : Box Node Global) → core_of (Repeat least most each body) ≡ repeated least most (core_of body.value)
 core-Repeat least most each body = ap (λ (s : Sized). s.written) (sized-Repeat least most each body)
 
--- what the numbers beside two children say
-pub record ArePair (split whole : ℕ) (a b : Node) : Type 0 where
-  pub split_is : split ≡ width (core_of a)
-  pub whole_is : whole ≡ split + width (core_of b)
+-- what the number beside two children says
+pub record ArePair (whole : ℕ) (a b : Node) : Type 0 where
+  pub whole_is : whole ≡ width (core_of a) + width (core_of b)
   pub first : is_measured a ≡ true
   pub second : is_measured b ≡ true
 
-pair_of : (split whole : ℕ) (a b : Node) → pair_measured split whole a b ≡ true → ArePair split whole a b
-pair_of split whole a b h =
-    let p = and_parts ((split == width (core_of a)) && (whole == split + width (core_of b)) && is_measured a) (is_measured b) h in
-    let q = and_parts ((split == width (core_of a)) && (whole == split + width (core_of b))) (is_measured a) p.0 in
-    let r = and_parts (split == width (core_of a)) (whole == split + width (core_of b)) q.0 in
-    record { split_is = eqb-true _ _ r.0; whole_is = eqb-true _ _ r.1; first = q.1; second = p.1 }
+pair_of : (whole : ℕ) (a b : Node) → pair_measured whole a b ≡ true → ArePair whole a b
+pair_of whole a b h =
+    let p = and_parts ((whole == width (core_of a) + width (core_of b)) && is_measured a) (is_measured b) h in
+    let q = and_parts (whole == width (core_of a) + width (core_of b)) (is_measured a) p.0 in
+    record { whole_is = eqb-true _ _ q.0; first = q.1; second = p.1 }
 
-pub pair-Cat : (split whole : ℕ) (a b : Box Node Global) → is_measured (Cat split whole a b) ≡ true → ArePair split whole a.value b.value
-pair-Cat split whole a b h = pair_of split whole a.value b.value (sym (ap (λ (s : Sized). s.measured) (sized-Cat split whole a b)) ∙ h)
+pub pair-Cat : (whole : ℕ) (a b : Box Node Global) → is_measured (Cat whole a b) ≡ true → ArePair whole a.value b.value
+pair-Cat whole a b h = pair_of whole a.value b.value (sym (ap (λ (s : Sized). s.measured) (sized-Cat whole a b)) ∙ h)
 
-pub pair-Alt : (split whole : ℕ) (a b : Box Node Global) → is_measured (Alt split whole a b) ≡ true → ArePair split whole a.value b.value
-pair-Alt split whole a b h = pair_of split whole a.value b.value (sym (ap (λ (s : Sized). s.measured) (sized-Alt split whole a b)) ∙ h)
+pub pair-Alt : (whole : ℕ) (a b : Box Node Global) → is_measured (Alt whole a b) ≡ true → ArePair whole a.value b.value
+pair-Alt whole a b h = pair_of whole a.value b.value (sym (ap (λ (s : Sized). s.measured) (sized-Alt whole a b)) ∙ h)
 
 -- what the numbers beside a repetition say
 pub record IsRepeat (least : ℕ) (most : Option ℕ) (each : ℕ) (body : Node) : Type 0 where
@@ -126,15 +124,11 @@ width-Literal text = sym (ap width (core-Literal text) ∙ spelled_width text.it
 pub width-Characters : (table : Table) → table.rows ≡ width (core_of (Characters table))
 width-Characters table = let some = table.some in let e : table.rows ≡ suc (table.rows - 1) = omega arith in e ∙ sym (ap width (core-Characters table))
 
-pub width-Cat : (split whole : ℕ) (a b : Box Node Global) → is_measured (Cat split whole a b) ≡ true → whole ≡ width (core_of (Cat split whole a b))
-width-Cat split whole a b h =
-    let p = pair-Cat split whole a b h in
-    p.whole_is ∙ ap (λ n. n + width (core_of b.value)) p.split_is ∙ sym (ap width (core-Cat split whole a b))
+pub width-Cat : (whole : ℕ) (a b : Box Node Global) → is_measured (Cat whole a b) ≡ true → whole ≡ width (core_of (Cat whole a b))
+width-Cat whole a b h = (pair-Cat whole a b h).whole_is ∙ sym (ap width (core-Cat whole a b))
 
-pub width-Alt : (split whole : ℕ) (a b : Box Node Global) → is_measured (Alt split whole a b) ≡ true → whole ≡ width (core_of (Alt split whole a b))
-width-Alt split whole a b h =
-    let p = pair-Alt split whole a b h in
-    p.whole_is ∙ ap (λ n. n + width (core_of b.value)) p.split_is ∙ sym (ap width (core-Alt split whole a b))
+pub width-Alt : (whole : ℕ) (a b : Box Node Global) → is_measured (Alt whole a b) ≡ true → whole ≡ width (core_of (Alt whole a b))
+width-Alt whole a b h = (pair-Alt whole a b h).whole_is ∙ sym (ap width (core-Alt whole a b))
 
 pub width-Repeat : (least : ℕ) (most : Option ℕ) (each : ℕ) (body : Box Node Global) → is_measured (Repeat least most each body) ≡ true →
     each * count_of least most ≡ width (core_of (Repeat least most each body))

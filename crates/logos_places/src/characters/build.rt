@@ -1,5 +1,6 @@
 //! Building the table that reads a character of a class.
-ghost use Rattle.std.specs.Prelude.{zero, min, ◌≡◌, ℕ, ◌+◌, ◌-◌, ◌*◌, ◌/◌, ◌%◌, ◌^◌, ◌<◌, ◌≤◌, ◌||◌, OnOk, IfOk, IfSome, Bool, None, slice_index_or, length, vec_len};
+ghost use Rattle.std.specs.Prelude.{zero, min, ◌≡◌, ℕ, ◌+◌, ◌-◌, ◌*◌, ◌/◌, ◌%◌, ◌^◌, ◌<◌, ◌≤◌, ◌||◌, OnOk, IfOk, IfSome, Bool, Some, None, slice_index_or, length, vec_len};
+ghost use Rattle.std.specs.Option.{MatchOption};
 ghost use Rattle.logos_places.specs.inside.Characters.{size, lead, after_byte};
 ghost use Rattle.logos_places.specs.inside.Ranges.{in_ranges, AreParts, from_floor};
 ghost use Rattle.logos_places.specs.Table as table;
@@ -109,6 +110,50 @@ fn row_for(
     place(rests, block.left, offsets)
 }
 
+/// Returns the characters that a first byte begins, or `None` if no character begins with it.
+fn block_of(byte: u8) -> Option<Block>
+    ensures block { MatchOption result (lead byte ≡ None)
+        (λ block. lead byte ≡ Some (table.lead_of block)) }
+    ensures small { IfSome result (λ block. block.left ≤ 3) }
+    ensures fits { IfSome result (λ block. block.start + size block.left < 2 ^ 32) }
+    ensures weight { IfSome result (λ block. table.first_weight byte + table.led_to block.left ≤
+        table.first_weight (byte + 1)) }
+{
+    let value = byte as u32;
+    if value < 0x80 {
+        return Some(Block {
+            left: 0,
+            floor: 0,
+            start: value,
+        });
+    }
+    if value < 0xC0 {
+        return None;
+    }
+    if value < 0xE0 {
+        return Some(Block {
+            left: 1,
+            floor: 0x80,
+            start: (value - 0xC0) * 64,
+        });
+    }
+    if value < 0xF0 {
+        return Some(Block {
+            left: 2,
+            floor: 0x800,
+            start: (value - 0xE0) * 4096,
+        });
+    }
+    if value < 0xF8 {
+        return Some(Block {
+            left: 3,
+            floor: 0x1_0000,
+            start: (value - 0xF0) * 262144,
+        });
+    }
+    None
+}
+
 /// Returns the row after a first byte, if there is one.
 ///
 /// # Errors
@@ -129,43 +174,10 @@ fn first_for(
     ensures weight { OnOk result (table.weight 0 rests.new.keys + table.first_weight byte ≤
         table.weight 0 rests.old.keys + table.first_weight (byte + 1)) }
 {
-    let value = byte as u32;
-    if value < 0x80 {
-        let block = Block {
-            left: 0,
-            floor: 0,
-            start: value,
-        };
-        return row_for(alloc, rests, ranges, block);
-    }
-    if value < 0xC0 {
+    let Some(block) = block_of(byte) else {
         return Ok(None);
-    }
-    if value < 0xE0 {
-        let block = Block {
-            left: 1,
-            floor: 0x80,
-            start: (value - 0xC0) * 64,
-        };
-        return row_for(alloc, rests, ranges, block);
-    }
-    if value < 0xF0 {
-        let block = Block {
-            left: 2,
-            floor: 0x800,
-            start: (value - 0xE0) * 4096,
-        };
-        return row_for(alloc, rests, ranges, block);
-    }
-    if value < 0xF8 {
-        let block = Block {
-            left: 3,
-            floor: 0x1_0000,
-            start: (value - 0xF0) * 262144,
-        };
-        return row_for(alloc, rests, ranges, block);
-    }
-    Ok(None)
+    };
+    row_for(alloc, rests, ranges, block)
 }
 
 /// Returns the offsets that are left after the continuation byte with the number `part`, from 0 to 63.

@@ -1,11 +1,11 @@
 //! Whether a tree can be left.
-ghost use Rattle.std.specs.Prelude.{◌≡◌, ℕ, ◌+◌, ◌*◌, ◌-◌, ◌^◌, ◌<◌, ◌⊎◌, ◌↔◌, IsTrue, Bool, List, length};
+ghost use Rattle.std.specs.Prelude.{max, ◌≡◌, ℕ, ◌+◌, ◌*◌, ◌-◌, ◌^◌, ◌<◌, ◌⊎◌, ◌↔◌, IsTrue, Bool, List, length};
 ghost use Rattle.logos_places.specs.Core as core;
 ghost use Rattle.logos_places.specs.Core.{Core, Exits};
 ghost use Rattle.logos_places.specs.Kinds.{test_at};
 ghost use Rattle.logos_places.specs.Marks.{IsRising, Has};
 ghost use Rattle.logos_places.specs.Node.{core_of, is_measured};
-ghost use Rattle.logos_places.specs.Repeat.{spelled, in_front, up_to, repeated, count_of, IsOrdered};
+ghost use Rattle.logos_places.specs.Repeat.{spelled, in_front, up_to, at_least, repeated, count_of, IsOrdered};
 ghost use Rattle.logos_hir.specs.declared.hir.Look.{Look};
 
 use crate::node::{Copies, Node, Spot, width};
@@ -31,30 +31,13 @@ pub(crate) fn exits(node: &Node, marks: &[usize], spot: Spot, at: Context) -> bo
         Node::Bytes(_) => has_mark(marks, spot.base),
         Node::Characters(_) => has_mark(marks, spot.base),
         Node::Look(look) => spot.entered && holds(*look, at),
-        Node::Cat {
-            split,
-            first,
-            second,
-            ..
-        } => {
+        Node::Cat { first, second, .. } => {
             let left = exits(first, marks, spot, at);
-            let after = Spot {
-                base: spot.base + *split,
-                entered: left,
-            };
-            exits(second, marks, after, at)
+            exits(second, marks, spot.after(width(first), left), at)
         }
-        Node::Alt {
-            split,
-            first,
-            second,
-            ..
-        } => {
+        Node::Alt { first, second, .. } => {
             let one = exits(first, marks, spot, at);
-            let beside = Spot {
-                base: spot.base + *split,
-                entered: spot.entered,
-            };
+            let beside = spot.after(width(first), spot.entered);
             let other = exits(second, marks, beside, at);
             one | other
         }
@@ -100,42 +83,43 @@ fn exits_repeat(
     ensures { IsTrue result ↔ Exits (repeated copies.count most (core_of body.now)) (test_at at)
         (λ q. Has marks.now (copies.base + q)) (IsTrue copies.entered) }
 {
-    let least = copies.count;
-    match most {
-        Some(most) => {
-            let front = exits_copies(body, copies, marks, at);
-            let rest = Copies {
-                base: copies.base + copies.each * least,
-                each: copies.each,
-                count: most - least,
-                entered: front,
-            };
-            exits_up_to(body, rest, marks, at)
-        }
-        None => {
-            if least == 0 {
-                let spot = Spot {
-                    base: copies.base,
-                    entered: copies.entered,
-                };
-                let last = exits(body, marks, spot, at);
-                last | copies.entered
-            } else {
-                let fronts = Copies {
-                    base: copies.base,
-                    each: copies.each,
-                    count: least - 1,
-                    entered: copies.entered,
-                };
-                let front = exits_copies(body, fronts, marks, at);
-                let last = Spot {
-                    base: copies.base + copies.each * (least - 1),
-                    entered: front,
-                };
-                exits(body, marks, last, at)
-            }
-        }
+    let Some(most) = most else {
+        return exits_at_least(body, copies, marks, at);
+    };
+    let front = exits_copies(body, copies, marks, at);
+    let rest = Copies {
+        base: copies.base + copies.each * copies.count,
+        each: copies.each,
+        count: most - copies.count,
+        entered: front,
+    };
+    exits_up_to(body, rest, marks, at)
+}
+
+/// Returns whether at least these copies of the body of a repetition can be left.
+#[cycle(exits)]
+fn exits_at_least(body: &Node, copies: Copies, marks: &[usize], at: Context) -> bool
+    requires fits { copies.base + copies.each * max copies.count 1 < 2 ^ 64 }
+    requires each { copies.each ≡ core.width (core_of body.now) }
+    requires measured { IsTrue (is_measured body.now) }
+    requires rising { IsRising marks.now }
+    ensures { IsTrue result ↔ Exits (at_least copies.count (core_of body.now)) (test_at at)
+        (λ q. Has marks.now (copies.base + q)) (IsTrue copies.entered) }
+{
+    if copies.count == 0 {
+        let spot = Spot {
+            base: copies.base,
+            entered: copies.entered,
+        };
+        let left = exits(body, marks, spot, at);
+        return left | copies.entered;
     }
+    let fronts = Copies {
+        count: copies.count - 1,
+        ..copies
+    };
+    let front = exits_copies(body, fronts, marks, at);
+    exits(body, marks, copies.at(fronts.count, front), at)
 }
 
 /// Returns whether all of the copies can be left, whatever comes after them.
@@ -154,11 +138,7 @@ fn exits_copies(body: &Node, copies: Copies, marks: &[usize], at: Context) -> bo
     let mut done = next_copy(marks, copies, 0, copies.entered);
     let mut left = copies.entered;
     while done < copies.count {
-        let spot = Spot {
-            base: copies.base + copies.each * done,
-            entered: left,
-        };
-        left = exits(body, marks, spot, at);
+        left = exits(body, marks, copies.at(done, left), at);
         done = next_copy(marks, copies, done + 1, left);
     }
     left
@@ -179,11 +159,7 @@ fn exits_up_to(body: &Node, copies: Copies, marks: &[usize], at: Context) -> boo
     let mut any = false;
     while done < copies.count {
         any = any | left;
-        let spot = Spot {
-            base: copies.base + copies.each * done,
-            entered: left,
-        };
-        left = exits(body, marks, spot, at);
+        left = exits(body, marks, copies.at(done, left), at);
         done = next_copy(marks, copies, done + 1, left);
     }
     any | left

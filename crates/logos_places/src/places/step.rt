@@ -1,11 +1,11 @@
 //! Steps from the places that read one byte to those that read the next byte.
-ghost use Rattle.std.specs.Prelude.{◌≡◌, ℕ, ◌+◌, ◌*◌, ◌^◌, ◌<◌, ◌≤◌, ◌⊎◌, IsTrue, IfOk, OnOk, IfSome, ◌↔◌, Bool, false, Option, length};
+ghost use Rattle.std.specs.Prelude.{max, ◌≡◌, ℕ, ◌+◌, ◌*◌, ◌^◌, ◌<◌, ◌≤◌, ◌⊎◌, IsTrue, IfOk, OnOk, IfSome, ◌↔◌, Bool, false, Option, length};
 ghost use Rattle.logos_places.specs.Core as core;
 ghost use Rattle.logos_places.specs.Core.{Core};
 ghost use Rattle.logos_places.specs.Kinds.{test_at};
 ghost use Rattle.logos_places.specs.Marks.{IsRising, IsSet, Has};
 ghost use Rattle.logos_places.specs.Node.{core_of, is_measured};
-ghost use Rattle.logos_places.specs.Repeat.{spelled, in_front, up_to, repeated, count_of, IsOrdered};
+ghost use Rattle.logos_places.specs.Repeat.{spelled, in_front, up_to, at_least, repeated, count_of, IsOrdered};
 ghost use Rattle.logos_places.specs.inside.Stepped.{Stepped, Owes};
 ghost use Rattle.logos_places.specs.Table.{reader_of};
 ghost use Rattle.logos_hir.specs.ByteRanges.{is_in};
@@ -226,30 +226,13 @@ pub(crate) fn step(
         Node::Bytes(ranges) => step_bytes(ranges, by, spot, next),
         Node::Characters(table) => step_characters(table, by, spot, next),
         Node::Look(look) => Ok(spot.entered && holds(*look, by.at)),
-        Node::Cat {
-            split,
-            first,
-            second,
-            ..
-        } => {
+        Node::Cat { first, second, .. } => {
             let left = step(first, by, spot, next)?;
-            let after = Spot {
-                base: spot.base + *split,
-                entered: left,
-            };
-            step(second, by, after, next)
+            step(second, by, spot.after(width(first), left), next)
         }
-        Node::Alt {
-            split,
-            first,
-            second,
-            ..
-        } => {
+        Node::Alt { first, second, .. } => {
             let one = step(first, by, spot, next)?;
-            let beside = Spot {
-                base: spot.base + *split,
-                entered: spot.entered,
-            };
+            let beside = spot.after(width(first), spot.entered);
             let other = step(second, by, beside, next)?;
             Ok(one | other)
         }
@@ -288,42 +271,54 @@ fn step_repeat(
         (test_at by.entry.at) by.entry.byte by.entry.marks.now
         next.old.items next.new.items copies.base copies.entered left) }
 {
-    let least = copies.count;
-    match most {
-        Some(most) => {
-            let front = step_copies(body, copies, by, next)?;
-            let rest = Copies {
-                base: copies.base + copies.each * least,
-                each: copies.each,
-                count: most - least,
-                entered: front,
-            };
-            step_up_to(body, rest, by, next)
-        }
-        None => {
-            if least == 0 {
-                let spot = Spot {
-                    base: copies.base,
-                    entered: copies.entered,
-                };
-                let last = step_plus(body, by, spot, next)?;
-                Ok(last | copies.entered)
-            } else {
-                let fronts = Copies {
-                    base: copies.base,
-                    each: copies.each,
-                    count: least - 1,
-                    entered: copies.entered,
-                };
-                let front = step_copies(body, fronts, by, next)?;
-                let last = Spot {
-                    base: copies.base + copies.each * (least - 1),
-                    entered: front,
-                };
-                step_plus(body, by, last, next)
-            }
-        }
+    let Some(most) = most else {
+        return step_at_least(body, copies, by, next);
+    };
+    let front = step_copies(body, copies, by, next)?;
+    let rest = Copies {
+        base: copies.base + copies.each * copies.count,
+        each: copies.each,
+        count: most - copies.count,
+        entered: front,
+    };
+    step_up_to(body, rest, by, next)
+}
+
+/// Steps on at least these copies of the body of a repetition.
+///
+/// # Errors
+///
+/// Returns `AllocError` when memory runs out.
+#[cycle(step)]
+fn step_at_least(
+    body: &Node,
+    copies: Copies,
+    by: Reading<'_>,
+    next: &mut Vec<usize>,
+) -> Result<bool, AllocError>
+    requires fits { copies.base + copies.each * max copies.count 1 < 2 ^ 64 }
+    requires each { copies.each ≡ core.width (core_of body.now) }
+    requires measured { IsTrue (is_measured body.now) }
+    requires rising { IsRising by.marks.now }
+    requires set { IsSet next.old.items copies.base }
+    ensures { IfOk result (λ left. Stepped (at_least copies.count (core_of body.now))
+        (test_at by.entry.at) by.entry.byte by.entry.marks.now
+        next.old.items next.new.items copies.base copies.entered left) }
+{
+    if copies.count == 0 {
+        let spot = Spot {
+            base: copies.base,
+            entered: copies.entered,
+        };
+        let left = step_plus(body, by, spot, next)?;
+        return Ok(left | copies.entered);
     }
+    let fronts = Copies {
+        count: copies.count - 1,
+        ..copies
+    };
+    let front = step_copies(body, fronts, by, next)?;
+    step_plus(body, by, copies.at(fronts.count, front), next)
 }
 
 /// Steps on all of the copies, whatever comes after them.
@@ -351,11 +346,7 @@ fn step_copies(
     let mut done = next_copy(by.marks, copies, 0, copies.entered);
     let mut left = copies.entered;
     while done < copies.count {
-        let spot = Spot {
-            base: copies.base + copies.each * done,
-            entered: left,
-        };
-        left = step(body, by, spot, next)?;
+        left = step(body, by, copies.at(done, left), next)?;
         done = next_copy(by.marks, copies, done + 1, left);
     }
     Ok(left)
@@ -387,11 +378,7 @@ fn step_up_to(
     let mut any = false;
     while done < copies.count {
         any = any | left;
-        let spot = Spot {
-            base: copies.base + copies.each * done,
-            entered: left,
-        };
-        left = step(body, by, spot, next)?;
+        left = step(body, by, copies.at(done, left), next)?;
         done = next_copy(by.marks, copies, done + 1, left);
     }
     Ok(any | left)

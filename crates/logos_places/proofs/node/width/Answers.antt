@@ -13,10 +13,10 @@ pub returns-in-Literal : goal.returns-in-Literal
 returns-in-Literal c = rw (c.in-Literal.is, c.len.ensures) (c.in-Literal.text.ok.0 ∙ width-Literal _)
 
 pub returns-in-Cat : goal.returns-in-Cat
-returns-in-Cat c = rw c.in-Cat.is (width-Cat _ _ _ _ (rw c.in-Cat.is at c.requires.measured))
+returns-in-Cat c = rw c.in-Cat.is (width-Cat _ _ _ (rw c.in-Cat.is at c.requires.measured))
 
 pub returns-in-Alt : goal.returns-in-Alt
-returns-in-Alt c = rw c.in-Alt.is (width-Alt _ _ _ _ (rw c.in-Alt.is at c.requires.measured))
+returns-in-Alt c = rw c.in-Alt.is (width-Alt _ _ _ (rw c.in-Alt.is at c.requires.measured))
 
 pub returns-in-Repeat : goal.returns-in-Repeat
 returns-in-Repeat c = rw (c.in-Repeat.is, c.copy_count.ensures) (width-Repeat _ _ _ _ (rw c.in-Repeat.is at c.requires.measured))

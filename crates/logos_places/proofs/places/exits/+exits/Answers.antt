@@ -1,10 +1,9 @@
-use Rattle.std.proofs.Common.{◌≡◌, ◌+◌, ◌-◌, ◌*◌, inr, ⊎_elim, Bool, IsTrue, true, false, not, refl, true≢false, sym, ap, ◌∙◌, arith, rules, max, ◌≤◌, ◌<◌, ◌^◌}
-use Rattle.std.proofs.Math.Nat.{mul-le-mul_left}
+use Rattle.std.proofs.Common.{◌≡◌, ◌+◌, ◌-◌, ◌*◌, inr, ⊎_elim, Bool, IsTrue, true, false, not, refl, true≢false, sym, ap, ◌∙◌, arith, rules, ◌<◌, ◌^◌}
 use Rattle.logos_places.specs.Core as core
 use Rattle.logos_places.specs.Core.{width}
 use Rattle.logos_places.specs.Kinds.{test_at}
 use Rattle.logos_places.specs.Node.{core_of}
-use Rattle.logos_places.specs.Repeat.{count_of}
+use Rattle.logos_places.specs.Repeat.{count_of, up_to}
 use Rattle.logos_places.specs.declared.node.Node.{the_lemmas}
 use Rattle.logos_places.proofs.trees.NodeLemmas.{core-Void, core-Empty, core-Literal, core-Bytes, core-Characters, core-Look, core-Cat, core-Alt, core-Repeat, width-Literal, width-Cat, width-Alt, pair-Cat, pair-Alt, repeat-Repeat, width-Repeat}
 use Rattle.logos_places.proofs.steps.StepLemmas.{iff_trans, exits_cat, exits_alt}
@@ -30,21 +29,23 @@ exits-exits_literal-requires-clause-fits t c =
 pub exits-exits-requires : goal.exits-exits-requires
 exits-exits-requires t c =
     let h = rw c.in-Cat.is at c.requires.measured in
-    let p = pair-Cat _ _ c.in-Cat.first c.in-Cat.second h in
+    let p = pair-Cat _ c.in-Cat.first c.in-Cat.second h in
     let fits = rw c.in-Cat.is at c.requires.fits in
-    let w = width-Cat _ _ _ _ h in (
+    let w = width-Cat _ _ _ h in
+    let v = rw c.deref-in-Cat-3.ensures at c.width-in-Cat.ensures in (
       search (rules, the_lemmas),
-      (rw c.deref-in-Cat-2.ensures (omega (arith, fits, w, p.whole_is)), (rw c.deref-in-Cat-2.ensures p.second, c.requires.rising)),
+      (rw c.deref-in-Cat-2.ensures (omega (arith, fits, w, p.whole_is, v, c.after.ensures.base)), (rw c.deref-in-Cat-2.ensures p.second, c.requires.rising)),
     )
 
 pub exits-exits-other-requires : goal.exits-exits-other-requires
 exits-exits-other-requires t c =
     let h = rw c.in-Alt.is at c.requires.measured in
-    let p = pair-Alt _ _ c.in-Alt.first c.in-Alt.second h in
+    let p = pair-Alt _ c.in-Alt.first c.in-Alt.second h in
     let fits = rw c.in-Alt.is at c.requires.fits in
-    let w = width-Alt _ _ _ _ h in (
+    let w = width-Alt _ _ _ h in
+    let v = rw c.deref-in-Alt-2.ensures at c.width-in-Alt.ensures in (
       search (rules, the_lemmas),
-      (rw c.deref-in-Alt-2.ensures (omega (arith, fits, w, p.whole_is)), (rw c.deref-in-Alt-2.ensures p.second, c.requires.rising)),
+      (rw c.deref-in-Alt-3.ensures (omega (arith, fits, w, p.whole_is, v, c.after-beside.ensures.base)), (rw c.deref-in-Alt-3.ensures p.second, c.requires.rising)),
     )
 
 pub exits-exits_repeat-requires : goal.exits-exits_repeat-requires
@@ -65,21 +66,19 @@ exits-returns-in-Literal t c =
 
 pub exits-returns-in-Cat : goal.exits-returns-in-Cat
 exits-returns-in-Cat t c =
-    let p = pair-Cat _ _ c.in-Cat.first c.in-Cat.second (rw c.in-Cat.is at c.requires.measured) in
-    rw (ap core_of c.in-Cat.is ∙ core-Cat _ _ _ _)
+    rw (ap core_of c.in-Cat.is ∙ core-Cat _ _ _)
     (exits_cat (test_at c.args.at) c.args.marks.now (core_of c.in-Cat.first.value) (core_of c.in-Cat.second.value)
-    c.args.spot.base c.in-Cat.split (IsTrue c.args.spot.entered) c.exits-left.result c.exits.result p.split_is
+    c.args.spot.base c.width-in-Cat.result (IsTrue c.args.spot.entered) c.exits-left.result c.exits.result (rw c.deref-in-Cat-3.ensures at c.width-in-Cat.ensures)
     (rw c.deref-in-Cat.ensures at c.exits-left.ensures)
-    (rw c.deref-in-Cat-2.ensures at c.exits.ensures))
+    (rw (c.deref-in-Cat-2.ensures, c.after.ensures.base, c.after.ensures.entered) at c.exits.ensures))
 
 pub exits-returns-in-Alt : goal.exits-returns-in-Alt
 exits-returns-in-Alt t c =
-    let p = pair-Alt _ _ c.in-Alt.first c.in-Alt.second (rw c.in-Alt.is at c.requires.measured) in
-    rw (ap core_of c.in-Alt.is ∙ core-Alt _ _ _ _)
+    rw (ap core_of c.in-Alt.is ∙ core-Alt _ _ _)
     (exits_alt (test_at c.args.at) c.args.marks.now (core_of c.in-Alt.first.value) (core_of c.in-Alt.second.value)
-    c.args.spot.base c.in-Alt.split (IsTrue c.args.spot.entered) c.exits-one.result c.exits-other.result p.split_is
+    c.args.spot.base c.width-in-Alt.result (IsTrue c.args.spot.entered) c.exits-one.result c.exits-other.result (rw c.deref-in-Alt-2.ensures at c.width-in-Alt.ensures)
     (rw c.deref-in-Alt.ensures at c.exits-one.ensures)
-    (rw c.deref-in-Alt-2.ensures at c.exits-other.ensures))
+    (rw (c.deref-in-Alt-3.ensures, c.after-beside.ensures.base, c.after-beside.ensures.entered) at c.exits-other.ensures))
 
 pub exits-returns-in-Repeat : goal.exits-returns-in-Repeat
 exits-returns-in-Repeat t c =
@@ -110,7 +109,7 @@ exits_copies-loop-done-preserved t c =
           c.exits-left.result n.after n.bound n.stays n.unmarked)
           (iff_trans
           (front_step test c.args.marks.now a c.args.copies.each c.args.copies.base c.requires.each b c.loop-done.done c.args.copies.count c.loop-done.left c.exits-left.result
-          c.loop-done-test.true c.exits-left.ensures)
+          c.loop-done-test.true (rw (c.at.ensures.base, c.at.ensures.entered) at c.exits-left.ensures))
           (c.loop-done.invariant.same b));
     }
 
@@ -119,12 +118,6 @@ exits_copies-returns t c =
     let none : c.args.copies.count - c.loop-done.done ≡ 0 = omega arith in
     let all : c.loop-done.done ≡ c.args.copies.count = omega arith in
     λ b. rw all at (rw none at c.loop-done.invariant.same b)
-
-pub exits_repeat-returns-else-least-eq0 : goal.exits_repeat-returns-else-least-eq0
-exits_repeat-returns-else-least-eq0 t c =
-    let a = core_of c.args.body.now in
-    rw (c.in-None.is, at_least-some c.args.copies.count a c.if-least-eq0.false)
-    (iff_trans c.exits.ensures (c.exits_copies-front-else-least-eq0.ensures (core.plus a)))
 
 pub exits_up_to-loop-done-init : goal.exits_up_to-loop-done-init
 exits_up_to-loop-done-init t c =
@@ -152,45 +145,29 @@ exits_up_to-loop-done-preserved t c =
           _ c.exits-left.result n.after n.bound n.stays n.unmarked)
           (iff_trans
           (up_to_step test c.args.marks.now a c.args.copies.each c.args.copies.base c.requires.each c.loop-done.done c.args.copies.count c.loop-done.any c.loop-done.left c.exits-left.result
-          c.loop-done-test.true c.exits-left.ensures)
+          c.loop-done-test.true (rw (c.at.ensures.base, c.at.ensures.entered) at c.exits-left.ensures))
           c.loop-done.invariant.same);
     }
 
 pub exits-exits-left-requires : goal.exits-exits-left-requires
 exits-exits-left-requires t c =
     let h = rw c.in-Cat.is at c.requires.measured in
-    let p = pair-Cat _ _ c.in-Cat.first c.in-Cat.second h in
+    let p = pair-Cat _ c.in-Cat.first c.in-Cat.second h in
     let fits = rw c.in-Cat.is at c.requires.fits in
-    let w = width-Cat _ _ _ _ h in (
+    let w = width-Cat _ _ _ h in (
       search (rules, the_lemmas),
-      (rw c.deref-in-Cat.ensures (omega (arith, fits, w, p.split_is, p.whole_is)), (rw c.deref-in-Cat.ensures p.first, c.requires.rising)),
+      (rw c.deref-in-Cat.ensures (omega (arith, fits, w, p.whole_is)), (rw c.deref-in-Cat.ensures p.first, c.requires.rising)),
     )
-
-pub exits-overflow_add-after : goal.exits-overflow_add-after
-exits-overflow_add-after t c =
-    let h = rw c.in-Cat.is at c.requires.measured in
-    let p = pair-Cat _ _ c.in-Cat.first c.in-Cat.second h in
-    let fits = rw c.in-Cat.is at c.requires.fits in
-    let w = width-Cat _ _ _ _ h in
-    omega (arith, fits, w, p.whole_is)
 
 pub exits-exits-one-requires : goal.exits-exits-one-requires
 exits-exits-one-requires t c =
     let h = rw c.in-Alt.is at c.requires.measured in
-    let p = pair-Alt _ _ c.in-Alt.first c.in-Alt.second h in
+    let p = pair-Alt _ c.in-Alt.first c.in-Alt.second h in
     let fits = rw c.in-Alt.is at c.requires.fits in
-    let w = width-Alt _ _ _ _ h in (
+    let w = width-Alt _ _ _ h in (
       search (rules, the_lemmas),
-      (rw c.deref-in-Alt.ensures (omega (arith, fits, w, p.split_is, p.whole_is)), (rw c.deref-in-Alt.ensures p.first, c.requires.rising)),
+      (rw c.deref-in-Alt.ensures (omega (arith, fits, w, p.whole_is)), (rw c.deref-in-Alt.ensures p.first, c.requires.rising)),
     )
-
-pub exits-overflow_add-beside : goal.exits-overflow_add-beside
-exits-overflow_add-beside t c =
-    let h = rw c.in-Alt.is at c.requires.measured in
-    let p = pair-Alt _ _ c.in-Alt.first c.in-Alt.second h in
-    let fits = rw c.in-Alt.is at c.requires.fits in
-    let w = width-Alt _ _ _ _ h in
-    omega (arith, fits, w, p.whole_is)
 
 pub exits-returns-in-Void : goal.exits-returns-in-Void
 exits-returns-in-Void t c = rw (ap core_of c.in-Void.is ∙ core-Void) (search rules)
@@ -210,26 +187,23 @@ exits-returns-then-spot t c = rw (ap core_of c.in-Look.is ∙ core-Look _) (sear
 pub exits-returns-else-spot : goal.exits-returns-else-spot
 exits-returns-else-spot t c = rw (ap core_of c.in-Look.is ∙ core-Look _) (search rules)
 
-pub exits_repeat-overflow_mul-rest : goal.exits_repeat-overflow_mul-rest
-exits_repeat-overflow_mul-rest t c =
-    let fits = rw c.in-Some.is at c.requires.fits in
-    let order = rw c.in-Some.is at c.requires.count in
-    omega (arith, fits, mul-le-mul_left c.args.copies.each order.0)
+pub exits-width-requires-in-Cat-clause-measured : goal.exits-width-requires-in-Cat-clause-measured
+exits-width-requires-in-Cat-clause-measured t c =
+    rw c.deref-in-Cat-3.ensures (pair-Cat _ c.in-Cat.first c.in-Cat.second (rw c.in-Cat.is at c.requires.measured)).first
 
-pub exits_repeat-overflow_add-rest : goal.exits_repeat-overflow_add-rest
-exits_repeat-overflow_add-rest t c =
-    let fits = rw c.in-Some.is at c.requires.fits in
-    let order = rw c.in-Some.is at c.requires.count in
-    omega (arith, fits, mul-le-mul_left c.args.copies.each order.0)
+pub exits-width-requires-in-Alt-clause-measured : goal.exits-width-requires-in-Alt-clause-measured
+exits-width-requires-in-Alt-clause-measured t c =
+    rw c.deref-in-Alt-2.ensures (pair-Alt _ c.in-Alt.first c.in-Alt.second (rw c.in-Alt.is at c.requires.measured)).first
 
-pub exits_repeat-overflow_mul-last : goal.exits_repeat-overflow_mul-last
-exits_repeat-overflow_mul-last t c =
-    let fits = rw c.in-None.is at c.requires.fits in
-    let fewer : c.args.copies.count - 1 ≤ max c.args.copies.count 1 = omega arith in
-    omega (arith, fits, mul-le-mul_left c.args.copies.each fewer)
+pub exits_at_least-returns : goal.exits_at_least-returns
+exits_at_least-returns t c =
+    let a = core_of c.args.body.now in
+    rw (at_least-some c.args.copies.count a c.if-copies-eq0.false)
+    (iff_trans (rw (c.at.ensures.base, c.at.ensures.entered) at c.exits.ensures) (c.exits_copies-front.ensures (core.plus a)))
 
-pub exits_repeat-overflow_add-last : goal.exits_repeat-overflow_add-last
-exits_repeat-overflow_add-last t c =
-    let fits = rw c.in-None.is at c.requires.fits in
-    let fewer : c.args.copies.count - 1 ≤ max c.args.copies.count 1 = omega arith in
-    omega (arith, fits, mul-le-mul_left c.args.copies.each fewer)
+pub exits_repeat-returns-in_default : goal.exits_repeat-returns-in_default
+exits_repeat-returns-in_default t c = rw c.in_default.is c.exits_at_least.ensures
+
+pub exits_repeat-returns : goal.exits_repeat-returns
+exits_repeat-returns t c =
+    rw c.in-Some.is (iff_trans c.exits_up_to.ensures (c.exits_copies-front.ensures (up_to (c.in-Some.most - c.args.copies.count) (core_of c.args.body.now))))

@@ -59,30 +59,29 @@ step-returns-in-Characters t c =
 
 pub step-returns-in_ok-left-in-Cat : goal.step-returns-in_ok-left-in-Cat
 step-returns-in_ok-left-in-Cat t c =
-    let p = pair-Cat _ _ c.in-Cat.first c.in-Cat.second (rw c.in-Cat.is at c.requires.measured) in
-    rw (ap core_of c.in-Cat.is ∙ core-Cat _ _ _ _)
+    rw (ap core_of c.in-Cat.is ∙ core-Cat _ _ _)
     (IfOk-weaker _ _ _
     (λ last s. stepped_cat (test_at c.args.by.at) c.args.by.byte c.args.by.marks.now (core_of c.in-Cat.first.value) (core_of c.in-Cat.second.value)
-    _ c.step.new.next.items _ c.args.spot.base c.in-Cat.split c.args.spot.entered c.in_ok-left-in-Cat.left last p.split_is c.requires.set
+    _ c.step.new.next.items _ c.args.spot.base c.width-in-Cat.result c.args.spot.entered c.in_ok-left-in-Cat.left last (rw c.deref-in-Cat-3.ensures at c.width-in-Cat.ensures) c.requires.set
     (rw c.deref-in-Cat.ensures at c.in_ok-left-in-Cat.ensures)
-    (rw c.deref-in-Cat-2.ensures at s))
+    (rw (c.deref-in-Cat-2.ensures, c.after.ensures.base, c.after.ensures.entered) at s))
     c.step-in-Cat.ensures)
 
 pub step-returns-in_ok-other-in-Alt : goal.step-returns-in_ok-other-in-Alt
 step-returns-in_ok-other-in-Alt t c =
-    let p = pair-Alt _ _ c.in-Alt.first c.in-Alt.second (rw c.in-Alt.is at c.requires.measured) in
-    rw (ap core_of c.in-Alt.is ∙ core-Alt _ _ _ _)
+    rw (ap core_of c.in-Alt.is ∙ core-Alt _ _ _)
     (stepped_alt (test_at c.args.by.at) c.args.by.byte c.args.by.marks.now (core_of c.in-Alt.first.value) (core_of c.in-Alt.second.value)
-    _ c.step-in-Alt.new.next.items _ c.args.spot.base c.in-Alt.split c.args.spot.entered c.in_ok-one-in-Alt.one c.in_ok-other-in-Alt.other p.split_is
+    _ c.step-in-Alt.new.next.items _ c.args.spot.base c.width-in-Alt.result c.args.spot.entered c.in_ok-one-in-Alt.one c.in_ok-other-in-Alt.other (rw c.deref-in-Alt-2.ensures at c.width-in-Alt.ensures)
     (rw c.deref-in-Alt.ensures at c.in_ok-one-in-Alt.ensures)
-    (rw c.deref-in-Alt-2.ensures at c.in_ok-other-in-Alt.ensures))
+    (rw (c.deref-in-Alt-3.ensures, c.after-beside.ensures.base, c.after-beside.ensures.entered) at c.in_ok-other-in-Alt.ensures))
 
 pub step_copies-step-requires : goal.step_copies-step-requires
 step_copies-step-requires t c =
     let more : c.loop-done.done + 1 ≤ c.args.copies.count = omega arith in
-    let few = mul-le-mul_left c.args.copies.each more in (
+    let few = mul-le-mul_left c.args.copies.each more in
+    let a = c.at.ensures.base in (
       search (rules, the_lemmas),
-      (omega (arith, c.requires.fits, c.requires.each, few), (c.requires.measured, (c.requires.rising, (c.loop-done.invariant.owes core.empty).set))),
+      (omega (arith, a, c.requires.fits, c.requires.each, few), (c.requires.measured, (c.requires.rising, rw a (c.loop-done.invariant.owes core.empty).set))),
     )
 
 pub step_copies-loop-done-init : goal.step_copies-loop-done-init
@@ -109,7 +108,7 @@ step_copies-loop-done-preserved t c =
           a c.args.copies.each c.requires.each b (c.loop-done.done + 1) c.next_copy-done-in-loop-done.result c.args.copies.count _ c.in_ok-left.left false n.after n.bound n.stays n.unmarked
           (owes_front_step test c.args.by.byte c.args.by.marks.now (in_front c.args.copies.count a b) c.args.next.now.items c.args.copies.base c.args.copies.entered
           a c.args.copies.each c.requires.each b c.loop-done.done c.args.copies.count c.loop-done.next.items _ c.loop-done.left c.in_ok-left.left false c.loop-done-test.true
-          (c.loop-done.invariant.owes b) c.in_ok-left.ensures);
+          (c.loop-done.invariant.owes b) (rw (c.at.ensures.base, c.at.ensures.entered) at c.in_ok-left.ensures));
     }
 
 pub step_copies-returns : goal.step_copies-returns
@@ -149,87 +148,53 @@ step_up_to-loop-done-preserved t c =
           a c.args.copies.each c.requires.each (c.loop-done.done + 1) c.next_copy-done-in-loop-done.result c.args.copies.count _ c.in_ok-left.left _ n.after n.bound n.stays n.unmarked
           (owes_up_to_step test c.args.by.byte c.args.by.marks.now (up_to c.args.copies.count a) c.args.next.now.items c.args.copies.base c.args.copies.entered
           a c.args.copies.each c.requires.each c.loop-done.done c.args.copies.count c.loop-done.next.items _ c.loop-done.left c.in_ok-left.left c.loop-done.any c.loop-done-test.true
-          c.loop-done.invariant.owes c.in_ok-left.ensures);
+          c.loop-done.invariant.owes (rw (c.at.ensures.base, c.at.ensures.entered) at c.in_ok-left.ensures));
     }
-
-pub step_repeat-returns-in_ok-front-in-Some : goal.step_repeat-returns-in_ok-front-in-Some
-step_repeat-returns-in_ok-front-in-Some t c =
-    let a = core_of c.args.body.now in
-    rw c.in-Some.is
-    (IfOk-weaker _ _ _
-    (λ last s. owes_done (test_at c.args.by.at) c.args.by.byte c.args.by.marks.now
-    (in_front c.args.copies.count a (up_to (c.in-Some.most - c.args.copies.count) a)) c.args.next.now.items c.args.copies.base c.args.copies.entered
-    (up_to (c.in-Some.most - c.args.copies.count) a) c.step_copies.new.next.items _ _ c.in_ok-front-in-Some.front last false
-    (c.in_ok-front-in-Some.ensures (up_to (c.in-Some.most - c.args.copies.count) a)) s)
-    c.step_up_to.ensures)
-
-pub step_repeat-returns-in_ok-front-in-None : goal.step_repeat-returns-in_ok-front-in-None
-step_repeat-returns-in_ok-front-in-None t c =
-    let a = core_of c.args.body.now in
-    rw (c.in-None.is, at_least-some c.args.copies.count a c.if-least-eq0.false)
-    (IfOk-weaker _ _ _
-    (λ last s. owes_done (test_at c.args.by.at) c.args.by.byte c.args.by.marks.now
-    (in_front (c.args.copies.count - 1) a (core.plus a)) c.args.next.now.items c.args.copies.base c.args.copies.entered
-    (core.plus a) c.step_copies-else-least-eq0.new.next.items _ _ c.in_ok-front-in-None.front last false
-    (c.in_ok-front-in-None.ensures (core.plus a)) s)
-    c.step_plus-else-least-eq0.ensures)
 
 pub step-step-requires : goal.step-step-requires
 step-step-requires t c =
     let h = rw c.in-Cat.is at c.requires.measured in
-    let p = pair-Cat _ _ c.in-Cat.first c.in-Cat.second h in
+    let p = pair-Cat _ c.in-Cat.first c.in-Cat.second h in
     let fits = rw c.in-Cat.is at c.requires.fits in
-    let w = width-Cat _ _ _ _ h in (
+    let w = width-Cat _ _ _ h in (
       search (rules, the_lemmas),
-      (rw c.deref-in-Cat.ensures (omega (arith, fits, w, p.split_is, p.whole_is)), (rw c.deref-in-Cat.ensures p.first, (c.requires.rising, c.requires.set))),
+      (rw c.deref-in-Cat.ensures (omega (arith, fits, w, p.whole_is)), (rw c.deref-in-Cat.ensures p.first, (c.requires.rising, c.requires.set))),
     )
-
-pub step-overflow_add-after : goal.step-overflow_add-after
-step-overflow_add-after t c =
-    let h = rw c.in-Cat.is at c.requires.measured in
-    let p = pair-Cat _ _ c.in-Cat.first c.in-Cat.second h in
-    let fits = rw c.in-Cat.is at c.requires.fits in
-    let w = width-Cat _ _ _ _ h in
-    omega (arith, fits, w, p.whole_is)
 
 pub step-step-requires-in-Cat : goal.step-step-requires-in-Cat
 step-step-requires-in-Cat t c =
     let h = rw c.in-Cat.is at c.requires.measured in
-    let p = pair-Cat _ _ c.in-Cat.first c.in-Cat.second h in
+    let p = pair-Cat _ c.in-Cat.first c.in-Cat.second h in
     let fits = rw c.in-Cat.is at c.requires.fits in
-    let w = width-Cat _ _ _ _ h in
+    let w = width-Cat _ _ _ h in
+    let v = rw c.deref-in-Cat-3.ensures at c.width-in-Cat.ensures in
+    let a = c.after.ensures.base in
     let s = rw c.deref-in-Cat.ensures at c.in_ok-left-in-Cat.ensures in (
       search (rules, the_lemmas),
-      (rw c.deref-in-Cat-2.ensures (omega (arith, fits, w, p.whole_is)), (rw c.deref-in-Cat-2.ensures p.second, (c.requires.rising, rw p.split_is s.set))),
+      (rw c.deref-in-Cat-2.ensures (omega (arith, fits, w, p.whole_is, v, a)), (rw c.deref-in-Cat-2.ensures p.second, (c.requires.rising, rw (a, v) s.set))),
     )
 
 pub step-step-requires-in-Alt : goal.step-step-requires-in-Alt
 step-step-requires-in-Alt t c =
     let h = rw c.in-Alt.is at c.requires.measured in
-    let p = pair-Alt _ _ c.in-Alt.first c.in-Alt.second h in
+    let p = pair-Alt _ c.in-Alt.first c.in-Alt.second h in
     let fits = rw c.in-Alt.is at c.requires.fits in
-    let w = width-Alt _ _ _ _ h in (
+    let w = width-Alt _ _ _ h in (
       search (rules, the_lemmas),
-      (rw c.deref-in-Alt.ensures (omega (arith, fits, w, p.split_is, p.whole_is)), (rw c.deref-in-Alt.ensures p.first, (c.requires.rising, c.requires.set))),
+      (rw c.deref-in-Alt.ensures (omega (arith, fits, w, p.whole_is)), (rw c.deref-in-Alt.ensures p.first, (c.requires.rising, c.requires.set))),
     )
-
-pub step-overflow_add-beside : goal.step-overflow_add-beside
-step-overflow_add-beside t c =
-    let h = rw c.in-Alt.is at c.requires.measured in
-    let p = pair-Alt _ _ c.in-Alt.first c.in-Alt.second h in
-    let fits = rw c.in-Alt.is at c.requires.fits in
-    let w = width-Alt _ _ _ _ h in
-    omega (arith, fits, w, p.whole_is)
 
 pub step-step-requires-in-Alt-2 : goal.step-step-requires-in-Alt-2
 step-step-requires-in-Alt-2 t c =
     let h = rw c.in-Alt.is at c.requires.measured in
-    let p = pair-Alt _ _ c.in-Alt.first c.in-Alt.second h in
+    let p = pair-Alt _ c.in-Alt.first c.in-Alt.second h in
     let fits = rw c.in-Alt.is at c.requires.fits in
-    let w = width-Alt _ _ _ _ h in
+    let w = width-Alt _ _ _ h in
+    let v = rw c.deref-in-Alt-2.ensures at c.width-in-Alt.ensures in
+    let a = c.after-beside.ensures.base in
     let s = rw c.deref-in-Alt.ensures at c.in_ok-one-in-Alt.ensures in (
       search (rules, the_lemmas),
-      (rw c.deref-in-Alt-2.ensures (omega (arith, fits, w, p.whole_is)), (rw c.deref-in-Alt-2.ensures p.second, (c.requires.rising, rw p.split_is s.set))),
+      (rw c.deref-in-Alt-3.ensures (omega (arith, fits, w, p.whole_is, v, a)), (rw c.deref-in-Alt-3.ensures p.second, (c.requires.rising, rw (a, v) s.set))),
     )
 
 pub step-step_characters-requires-clause-fits : goal.step-step_characters-requires-clause-fits
@@ -261,26 +226,46 @@ pub step-returns-in-Repeat : goal.step-returns-in-Repeat
 step-returns-in-Repeat t c =
     rw (ap core_of c.in-Repeat.is ∙ core-Repeat _ _ _ _) (rw (c.new-copies.ensures.base, c.new-copies.ensures.count, c.new-copies.ensures.entered) at (rw c.deref-in-Repeat.ensures at c.step_repeat.ensures))
 
-pub step_repeat-overflow_mul-rest : goal.step_repeat-overflow_mul-rest
-step_repeat-overflow_mul-rest t c =
-    let fits = rw c.in-Some.is at c.requires.fits in
-    let order = rw c.in-Some.is at c.requires.count in
-    omega (arith, fits, mul-le-mul_left c.args.copies.each order.0)
+pub step-width-requires-in-Cat-clause-measured : goal.step-width-requires-in-Cat-clause-measured
+step-width-requires-in-Cat-clause-measured t c =
+    rw c.deref-in-Cat-3.ensures (pair-Cat _ c.in-Cat.first c.in-Cat.second (rw c.in-Cat.is at c.requires.measured)).first
 
-pub step_repeat-overflow_add-rest : goal.step_repeat-overflow_add-rest
-step_repeat-overflow_add-rest t c =
-    let fits = rw c.in-Some.is at c.requires.fits in
-    let order = rw c.in-Some.is at c.requires.count in
-    omega (arith, fits, mul-le-mul_left c.args.copies.each order.0)
+pub step-width-requires-in-Alt-clause-measured : goal.step-width-requires-in-Alt-clause-measured
+step-width-requires-in-Alt-clause-measured t c =
+    rw c.deref-in-Alt-2.ensures (pair-Alt _ c.in-Alt.first c.in-Alt.second (rw c.in-Alt.is at c.requires.measured)).first
 
-pub step_repeat-overflow_mul-last : goal.step_repeat-overflow_mul-last
-step_repeat-overflow_mul-last t c =
-    let fits = rw c.in-None.is at c.requires.fits in
+pub step_repeat-returns : goal.step_repeat-returns
+step_repeat-returns t c =
+    let a = core_of c.args.body.now in
+    rw c.in-Some.is
+    (IfOk-weaker _ _ _
+    (λ last s. owes_done (test_at c.args.by.at) c.args.by.byte c.args.by.marks.now
+    (in_front c.args.copies.count a (up_to (c.in-Some.most - c.args.copies.count) a)) c.args.next.now.items c.args.copies.base c.args.copies.entered
+    (up_to (c.in-Some.most - c.args.copies.count) a) c.step_copies.new.next.items _ _ c.in_ok-front.front last false
+    (c.in_ok-front.ensures (up_to (c.in-Some.most - c.args.copies.count) a)) s)
+    c.step_up_to.ensures)
+
+pub step_at_least-at-requires : goal.step_at_least-at-requires
+step_at_least-at-requires t c =
     let fewer : c.args.copies.count - 1 ≤ max c.args.copies.count 1 = omega arith in
-    omega (arith, fits, mul-le-mul_left c.args.copies.each fewer)
+    omega (arith, c.requires.fits, mul-le-mul_left c.args.copies.each fewer)
 
-pub step_repeat-overflow_add-last : goal.step_repeat-overflow_add-last
-step_repeat-overflow_add-last t c =
-    let fits = rw c.in-None.is at c.requires.fits in
-    let fewer : c.args.copies.count - 1 ≤ max c.args.copies.count 1 = omega arith in
-    omega (arith, fits, mul-le-mul_left c.args.copies.each fewer)
+pub step_at_least-step_plus-requires-2 : goal.step_at_least-step_plus-requires-2
+step_at_least-step_plus-requires-2 t c =
+    let more : c.args.copies.count - 1 + 1 ≤ max c.args.copies.count 1 = omega arith in
+    let few = mul-le-mul_left c.args.copies.each more in
+    let a = c.at.ensures.base in (
+      search (rules, the_lemmas),
+      (omega (arith, a, c.requires.fits, c.requires.each, few), (c.requires.measured, (c.requires.rising, rw a (c.in_ok-front.ensures core.empty).set))),
+    )
+
+pub step_at_least-returns : goal.step_at_least-returns
+step_at_least-returns t c =
+    let a = core_of c.args.body.now in
+    rw (at_least-some c.args.copies.count a c.if-copies-eq0.false)
+    (IfOk-weaker _ _ _
+    (λ last s. owes_done (test_at c.args.by.at) c.args.by.byte c.args.by.marks.now
+    (in_front (c.args.copies.count - 1) a (core.plus a)) c.args.next.now.items c.args.copies.base c.args.copies.entered
+    (core.plus a) c.step_copies.new.next.items _ _ c.in_ok-front.front last false
+    (c.in_ok-front.ensures (core.plus a)) (rw (c.at.ensures.base, c.at.ensures.entered) at s))
+    c.step_plus-2.ensures)
