@@ -58,6 +58,14 @@ impl Rows {
         }
     }
 
+    /// Returns the place of the row at an index among the distinct rows.
+    pub fn place(&self, i: usize) -> usize
+        requires { i < length (rows_of self.now) }
+        ensures { result ≡ slice_index self.now.places.items i }
+    {
+        self.places[i]
+    }
+
     /// Adds a row at the end.
     ///
     /// # Errors
