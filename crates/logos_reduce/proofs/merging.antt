@@ -4,3 +4,4 @@ pub mod KeyLemmas
 pub mod TwinLemmas
 pub mod HitLemmas
 pub mod CountLemmas
+pub mod ClassLemmas

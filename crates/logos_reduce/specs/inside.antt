@@ -4,4 +4,5 @@ pub mod Prune
 pub mod Lists
 pub mod Merge
 pub mod Count
+pub mod Classes
 pub mod Evidence

@@ -1,10 +1,10 @@
 //! A list of states for each state or block.
-ghost use Rattle.std.specs.Prelude.{true, ◌≡◌, ◌≢◌, ℕ, ◌+◌, ◌-◌, ◌<◌, ◌≤◌, ◌⊎◌, Some, OnOk, IfOk, IsTrue, IsFalse, length, slice_get, vec_len};
+ghost use Rattle.std.specs.Prelude.{true, ◌≡◌, ◌≢◌, ℕ, ◌+◌, ◌-◌, ◌<◌, ◌≤◌, ◌⊎◌, Some, OnOk, IfOk, IsTrue, IsFalse, length, slice_get, vec_len, slice_index};
 ghost use Rattle.logos_reduce.specs.Lists.{has, has_in, Rises, AreRising, ArePredecessors};
 ghost use Rattle.logos_reduce.specs.Table.{size, to};
 ghost use Rattle.logos_reduce.specs.Rows.{target_by};
 
-use crate::rows::{Row, target_at};
+use crate::rows::{Row, changed_target};
 use crate::table::Table;
 use std::alloc::{AllocError, Global};
 
@@ -80,7 +80,7 @@ fn file_row(
     ensures rising { AreRising (s + 1) lists.old.items → AreRising (s + 1) lists.new.items }
 {
     for k in 0..width {
-        if let Some(t) = target_at(row, k) {
+        if let Some(t) = changed_target(row, k) {
             file(lists, t, s)?;
         }
     }
@@ -104,4 +104,24 @@ pub fn predecessors(
         file_row(&mut lists, table.row(s), s, width)?;
     }
     Ok(lists)
+}
+
+/// Returns for each of the numbers what the table has there.
+pub fn looked_up(
+    alloc: Global,
+    table: &Vec<usize>,
+    numbers: &Vec<usize>,
+) -> Result<Vec<usize>, AllocError>
+    requires { (i : ℕ) → i < vec_len numbers.now →
+        slice_index numbers.now.items i < vec_len table.now }
+    ensures len { IfOk result (λ v. vec_len v ≡ vec_len numbers.now) }
+    ensures found { IfOk result (λ v. (i : ℕ) → i < vec_len numbers.now →
+        slice_index v.items i
+        ≡ slice_index table.now.items (slice_index numbers.now.items i)) }
+{
+    let mut found = Vec::new(alloc);
+    for number in numbers {
+        found.push(table[*number])?;
+    }
+    Ok(found)
 }

@@ -6,29 +6,19 @@ ghost use Rattle.logos_reduce.specs.Table.{size, to};
 ghost use Rattle.logos_reduce.specs.Rows.{target_by};
 
 pub mod blocks;
+mod classes;
 mod hints;
 pub(crate) mod refine;
+mod symbols;
 mod twins;
 
-use crate::merge::blocks::{Blocks, Split, by_marks};
+use crate::lists::looked_up;
+use crate::merge::blocks::{Blocks, Split, by_marks, leaders_of};
+use crate::merge::classes::{class_table, classes_of};
 use crate::merge::refine::{block_of, refine};
 use crate::rows::{Row, WIDTH, target_at};
 use crate::table::Table;
 use std::alloc::{AllocError, Global};
-
-/// Returns for each block one of its states.
-fn leaders_of(alloc: Global, blocks: &Blocks) -> Result<Vec<usize>, AllocError>
-    ensures len { IfOk result (λ v. vec_len v ≡ vec_len blocks.now.splits) }
-    ensures leaders { IfOk result
-        (λ v. AreLeaders (vec_len blocks.now.of) (slice_index blocks.now.of.items)
-        (slice_index v.items)) }
-{
-    let mut leaders = vec![in alloc; 0; blocks.splits.len()]?;
-    for s in 0..blocks.of.len() {
-        leaders[blocks.of[s]] = s;
-    }
-    Ok(leaders)
-}
 
 /// Returns the first symbol by which two rows do not lead to one block.
 fn first_difference(row: &Row, other: &Row, blocks: &Vec<usize>) -> Option<usize>
@@ -42,7 +32,9 @@ fn first_difference(row: &Row, other: &Row, blocks: &Vec<usize>) -> Option<usize
         ≢ option_map (slice_index blocks.now.items) (target_by other.now k))) }
 {
     for k in 0..WIDTH {
-        if block_of(target_at(row, k), blocks) != block_of(target_at(other, k), blocks) {
+        if row[k] != other[k]
+            && block_of(target_at(row, k), blocks) != block_of(target_at(other, k), blocks)
+        {
             return Some(k);
         }
     }
@@ -183,8 +175,29 @@ pub struct Partition {
     pub leaders: Vec<usize>,
 }
 
-/// Returns the blocks of the states that no word distinguishes.
+/// Returns the blocks of the states that no word distinguishes. States with one mark and one row are one state here.
 pub fn merge(alloc: Global, table: &Table) -> Result<Partition, AllocError>
+    ensures len { IfOk result (λ m. vec_len m.blocks.of ≡ size table.now) }
+    ensures leaders_len { IfOk result (λ m. vec_len m.leaders ≡ vec_len m.blocks.splits) }
+    ensures merged { IfOk result (λ m.
+        IsMerged table.now m.blocks.splits.items (slice_index m.blocks.of.items)
+        (slice_index m.leaders.items)) }
+{
+    let classes = classes_of(alloc, table)?;
+    let small = class_table(alloc, table, &classes)?;
+    let merged = merge_classes(alloc, &small)?;
+    let of = looked_up(alloc, &merged.blocks.of, &classes.of)?;
+    let leaders = leaders_of(alloc, &of, merged.blocks.splits.len())?;
+    let Partition { blocks, leaders: _ } = merged;
+    let Blocks { of: _, splits } = blocks;
+    Ok(Partition {
+        blocks: Blocks { of, splits },
+        leaders,
+    })
+}
+
+/// Returns the blocks of the states that no word distinguishes.
+fn merge_classes(alloc: Global, table: &Table) -> Result<Partition, AllocError>
     ensures len { IfOk result (λ m. vec_len m.blocks.of ≡ size table.now) }
     ensures leaders_len { IfOk result (λ m. vec_len m.leaders ≡ vec_len m.blocks.splits) }
     ensures merged { IfOk result (λ m.
@@ -194,7 +207,7 @@ pub fn merge(alloc: Global, table: &Table) -> Result<Partition, AllocError>
     let first = by_marks(alloc, table)?;
     let mut blocks = refine(alloc, table, first)?;
     loop {
-        let leaders = leaders_of(alloc, &blocks)?;
+        let leaders = leaders_of(alloc, &blocks.of, blocks.splits.len())?;
         match find_difference(table, &blocks.of, &leaders) {
             None => return Ok(Partition { blocks, leaders }),
             Some(found) => {

@@ -25,7 +25,7 @@ same_mark a b e =
     let y = same_leaf a.early b.early (cc) (cc) in
     λ i. record { accept = x i; early = y i }
 
-got_front : (ks ys : List (List ℕ)) (i : ℕ) (k : List ℕ) → slice_get ks i ≡ Some k → slice_get (ks ++ ys) i ≡ Some k
+pub got_front : (ks ys : List (List ℕ)) (i : ℕ) (k : List ℕ) → slice_get ks i ≡ Some k → slice_get (ks ++ ys) i ≡ Some k
 got_front [] ys i k h = absurd (cc)
 got_front (x ∷ ks) ys zero k h = h
 got_front (x ∷ ks) ys (suc i) k h = got_front ks ys i k h

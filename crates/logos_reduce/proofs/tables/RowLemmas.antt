@@ -46,6 +46,11 @@ wide_distinct distinct row true distinct' e size wide = λ i l. ap (λ xs. lengt
 wide_distinct distinct row false distinct' e size wide =
     λ i l. pushed (λ i row. length row ≡ 257) distinct distinct' row [] (length distinct) e refl wide size i (let n = ap length e in let m = length-append distinct (row ∷ []) in omega arith)
 
+pub row_placed : (places : List ℕ) (distinct : List (List ℕ)) (s : ℕ) → s < length places → slice_index_or (rows_at places distinct) s [] ≡ slice_index_or distinct (slice_index places s) []
+row_placed [] distinct s l = absurd (omega arith)
+row_placed (place ∷ places) distinct zero l = refl
+row_placed (place ∷ places) distinct (suc s) l = row_placed places distinct s (omega arith)
+
 pub rows_length : (places : List ℕ) (distinct : List (List ℕ)) → length (rows_at places distinct) ≡ length places
 rows_length [] distinct = refl
 rows_length (place ∷ places) distinct = let e = rows_length places distinct in omega arith

@@ -1,6 +1,6 @@
 //! Blocks of states.
 ghost use Rattle.std.specs.Prelude.{None, ◌≡◌, ◌≢◌, ℕ, ◌+◌, ◌<◌, ◌≤◌, IfOk, length, vec_len, slice_index, slice_index_or};
-ghost use Rattle.logos_reduce.specs.Merge.{IsSound, split_at};
+ghost use Rattle.logos_reduce.specs.Merge.{AreLeaders, IsSound, split_at};
 ghost use Rattle.logos_reduce.specs.inside.Merge as inside;
 ghost use Rattle.logos_reduce.specs.Table.{size};
 
@@ -37,7 +37,7 @@ fn key_of(mark: Mark) -> [usize; 4]
 }
 
 /// Returns 1 and the number of the leaf, or zeros where there is none.
-fn tagged(leaf: Option<usize>) -> (usize, usize)
+pub fn tagged(leaf: Option<usize>) -> (usize, usize)
     ensures { result ≡ inside.tagged leaf }
 {
     match leaf {
@@ -73,4 +73,20 @@ pub fn by_marks(alloc: Global, table: &Table) -> Result<Blocks, AllocError>
     }
     let splits = parted_by_marks(alloc, keys.len())?;
     Ok(Blocks { of, splits })
+}
+
+/// Returns for each block one of its states.
+pub fn leaders_of(alloc: Global, of: &Vec<usize>, count: usize) -> Result<Vec<usize>, AllocError>
+    requires { (s : ℕ) → s < vec_len of.now → slice_index of.now.items s < count }
+    ensures len { IfOk result (λ v. vec_len v ≡ count) }
+    ensures leaders { IfOk result
+        (λ v. AreLeaders (vec_len of.now) (slice_index of.now.items) (slice_index v.items)) }
+    ensures inside { IfOk result (λ v. 0 < vec_len of.now →
+        (j : ℕ) → slice_index v.items j < vec_len of.now) }
+{
+    let mut leaders = vec![in alloc; 0; count]?;
+    for s in 0..of.len() {
+        leaders[of[s]] = s;
+    }
+    Ok(leaders)
 }

@@ -1,0 +1,122 @@
+//! Puts states with one mark and one row into one class, so that blocks are split by classes.
+ghost use Rattle.std.specs.Prelude.{◌≡◌, ℕ, ◌+◌, ◌<◌, ◌≤◌, ◌^◌, Some, IfOk, length, vec_len, slice_index, option_map};
+ghost use Rattle.logos_reduce.specs.Merge.{target_block};
+ghost use Rattle.logos_reduce.specs.Rows.{target_by, target_in};
+ghost use Rattle.logos_reduce.specs.RowsView.{rows_of};
+ghost use Rattle.logos_reduce.specs.Table.{size, mark, mark_in};
+ghost use Rattle.logos_reduce.specs.inside.Classes.{AreClasses, IsClassTable};
+ghost use Rattle.logos_reduce.specs.inside.Classes as inside;
+
+use crate::merge::blocks::{leaders_of, tagged};
+use crate::merge::refine::block_of;
+use crate::rows::{Row, Rows, WIDTH, target_at};
+use crate::table::{Mark, Table};
+use indexmap::IndexSet;
+use std::alloc::{AllocError, Global};
+
+/// Classes of states, of which those of one class have one mark and one row.
+#[derive(Drop)]
+pub struct Classes {
+    /// For each state its class.
+    pub of: Vec<usize>,
+    /// How many classes there are.
+    pub count: usize,
+    ghost within: { (s : ℕ) → s < vec_len of → slice_index of.items s < count },
+    ghost few: { count ≤ vec_len of },
+}
+
+/// Returns the place of the row of a state, and its mark, as a key.
+fn class_key(table: &Table, s: usize) -> [usize; 5]
+    requires { s < size table.now }
+    ensures { result ≡ inside.class_key table.now s }
+{
+    let mark = table.mark(s);
+    let (accepts, accept) = tagged(mark.accept);
+    let (is_early, early) = tagged(mark.early);
+    [table.rows.place(s), accepts, accept, is_early, early]
+}
+
+/// Returns the classes of the states of a table.
+pub fn classes_of(alloc: Global, table: &Table) -> Result<Classes, AllocError>
+    ensures len { IfOk result (λ c. vec_len c.of ≡ size table.now) }
+    ensures classes { IfOk result (λ c. AreClasses table.now (slice_index c.of.items)) }
+{
+    let mut keys = IndexSet::new(alloc);
+    let mut of = Vec::new(alloc);
+    for s in 0..table.len() {
+        let (class, _) = keys.insert_full(class_key(table, s))?;
+        of.push(class)?;
+    }
+    Ok(Classes {
+        of,
+        count: keys.len(),
+    })
+}
+
+/// Returns the row with the classes of its targets.
+fn class_row(row: &Row, of: &Vec<usize>) -> Row
+    requires inside { (k t : ℕ) → target_by row.now k ≡ Some t → t < vec_len of.now }
+    requires few { (s : ℕ) → s < vec_len of.now → slice_index of.now.items s + 1 < 2 ^ 32 }
+    ensures { (k : ℕ) → target_by result k
+        ≡ option_map (slice_index of.now.items) (target_by row.now k) }
+{
+    let mut made = [0; 257];
+    for k in 0..WIDTH {
+        made[k] = match block_of(target_at(row, k), of) {
+            Some(class) => class as u32 + 1,
+            None => 0,
+        };
+    }
+    made
+}
+
+/// Returns the rows of the classes, each of which leads where its leader does.
+fn class_rows(
+    alloc: Global,
+    table: &Table,
+    of: &Vec<usize>,
+    leaders: &Vec<usize>,
+) -> Result<Rows, AllocError>
+    requires len { vec_len of.now ≡ size table.now }
+    requires few { (s : ℕ) → s < vec_len of.now → slice_index of.now.items s + 1 < 2 ^ 32 }
+    requires leaders { (c : ℕ) → c < vec_len leaders.now →
+        slice_index leaders.now.items c < size table.now }
+    ensures len { IfOk result (λ r. length (rows_of r) ≡ vec_len leaders.now) }
+    ensures rows { IfOk result (λ r. (c k : ℕ) → c < vec_len leaders.now →
+        target_in (rows_of r) c k
+        ≡ target_block table.now (slice_index of.now.items) (slice_index leaders.now.items c) k) }
+{
+    let mut rows = Rows::new(alloc);
+    for leader in leaders {
+        rows.push(&class_row(table.row(*leader), of))?;
+    }
+    Ok(rows)
+}
+
+/// Returns the marks of the classes, each of which has the mark of its leader.
+fn class_marks(alloc: Global, table: &Table, leaders: &Vec<usize>) -> Result<Vec<Mark>, AllocError>
+    requires leaders { (c : ℕ) → c < vec_len leaders.now →
+        slice_index leaders.now.items c < size table.now }
+    ensures len { IfOk result (λ v. vec_len v ≡ vec_len leaders.now) }
+    ensures marks { IfOk result (λ v. (c : ℕ) → c < vec_len leaders.now →
+        mark_in v.items c ≡ mark table.now (slice_index leaders.now.items c)) }
+{
+    let mut marks = Vec::new(alloc);
+    for leader in leaders {
+        marks.push(table.mark(*leader))?;
+    }
+    Ok(marks)
+}
+
+/// Returns the table with the classes as its states.
+pub fn class_table(alloc: Global, table: &Table, classes: &Classes) -> Result<Table, AllocError>
+    requires len { vec_len classes.now.of ≡ size table.now }
+    requires classes { AreClasses table.now (slice_index classes.now.of.items) }
+    ensures size { IfOk result (λ small. size small ≡ classes.now.count) }
+    ensures table { IfOk result (IsClassTable table.now (slice_index classes.now.of.items)) }
+{
+    let leaders = leaders_of(alloc, &classes.of, classes.count)?;
+    let rows = class_rows(alloc, table, &classes.of, &leaders)?;
+    let marks = class_marks(alloc, table, &leaders)?;
+    Ok(Table { marks, rows })
+}
