@@ -230,7 +230,9 @@ impl Code<'_> {
         requires { IsPlace self.now place }
         ensures { IsEntry self.now (state_at self.now (place / 256)) byte result }
     {
-        self.rows[place + byte as usize]
+        // In this order the place, which comes from the entry before, need not be added before the load.
+        let column = &self.rows[byte as usize..];
+        column[place]
     }
 
     /// Returns the mask of the test. Entry `8 * b + k` is 0 where byte `b` passes the test, and else has bit `k` alone.
