@@ -5,3 +5,4 @@ pub mod SignLemmas
 pub mod UseLemmas
 pub mod MaskLemmas
 pub mod Examples
+pub mod LastMarkLemmas

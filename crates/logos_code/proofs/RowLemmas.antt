@@ -1,7 +1,7 @@
 -- Rows, and what a state does by its row.
-use Rattle.std.proofs.Common.{◌≡◌, ℕ, zero, suc, ◌+◌, ◌*◌, ◌-◌, ◌/◌, ◌%◌, ◌<◌, ◌≤◌, ◌⊎◌, inl, inr, ⊎_elim, ◌++◌, true, false, IfSome, List, length, drop, get_or, slice_index, slice_get, set, Option, Some, None, refl, sym, ap, subst, ◌∙◌, arith, length-drop, Fits, w8}
+use Rattle.std.proofs.Common.{◌≡◌, ℕ, zero, suc, ◌+◌, ◌*◌, ◌-◌, ◌/◌, ◌%◌, ◌<◌, ◌≤◌, ◌⊎◌, inl, inr, ⊎_elim, ◌++◌, true, false, IfSome, List, length, take, drop, get_or, slice_index, slice_get, set, Option, Some, None, refl, sym, ap, subst, ◌∙◌, arith, length-drop, Fits, w8}
 use Rattle.std.proofs.Math.Facts.{Fits-lt-pow}
-use Rattle.std.proofs.lemmas.List.{length-map, get_or-map, get_or-drop, get_or_append_left, get_or-append-add, length-set, get_or-set_same, get_or-set_other}
+use Rattle.std.proofs.lemmas.List.{length-map, get_or-map, get_or-drop, get_or_append_left, get_or-append-add, length-set, get_or-set_same, get_or-set_other, take_all}
 use Rattle.std.proofs.lemmas.List.Folds.{length-prefix_len}
 use Rattle.std.proofs.lemmas.List.Sums.{prefix_len_stops}
 use Rattle.std.proofs.lemmas.Option.{get_or_from_slice_get, slice_get-get_or}
@@ -60,6 +60,16 @@ read_entry code rows s b entry all there within is =
     let got : slice_get rows (256 * s + b) ≡ Some entry = slice_get-get_or rows (256 * s + b) entry (omega (arith, count, there, within)) ∙ ap Some (sym is) in
     let same : slice_index rows (256 * s + b) ≡ entry = get_or_from_slice_get rows (256 * s + b) entry 0 got in
     rw same at (all.each s b there within)
+
+-- an entry as it is read from the rest of the rows after so many
+pub read_column : (code : CodeValue) (rows : List ℕ) (place b : ℕ) → AreRows code rows → 256 * (place / 256) ≡ place → place / 256 < length code.states → b < 256 →
+    IsEntry code (state_at code (place / 256)) b (get_or (take (length rows - b) (drop b rows)) place 0)
+read_column code rows place b all is there within =
+    let rest : take (length rows - b) (drop b rows) ≡ drop b rows = take_all (length rows - b) (drop b rows) (omega (arith, length-drop b rows)) in
+    let index : 256 * (place / 256) + b ≡ b + place = omega (arith, is) in
+    let read : get_or (take (length rows - b) (drop b rows)) place 0 ≡ get_or rows (256 * (place / 256) + b) 0 =
+    ap (λ (l : List ℕ). get_or l place 0) rest ∙ get_or-drop b rows place 0 ∙ ap (λ (n : ℕ). get_or rows n 0) (sym index) in
+    subst (λ (entry : ℕ). IsEntry code (state_at code (place / 256)) b entry) (sym read) (all.each (place / 256) b there within)
 
 -- one more entry of a row
 pub row_turn : (code : CodeValue) (state : CodeState) (row : List ℕ) (b entry : ℕ) → length row ≡ 256 → b < 256 → IsEntry code state b entry →

@@ -9,3 +9,5 @@ pub mod Signs
 pub mod Uses
 pub mod Rows
 pub mod Masks
+pub mod LastMarks
+pub mod inside

@@ -5,16 +5,19 @@ ghost use Rattle.logos_code.specs.Headline.{IsSound, NamesTest};
 ghost use Rattle.logos_code.specs.CodeView.{entry_of, state_at, asks_for};
 ghost use Rattle.logos_code.specs.CodeView.{skips_over, code_of, IsValid};
 ghost use Rattle.logos_code.specs.Runs.{target};
+ghost use Rattle.logos_code.specs.LastMarks.{IsLastMark};
 ghost use Rattle.logos_code.specs.Masks.{IsMask};
 ghost use Rattle.logos_code.specs.Rows.{IsEntry, IsFirst, IsLastEntry, IsPlace};
 ghost use Rattle.logos_code.specs.Signs.{mark_by};
 
+pub mod last_marks;
 pub(crate) mod making;
 mod masks;
 pub mod rows;
 pub mod signs;
 pub(crate) mod uses;
 
+use last_marks::{LastMark, last_mark_at};
 use logos_byte_class::byte_class::Comparisons;
 use logos_hir::leaf::LeafId;
 use logos_pattern::leaf::{Callback, VariantKind};
@@ -123,6 +126,8 @@ pub struct Code<'s> {
     masks: Vec<[u8; 2048]>,
     /// The mark of each state.
     signs: Vec<Sign>,
+    /// The last mark that a try has passed, where it ends in each state.
+    last_marks: Vec<LastMark>,
     /// What becomes of the matches of each leaf.
     uses: Vec<LeafUse>,
 }
@@ -144,7 +149,7 @@ impl<'s> Model for Code<'s> {
     ghost view = { λ code. code_of code.parts };
 
     ghost invariant = { λ code. IsWhole code.parts code.first code.rows.items code.masks.items
-        code.signs.items code.uses.items };
+        code.signs.items code.last_marks.items code.uses.items };
 }
 
 impl<'s> Code<'s> {
@@ -225,7 +230,9 @@ impl Code<'_> {
         requires { IsPlace self.now place }
         ensures { IsEntry self.now (state_at self.now (place / 256)) byte result }
     {
-        self.rows[place + byte as usize]
+        // In this order the place, which comes from the entry before, need not be added before the load.
+        let column = &self.rows[byte as usize..];
+        column[place]
     }
 
     /// Returns the mask of the test. Entry `8 * b + k` is 0 where byte `b` passes the test, and else has bit `k` alone.
@@ -282,6 +289,13 @@ impl Code<'_> {
         ensures { mark_by result ≡ (state_at self.now state).mark }
     {
         self.signs[state]
+    }
+
+    /// Returns what is known of the last mark that a try has passed, where it ends in the state.
+    pub fn last_mark(&self, state: usize) -> LastMark
+        ensures { IsLastMark self.now state result }
+    {
+        last_mark_at(&self.last_marks, state)
     }
 
     /// Returns the state to which the end of the input leads from this state, if it leads anywhere.

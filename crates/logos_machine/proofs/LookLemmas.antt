@@ -79,7 +79,7 @@ module _ (code : CodeValue) (bytes : List ℕ) (start : ℕ) (s : ℕ) (there : 
     says.2,
   )
   sees_byte b (Halts leaf used) h is at says = (λ context. (state_at code s, got, rw (← is, at, says.1, says.2) refl), says.3)
-  sees_byte b Stuck h is at says = tt
+  sees_byte b Stuck h is at says = λ inside context. (marked (state_at code s).mark stop context, (state_at code s, got, rw (← is, at, says.1) refl))
   sees_byte b Unsaid h is at says = tt
 
   -- what is seen at the end of the input
@@ -96,7 +96,7 @@ module _ (code : CodeValue) (bytes : List ℕ) (start : ℕ) (s : ℕ) (there : 
 
       stale : (s == code.root && (stop == start)) ≡ false
       stale = let e : (s == code.root) ≡ false = ne_eqb s code.root other in rw e refl
-  sees_end sound Stuck is at says = tt
+  sees_end sound Stuck is at says = λ inside. absurd (let e : None ≡ Some (get_or bytes stop 0) = sym at ∙ slice_get-get_or bytes stop 0 inside in cc)
   sees_end sound Unsaid is at says = tt
 
 -- what the entry of a byte says, where the byte does not stay: no bytes are looped over
@@ -114,6 +114,6 @@ sees_entry code bytes start s there at entry h within is step f = go step (is.sa
     go (Stays test) said = tt
     go (Looks leaf used) said = by_step (Looks leaf used) said.0 said
     go (Closes leaf used) said = by_step (Closes leaf used) said.0 said
-    go Stuck said = tt
+    go Stuck said = by_step Stuck said.0 said
     go (Halts leaf used) said = by_step (Halts leaf used) said.0 said
     go Unsaid said = tt

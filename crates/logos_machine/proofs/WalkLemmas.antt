@@ -1,17 +1,21 @@
 -- Tries by entries.
-use Rattle.std.proofs.Common.{◌≡◌, ℕ, zero, suc, ◌+◌, ◌-◌, ◌*◌, ◌/◌, ◌%◌, ◌<◌, ◌≤◌, inl, inr, ⊎_elim, true, false, List, length, drop, get_or, Some, None, refl, sym, subst, arith, length-drop}
+use Rattle.std.proofs.Common.{◌≡◌, ℕ, zero, suc, ◌+◌, ◌-◌, ◌*◌, ◌/◌, ◌%◌, ◌<◌, ◌≤◌, inl, inr, ⊎_elim, true, false, List, length, drop, get_or, Option, Some, None, refl, sym, subst, arith, length-drop}
 use Rattle.std.proofs.lemmas.Option.{slice_get-get_or, slice_get_past}
-use Rattle.logos_automaton.specs.Munch.{matched}
+use Rattle.logos_automaton.specs.Munch.{matched, failed}
+use Rattle.logos_hir.specs.Text.{IsBytes}
+use Rattle.logos_hir.specs.declared.leaf.LeafId.{LeafId}
 use Rattle.logos_code.specs.Code.{CodeValue, CodeState}
 use Rattle.logos_code.specs.CodeView.{state_at, no_state}
 use Rattle.logos_code.specs.Headline.{IsSound, NamesTest, NamesWhatIsThere}
+use Rattle.logos_code.specs.LastMarks.{IsLastMark, first_stand, next_stand}
 use Rattle.logos_code.specs.Rows.{IsEntry, IsLastEntry, IsUse, first_halting, first_closing}
-use Rattle.logos_code.specs.Runs.{Stand, goes_on, acts_on, looped, stays}
+use Rattle.logos_code.specs.Runs.{Stand, goes_on, acts_on, acts, looped, stays, Does, EndsError}
 use Rattle.logos_code.proofs.RowLemmas.{loop_stops, entry_moves}
 use Rattle.logos_code.proofs.TargetLemmas.{All-slice_get}
 use Rattle.logos_machine.specs.inside.Looks.{Sees, Comes, Reaches, Tried, LooksAhead, StopsAt}
+use Rattle.logos_code.specs.declared.code.last_marks.LastMark.TheVariants.{Never, Back}
 use Rattle.logos_code.specs.declared.code.rows.MatchUse.{MatchUse}
-use Rattle.logos_code.specs.declared.code.rows.Step.TheVariants.{Leads, Stays, Halts, Looks, Closes}
+use Rattle.logos_code.specs.declared.code.rows.Step.TheVariants.{Leads, Stays, Halts, Looks, Closes, Stuck}
 use Rattle.logos_machine.proofs.StandLemmas.{looped-fits, stands_first, stands_next, stands_match}
 use Rattle.logos_machine.proofs.StopLemmas.{stop_looped, stop_within}
 use Rattle.logos_machine.proofs.LookLemmas.{loops_on, sees_byte, sees_end, sees_entry}
@@ -72,14 +76,15 @@ module _ (code : CodeValue) (sound : IsSound code) (bytes : List ℕ) (start : �
   comes_first = record {
     context = None;
     stands = stands_first code sound bytes start starts;
+    stood = first_stand;
     few = omega arith;
     goes_on = λ found n g. let e : 0 + n ≡ n = omega arith in rw e g;
   }
 
   -- a look from a state on
-  pub looks_on : (state offset before entry stop : ℕ) → Comes code bytes start state offset before → LooksAhead code bytes state offset entry stop → Reaches code bytes start entry stop before
+  pub looks_on : (state offset before entry stop : ℕ) → Comes code bytes start state offset before → LooksAhead code bytes state offset entry stop →
+      Reaches code bytes start state entry stop before
   looks_on state offset before entry stop comes looks = record {
-    state = state;
     offset = offset;
     comes = comes;
     past = looks.past;
@@ -89,12 +94,11 @@ module _ (code : CodeValue) (sound : IsSound code) (bytes : List ℕ) (start : �
   }
 
   -- the end of the input
-  pub looks_past : (state at before last : ℕ) → Comes code bytes start state at before → at ≡ length bytes → IsLastEntry code (state_at code state) last → Reaches code bytes start last at before
+  pub looks_past : (state at before last : ℕ) → Comes code bytes start state at before → at ≡ length bytes → IsLastEntry code (state_at code state) last → Reaches code bytes start state last at before
   looks_past state at before last comes end says =
       let stands = comes.stands in
       let none : looped code (state_at code state).fast_loop (drop at bytes) ≡ 0 = omega (arith, looped-fits code (state_at code state).fast_loop (drop at bytes), length-drop at bytes, end) in
       record {
-        state = state;
         offset = at;
         comes = comes;
         past = omega arith;
@@ -105,9 +109,8 @@ module _ (code : CodeValue) (sound : IsSound code) (bytes : List ℕ) (start : �
 
   -- the entry of the byte there
   pub looks_here : (state at before entry : ℕ) → Comes code bytes start state at before → at < length bytes → IsEntry code (state_at code state) (get_or bytes at 0) entry →
-      Reaches code bytes start entry at before
+      Reaches code bytes start state entry at before
   looks_here state at before entry comes within is = record {
-    state = state;
     offset = at;
     comes = comes;
     past = omega arith;
@@ -116,15 +119,15 @@ module _ (code : CodeValue) (sound : IsSound code) (bytes : List ℕ) (start : �
     place = is.place;
   }
 
-  module _ (entry stop before : ℕ) (r : Reaches code bytes start entry stop before) where
+  module _ (state entry stop before : ℕ) (r : Reaches code bytes start state entry stop before) where
     abbrev at : Stand
-    at = record { state = r.state; offset = r.offset; context = r.comes.context }
+    at = record { state = state; offset = r.offset; context = r.comes.context }
 
     -- an entry that leads
     pub leads_on : entry < 268435456 → Comes code bytes start (entry / 256) (stop + 1) (before + 1)
     leads_on h =
         let place = r.place h in
-        let sees : Sees code bytes start r.state r.offset stop (Leads (entry / 256)) = r.sees (Leads (entry / 256)) (sym place, omega (arith, h)) in
+        let sees : Sees code bytes start state r.offset stop (Leads (entry / 256)) = r.sees (Leads (entry / 256)) (sym place, omega (arith, h)) in
         let does = sees r.comes.context in
         let next : Stand = record { state = entry / 256; offset = stop + 1; context = does.0 } in
         let n = stands_next code sound bytes start starts at next r.comes.stands does.1 in
@@ -133,6 +136,7 @@ module _ (code : CodeValue) (sound : IsSound code) (bytes : List ℕ) (start : �
         record {
           context = does.0;
           stands = n.0;
+          stood = next_stand at next r.comes.stood does.1;
           few = omega (arith, few, moves);
           goes_on = λ found m g.
               let e : before + suc m ≡ before + 1 + m = omega arith in
@@ -142,7 +146,7 @@ module _ (code : CodeValue) (sound : IsSound code) (bytes : List ℕ) (start : �
     -- an entry that halts
     halts_soon : (leaf : ℕ) (used : MatchUse) → entry ≡ first_halting used + leaf → leaf < 134217728 → Tried code bytes start (matched leaf stop) (before + 1) × IsUse code leaf used
     halts_soon leaf used is small =
-        let sees : Sees code bytes start r.state r.offset stop (Halts (record { 0 = leaf }) used) = r.sees (Halts (record { 0 = leaf }) used) (is, small) in
+        let sees : Sees code bytes start state r.offset stop (Halts (record { 0 = leaf }) used) = r.sees (Halts (record { 0 = leaf }) used) (is, small) in
         let does = sees.0 r.comes.context in
         let few = r.comes.few in
         let past = r.past in
@@ -158,7 +162,7 @@ module _ (code : CodeValue) (sound : IsSound code) (bytes : List ℕ) (start : �
     -- an entry that looks ahead
     looks_soon : (leaf : ℕ) (used : MatchUse) → entry ≡ first_halting used + 134217728 + leaf → leaf < 134217728 → Tried code bytes start (matched leaf stop) (before + 2) × IsUse code leaf used
     looks_soon leaf used is small =
-        let sees : Sees code bytes start r.state r.offset stop (Looks (record { 0 = leaf }) used) = r.sees (Looks (record { 0 = leaf }) used) (is, small) in
+        let sees : Sees code bytes start state r.offset stop (Looks (record { 0 = leaf }) used) = r.sees (Looks (record { 0 = leaf }) used) (is, small) in
         let does = sees.0 r.comes.context in
         let next : Stand = record { state = does.0; offset = stop + 1; context = does.1 } in
         let n = stands_next code sound bytes start starts at next r.comes.stands does.2 in
@@ -192,7 +196,7 @@ module _ (code : CodeValue) (sound : IsSound code) (bytes : List ℕ) (start : �
     -- an entry that closes
     pub closes_soon : (leaf : ℕ) (used : MatchUse) → entry ≡ first_closing used + leaf → leaf < 268435456 → Tried code bytes start (matched leaf (stop + 1)) (before + 2) × IsUse code leaf used
     closes_soon leaf used is small =
-        let sees : Sees code bytes start r.state r.offset stop (Closes (record { 0 = leaf }) used) = r.sees (Closes (record { 0 = leaf }) used) (is, small) in
+        let sees : Sees code bytes start state r.offset stop (Closes (record { 0 = leaf }) used) = r.sees (Closes (record { 0 = leaf }) used) (is, small) in
         let does = sees.0 r.comes.context in
         let next : Stand = record { state = does.0; offset = stop + 1; context = does.1 } in
         let n = stands_next code sound bytes start starts at next r.comes.stands does.2 in
@@ -208,3 +212,37 @@ module _ (code : CodeValue) (sound : IsSound code) (bytes : List ℕ) (start : �
           },
           sees.1,
         )
+
+    -- an entry of a byte that leads nowhere
+    module _ (low : 2147483648 ≤ entry) (high : entry < 2415919104) (inside : stop < length bytes) (are : IsBytes bytes) where
+      stuck : (passed : Option (ℕ × ℕ)) × Does code bytes start at (acts passed stop)
+      stuck = let sees : Sees code bytes start state r.offset stop Stuck = r.sees Stuck (low, high) in sees inside r.comes.context
+
+      -- the last mark passed is so many bytes back
+      pub goes_back : (leaf : LeafId) (n : ℕ) → IsLastMark code state (Back leaf n) → Tried code bytes start (matched leaf.0 (stop - n)) (before + 1)
+      goes_back leaf n last =
+          let e : stuck.0 ≡ Some (leaf.0, stop - n) = last bytes start at stuck.0 stop are r.comes.stood refl stuck.1 in
+          let does : Does code bytes start at (acts (Some (leaf.0, stop - n)) stop) = subst (λ (p : Option (ℕ × ℕ)). Does code bytes start at (acts p stop)) e stuck.1 in
+          let few = r.comes.few in
+          let past = r.past in
+          let within = r.within in
+          record {
+            tries = r.comes.goes_on (matched leaf.0 (stop - n)) 1 (acts_on at (Some (leaf.0, stop - n)) stop (matched leaf.0 (stop - n)) does refl);
+            within = stands_match code sound bytes start starts at (Some (leaf.0, stop - n)) stop r.comes.stands does;
+            few = omega (arith, few, past, within);
+          }
+
+      -- none was passed
+      pub fails_soon : (to : ℕ) → IsLastMark code state Never → EndsError code bytes start stop to → to ≤ length bytes → Tried code bytes start (failed to) (before + 1)
+      fails_soon to last ends fits =
+          let e : stuck.0 ≡ None = last bytes start at stuck.0 stop are r.comes.stood refl stuck.1 in
+          let does : Does code bytes start at (acts None stop) = subst (λ (p : Option (ℕ × ℕ)). Does code bytes start at (acts p stop)) e stuck.1 in
+          let few = r.comes.few in
+          let past = r.past in
+          let within = r.within in
+          let over = ends.past in
+          record {
+            tries = r.comes.goes_on (failed to) 1 (acts_on at None stop (failed to) does ends);
+            within = (omega (arith, over), fits);
+            few = omega (arith, few, past, within);
+          }

@@ -2,6 +2,7 @@
 ghost use Rattle.std.specs.Prelude.{◌≡◌, IfOk};
 ghost use Rattle.logos_code.specs.CodeView.{code_of, IsValid};
 
+use super::last_marks::last_marks_of;
 use super::masks::masks_of;
 use super::rows::{first_row, rows_of};
 use super::signs::signs_of;
@@ -20,6 +21,7 @@ pub fn make_code<'s>(alloc: Global, parts: CodeParts<'s>) -> Result<Code<'s>, Al
     let rows = rows_of(alloc, &parts)?;
     let masks = masks_of(alloc, &parts)?;
     let signs = signs_of(alloc, &parts)?;
+    let last_marks = last_marks_of(alloc, &parts, &rows)?;
     let uses = uses_of(alloc, &parts)?;
     let first = first_row(&rows, parts.root);
     Ok(Code {
@@ -28,6 +30,7 @@ pub fn make_code<'s>(alloc: Global, parts: CodeParts<'s>) -> Result<Code<'s>, Al
         rows,
         masks,
         signs,
+        last_marks,
         uses,
     })
 }

@@ -4,6 +4,7 @@ use Rattle.std.specs.List.{prefix_len}
 use Rattle.logos_automaton.specs.Munch.{Found, ended, matched, failed}
 use Rattle.logos_code.specs.Bytes.{passes_test}
 use Rattle.logos_code.specs.Code.{CodeValue}
+use Rattle.logos_code.specs.LastMarks.{Stood}
 use Rattle.logos_code.specs.Rows.{IsStepOf, IsUse, LeadsToPlace}
 use Rattle.logos_code.specs.Runs.{enters, acts, Does, Goes, Tries}
 use Rattle.logos_machine.specs.inside.Stands.{IsStand, StaysWithin}
@@ -34,6 +35,11 @@ module _ (code : CodeValue) (bytes : List ℕ) (start : ℕ) where
       Does code bytes start (record { state = state; offset = offset; context = context }) (enters (record { state = next; offset = stop + 1; context = passed })) ×
       Does code bytes start (record { state = next; offset = stop + 1; context = passed }) (acts (Some (leaf, end)) (stop + 1))
 
+  -- or in the state itself, with what was passed
+  abbrev pub EndsStuck : (state offset stop : ℕ) → Type 0
+  EndsStuck state offset stop = (context : Option (ℕ × ℕ)) → (passed : Option (ℕ × ℕ)) ×
+      Does code bytes start (record { state = state; offset = offset; context = context }) (acts passed stop)
+
   -- A step that is seen from a state on is what the state does. Its fast loop ends at the stop.
   abbrev pub Sees : (state offset stop : ℕ) → Step → Type 0
   Sees state offset stop (Leads next) = LeadsOn state offset stop next
@@ -41,19 +47,19 @@ module _ (code : CodeValue) (bytes : List ℕ) (start : ℕ) where
   Sees state offset stop (Halts leaf used) = EndsHere state offset stop leaf.0 × IsUse code leaf.0 used
   Sees state offset stop (Looks leaf used) = EndsNext state offset stop leaf.0 stop × IsUse code leaf.0 used
   Sees state offset stop (Closes leaf used) = EndsNext state offset stop leaf.0 (stop + 1) × IsUse code leaf.0 used
-  Sees state offset stop Stuck = Unit {0}
+  Sees state offset stop Stuck = stop < length bytes → EndsStuck state offset stop
   Sees state offset stop Unsaid = Unit {0}
 
   -- The try enters the state after so many others, and what goes on from there is the whole try.
   pub record Comes (state offset before : ℕ) : Type 0 where
     pub context : Option (ℕ × ℕ)
     pub stands : IsStand code bytes start (record { state = state; offset = offset; context = context })
+    pub stood : Stood code bytes start (record { state = state; offset = offset; context = context })
     pub few : before + start ≤ offset
     pub goes_on : (found : Found) (n : ℕ) → Goes code bytes start (record { state = state; offset = offset; context = context }) found n → Tries code bytes start found (before + n)
 
-  -- The try comes to a state after so many others, whose fast loop ends at the stop, and the entry says what the state does there.
-  pub record Reaches (entry stop before : ℕ) : Type 0 where
-    pub state : ℕ
+  -- The try comes to the state after so many others, its fast loop ends at the stop, and the entry says what the state does there.
+  pub record Reaches (state entry stop before : ℕ) : Type 0 where
     pub offset : ℕ
     pub comes : Comes state offset before
     pub past : offset ≤ stop

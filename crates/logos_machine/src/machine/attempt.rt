@@ -130,7 +130,9 @@ fn marked(sign: Sign, offset: usize, context: Option<(LeafId, usize)>) -> Option
 }
 
 /// Returns the end of an error that has come to the offset: after one byte at least, and in UTF-8 mode between characters.
-fn error_end(code: &Code, input: &[u8], start: usize, offset: usize) -> usize
+#[cold]
+#[inline(never)]
+pub(super) fn error_end(code: &Code, input: &[u8], start: usize, offset: usize) -> usize
     requires start { start < length input.now }
     requires offset { offset ≤ length input.now }
     ensures ends { EndsError code.now input.now start offset result }

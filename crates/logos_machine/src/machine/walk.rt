@@ -5,10 +5,13 @@ ghost use Rattle.logos_code.specs.Headline.{IsSound};
 ghost use Rattle.logos_code.specs.Rows.{IsEntry, IsPlace};
 ghost use Rattle.logos_machine.specs.inside.Looks.{Reaches, LooksAhead, IsOutcome};
 
-use super::attempt::{Found, attempt_with_marks};
+use super::attempt::{Found, attempt_with_marks, error_end};
 use super::fast_loop::stop;
 use logos_code::code::Code;
-use logos_code::code::rows::{ASKS, ASKS_AFTER, CLOSES, HALTS, LATE, LEAVES, SHUTS, STAYS, STUCK};
+use logos_code::code::last_marks::LastMark;
+use logos_code::code::rows::{
+    ASKS, ASKS_AFTER, CLOSES, HALTS, LATE, LEAVES, SHUTS, STAYS, STUCK, UNSAID,
+};
 use logos_hir::leaf::LeafId;
 
 /// What a try finds. The numbers after leaves are the end of the match and how many states were entered.
@@ -40,7 +43,7 @@ pub(super) fn attempt(code: &Code, input: &[u8], start: usize) -> Outcome
         return Outcome::Emits(LeafId((first - CLOSES) as usize), start + 1, 2);
     }
     if first >= STAYS {
-        return end_of(code, input, start, (first, start, 0));
+        return end_of(code, input, start, (first, start, 0, code.root()));
     }
     let last = walk(code, input, start, first);
     end_of(code, input, start, last)
@@ -60,16 +63,16 @@ fn attempt_slowly(code: &Code, input: &[u8], start: usize) -> Outcome
     }
 }
 
-/// Returns what a try finds that ends with this entry, where and after so many states.
+/// Returns what a try finds that ends with this entry, where and after so many states, in this state.
 #[inline(always)]
-fn end_of(code: &Code, input: &[u8], start: usize, last: (u32, usize, usize)) -> Outcome
+fn end_of(code: &Code, input: &[u8], start: usize, last: (u32, usize, usize, usize)) -> Outcome
     requires sound { IsSound code.now }
     requires start { start ≤ length input.now }
-    requires reaches { Reaches code.now input.now start last.0 last.1 last.2 }
+    requires reaches { Reaches code.now input.now start last.3 last.0 last.1 last.2 }
     requires ends { 536870912 ≤ last.0 }
     ensures { IsOutcome code.now input.now start result }
 {
-    let (entry, stop, before) = last;
+    let (entry, stop, before, state) = last;
     if entry < HALTS {
         return Outcome::Skips(stop);
     }
@@ -90,7 +93,29 @@ fn end_of(code: &Code, input: &[u8], start: usize, last: (u32, usize, usize)) ->
     if entry < STUCK {
         return Outcome::Asks(LeafId((entry - ASKS_AFTER) as usize), stop + 1, before + 2);
     }
+    if entry < UNSAID && stop < input.len() {
+        return stuck(code, input, start, (entry, stop, before, state));
+    }
     attempt_slowly(code, input, start)
+}
+
+/// Returns what a try finds that ends before a byte that leads nowhere. Where the last mark passed is known of its last
+/// state, the try need not be made again.
+#[inline(always)]
+fn stuck(code: &Code, input: &[u8], start: usize, last: (u32, usize, usize, usize)) -> Outcome
+    requires sound { IsSound code.now }
+    requires start { start ≤ length input.now }
+    requires reaches { Reaches code.now input.now start last.3 last.0 last.1 last.2 }
+    requires nowhere { (2147483648 ≤ last.0) × (last.0 < 2415919104) }
+    requires inside { last.1 < length input.now }
+    ensures { IsOutcome code.now input.now start result }
+{
+    let (_, stop, before, state) = last;
+    match code.last_mark(state) {
+        LastMark::Back(leaf, bytes) => Outcome::Asks(leaf, stop - bytes, before + 1),
+        LastMark::Never => Outcome::Fails(error_end(code, input, start, stop), before + 1),
+        _ => attempt_slowly(code, input, start),
+    }
 }
 
 /// Returns the leaf of a match that ends before the byte, and how many states were entered after the one that has the
@@ -103,14 +128,15 @@ fn halted(entry: u32) -> (LeafId, usize)
     (LeafId((entry % LATE) as usize), (entry / LATE) as usize)
 }
 
-/// Returns the last entry of a try, where its byte is, and how many states were entered before the one that has it.
+/// Returns the last entry of a try, where its byte is, how many states were entered before the one that has it, and this
+/// state.
 #[inline(always)]
-fn walk(code: &Code, input: &[u8], start: usize, first: u32) -> (u32, usize, usize)
+fn walk(code: &Code, input: &[u8], start: usize, first: u32) -> (u32, usize, usize, usize)
     requires sound { IsSound code.now }
     requires start { start < length input.now }
     requires leads { first < 268435456 }
-    requires reaches { Reaches code.now input.now start first start 0 }
-    ensures reaches { Reaches code.now input.now start result.0 result.1 result.2 }
+    requires reaches { Reaches code.now input.now start code.now.root first start 0 }
+    ensures reaches { Reaches code.now input.now start result.3 result.0 result.1 result.2 }
     ensures ends { 536870912 ≤ result.0 }
 {
     let mut place = first as usize;
@@ -125,17 +151,17 @@ fn walk(code: &Code, input: &[u8], start: usize, first: u32) -> (u32, usize, usi
             continue;
         }
         if entry >= LEAVES {
-            return (entry, at, before);
+            return (entry, at, before, place / 256);
         }
         let (later, stop) = look_far(code, input, place, at, entry);
         if later >= STAYS {
-            return (later, stop, before);
+            return (later, stop, before, place / 256);
         }
         place = later as usize;
         at = stop + 1;
         before += 1;
     }
-    (code.last_entry(place), at, before)
+    (code.last_entry(place), at, before, place / 256)
 }
 
 /// Returns the entry after a fast loop, and where its byte is.

@@ -6,7 +6,7 @@ pub loop-at-init : goal.loop-at-init
 loop-at-init c =
     let start = c.requires.start in
     record {
-      comes = leads_on c.args.code.now c.requires.sound c.args.input.now c.args.start (omega (arith, start)) c.args.first c.args.start 0 c.requires.reaches c.requires.leads;
+      comes = leads_on c.args.code.now c.requires.sound c.args.input.now c.args.start (omega (arith, start)) c.args.code.now.root c.args.first c.args.start 0 c.requires.reaches c.requires.leads;
       place = c.requires.reaches.place c.requires.leads;
       within = omega (arith, start);
     }
@@ -18,7 +18,7 @@ loop-at-preserved-then-entry-lt-STAYS c =
     let here = c.loop-at-test.true in
     let r = looks_here c.args.code.now c.requires.sound c.args.input.now c.args.start (omega (arith, start)) (c.loop-at.place / 256) c.loop-at.at c.loop-at.before c.entry-entry.result i.comes (omega (arith, here)) c.entry-entry.ensures in
     record {
-      comes = leads_on c.args.code.now c.requires.sound c.args.input.now c.args.start (omega (arith, start)) c.entry-entry.result c.loop-at.at c.loop-at.before r (omega (arith, c.if-entry-lt-STAYS.true));
+      comes = leads_on c.args.code.now c.requires.sound c.args.input.now c.args.start (omega (arith, start)) (c.loop-at.place / 256) c.entry-entry.result c.loop-at.at c.loop-at.before r (omega (arith, c.if-entry-lt-STAYS.true));
       place = r.place (omega (arith, c.if-entry-lt-STAYS.true));
       within = omega (arith, here);
     }
@@ -38,7 +38,7 @@ loop-at-preserved c =
     let low = c.if-later-ge-STAYS.false in
     let r = looks_on c.args.code.now c.requires.sound c.args.input.now c.args.start (omega (arith, start)) (c.loop-at.place / 256) c.loop-at.at c.loop-at.before later stop c.loop-at.invariant.comes looks in
     record {
-      comes = leads_on c.args.code.now c.requires.sound c.args.input.now c.args.start (omega (arith, start)) later stop c.loop-at.before r (omega (arith, low));
+      comes = leads_on c.args.code.now c.requires.sound c.args.input.now c.args.start (omega (arith, start)) (c.loop-at.place / 256) later stop c.loop-at.before r (omega (arith, low));
       place = r.place (omega (arith, low));
       within = ⊎_elim (λ h. omega (arith, h.1)) (λ h. absurd (omega (arith, h, low))) looks.moves;
     }
