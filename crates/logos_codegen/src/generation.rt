@@ -40,7 +40,7 @@ use logos_leaf::source::utf8_mode;
 use logos_pattern::leaf::{Callback, Leaf, VariantKind};
 use logos_source::analysis::{Analysis, analyze};
 use logos_source::refusal::Refusal;
-use logos_text::{Around, gap_after, text_in};
+use logos_text::{Around, front_in, gap_after, text_in};
 use logos_token::error::{Errors, FaultCode, Memory};
 use logos_token::token::{Ident, Span, TokenStream, print};
 use logos_token::util::MaybeVoid;
@@ -126,6 +126,30 @@ impl Generated<'_> {
             source,
         };
         text_in(alloc, &self.code, around)
+    }
+
+    /// Returns the beginning of the Rust text of the lexer: the implementation of `Logos` for the enum,
+    /// as printed tokens, up to the functions for matches and errors in the body of the function that
+    /// lexes. A shape of its own goes on from there.
+    ///
+    /// # Errors
+    /// Returns `Memory` when memory runs out.
+    pub fn front(&self, alloc: Global) -> Result<String, Memory> {
+        let source = if self.graph.utf8_mode() {
+            "str "
+        } else {
+            "[ u8 ] "
+        };
+        let logos = library_text(alloc, self.options.logos_path.as_ref())?;
+        let error = error_text(alloc, self.options.error_type.as_ref())?;
+        let extras = extras_text(alloc, &self.options.extras)?;
+        let around = Around {
+            logos: logos.as_str(),
+            error: error.as_str(),
+            extras: extras.as_str(),
+            source,
+        };
+        front_in(alloc, &self.code, around)
     }
 }
 

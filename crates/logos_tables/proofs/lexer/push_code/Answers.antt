@@ -1,0 +1,10 @@
+use Rattle.logos_tables.proofs.AddLemmas.{tables_added}
+use Rattle.logos_tables.proofs.lexer.push_code.Goals as goal
+
+pub returns : goal.returns
+returns c =
+    let rows = c.in_ok-rows.rows in
+    let classes = c.in_ok-classes.classes in
+    tables_added c.args.code.now classes.numbers.items classes.symbols.items rows.places.items rows.distinct.keys _ _ _ _ _ _ _ _ _
+    c.in_ok-rows.ensures ? ? ? ? ?
+    c.in_ok-push_rows.ensures c.in_ok-push_marks.ensures c.in_ok-push_skips.ensures c.in_ok-push_sizes.ensures c.in_ok-push_end.ensures

@@ -1,0 +1,10 @@
+use Rattle.std.proofs.Common.{◌<◌, length, arith}
+use Rattle.std.proofs.lemmas.List.{length-map}
+use Rattle.logos_code.specs.CodeView.{state_of}
+use Rattle.logos_tables.proofs.steps.led_number.Goals as goal
+
+pub overflow_add-result : goal.overflow_add-result
+overflow_add-result c =
+    let parts = c.args.parts.now in
+    let long = length-map parts.states.items (state_of parts.jump_tables.items) in
+    omega (arith, c.requires, long, parts.states.ok.0, parts.states.ok.1, parts.states.small)
