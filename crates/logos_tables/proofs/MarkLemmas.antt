@@ -1,10 +1,11 @@
 -- Marks of states.
-use Rattle.std.proofs.Common.{◌≡◌, ℕ, ◌<◌, List, length, map, All, Option, Some, None, IfSome, get_or, option_map, sym, ◌∙◌, ap, subst, arith}
+use Rattle.std.proofs.Common.{◌≡◌, ℕ, ◌+◌, ◌<◌, List, length, map, All, Option, Some, None, IfSome, get_or, option_map, sym, ◌∙◌, ap, subst, arith}
 use Rattle.std.proofs.lemmas.List.{get_or_default, length-map}
 use Rattle.std.proofs.lemmas.Simd.{map-map}
 use Rattle.logos_code.specs.Code.{CodeValue, Mark}
 use Rattle.logos_code.specs.CodeView.{code_of, mark_of, state_of, use_of}
 use Rattle.logos_code.specs.Headline.{IsSound, NamesWhatIsThere}
+use Rattle.logos_code.specs.declared.code.CodeLeaf.{CodeLeaf}
 use Rattle.logos_code.specs.declared.code.CodeParts.{CodeParts}
 use Rattle.logos_code.specs.declared.code.Mark.{Mark as TheMark}
 use Rattle.logos_code.specs.declared.code.CodeState.{CodeState as TheState}
@@ -27,11 +28,15 @@ small_marks parts sound k d l =
     small_mark state.mark (length (map use_of parts.leaves.items)) 9223372036854775807 count names.mark
 
 -- the numbers of all marks, by what is seen of the code
-pub marks_seen : (parts : CodeParts) (code : CodeValue) → code_of parts ≡ code →
-    map (λ (state : TheState). mark_number (option_map mark_of state.mark)) parts.states.items ≡ map (λ state. mark_number state.mark) code.states
-marks_seen parts code is =
-    sym (map-map (λ state. mark_number state.mark) (state_of parts.jump_tables.items) parts.states.items) ∙ ap (λ (code : CodeValue). map (λ state. mark_number state.mark) code.states) is
+pub marks_seen : (parts : CodeParts) (code : CodeValue) (states : List TheState) → states ≡ parts.states.items → code_of parts ≡ code →
+    map (λ (state : TheState). mark_number (option_map mark_of state.mark)) states ≡ map (λ state. mark_number state.mark) code.states
+marks_seen parts code states same is =
+    ap (λ (xs : List TheState). map (λ (state : TheState). mark_number (option_map mark_of state.mark)) xs) same
+    ∙ sym (map-map (λ state. mark_number state.mark) (state_of parts.jump_tables.items) parts.states.items) ∙ ap (λ (code : CodeValue). map (λ state. mark_number state.mark) code.states) is
 
 -- which leaves are left out, by what is seen of the code
-pub skips_seen : (parts : CodeParts) (code : CodeValue) → code_of parts ≡ code → map (λ leaf. skip_number (use_of leaf)) parts.leaves.items ≡ map skip_number code.leaves
-skips_seen parts code is = sym (map-map skip_number use_of parts.leaves.items) ∙ ap (λ (code : CodeValue). map skip_number code.leaves) is
+pub skips_seen : (parts : CodeParts) (code : CodeValue) (leaves : List CodeLeaf) → leaves ≡ parts.leaves.items → code_of parts ≡ code →
+    map (λ leaf. skip_number (use_of leaf)) leaves ≡ map skip_number code.leaves
+skips_seen parts code leaves same is =
+    ap (λ (xs : List CodeLeaf). map (λ leaf. skip_number (use_of leaf)) xs) same
+    ∙ sym (map-map skip_number use_of parts.leaves.items) ∙ ap (λ (code : CodeValue). map skip_number code.leaves) is

@@ -1,5 +1,5 @@
 -- Steps of states.
-use Rattle.std.proofs.Common.{◌≡◌, ℕ, ◌<◌, ◌==◌, ◌*◌, Bool, true, false, List, length, slice_index, refl, sym, ◌∙◌, ap, arith}
+use Rattle.std.proofs.Common.{◌≡◌, ℕ, ◌+◌, ◌<◌, ◌==◌, ◌*◌, Bool, true, false, List, Option, Some, None, IfSome, slice_index, refl, sym, ◌∙◌, ap, arith}
 use Rattle.logos_code.specs.Masks.{IsMask, mask_bit}
 use Rattle.logos_code.proofs.MaskLemmas.{entry_of_byte}
 
@@ -14,3 +14,8 @@ mask_says test mask byte entry is small here =
     let at : slice_index mask (8 * byte + 0) ≡ mask_bit (test byte) 0 = entry_of_byte test mask byte 0 is small (omega arith) in
     let same : 8 * byte + 0 ≡ 8 * byte = omega arith in
     ap (λ n. n == 0) (here ∙ sym (ap (slice_index mask) same) ∙ at) ∙ bit_says (test byte)
+
+-- a state that is named is one of so many
+pub some_named : (target : Option ℕ) (state count : ℕ) → target ≡ Some state → IfSome target (λ s. s < count) → state < count
+some_named None state count is named = absurd cc
+some_named (Some s) state count is named = let same : s ≡ state = cc in omega (arith, named, same)

@@ -1,9 +1,8 @@
 -- The printed texts of tables.
-use Rattle.std.specs.Prelude.{ℕ, ◌<◌, ◌&&◌, Bool, true, nat_lt, List, [], ◌∷◌, ◌++◌, length, map, codes, if◌then◌else◌}
+use Rattle.std.specs.Prelude.{◌≡◌, ℕ, ◌<◌, ◌&&◌, Bool, true, nat_lt, List, [], ◌∷◌, ◌++◌, length, map, codes, if◌then◌else◌}
 use Rattle.std.specs.Fmt.{decimal}
 use Rattle.std.specs.List.{flat_map}
 use Rattle.logos_code.specs.Code.{CodeValue}
-use Rattle.logos_text.specs.Standing.{StandInOrder}
 use Rattle.logos_tables.specs.Layout.{Tables, Hold}
 use Rattle.logos_tables.specs.Steps.{mark_number, skip_number}
 
@@ -69,8 +68,14 @@ texts_of code tables =
     step_texts tables.classes tables.runs tables.places
     ++ (marks_text code ∷ skips_text code ∷ size_texts code.root (length tables.rows) tables.width)
 
--- Tables that hold what the code does stand in the text, in order, and each of their entries as its digits.
+-- texts, one right after another
+abbrev pub joined : List (List ℕ) → List ℕ
+joined texts = flat_map (λ text. text) texts
+
+-- Tables that hold what the code does stand in the text, one right after another and in order, and each of their entries as its digits.
 pub record HoldsTables (code : CodeValue) (text : List ℕ) : Type 0 where
   pub tables : Tables
   pub hold : Hold code tables
-  pub stand : StandInOrder (texts_of code tables) text
+  pub front : List ℕ
+  pub rest : List ℕ
+  pub is : text ≡ front ++ (joined (texts_of code tables) ++ rest)

@@ -256,35 +256,42 @@ loop {
     let start = lex.offset();
     let _Option::Some(byte) = bytes.get(start) else { return _Option::None };
     let first = _step(_START, *byte);
-    // The state that a match is of, or one without a mark, and where the try is over.
-    let (state, mut at) = if first >= _CLOSES && first < _NOWHERE {
-        (first, start + 1)
-    } else if first >= _STAYS {
-        (_START, start)
-    } else {
-        let (state, next, at) = _walk(bytes, start, first);
-        if next >= _NOWHERE {
-            (state, at)
-        } else if next >= _CLOSES {
-            (next, at + 1)
+    // The mark of the match, or 0, and where the try is over.
+    let (mark, at) = 'found: {
+        // The state that a match is of, or one without a mark.
+        let (state, at) = if first < _STAYS {
+            let (state, next, at) = _walk(bytes, start, first);
+            if next >= _NOWHERE {
+                (state, at)
+            } else if next >= _CLOSES {
+                (next, at + 1)
+            } else {
+                (_START, at)
+            }
+        } else if first.wrapping_sub(_CLOSES) < _LEFT_OUT {
+            // The byte is the whole match, which is not left out.
+            lex.end(start + 1);
+            break 'found (_mark(first), start + 1);
+        } else if first >= _CLOSES && first < _NOWHERE {
+            (first, start + 1)
         } else {
-            (_START, at)
+            (_START, start)
+        };
+        let mark = _mark(state);
+        if mark == 0 {
+            let (mark, end, at) = _try_again(bytes, start);
+            if mark != 0 {
+                lex.end(end);
+            }
+            break 'found (mark, at);
         }
-    };
-    let mut mark = _mark(state);
-    if mark != 0 {
         lex.end(if mark % 2 == 0 { at } else { _before(at) });
         if state & _LEFT_OUT != 0 {
             lex.trivia();
             continue;
         }
-    } else {
-        let end;
-        (mark, end, at) = _try_again(bytes, start);
-        if mark != 0 {
-            lex.end(end);
-        }
-    }
+        (mark, at)
+    };
     match _get_action(lex, at, _LEAVES[mark / 2]) {
         CallbackResult::Emit(token) => return _Option::Some(_Result::Ok(token)),
         CallbackResult::Skip => lex.trivia(),

@@ -1,8 +1,8 @@
 //! Prints a lexer as tables with a loop over them.
 ghost use Rattle.std.specs.Prelude.{◌∷◌, [], IfOk, OnOk, string_bytes};
-ghost use Rattle.logos_text.specs.Standing.{Adds, Grows};
+ghost use Rattle.logos_text.specs.Standing.{Grows};
 ghost use Rattle.logos_tables.specs.Texts.{HoldsTables, marks_text, skips_text};
-ghost use Rattle.logos_tables.specs.inside.Adding.{AddsSteps, AddsTables};
+ghost use Rattle.logos_tables.specs.inside.Adding.{Appends, AppendsSteps, AppendsTables};
 
 use crate::classes::{Classes, classes_of};
 use crate::fixed::LOOP;
@@ -33,7 +33,7 @@ pub fn tables(alloc: Global, made: &Generated<'_>) -> Result<String, Memory>
 
 /// Appends all tables of a code, the names of its leaves, and the type of entries.
 fn push_code(alloc: Global, text: &mut String, code: &Code<'_>) -> Result<(), Memory>
-    ensures { OnOk result (AddsTables code.now (string_bytes text.old) (string_bytes text.new)) }
+    ensures { OnOk result (AppendsTables code.now (string_bytes text.old) (string_bytes text.new)) }
 {
     let rows = rows_of(alloc, code)?;
     let classes = classes_of(alloc, rows.distinct.as_slice())?;
@@ -49,7 +49,7 @@ fn push_code(alloc: Global, text: &mut String, code: &Code<'_>) -> Result<(), Me
 
 /// Appends the tables of steps.
 fn push_rows(alloc: Global, text: &mut String, rows: &Rows, classes: &Classes) -> Result<(), Memory>
-    ensures { OnOk result (AddsSteps classes.now.numbers.items classes.now.symbols.items
+    ensures { OnOk result (AppendsSteps classes.now.numbers.items classes.now.symbols.items
         rows.now.places.items rows.now.distinct.keys (string_bytes text.old)
         (string_bytes text.new)) }
 {
@@ -60,7 +60,7 @@ fn push_rows(alloc: Global, text: &mut String, rows: &Rows, classes: &Classes) -
 
 /// Appends the mark of each state.
 fn push_marks(alloc: Global, text: &mut String, code: &Code<'_>) -> Result<(), Memory>
-    ensures { OnOk result (Adds (marks_text code.now ∷ []) (string_bytes text.old)
+    ensures { OnOk result (Appends (marks_text code.now ∷ []) (string_bytes text.old)
         (string_bytes text.new)) }
 {
     let marks = marks_of(alloc, &code.parts().states)?;
@@ -69,7 +69,7 @@ fn push_marks(alloc: Global, text: &mut String, code: &Code<'_>) -> Result<(), M
 
 /// Appends which leaves are left out.
 fn push_skips(alloc: Global, text: &mut String, code: &Code<'_>) -> Result<(), Memory>
-    ensures { OnOk result (Adds (skips_text code.now ∷ []) (string_bytes text.old)
+    ensures { OnOk result (Appends (skips_text code.now ∷ []) (string_bytes text.old)
         (string_bytes text.new)) }
 {
     let skips = skips_of(alloc, &code.parts().leaves)?;

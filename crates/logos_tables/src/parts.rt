@@ -1,6 +1,7 @@
 //! Prints the parts of the tables.
 ghost use Rattle.std.specs.Prelude.{◌∷◌, [], OnOk, string_bytes};
-ghost use Rattle.logos_text.specs.Standing.{Adds, Grows};
+ghost use Rattle.logos_text.specs.Standing.{Grows};
+ghost use Rattle.logos_tables.specs.inside.Adding.{Appends};
 ghost use Rattle.logos_tables.specs.Texts.{lengths_text, run_steps_text, size_texts, step_texts};
 
 use crate::printing::{push, push_number, push_table};
@@ -16,7 +17,7 @@ pub(crate) fn push_steps(
     runs: &[Run],
     places: &[usize],
 ) -> Result<(), Memory>
-    ensures { OnOk result (Adds (step_texts classes.now runs.now places.now)
+    ensures { OnOk result (Appends (step_texts classes.now runs.now places.now)
         (string_bytes text.old) (string_bytes text.new)) }
 {
     push_table(text, "_CLASSES", classes)?;
@@ -28,7 +29,7 @@ pub(crate) fn push_steps(
 
 /// Appends how many steps each run has.
 fn push_lengths(alloc: Global, text: &mut String, runs: &[Run]) -> Result<(), Memory>
-    ensures { OnOk result (Adds (lengths_text runs.now ∷ []) (string_bytes text.old)
+    ensures { OnOk result (Appends (lengths_text runs.now ∷ []) (string_bytes text.old)
         (string_bytes text.new)) }
 {
     let lengths = lengths_of(alloc, runs)?;
@@ -37,7 +38,7 @@ fn push_lengths(alloc: Global, text: &mut String, runs: &[Run]) -> Result<(), Me
 
 /// Appends the step of each run.
 fn push_run_steps(alloc: Global, text: &mut String, runs: &[Run]) -> Result<(), Memory>
-    ensures { OnOk result (Adds (run_steps_text runs.now ∷ []) (string_bytes text.old)
+    ensures { OnOk result (Appends (run_steps_text runs.now ∷ []) (string_bytes text.old)
         (string_bytes text.new)) }
 {
     let steps = steps_in(alloc, runs)?;
@@ -51,7 +52,7 @@ pub(crate) fn push_sizes(
     height: usize,
     width: usize,
 ) -> Result<(), Memory>
-    ensures { OnOk result (Adds (size_texts root height width) (string_bytes text.old)
+    ensures { OnOk result (Appends (size_texts root height width) (string_bytes text.old)
         (string_bytes text.new)) }
 {
     push_number(text, "_ROOT", root)?;

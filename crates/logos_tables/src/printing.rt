@@ -1,7 +1,8 @@
 //! Prints tables and numbers.
 ghost use Rattle.std.specs.Prelude.{◌≡◌, ◌++◌, ◌∷◌, [], OnOk, string_bytes};
 ghost use Rattle.std.specs.List.{flat_map};
-ghost use Rattle.logos_text.specs.Standing.{Adds, Grows};
+ghost use Rattle.logos_text.specs.Standing.{Grows};
+ghost use Rattle.logos_tables.specs.inside.Adding.{Appends};
 ghost use Rattle.logos_tables.specs.Texts.{are_below, entry_text, head_text};
 ghost use Rattle.logos_tables.specs.Texts.{number_text, table_text, type_text};
 
@@ -17,8 +18,17 @@ pub(crate) fn push(text: &mut String, part: &str) -> Result<(), Memory>
 
 /// Appends a number with a name.
 pub(crate) fn push_number(text: &mut String, name: &str, number: usize) -> Result<(), Memory>
-    ensures { OnOk result (Adds (number_text name.now number ∷ []) (string_bytes text.old)
+    ensures { OnOk result (Appends (number_text name.now number ∷ []) (string_bytes text.old)
         (string_bytes text.new)) }
+{
+    push_whole_number(text, name, number)?;
+    Ok(())
+}
+
+/// Appends a number with a name, and nothing else.
+fn push_whole_number(text: &mut String, name: &str, number: usize) -> Result<(), Memory>
+    ensures { OnOk result (string_bytes text.new
+        ≡ string_bytes text.old ++ number_text name.now number) }
 {
     write!(text, "const {name}: usize = {number};\n")?;
     Ok(())
@@ -26,7 +36,7 @@ pub(crate) fn push_number(text: &mut String, name: &str, number: usize) -> Resul
 
 /// Appends a table with a name, of the shortest type that holds its entries.
 pub(crate) fn push_table(text: &mut String, name: &str, entries: &[usize]) -> Result<(), Memory>
-    ensures { OnOk result (Adds (table_text name.now entries.now ∷ []) (string_bytes text.old)
+    ensures { OnOk result (Appends (table_text name.now entries.now ∷ []) (string_bytes text.old)
         (string_bytes text.new)) }
 {
     push_whole_table(text, name, entries)?;

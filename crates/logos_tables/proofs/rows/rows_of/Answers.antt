@@ -17,5 +17,5 @@ loop-state-preserved c =
 pub returns : goal.returns
 returns c =
     let i = c.loop-state.invariant in
-    let all : c.loop-state.state ≡ length c.args.code.now.states = omega (arith, c.loop-state.auto.state-end, c.loop-state-test.false, c.state_count.ensures) in
+    let all : c.loop-state.state ≡ length c.args.code.now.states = omega (arith, c.loop-state.auto.state-end, c.loop-state-test.false, c.state_count-state-end.ensures) in
     record { count = i.count ∙ all; are = λ s h. i.are s (omega (arith, h, all)) }
