@@ -1,6 +1,5 @@
 -- What the words of a command line ask for.
 use Rattle.std.specs.Prelude.{ℕ, ◌==◌, ◌&&◌, List, [], ◌∷◌, Bool, true, false, Option, Some, None, if◌then◌else◌, option_map, bytes_eq, codes, is_some, not}
-use Rattle.logos_code.specs.declared.code.Config.{Config}
 use Rattle.logos_cli.specs.declared.options.Shape.{Shape}
 use Rattle.logos_cli.specs.declared.options.Shape.TheVariants.{Code, Tables}
 use Rattle.logos_report.specs.declared.color.Color.{Color}

@@ -1,6 +1,5 @@
 -- What a run of the program does, by what its files give. `gives` holds of files, a path, all bytes that are read there, and the files after that; `makes` holds of files, a path, the bytes of the file there from then on, and the files after that.
 use Rattle.std.specs.Prelude.{◌≡◌, ◌⊎◌, ℕ, List, Bool, false, IsTrue, IsSome, Option, Some, None}
-use Rattle.logos_cli.specs.declared.options.Shape.{Shape}
 use Rattle.logos_disk.specs.Reading.{Reads}
 use Rattle.logos_cli.specs.Expanding.{IsExpanded, HasFaults}
 use Rattle.logos_cli.specs.Orders.{Asked, asks_help, asks_version, asks_expansion, OrderValue}

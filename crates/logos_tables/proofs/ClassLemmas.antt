@@ -1,7 +1,7 @@
 -- Classes of symbols.
-use Rattle.std.proofs.Common.{◌≡◌, ℕ, ◌+◌, ◌<◌, ◌≤◌, ◌⊎◌, ⊎_elim, List, [], ◌∷◌, ◌++◌, length, slice_index, slice_index_or, refl, sym, ◌∙◌, ap, subst, arith, length-append}
+use Rattle.std.proofs.Common.{◌≡◌, ℕ, ◌+◌, ◌<◌, ◌⊎◌, ⊎_elim, List, [], ◌∷◌, ◌++◌, length, slice_index, slice_index_or, refl, sym, ◌∙◌, ap, subst, arith, length-append}
 use Rattle.std.proofs.lemmas.List.{get_or_append_left, get_or_push}
-use Rattle.logos_tables.specs.Layout.{Classify, IsClassOf, HaveSameSteps}
+use Rattle.logos_tables.specs.Layout.{Classify, IsClassOf}
 
 either : (a b : ℕ) → a < b + 1 → (a < b) ⊎ (b ≡ a)
 either a b h = grind arith

@@ -1,8 +1,8 @@
 -- Marks of states.
-use Rattle.std.proofs.Common.{◌≡◌, ℕ, ◌+◌, ◌<◌, List, length, map, All, Option, Some, None, IfSome, get_or, option_map, sym, ◌∙◌, ap, subst, arith}
+use Rattle.std.proofs.Common.{◌≡◌, ℕ, ◌+◌, ◌<◌, List, length, map, All, Option, Some, None, IfSome, get_or, option_map, sym, ◌∙◌, ap, arith}
 use Rattle.std.proofs.lemmas.List.{get_or_default, length-map}
 use Rattle.std.proofs.lemmas.Simd.{map-map}
-use Rattle.logos_code.specs.Code.{CodeValue, Mark}
+use Rattle.logos_code.specs.Code.{CodeValue}
 use Rattle.logos_code.specs.CodeView.{code_of, mark_of, state_of, use_of}
 use Rattle.logos_code.specs.Headline.{IsSound, NamesWhatIsThere}
 use Rattle.logos_code.specs.declared.code.CodeLeaf.{CodeLeaf}

@@ -1,6 +1,5 @@
 -- Runs of equal steps.
 use Rattle.std.proofs.Common.{◌≡◌, ℕ, zero, suc, ◌+◌, List, [], ◌∷◌, ◌++◌, append-nil, append_assoc, add-one, refl, sym, ◌∙◌, ap}
-use Rattle.std.specs.List.{flat_map}
 use Rattle.std.proofs.lemmas.Grind.{flat_map-append}
 use Rattle.logos_tables.specs.Layout.{spread, times}
 

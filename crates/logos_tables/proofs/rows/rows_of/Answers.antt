@@ -1,4 +1,4 @@
-use Rattle.std.proofs.Common.{◌≡◌, ◌∙◌, ◌++◌, ◌∷◌, [], length, ap, arith, length-append}
+use Rattle.std.proofs.Common.{◌≡◌, ◌∙◌, ◌∷◌, [], length, ap, arith, length-append}
 use Rattle.logos_tables.specs.RowsView.{rows_of}
 use Rattle.logos_tables.proofs.RowLemmas.{rows_turn}
 use Rattle.logos_tables.proofs.rows.rows_of.Goals as goal

@@ -1,6 +1,4 @@
-use Rattle.std.proofs.Common.{◌≡◌, Option, IfSome, ℕ, All, arith}
-use Rattle.logos_code.specs.Headline.{NamesState, NamesWhatIsThere}
-use Rattle.logos_code.specs.CodeView.{no_state, state_at}
+use Rattle.logos_code.specs.CodeView.{no_state}
 use Rattle.logos_tables.proofs.steps.number_at_end.Goals as goal
 
 pub led_number-requires : goal.led_number-requires

@@ -1,4 +1,3 @@
-use Rattle.std.proofs.Common.{◌≡◌, arith}
 use Rattle.logos_code.specs.CodeView.{no_state, state_at}
 use Rattle.logos_code.proofs.RowLemmas.{target_named}
 use Rattle.logos_tables.proofs.steps.number_of_target.Goals as goal
