@@ -252,7 +252,7 @@ fn _walk(bytes: &[u8], start: usize, first: _Entry) -> (_Entry, _Entry, usize) {
 }
 
 let bytes: &[u8] = lex.source().as_ref();
-loop {
+'tries: loop {
     let start = lex.offset();
     let _Option::Some(byte) = bytes.get(start) else { return _Option::None };
     let first = _step(_START, *byte);
@@ -288,7 +288,7 @@ loop {
         lex.end(if mark % 2 == 0 { at } else { _before(at) });
         if state & _LEFT_OUT != 0 {
             lex.trivia();
-            continue;
+            continue 'tries;
         }
         (mark, at)
     };
