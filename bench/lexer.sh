@@ -73,6 +73,26 @@ if command -v rustc > /dev/null; then
     done
 fi
 
+# Adds the shape of tables, which `logos_cli` prints, as a scanner. The variable CLI names a program to take in its place.
+add_tables() {
+    local name folder cli=${CLI:-$copy/crates/logos_cli/out/logos_cli}
+    if [ -z "${CLI:-}" ]; then
+        [ -d "$copy/crates" ] || copy_crates
+        build "$copy/crates/logos_cli" "$bench/lexer/rules/json.rs"
+    fi
+    for name in "${enums[@]}"; do
+        folder="$copy/$name.tables.text"
+        mkdir "$folder"
+        cp "$copy/$name.tailcall.text"/{main,rules}.rs "$folder"
+        "$cli" "$bench/lexer/rules/$name.rs" --shape tables | sed -n '/^impl < /,$p' > "$folder/lexer.rs"
+        rustc --edition 2021 -C opt-level=3 --extern "logos=$copy/liblogos.rlib" -o "$copy/$name.tables" "$folder/main.rs"
+    done
+    scanners+=(tables)
+}
+if command -v rustc > /dev/null; then
+    add_tables
+fi
+
 for ((run = 0; run < runs; run++)); do
     for text in "${texts[@]}"; do
         for scanner in "${scanners[@]}"; do
@@ -115,7 +135,7 @@ awk -v size="$size" -v texts="${texts[*]}" -v scanners="${scanners[*]}" '
         exit different
     }' "$copy/runs"
 
-if [ "${#lines[@]}" != 0 ] && [ "${#scanners[@]}" = 5 ]; then
+if [ "${#lines[@]}" != 0 ] && [ "${#scanners[@]}" = 6 ]; then
     echo
     echo "| Text | Lines | logos lex | MiB | tailcall | MiB | state_machine | MiB | logos lex by the fastest other |"
     echo "|---|---|---|---|---|---|---|---|---|"

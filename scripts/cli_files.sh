@@ -14,7 +14,7 @@ printf 'use logos::Logos;\n#[derive(Logos)]\nenum T { #[token("a")] A }\n' > sou
 printf '#[derive(Logos)]\nenum T { #[token] A }\n' > faulty.rs
 printf 'enum \xff' > torn.rs
 mkdir folder
-usage='usage: logos_cli INPUT [--output FILE] [--check] [--shape tailcall|state_machine] [--color always|never|auto]'
+usage='usage: logos_cli INPUT [--output FILE] [--check] [--shape tailcall|state_machine|tables] [--color always|never|auto]'
 met=0
 
 fail() {

@@ -2,7 +2,7 @@
 # Takes lexers as users of Logos write them through `logos_cli` and rustc, and compares the items with those of `logos_show`.
 #
 # Each file of examples/lexers is a whole Rust file, with `use` lines and other items beside the enum; beside it stands an input. The
-# derive is expanded in both shapes, all other lines have to stay, rustc compiles the result beside runtime/rust, and
+# derive is expanded in all three shapes, all other lines have to stay, rustc compiles the result beside runtime/rust, and
 # what the compiled lexer finds in the input is compared with what `logos_show` prints, line by line.
 #
 # It needs rustc, and the programs that the gate has built, or the first two arguments.
@@ -46,7 +46,7 @@ for file in "$root"/examples/lexers/*.rs; do
     "$show" "$file" "$root/examples/lexers/$name.input" --enum "$enum" > "$room/shown"
     sed '/^$/,$d' "$room/shown" > "$room/wanted"
     [ -s "$room/wanted" ] || fail "$name has no items"
-    for shape in state_machine tailcall; do
+    for shape in state_machine tailcall tables; do
         folder=$room/$name.$shape
         mkdir "$folder"
         "$cli" "$file" --shape "$shape" --output "$folder/lexer.rs"
@@ -61,5 +61,5 @@ for file in "$root"/examples/lexers/*.rs; do
     items=$((items + $(wc -l < "$room/wanted")))
 done
 [ "$found" = "$lexers" ] || fail "$found lexers in place of $lexers"
-echo "real_lexers: $found lexers in two shapes, $items items each"
-echo "$((2 * found)) passed, 0 failed"
+echo "real_lexers: $found lexers in three shapes, $items items each"
+echo "$((3 * found)) passed, 0 failed"

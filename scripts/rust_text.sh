@@ -1,7 +1,7 @@
 #!/usr/bin/env bash
-# Compiles the Rust texts that `logos gen` prints and compares what they find with `logos lex`.
+# Compiles the Rust texts that `logos gen` prints, and those that `logos_cli --shape tables` does, and compares what they find with `logos lex`.
 #
-# Each source of scripts/rust_text/sources, and some from elsewhere in the repository, is stripped, and printed in both shapes. rustc compiles all
+# Each source of scripts/rust_text/sources, and some from elsewhere in the repository, is stripped, and printed in all three shapes. rustc compiles all
 # texts at once over runtime/rust, and what comes of each input of scripts/rust_text/inputs is compared, item by item; a source with
 # inputs of its own in scripts/rust_text/own, NAME or NAME.ANYTHING, reads these alone. The lines of scripts/rust_text/rows are small sources: a
 # name, an enum, and inputs, parted by tabs. A source has at most one attribute on a variant, so that a variant's place gives its leaf, and each
@@ -15,20 +15,24 @@
 # where a skip's callback has to say that it was called, `made` in front of `error` where the callback that makes errors has to say so. Each prints
 # where the lexer stands, and `told`, in the file beside, looks at the value of each error.
 #
+# The tables of a source have to find in each beginning of an input, up to 512 bytes of it, what its code finds there.
+#
 # An input that is not UTF-8 has to be refused by each source that does not read bytes, and is then compared no further. Which inputs and
 # sources these are, and how many comparisons and refusals there have to be, is stated here.
 #
-# It needs rustc, and the program as `rt ci` leaves it in crates/logos_program/out, or the first argument.
+# It needs rustc, and the programs as `rt ci` leaves them in crates/logos_program/out and crates/logos_cli/out, or the two arguments.
 set -euo pipefail
 
-comparisons=384
-refusals=60
+comparisons=576
+refusals=90
 # The inputs that are not UTF-8, with the length of their longest beginning that is, and the sources that read bytes.
 declare -A not_utf8=([bytes]=2 [marks]=31 [records]=0 [program]=97)
 of_bytes=' bytes marks program records '
 root=$(cd "$(dirname "${BASH_SOURCE[0]}")/.." && pwd)
 here=$root/scripts/rust_text
 logos=$(realpath "${1:-$root/crates/logos_program/out/logos_program}")
+cli=$(realpath "${2:-$root/crates/logos_cli/out/logos_cli}")
+shapes=(state_machine tailcall tables)
 room=$(mktemp -d)
 trap 'rm -rf "$room"' EXIT
 exec 3>&1
@@ -87,6 +91,19 @@ lines_function() {
     fi
 }
 
+# Prints a source without what belongs to the derive, and its lexer in a shape.
+lexer_text() {
+    local source=$1 shape=$2 name
+    name=$(basename "$source" .rs)
+    if [ "$shape" = tables ]; then
+        { grep -q 'derive(.*Logos' "$source" || echo '#[derive(Logos)]'; cat "$source"; } > "$room/derived.rs"
+        "$cli" "$room/derived.rs" --shape tables || fail "$name is not expanded"
+        return
+    fi
+    "$logos" strip "$source" || fail "$name is not stripped"
+    "$logos" gen "$source" --shape "$shape" || fail "$name is not printed in the shape $shape"
+}
+
 # Writes a program with a module for each source and shape, and an arm for each in `main`, and compiles it.
 compile() {
     local source name shape arms=
@@ -94,20 +111,20 @@ compile() {
     for source in "$room"/sources/*.rs; do
         name=$(basename "$source" .rs)
         [ ! -e "$here/told/$name.sed" ] || with_skips_shown "$source" > "$room/$name.shown.rs"
-        for shape in state_machine tailcall; do
+        for shape in "${shapes[@]}"; do
             { echo "mod ${name}_$shape {"
-              "$logos" strip "$source" || fail "$name is not stripped"
-              "$logos" gen "$source" --shape "$shape" || fail "$name is not printed in the shape $shape"
+              lexer_text "$source" "$shape"
               lines_function "$name"
               echo "}"; } >> "$room/main.rs"
-            arms+="(\"$name\", \"$shape\") => ${name}_$shape::lines(&input), "
+            arms+="(\"$name\", \"$shape\") => ${name}_$shape::lines(input), "
         done
     done
     { echo "fn main() {"
       echo "let words: Vec<String> = std::env::args().collect();"
-      echo "let input = std::fs::read(&words[3]).expect(\"an input\");"
+      echo "let whole = std::fs::read(&words[3]).expect(\"an input\");"
+      echo "for input in inputs(&whole, words.get(4)) {"
       echo "match (words[1].as_str(), words[2].as_str()) { $arms _ => panic!(\"no such text\") }"
-      echo "}"; } >> "$room/main.rs"
+      echo "} }"; } >> "$room/main.rs"
     rustc --edition 2021 --crate-type rlib --crate-name logos -o "$room/liblogos.rlib" "$root/runtime/rust/src/lib.rs"
     rustc --edition 2021 --crate-type proc-macro --crate-name serde -o "$room/libserde.so" "$here/serde.rs"
     rustc --edition 2021 --extern "logos=$room/liblogos.rlib" --extern "serde=$room/libserde.so" -o "$room/items" "$room/main.rs"
@@ -116,6 +133,7 @@ compile() {
 # Runs `logos lex`, and makes of its output the lines that an input has to give.
 ask_lexer() {
     local name=$1 input=$2 shape=$3
+    [ "$shape" != tables ] || shape=state_machine
     if [ ! -e "$here/told/$name.sed" ]; then
         "$logos" lex "$room/sources/$name.rs" "$input" --shape "$shape" > "$room/wanted" 2> "$room/complaint"
         return
@@ -142,7 +160,19 @@ compare() {
         diff "$room/wanted" "$room/found" >&2 || true
         fail "$what finds other items"
     fi
+    [ "$shape" != tables ] || compare_cuts "$name" "$input"
     compared=$((compared + 1))
+}
+
+# Compares what the tables of a source find in each beginning of an input with what its code finds there.
+compare_cuts() {
+    local name=$1 input=$2 kind=text shape
+    [[ $of_bytes != *" $name "* ]] || kind=bytes
+    for shape in state_machine tables; do
+        "$room/items" "$name" "$shape" "$input" "$kind" > "$room/cuts.$shape" || fail "the $shape text of $name on beginnings of $(basename "$input") does not end well"
+    done
+    cmp -s "$room/cuts.state_machine" "$room/cuts.tables" || fail "the tables of $name find other items in a beginning of $(basename "$input")"
+    grep -q '^cut 0$' "$room/cuts.tables" || fail "$name on $(basename "$input") was not cut"
 }
 
 command -v rustc > /dev/null || fail "rustc is missing"
@@ -150,7 +180,7 @@ lay_out
 compile
 for inputs in "$room"/inputs/*; do
     for input in "$inputs"/*; do
-        for shape in state_machine tailcall; do
+        for shape in "${shapes[@]}"; do
             compare "$(basename "$inputs")" "$input" "$shape"
         done
     done

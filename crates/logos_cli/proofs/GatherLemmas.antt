@@ -6,13 +6,13 @@ use Rattle.std.proofs.lemmas.List.Elements.{Contains-append_right, Contains-appe
 use Rattle.std.proofs.Math.Seq.{drop-cons}
 use Rattle.std.proofs.Math.ListN.{drop_of_length-le}
 use Rattle.logos_code.specs.Code.{CodeValue}
-use Rattle.logos_code.specs.declared.code.Config.{Config}
+use Rattle.logos_cli.specs.declared.options.Shape.{Shape}
 use Rattle.logos_codegen.specs.Given.{IsGiven}
 use Rattle.logos_codegen.specs.Source.{IsRefused}
 use Rattle.logos_codegen.specs.Source.IsRefused.{unread}
 use Rattle.logos_cli.specs.declared.expanding.Gathered.{Gathered}
 use Rattle.logos_cli.specs.declared.expanding.Refused.{Refused}
-use Rattle.logos_cli.specs.Expanding.{FailsBy, HasFaults, HasFaultyEnum, IsExpansion, IsExpanded, IsLexerText, IsUnreadable, Replaces, text_at}
+use Rattle.logos_cli.specs.Expanding.{FailsBy, HasFaults, HasFaultyEnum, IsExpansion, IsExpanded, IsLexerText, IsUnreadable, Replaces, config_of, text_at}
 use Rattle.logos_cli.specs.Expanding.Replaces.{ended as r_ended, stays as r_stays, gives as r_gives}
 use Rattle.logos_cli.specs.inside.Gathering.{AddsRefusal, AreFaultsOf, Gathers, GathersAll, GathersOne, IsExpansionBy, IsPrintedWith}
 use Rattle.logos_cli.specs.inside.Gathering.Gathers.{ended as g_ended, stays as g_stays, gives as g_gives, refuses as g_refuses}
@@ -31,30 +31,30 @@ use Rattle.logos_token.specs.Faults.{Fault}
 -- ---- the enums of a file, one after another
 
 -- the enums up to a place were gathered: with what the others give it is what all give
-pub record SoFar (config : Config) (text : List ℕ) (found left : List FoundEnum) (gathered : Gathered) : Type 0 where
+pub record SoFar (shape : Shape) (text : List ℕ) (found left : List FoundEnum) (gathered : Gathered) : Type 0 where
   pub from : ℕ
   pub order : AreInOrder from (map found_span left) (length text)
-  pub completes : (more : List Replacement) (worse : List Refused) → Gathers config text left more worse → Gathers config text found (gathered.parts.items ++ more) (gathered.refused.items ++ worse)
+  pub completes : (more : List Replacement) (worse : List Refused) → Gathers shape text left more worse → Gathers shape text found (gathered.parts.items ++ more) (gathered.refused.items ++ worse)
 
-pub begun : (config : Config) (text : List ℕ) (found : List FoundEnum) (gathered : Gathered) → gathered.parts.items ≡ [] → gathered.refused.items ≡ [] → AreInOrder 0 (map found_span found) (length text) →
-    SoFar config text found found gathered
-begun config text found gathered p r o = record { from = 0; order = o; completes = λ more worse g. rw (p, r) g }
+pub begun : (shape : Shape) (text : List ℕ) (found : List FoundEnum) (gathered : Gathered) → gathered.parts.items ≡ [] → gathered.refused.items ≡ [] → AreInOrder 0 (map found_span found) (length text) →
+    SoFar shape text found found gathered
+begun shape text found gathered p r o = record { from = 0; order = o; completes = λ more worse g. rw (p, r) g }
 
-pub further : (config : Config) (text : List ℕ) (found : List FoundEnum) (one : FoundEnum) (left : List FoundEnum) (old new : Gathered) → SoFar config text found (one ∷ left) old → GathersOne config text one old new →
-    SoFar config text found left new
-further config text found one left old new s g = record {
+pub further : (shape : Shape) (text : List ℕ) (found : List FoundEnum) (one : FoundEnum) (left : List FoundEnum) (old new : Gathered) → SoFar shape text found (one ∷ left) old → GathersOne shape text one old new →
+    SoFar shape text found left new
+further shape text found one left old new s g = record {
   from = one.span.to;
   order = s.order.2;
   completes = λ more worse h.
-      subst (λ ps. Gathers config text found ps (new.refused.items ++ worse)) (sym (ap (λ x. x ++ more) g.parts_are ∙ append_assoc old.parts.items g.parts more))
-      (subst (λ rs. Gathers config text found (old.parts.items ++ (g.parts ++ more)) rs) (sym (ap (λ x. x ++ worse) g.refused_are ∙ append_assoc old.refused.items g.refused worse))
+      subst (λ ps. Gathers shape text found ps (new.refused.items ++ worse)) (sym (ap (λ x. x ++ more) g.parts_are ∙ append_assoc old.parts.items g.parts more))
+      (subst (λ rs. Gathers shape text found (old.parts.items ++ (g.parts ++ more)) rs) (sym (ap (λ x. x ++ worse) g.refused_are ∙ append_assoc old.refused.items g.refused worse))
       (s.completes (g.parts ++ more) (g.refused ++ worse) (g.completes left more worse h)));
 }
 
-pub ended : (config : Config) (text : List ℕ) (found : List FoundEnum) (gathered : Gathered) → SoFar config text found [] gathered → GathersAll config text found gathered
-ended config text found gathered s =
-    subst (λ ps. Gathers config text found ps gathered.refused.items) (append-nil gathered.parts.items)
-    (subst (λ rs. Gathers config text found (gathered.parts.items ++ []) rs) (append-nil gathered.refused.items) (s.completes [] [] g_ended))
+pub ended : (shape : Shape) (text : List ℕ) (found : List FoundEnum) (gathered : Gathered) → SoFar shape text found [] gathered → GathersAll shape text found gathered
+ended shape text found gathered s =
+    subst (λ ps. Gathers shape text found ps gathered.refused.items) (append-nil gathered.parts.items)
+    (subst (λ rs. Gathers shape text found (gathered.parts.items ++ []) rs) (append-nil gathered.refused.items) (s.completes [] [] g_ended))
 
 -- the same by the number of the next enum
 next_left : (found : List FoundEnum) (i : ℕ) (d : FoundEnum) → i < length found → drop i found ≡ get_or found i d ∷ drop (i + 1) found
@@ -62,24 +62,24 @@ next_left found i d l =
     let k : suc i ≡ i + 1 = omega arith in
     drop-cons found i d l ∙ ap (λ n. get_or found i d ∷ drop n found) k
 
-pub further_at : (config : Config) (text : List ℕ) (found : List FoundEnum) (i : ℕ) (d : FoundEnum) (old new : Gathered) → i < length found → SoFar config text found (drop i found) old →
-    GathersOne config text (get_or found i d) old new → SoFar config text found (drop (i + 1) found) new
-further_at config text found i d old new l s g = further config text found (get_or found i d) (drop (i + 1) found) old new (subst (λ left. SoFar config text found left old) (next_left found i d l) s) g
+pub further_at : (shape : Shape) (text : List ℕ) (found : List FoundEnum) (i : ℕ) (d : FoundEnum) (old new : Gathered) → i < length found → SoFar shape text found (drop i found) old →
+    GathersOne shape text (get_or found i d) old new → SoFar shape text found (drop (i + 1) found) new
+further_at shape text found i d old new l s g = further shape text found (get_or found i d) (drop (i + 1) found) old new (subst (λ left. SoFar shape text found left old) (next_left found i d l) s) g
 
-pub ended_at : (config : Config) (text : List ℕ) (found : List FoundEnum) (i : ℕ) (gathered : Gathered) → length found ≤ i → SoFar config text found (drop i found) gathered → GathersAll config text found gathered
-ended_at config text found i gathered l s = ended config text found gathered (subst (λ left. SoFar config text found left gathered) (drop_of_length-le found l) s)
+pub ended_at : (shape : Shape) (text : List ℕ) (found : List FoundEnum) (i : ℕ) (gathered : Gathered) → length found ≤ i → SoFar shape text found (drop i found) gathered → GathersAll shape text found gathered
+ended_at shape text found i gathered l s = ended shape text found gathered (subst (λ left. SoFar shape text found left gathered) (drop_of_length-le found l) s)
 
 -- the next enum is not empty
-pub ordered_at : (config : Config) (text : List ℕ) (found : List FoundEnum) (i : ℕ) (d : FoundEnum) (gathered : Gathered) → i < length found → SoFar config text found (drop i found) gathered →
+pub ordered_at : (shape : Shape) (text : List ℕ) (found : List FoundEnum) (i : ℕ) (d : FoundEnum) (gathered : Gathered) → i < length found → SoFar shape text found (drop i found) gathered →
     (get_or found i d).span.from ≤ (get_or found i d).span.to
-ordered_at config text found i d gathered l s =
-    let o = subst (λ left. SoFar config text found left gathered) (next_left found i d l) s in
+ordered_at shape text found i d gathered l s =
+    let o = subst (λ left. SoFar shape text found left gathered) (next_left found i d l) s in
     omega (arith, o.order.1)
 
 -- ---- one enum
 
-pub stays_one : (config : Config) (text : List ℕ) (one : FoundEnum) (gathered : Gathered) → one.derives ≡ false → GathersOne config text one gathered gathered
-stays_one config text one gathered e = record {
+pub stays_one : (shape : Shape) (text : List ℕ) (one : FoundEnum) (gathered : Gathered) → one.derives ≡ false → GathersOne shape text one gathered gathered
+stays_one shape text one gathered e = record {
   parts = [];
   refused = [];
   parts_are = sym (append-nil gathered.parts.items);
@@ -87,14 +87,14 @@ stays_one config text one gathered e = record {
   completes = λ rest more worse g. g_stays e g;
 }
 
-pub gives_one : (config : Config) (text : List ℕ) (one : FoundEnum) (part : Replacement) (old new : Gathered) (source : List ℕ) → source ≡ text_at text one → one.derives ≡ true → part.span ≡ one.span →
-    IsExpansion config source (string_bytes part.text) → new.parts.items ≡ old.parts.items ++ part ∷ [] → new.refused.items ≡ old.refused.items → GathersOne config text one old new
-gives_one config text one part old new source k e s x p r = record {
+pub gives_one : (shape : Shape) (text : List ℕ) (one : FoundEnum) (part : Replacement) (old new : Gathered) (source : List ℕ) → source ≡ text_at text one → one.derives ≡ true → part.span ≡ one.span →
+    IsExpansion shape source (string_bytes part.text) → new.parts.items ≡ old.parts.items ++ part ∷ [] → new.refused.items ≡ old.refused.items → GathersOne shape text one old new
+gives_one shape text one part old new source k e s x p r = record {
   parts = part ∷ [];
   refused = [];
   parts_are = p;
   refused_are = r ∙ sym (append-nil old.refused.items);
-  completes = λ rest more worse g. g_gives e s (subst (λ bytes. IsExpansion config bytes (string_bytes part.text)) k x) g;
+  completes = λ rest more worse g. g_gives e s (subst (λ bytes. IsExpansion shape bytes (string_bytes part.text)) k x) g;
 }
 
 -- a refusal has faults of which this holds
@@ -102,9 +102,9 @@ faults_hold : (Hold : List Fault → Type 0) (refusal : Refusal) (faults : List 
 faults_hold Hold (refusals.Errors errors) faults h a = subst Hold (sym a) h
 faults_hold Hold refusals.Memory faults h a = absurd a
 
-pub refuses_one : (config : Config) (text : List ℕ) (one : FoundEnum) (refusal : Refusal) (old new : Gathered) (source : List ℕ) → source ≡ text_at text one → one.derives ≡ true → Refuses (IsRefused source) refusal →
-    AddsRefusal one.span.from refusal old.refused.items new.refused.items → new.parts.items ≡ old.parts.items → GathersOne config text one old new
-refuses_one config text one refusal old new source k e h a p = record {
+pub refuses_one : (shape : Shape) (text : List ℕ) (one : FoundEnum) (refusal : Refusal) (old new : Gathered) (source : List ℕ) → source ≡ text_at text one → one.derives ≡ true → Refuses (IsRefused source) refusal →
+    AddsRefusal one.span.from refusal old.refused.items new.refused.items → new.parts.items ≡ old.parts.items → GathersOne shape text one old new
+refuses_one shape text one refusal old new source k e h a p = record {
   parts = [];
   refused = a.bad ∷ [];
   parts_are = p ∙ sym (append-nil old.parts.items);
@@ -114,20 +114,20 @@ refuses_one config text one refusal old new source k e h a p = record {
 
 -- ---- all enums
 
-replaces_all : (config : Config) (text : List ℕ) (found : List FoundEnum) (parts : List Replacement) (refused : List Refused) → Gathers config text found parts refused → refused ≡ [] → Replaces config text found parts
-replaces_all config text _ _ _ g_ended e = r_ended
-replaces_all config text _ _ _ (g_stays d g) e = r_stays d (replaces_all config text _ _ _ g e)
-replaces_all config text _ _ _ (g_gives d s x g) e = r_gives d s x (replaces_all config text _ _ _ g e)
-replaces_all config text _ _ _ (g_refuses d s x g) e = absurd cc
+replaces_all : (shape : Shape) (text : List ℕ) (found : List FoundEnum) (parts : List Replacement) (refused : List Refused) → Gathers shape text found parts refused → refused ≡ [] → Replaces shape text found parts
+replaces_all shape text _ _ _ g_ended e = r_ended
+replaces_all shape text _ _ _ (g_stays d g) e = r_stays d (replaces_all shape text _ _ _ g e)
+replaces_all shape text _ _ _ (g_gives d s x g) e = r_gives d s x (replaces_all shape text _ _ _ g e)
+replaces_all shape text _ _ _ (g_refuses d s x g) e = absurd cc
 
 -- the result of a file without faults
-pub expanded_all : (config : Config) (text bytes : List ℕ) (found : List FoundEnum) (gathered : Gathered) → AreEnumsOf text found → GathersAll config text found gathered → gathered.refused.items ≡ [] →
-    bytes ≡ replaced text 0 gathered.parts.items → IsExpanded config text bytes
-expanded_all config text bytes found gathered a g e b = record {
+pub expanded_all : (shape : Shape) (text bytes : List ℕ) (found : List FoundEnum) (gathered : Gathered) → AreEnumsOf text found → GathersAll shape text found gathered → gathered.refused.items ≡ [] →
+    bytes ≡ replaced text 0 gathered.parts.items → IsExpanded shape text bytes
+expanded_all shape text bytes found gathered a g e b = record {
   found = found;
   parts = gathered.parts.items;
   are = a;
-  replaces = replaces_all config text found gathered.parts.items gathered.refused.items g e;
+  replaces = replaces_all shape text found gathered.parts.items gathered.refused.items g e;
   is = b;
 }
 
@@ -142,15 +142,15 @@ record Faulty (text : List ℕ) (found : List FoundEnum) : Type 0 where
 later_faulty : (text : List ℕ) (one : FoundEnum) (rest : List FoundEnum) → Faulty text rest → Faulty text (one ∷ rest)
 later_faulty text one rest f = record { one = f.one; contains = Contains-append_right (one ∷ []) rest f.one f.contains; derives = f.derives; faults = f.faults; refused = f.refused }
 
-faulty_one : (config : Config) (text : List ℕ) (found : List FoundEnum) (parts : List Replacement) (refused : List Refused) → Gathers config text found parts refused → 0 < length refused → Faulty text found
-faulty_one config text _ _ _ g_ended l = absurd (omega (arith, l))
-faulty_one config text _ _ _ (g_stays {one} {rest} d g) l = later_faulty text one rest (faulty_one config text rest _ _ g l)
-faulty_one config text _ _ _ (g_gives {one} {part} {rest} d s x g) l = later_faulty text one rest (faulty_one config text rest _ _ g l)
-faulty_one config text _ _ _ (g_refuses {one} {bad} {rest} d s x g) l = record { one = one; contains = (0, omega arith, refl); derives = d; faults = bad.errors; refused = x }
+faulty_one : (shape : Shape) (text : List ℕ) (found : List FoundEnum) (parts : List Replacement) (refused : List Refused) → Gathers shape text found parts refused → 0 < length refused → Faulty text found
+faulty_one shape text _ _ _ g_ended l = absurd (omega (arith, l))
+faulty_one shape text _ _ _ (g_stays {one} {rest} d g) l = later_faulty text one rest (faulty_one shape text rest _ _ g l)
+faulty_one shape text _ _ _ (g_gives {one} {part} {rest} d s x g) l = later_faulty text one rest (faulty_one shape text rest _ _ g l)
+faulty_one shape text _ _ _ (g_refuses {one} {bad} {rest} d s x g) l = record { one = one; contains = (0, omega arith, refl); derives = d; faults = bad.errors; refused = x }
 
-pub faulty_file : (config : Config) (text : List ℕ) (found : List FoundEnum) (gathered : Gathered) → AreEnumsOf text found → GathersAll config text found gathered → 0 < length gathered.refused.items → HasFaults text
-faulty_file config text found gathered a g l =
-    let f = faulty_one config text found gathered.parts.items gathered.refused.items g l in
+pub faulty_file : (shape : Shape) (text : List ℕ) (found : List FoundEnum) (gathered : Gathered) → AreEnumsOf text found → GathersAll shape text found gathered → 0 < length gathered.refused.items → HasFaults text
+faulty_file shape text found gathered a g l =
+    let f = faulty_one shape text found gathered.parts.items gathered.refused.items g l in
     inr (record { found = found; are = a; one = f.one; contains = f.contains; derives = f.derives; faults = f.faults; refused = f.refused })
 
 -- ---- the parts stand in order
@@ -159,24 +159,24 @@ earlier : (from place : ℕ) (spans : List Span) (to : ℕ) → from ≤ place �
 earlier from place [] to l s = omega (arith, l, s)
 earlier from place (span ∷ rest) to l s = (omega (arith, l, s.0), s.1, s.2)
 
-order_parts : (config : Config) (text : List ℕ) (found : List FoundEnum) (parts : List Replacement) (refused : List Refused) (from to : ℕ) → Gathers config text found parts refused → AreInOrder from (map found_span found) to →
+order_parts : (shape : Shape) (text : List ℕ) (found : List FoundEnum) (parts : List Replacement) (refused : List Refused) (from to : ℕ) → Gathers shape text found parts refused → AreInOrder from (map found_span found) to →
     AreInOrder from (map place_of parts) to
-order_parts config text _ _ _ from to g_ended o = o
-order_parts config text _ _ _ from to (g_stays {one} {rest} {parts} {refused} d g) o =
-    earlier from one.span.to (map place_of parts) to (omega (arith, o.0, o.1)) (order_parts config text rest parts refused one.span.to to g o.2)
-order_parts config text _ _ _ from to (g_gives {one} {part} {rest} {parts} {refused} d s x g) o =
-    rw s (o.0, o.1, order_parts config text rest parts refused one.span.to to g o.2)
-order_parts config text _ _ _ from to (g_refuses {one} {bad} {rest} {parts} {refused} d s x g) o =
-    earlier from one.span.to (map place_of parts) to (omega (arith, o.0, o.1)) (order_parts config text rest parts refused one.span.to to g o.2)
+order_parts shape text _ _ _ from to g_ended o = o
+order_parts shape text _ _ _ from to (g_stays {one} {rest} {parts} {refused} d g) o =
+    earlier from one.span.to (map place_of parts) to (omega (arith, o.0, o.1)) (order_parts shape text rest parts refused one.span.to to g o.2)
+order_parts shape text _ _ _ from to (g_gives {one} {part} {rest} {parts} {refused} d s x g) o =
+    rw s (o.0, o.1, order_parts shape text rest parts refused one.span.to to g o.2)
+order_parts shape text _ _ _ from to (g_refuses {one} {bad} {rest} {parts} {refused} d s x g) o =
+    earlier from one.span.to (map place_of parts) to (omega (arith, o.0, o.1)) (order_parts shape text rest parts refused one.span.to to g o.2)
 
-pub ordered_parts : (config : Config) (text : List ℕ) (found : List FoundEnum) (gathered : Gathered) → GathersAll config text found gathered → AreInOrder 0 (map found_span found) (length text) →
+pub ordered_parts : (shape : Shape) (text : List ℕ) (found : List FoundEnum) (gathered : Gathered) → GathersAll shape text found gathered → AreInOrder 0 (map found_span found) (length text) →
     AreInOrder 0 (map place_of gathered.parts.items) (length text)
-ordered_parts config text found gathered g o = order_parts config text found gathered.parts.items gathered.refused.items 0 (length text) g o
+ordered_parts shape text found gathered g o = order_parts shape text found gathered.parts.items gathered.refused.items 0 (length text) g o
 
 -- ---- the expansion of an enum
 
-pub expansion_made : (config : Config) (source shown : List ℕ) (graph : GraphValue) (code : CodeValue) (name : Slice) (export : Option (List ℕ)) → IsGiven source config graph code name export → IsExpansionBy code source shown → IsExpansion config source shown
-expansion_made config source shown graph code name export g b = record {
+pub expansion_made : (shape : Shape) (source shown : List ℕ) (graph : GraphValue) (code : CodeValue) (name : Slice) (export : Option (List ℕ)) → IsGiven source (config_of shape) graph code name export → IsExpansionBy shape code source shown → IsExpansion shape source shown
+expansion_made shape source shown graph code name export g b = record {
   left = b.left;
   lexer = b.prints.lexer;
   stripped = b.stripped;
@@ -194,10 +194,10 @@ pub unread_refused : (source : List ℕ) (refusal : Refusal) → Refuses (IsUnre
 unread_refused source (refusals.Errors errors) h = unread h.1 h.2
 unread_refused source refusals.Memory h = tt
 
-pub expansion_all : {A E : Type 0} (f : A → List ℕ) (result : Result A E) (config : Config) (source : List ℕ) (graph : GraphValue) (code : CodeValue) (name : Slice) (export : Option (List ℕ)) → IsGiven source config graph code name export →
-    IfOk result (λ text. IsExpansionBy code source (f text)) → IfOk result (λ text. IsExpansion config source (f text))
-expansion_all f (Ok text) config source graph code name export g b = expansion_made config source (f text) graph code name export g b
-expansion_all f (Err error) config source graph code name export g b = tt
+pub expansion_all : {A E : Type 0} (f : A → List ℕ) (result : Result A E) (shape : Shape) (source : List ℕ) (graph : GraphValue) (code : CodeValue) (name : Slice) (export : Option (List ℕ)) → IsGiven source (config_of shape) graph code name export →
+    IfOk result (λ text. IsExpansionBy shape code source (f text)) → IfOk result (λ text. IsExpansion shape source (f text))
+expansion_all f (Ok text) shape source graph code name export g b = expansion_made shape source (f text) graph code name export g b
+expansion_all f (Err error) shape source graph code name export g b = tt
 
 -- what holds after success gives something else
 pub ok_then : {A E One Other : Type 0} (result : Result A E) → (One → Other) → OnOk result One → OnOk result Other
@@ -205,9 +205,9 @@ ok_then (Ok done) f h = f h
 ok_then (Err error) f h = tt
 
 -- an enum with faults was gathered, where there was memory for them
-pub refuses_then : {A E : Type 0} (result : Result A E) (config : Config) (text : List ℕ) (one : FoundEnum) (refusal : Refusal) (old new : Gathered) (source : List ℕ) → Refuses (IsRefused source) refusal →
-    OnOk result (AddsRefusal one.span.from refusal old.refused.items new.refused.items) → new.parts.items ≡ old.parts.items → source ≡ text_at text one → one.derives ≡ true → OnOk result (GathersOne config text one old new)
-refuses_then result config text one refusal old new source h a p k e = ok_then result (λ b. refuses_one config text one refusal old new source k e h b p) a
+pub refuses_then : {A E : Type 0} (result : Result A E) (shape : Shape) (text : List ℕ) (one : FoundEnum) (refusal : Refusal) (old new : Gathered) (source : List ℕ) → Refuses (IsRefused source) refusal →
+    OnOk result (AddsRefusal one.span.from refusal old.refused.items new.refused.items) → new.parts.items ≡ old.parts.items → source ≡ text_at text one → one.derives ≡ true → OnOk result (GathersOne shape text one old new)
+refuses_then result shape text one refusal old new source h a p k e = ok_then result (λ b. refuses_one shape text one refusal old new source k e h b p) a
 
 -- a list is not empty, by its length
 pub some_left : {A : Type 0} {n : ℕ} (items : List A) → n ≡ length items → (n == 0) ≡ false → 0 < length items

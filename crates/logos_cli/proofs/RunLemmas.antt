@@ -15,12 +15,12 @@ module _ {F : Type 0} (gives : F → List ℕ → List ℕ → F → Type 0) (or
   pub denied_faults : (stop : Stop) → gives files order.input text after → shown ≡ text → FailsBy (HasFaults shown) stop → FailsBy (IsDeniedOrder gives order files) stop
   denied_faults stop g e h = fails_also stop (λ faults. record { bytes = text; after = after; given = g; holds = inl (subst HasFaults e faults) }) h
 
-  denied_check : (bytes : List ℕ) (stop : Stop) → gives files order.input text after → shown ≡ text → IsExpanded order.config shown bytes → FailsBy (IsTrue order.is_check) stop → FailsBy (IsDeniedOrder gives order files) stop
+  denied_check : (bytes : List ℕ) (stop : Stop) → gives files order.input text after → shown ≡ text → IsExpanded order.shape shown bytes → FailsBy (IsTrue order.is_check) stop → FailsBy (IsDeniedOrder gives order files) stop
   denied_check bytes stop g e x h =
-      fails_also stop (λ check. record { bytes = text; after = after; given = g; holds = inr (check, (bytes, subst (λ t. IsExpanded order.config t bytes) e x)) }) h
+      fails_also stop (λ check. record { bytes = text; after = after; given = g; holds = inr (check, (bytes, subst (λ t. IsExpanded order.shape t bytes) e x)) }) h
 
   -- its expansion was only to be compared
-  pub denied_otherwise : {A : Type 0} (result : Result A Stop) (bytes : List ℕ) → gives files order.input text after → shown ≡ text → IsExpanded order.config shown bytes →
+  pub denied_otherwise : {A : Type 0} (result : Result A Stop) (bytes : List ℕ) → gives files order.input text after → shown ≡ text → IsExpanded order.shape shown bytes →
       IfErr result (FailsBy (IsTrue order.is_check)) → IfErr result (FailsBy (IsDeniedOrder gives order files))
   denied_otherwise (Ok done) bytes g e x h = tt
   denied_otherwise (Err stop) bytes g e x h = denied_check bytes stop g e x h

@@ -3,6 +3,9 @@ use Rattle.std.specs.Prelude.{◌≡◌, ◌⊎◌, ℕ, List, [], ◌∷◌, �
 use Rattle.std.specs.List.{Contains}
 use Rattle.logos_code.specs.Code.{CodeValue}
 use Rattle.logos_code.specs.declared.code.Config.{Config}
+use Rattle.logos_cli.specs.declared.options.Shape.{Shape}
+use Rattle.logos_cli.specs.declared.options.Shape.TheVariants.{Code, Tables}
+use Rattle.logos_tables.specs.Texts.{HoldsTables}
 use Rattle.logos_codegen.specs.Given.{IsGiven}
 use Rattle.logos_codegen.specs.Source.{IsRefused}
 use Rattle.logos_files.specs.declared.finding.FoundEnum.{FoundEnum}
@@ -21,21 +24,31 @@ use Rattle.logos_token.specs.Faults.{Fault}
 use Rattle.logos_token.specs.Printing.{printed}
 use Rattle.logos_token.specs.Tokens.{TokenList}
 
--- This is the text of a lexer of a source without faults, in this shape: the texts of all its tables, and those of all its conditions, stand in it.
-pub record IsLexerText (config : Config) (source shown : List ℕ) : Type 0 where
+-- the shape of the code that a lexer is made of
+abbrev pub config_of : Shape → Config
+config_of (Code config) = config
+config_of Tables = record { use_state_machine_codegen = true }
+
+-- A code is shown in a shape: the texts of all its tables, and those of all its conditions, stand in the text, or tables that hold all that it does.
+abbrev pub IsShown : Shape → CodeValue → List ℕ → Type 0
+IsShown (Code config) code shown = StandInOrder (texts_of code) shown
+IsShown Tables code shown = HoldsTables code shown
+
+-- This is the text of a lexer of a source without faults, in this shape.
+pub record IsLexerText (shape : Shape) (source shown : List ℕ) : Type 0 where
   pub graph : GraphValue
   pub code : CodeValue
   pub name : Slice
   pub export : Option (List ℕ)
-  pub given : IsGiven source config graph code name export
-  pub stand : StandInOrder (texts_of code) shown
+  pub given : IsGiven source (config_of shape) graph code name export
+  pub stand : IsShown shape code shown
 
 -- this is an enum without what belongs to the derive, printed, and after LF the text of its lexer
-pub record IsExpansion (config : Config) (source shown : List ℕ) : Type 0 where
+pub record IsExpansion (shape : Shape) (source shown : List ℕ) : Type 0 where
   pub left : TokenList
   pub lexer : List ℕ
   pub stripped : IsStripped source left
-  pub is_lexer : IsLexerText config source lexer
+  pub is_lexer : IsLexerText shape source lexer
   pub is : shown ≡ printed left ++ 10 ∷ lexer
 
 -- the text of an enum of a file
@@ -43,18 +56,18 @@ abbrev pub text_at : List ℕ → FoundEnum → List ℕ
 text_at text found = slice_range text found.span.from found.span.to
 
 -- each enum that derives `Logos` is replaced by its expansion, in order, and no other one
-pub data Replaces (config : Config) (text : List ℕ) : List FoundEnum → List Replacement → Type 0 where
-  ended : Replaces config text [] []
-  stays : {one : FoundEnum} {rest : List FoundEnum} {parts : List Replacement} → one.derives ≡ false → Replaces config text rest parts → Replaces config text (one ∷ rest) parts
+pub data Replaces (shape : Shape) (text : List ℕ) : List FoundEnum → List Replacement → Type 0 where
+  ended : Replaces shape text [] []
+  stays : {one : FoundEnum} {rest : List FoundEnum} {parts : List Replacement} → one.derives ≡ false → Replaces shape text rest parts → Replaces shape text (one ∷ rest) parts
   gives : {one : FoundEnum} {part : Replacement} {rest : List FoundEnum} {parts : List Replacement} →
-      one.derives ≡ true → part.span ≡ one.span → IsExpansion config (text_at text one) (string_bytes part.text) → Replaces config text rest parts → Replaces config text (one ∷ rest) (part ∷ parts)
+      one.derives ≡ true → part.span ≡ one.span → IsExpansion shape (text_at text one) (string_bytes part.text) → Replaces shape text rest parts → Replaces shape text (one ∷ rest) (part ∷ parts)
 
 -- these bytes are the file with the derive of its lexers expanded, and all other bytes as they were
-pub record IsExpanded (config : Config) (text bytes : List ℕ) : Type 0 where
+pub record IsExpanded (shape : Shape) (text bytes : List ℕ) : Type 0 where
   pub found : List FoundEnum
   pub parts : List Replacement
   pub are : AreEnumsOf text found
-  pub replaces : Replaces config text found parts
+  pub replaces : Replaces shape text found parts
   pub is : bytes ≡ replaced text 0 parts
 
 -- an enum of the file that derives `Logos` has faults

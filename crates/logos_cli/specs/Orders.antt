@@ -1,6 +1,7 @@
 -- What the words of a command line ask for.
 use Rattle.std.specs.Prelude.{ℕ, ◌==◌, ◌&&◌, List, [], ◌∷◌, Bool, true, false, Option, Some, None, if◌then◌else◌, option_map, bytes_eq, codes, is_some, not}
-use Rattle.logos_code.specs.declared.code.Config.{Config}
+use Rattle.logos_cli.specs.declared.options.Shape.{Shape}
+use Rattle.logos_cli.specs.declared.options.Shape.TheVariants.{Code, Tables}
 use Rattle.logos_report.specs.declared.color.Color.{Color}
 use Rattle.logos_report.specs.declared.color.Color.TheVariants.{Auto}
 use Rattle.logos_report.specs.Codes.{color_named}
@@ -9,7 +10,7 @@ use Rattle.logos_cli.specs.declared.options.Request.{Request}
 use Rattle.logos_cli.specs.declared.options.Request.TheVariants.{Help, Version, Expand}
 use Rattle.logos_cli.specs.declared.options.Given.{Given}
 use Rattle.logos_cli.specs.declared.options.Valued.{Valued}
-use Rattle.logos_cli.specs.declared.options.Valued.TheVariants.{Output, Shape, Color as ColorOption}
+use Rattle.logos_cli.specs.declared.options.Valued.TheVariants.{Output, Shape as ShapeOption, Color as ColorOption}
 use Rattle.logos_cli.specs.declared.options.Answer.{Answer}
 use Rattle.logos_cli.specs.declared.options.Answer.TheVariants as answers
 
@@ -18,7 +19,7 @@ pub record OrderValue : Type 0 where
   pub input : List ℕ
   pub output : Option (List ℕ)
   pub is_check : Bool
-  pub config : Config
+  pub shape : Shape
   pub color : Color
 
 -- what is asked for
@@ -28,17 +29,18 @@ pub data Asked : Type 0 where
   asks_expansion : (order : OrderValue) → Asked
 
 -- the shapes of lexers, by their names
-abbrev pub shape_named : List ℕ → Option Config
+abbrev pub shape_named : List ℕ → Option Shape
 shape_named name =
-    if bytes_eq name (codes "state_machine") then Some (record { use_state_machine_codegen = true })
-    else (if bytes_eq name (codes "tailcall") then Some (record { use_state_machine_codegen = false })
-    else None)
+    if bytes_eq name (codes "state_machine") then Some (Code (record { use_state_machine_codegen = true }))
+    else (if bytes_eq name (codes "tailcall") then Some (Code (record { use_state_machine_codegen = false }))
+    else (if bytes_eq name (codes "tables") then Some Tables
+    else None))
 
 -- the options that take a value, by their words
 abbrev pub valued_named : List ℕ → Option Valued
 valued_named word =
     if bytes_eq word (codes "--output") then Some Output
-    else (if bytes_eq word (codes "--shape") then Some Shape
+    else (if bytes_eq word (codes "--shape") then Some ShapeOption
     else (if bytes_eq word (codes "--color") then Some ColorOption
     else None))
 
@@ -54,19 +56,19 @@ pub record GivenValue : Type 0 where
   pub input : Option (List ℕ)
   pub output : Option (List ℕ)
   pub is_check : Bool
-  pub config : Config
+  pub shape : Shape
   pub color : Color
   pub answer : Option Answer
   pub pending : Option Valued
 
 -- what no words give
 abbrev pub given_nothing : GivenValue
-given_nothing = record { input = None; output = None; is_check = false; config = record { use_state_machine_codegen = true }; color = Auto; answer = None; pending = None }
+given_nothing = record { input = None; output = None; is_check = false; shape = Code (record { use_state_machine_codegen = true }); color = Auto; answer = None; pending = None }
 
 -- the value of an option
 abbrev pub with_value : GivenValue → Valued → List ℕ → Option GivenValue
 with_value given Output value = Some (record given { output = Some value; pending = None })
-with_value given Shape value = option_map (λ config. record given { config = config; pending = None }) (shape_named value)
+with_value given ShapeOption value = option_map (λ shape. record given { shape = shape; pending = None }) (shape_named value)
 with_value given ColorOption value = option_map (λ color. record given { color = color; pending = None }) (color_named value)
 
 -- the first of two answers
@@ -114,7 +116,7 @@ abbrev pub order_given : GivenValue → Option (List ℕ) → Option Asked
 order_given given None = None
 order_given given (Some input) =
     if given.is_check && not (is_some given.output) then None
-    else Some (asks_expansion (record { input = input; output = given.output; is_check = given.is_check; config = given.config; color = given.color }))
+    else Some (asks_expansion (record { input = input; output = given.output; is_check = given.is_check; shape = given.shape; color = given.color }))
 
 abbrev pub answer_given : GivenValue → Option Answer → Option Asked
 answer_given given (Some answers.Help) = Some asks_help
@@ -135,7 +137,7 @@ given_value given = record {
   input = option_map (λ path. path.now) given.input;
   output = option_map (λ path. path.now) given.output;
   is_check = given.is_check;
-  config = given.config;
+  shape = given.shape;
   color = given.color;
   answer = given.answer;
   pending = given.pending;
@@ -146,7 +148,7 @@ order_value order = record {
   input = order.input.now;
   output = option_map (λ path. path.now) order.output;
   is_check = order.is_check;
-  config = order.config;
+  shape = order.shape;
   color = order.color;
 }
 

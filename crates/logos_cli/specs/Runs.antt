@@ -1,6 +1,5 @@
 -- What a run of the program does, by what its files give. `gives` holds of files, a path, all bytes that are read there, and the files after that; `makes` holds of files, a path, the bytes of the file there from then on, and the files after that.
 use Rattle.std.specs.Prelude.{◌≡◌, ◌⊎◌, ℕ, List, Bool, false, IsTrue, IsSome, Option, Some, None}
-use Rattle.logos_code.specs.declared.code.Config.{Config}
 use Rattle.logos_disk.specs.Reading.{Reads}
 use Rattle.logos_cli.specs.Expanding.{IsExpanded, HasFaults}
 use Rattle.logos_cli.specs.Orders.{Asked, asks_help, asks_version, asks_expansion, OrderValue}
@@ -27,7 +26,7 @@ module _ {F : Type 0} (gives makes : F → List ℕ → List ℕ → F → Type 
   -- the file is read and expanded, and the result is where it was asked for
   abbrev pub IsCarriedOut : OrderValue → F → F → Type 0
   IsCarriedOut order files after =
-      Reads gives files order.input (λ text read. (bytes : List ℕ) × IsExpanded order.config text bytes × IsDelivered order order.output bytes read after)
+      Reads gives files order.input (λ text read. (bytes : List ℕ) × IsExpanded order.shape text bytes × IsDelivered order order.output bytes read after)
 
   -- what is asked for is done
   abbrev pub IsDone : Asked → F → F → Type 0
@@ -38,7 +37,7 @@ module _ {F : Type 0} (gives makes : F → List ℕ → List ℕ → F → Type 
 -- the file is read, and it has faults; or its expansion was only to be compared
 abbrev pub IsDeniedOrder : {F : Type 0} → (F → List ℕ → List ℕ → F → Type 0) → OrderValue → F → Type 0
 IsDeniedOrder gives order files =
-    Reads gives files order.input (λ text read. HasFaults text ⊎ (IsTrue order.is_check × ((bytes : List ℕ) × IsExpanded order.config text bytes)))
+    Reads gives files order.input (λ text read. HasFaults text ⊎ (IsTrue order.is_check × ((bytes : List ℕ) × IsExpanded order.shape text bytes)))
 
 -- what is asked for is refused
 abbrev pub IsDenied : {F : Type 0} → (F → List ℕ → List ℕ → F → Type 0) → Asked → F → Type 0

@@ -7,16 +7,18 @@ ghost use Rattle.logos_files.specs.Files.{AreEnumsOf};
 ghost use Rattle.logos_report.specs.Pages.{Shows, StandInOrder};
 ghost use Rattle.logos_files.specs.Handed.{Refuses};
 ghost use Rattle.logos_cli.specs.Expanding.{FailsBy, HasFaults, IsExpanded, IsExpansion};
-ghost use Rattle.logos_cli.specs.Expanding.{IsUnreadable};
+ghost use Rattle.logos_cli.specs.Expanding.{IsShown, IsUnreadable, config_of};
 ghost use Rattle.logos_cli.specs.inside.Gathering.{AddsRefusal, GathersAll, GathersOne};
 ghost use Rattle.logos_cli.specs.inside.Gathering.{IsExpansionBy, IsPrintedWith, refused_texts};
 
+use crate::options::Shape;
 use logos_codegen::error::{Errors, Memory};
 use logos_codegen::generator::Config;
 use logos_codegen::token::{Tokens, print};
 use logos_codegen::{Generated, Refusal, generate, strip_attributes};
 use logos_files::{FoundEnum, Replacement, enums_in, replace};
 use logos_report::{Page, Part, Source, Stop, count_errors, push_faults, push_summary};
+use logos_tables::tables;
 use std::alloc::{AllocError, Global};
 
 /// A file with the derive of its lexers expanded.
@@ -59,17 +61,17 @@ pub(crate) struct File<'f> {
 pub(crate) fn expand<'w>(
     alloc: Global,
     file: File<'_>,
-    config: Config,
+    shape: Shape,
     is_colored: bool,
 ) -> Result<Expansion, Stop<'w>>
-    ensures done { IfOk result (λ made. IsExpanded config file.entry.text.now made.bytes.items) }
+    ensures done { IfOk result (λ made. IsExpanded shape file.entry.text.now made.bytes.items) }
     ensures denied { IfErr result (FailsBy (HasFaults file.entry.text.now)) }
 {
     let found = match enums_in(alloc, file.text) {
         Ok(found) => found,
         Err(refusal) => return Err(refused_whole(alloc, file, is_colored, refusal)),
     };
-    expand_enums(alloc, file, config, is_colored, &found)
+    expand_enums(alloc, file, shape, is_colored, &found)
 }
 
 /// Returns the refusal of a file that cannot be read into tokens.
@@ -88,17 +90,17 @@ fn refused_whole<'w>(alloc: Global, file: File<'_>, is_colored: bool, refusal: R
 fn expand_enums<'w>(
     alloc: Global,
     file: File<'_>,
-    config: Config,
+    shape: Shape,
     is_colored: bool,
     found: &[FoundEnum],
 ) -> Result<Expansion, Stop<'w>>
     requires enums { AreEnumsOf file.text.now found.now }
     requires order { AreInOrder 0 (map found_span found.now) (length file.text.now) }
     requires cut { All (IsFoundCut file.text.now) found.now }
-    ensures done { IfOk result (λ made. IsExpanded config file.entry.text.now made.bytes.items) }
+    ensures done { IfOk result (λ made. IsExpanded shape file.entry.text.now made.bytes.items) }
     ensures denied { IfErr result (FailsBy (HasFaults file.entry.text.now)) }
 {
-    let gathered = gather(alloc, file.text, config, found)?;
+    let gathered = gather(alloc, file.text, shape, found)?;
     if gathered.refused.is_empty() {
         return Ok(Expansion {
             bytes: replace(alloc, file.text, &gathered.parts)?,
@@ -109,15 +111,10 @@ fn expand_enums<'w>(
 }
 
 /// Returns the replacements of these enums of a file, and the faults of those that are refused.
-fn gather(
-    alloc: Global,
-    text: &str,
-    config: Config,
-    found: &[FoundEnum],
-) -> Result<Gathered, Memory>
+fn gather(alloc: Global, text: &str, shape: Shape, found: &[FoundEnum]) -> Result<Gathered, Memory>
     requires order { AreInOrder 0 (map found_span found.now) (length text.now) }
     requires cut { All (IsFoundCut text.now) found.now }
-    ensures gathers { IfOk result (GathersAll config text.now found.now) }
+    ensures gathers { IfOk result (GathersAll shape text.now found.now) }
     ensures order { IfOk result (λ gathered.
         AreInOrder 0 (map place_of gathered.parts.items) (length text.now)) }
 {
@@ -126,7 +123,7 @@ fn gather(
         refused: Vec::new(alloc),
     };
     for one in found {
-        gather_enum(alloc, text, config, *one, &mut gathered)?;
+        gather_enum(alloc, text, shape, *one, &mut gathered)?;
     }
     Ok(gathered)
 }
@@ -135,19 +132,19 @@ fn gather(
 fn gather_enum(
     alloc: Global,
     text: &str,
-    config: Config,
+    shape: Shape,
     one: FoundEnum,
     gathered: &mut Gathered,
 ) -> Result<(), Memory>
     requires order { one.span.from ≤ one.span.to }
     requires cut { IsFoundCut text.now one }
-    ensures { OnOk result (GathersOne config text.now one gathered.old gathered.new) }
+    ensures { OnOk result (GathersOne shape text.now one gathered.old gathered.new) }
 {
     if !one.derives {
         return Ok(());
     }
     let span = one.span;
-    match expanded(alloc, &text[span.from..span.to], config) {
+    match expanded(alloc, &text[span.from..span.to], shape) {
         Ok(text) => {
             gathered.parts.push(Replacement { span, text })?;
             Ok(())
@@ -169,26 +166,53 @@ fn push_refusal(refused: &mut Vec<Refused>, offset: usize, refusal: Refusal) -> 
     }
 }
 
+/// Returns the shape of the code that a lexer is made of.
+fn config_of(shape: Shape) -> Config
+    ensures { result ≡ config_of shape }
+{
+    match shape {
+        Shape::Code(config) => config,
+        Shape::Tables => Config {
+            use_state_machine_codegen: true,
+        },
+    }
+}
+
+/// Returns the text of a lexer.
+fn lexer_text(alloc: Global, shape: Shape, made: &Generated<'_>) -> Result<String, Memory>
+    ensures { IfOk result (λ text. IsShown shape made.now.code (string_bytes text)) }
+{
+    match shape {
+        Shape::Code(_) => made.text(alloc),
+        Shape::Tables => tables(alloc, made),
+    }
+}
+
 /// Returns an enum without what belongs to the derive, and the implementation.
-fn expanded(alloc: Global, source: &str, config: Config) -> Result<String, Refusal>
+fn expanded(alloc: Global, source: &str, shape: Shape) -> Result<String, Refusal>
     ensures done { IfOk result
-        (λ text. IsExpansion config source.now (string_bytes text)) }
+        (λ text. IsExpansion shape source.now (string_bytes text)) }
     ensures refused { IfErr result (Refuses (IsRefused source.now)) }
 {
-    match generate(alloc, source, config) {
-        Ok(made) => expansion_by(alloc, source, &made),
+    match generate(alloc, source, config_of(shape)) {
+        Ok(made) => expansion_by(alloc, source, shape, &made),
         Err(refusal) => Err(refusal),
     }
 }
 
 /// Returns an enum without what belongs to the derive, and the text of its lexer.
-fn expansion_by(alloc: Global, source: &str, made: &Generated<'_>) -> Result<String, Refusal>
+fn expansion_by(
+    alloc: Global,
+    source: &str,
+    shape: Shape,
+    made: &Generated<'_>,
+) -> Result<String, Refusal>
     ensures done { IfOk result (λ text.
-        IsExpansionBy made.now.code source.now (string_bytes text)) }
+        IsExpansionBy shape made.now.code source.now (string_bytes text)) }
     ensures refused { IfErr result (Refuses (IsRefused source.now)) }
 {
     match strip_attributes(alloc, source) {
-        Ok(left) => match printed_with(alloc, left.run(), made) {
+        Ok(left) => match printed_with(alloc, left.run(), shape, made) {
             Ok(text) => Ok(text),
             Err(Memory) => Err(Refusal::Memory),
         },
@@ -197,11 +221,16 @@ fn expansion_by(alloc: Global, source: &str, made: &Generated<'_>) -> Result<Str
 }
 
 /// Returns the text of tokens, and after LF the text of a lexer.
-fn printed_with(alloc: Global, left: Tokens<'_, '_>, made: &Generated<'_>) -> Result<String, Memory>
-    ensures { IfOk result (λ text. IsPrintedWith made.now.code (tokens_of left.entry)
+fn printed_with(
+    alloc: Global,
+    left: Tokens<'_, '_>,
+    shape: Shape,
+    made: &Generated<'_>,
+) -> Result<String, Memory>
+    ensures { IfOk result (λ text. IsPrintedWith shape made.now.code (tokens_of left.entry)
         (string_bytes text)) }
 {
-    let lexer = made.text(alloc)?;
+    let lexer = lexer_text(alloc, shape, made)?;
     let mut text = print(alloc, left)?;
     text.push('\n')?;
     text.push_str(lexer.as_str())?;

@@ -17,6 +17,15 @@ pub(crate) enum Request<'w> {
     Expand(Order<'w>),
 }
 
+/// How lexers are printed.
+#[derive(Clone, Copy)]
+pub(crate) enum Shape {
+    /// As code, in one of its shapes.
+    Code(Config),
+    /// As tables with a loop over them.
+    Tables,
+}
+
 /// A file to expand.
 #[derive(Clone, Copy)]
 pub(crate) struct Order<'w> {
@@ -27,7 +36,7 @@ pub(crate) struct Order<'w> {
     /// Whether that file is only compared with the result.
     pub(crate) is_check: bool,
     /// The shape of the lexers.
-    pub(crate) config: Config,
+    pub(crate) shape: Shape,
     /// When messages have colors.
     pub(crate) color: Color,
 }
@@ -53,7 +62,7 @@ struct Given<'w> {
     input: Option<&'w str>,
     output: Option<&'w str>,
     is_check: bool,
-    config: Config,
+    shape: Shape,
     color: Color,
     answer: Option<Answer>,
     /// The option whose value the next word is.
@@ -89,9 +98,9 @@ fn read_words(words: &[String]) -> Result<Given<'_>, Stop<'_>>
         input: None,
         output: None,
         is_check: false,
-        config: Config {
+        shape: Shape::Code(Config {
             use_state_machine_codegen: true,
-        },
+        }),
         color: Color::Auto,
         answer: None,
         pending: None,
@@ -139,7 +148,7 @@ fn order_given(given: Given<'_>) -> Result<Request<'_>, Stop<'_>>
         input,
         output: given.output,
         is_check: given.is_check,
-        config: given.config,
+        shape: given.shape,
         color: given.color,
     }))
 }
@@ -181,8 +190,11 @@ fn read_value<'w>(given: Given<'w>, option: Valued, value: &'w str) -> Result<Gi
             ..given
         }),
         Valued::Shape => match shape_by_name(value) {
-            Some(config) => Ok(Given { config, ..given }),
-            None => Err(misuse("`--shape` is `tailcall` or `state_machine`, not", value)),
+            Some(shape) => Ok(Given { shape, ..given }),
+            None => Err(misuse(
+                "`--shape` is `tailcall`, `state_machine` or `tables`, not",
+                value,
+            )),
         },
         Valued::Color => match color_by_name(value) {
             Some(color) => Ok(Given { color, ..given }),
@@ -319,18 +331,21 @@ fn answer_by_word(word: &str) -> Option<Answer>
 }
 
 /// Returns the shape with this name.
-fn shape_by_name(name: &str) -> Option<Config>
+fn shape_by_name(name: &str) -> Option<Shape>
     ensures { result ≡ shape_named name.now }
 {
     if name == "state_machine" {
-        return Some(Config {
+        return Some(Shape::Code(Config {
             use_state_machine_codegen: true,
-        });
+        }));
     }
     if name == "tailcall" {
-        return Some(Config {
+        return Some(Shape::Code(Config {
             use_state_machine_codegen: false,
-        });
+        }));
+    }
+    if name == "tables" {
+        return Some(Shape::Tables);
     }
     None
 }

@@ -16,7 +16,7 @@ use std::io;
 use std::io::{ErrorKind, IsTerminal, Write};
 
 const USAGE: &str =
-    "usage: logos_cli INPUT [--output FILE] [--check] [--shape tailcall|state_machine] [--color always|never|auto]\n";
+    "usage: logos_cli INPUT [--output FILE] [--check] [--shape tailcall|state_machine|tables] [--color always|never|auto]\n";
 
 const HELP: &str = "\
 logos_cli: a Rust file with the derive of `Logos` expanded
@@ -32,6 +32,7 @@ options:
   --check           write nothing; status 1 if FILE is missing or differs
   --shape SHAPE     tailcall: a function for each state
                     state_machine: one loop over a state (the default)
+                    tables: tables, and one loop over them
   --color WHEN      always, never or auto (on a terminal; the default)
   --help            print this text
   --version         print the version
@@ -128,7 +129,7 @@ fn carry_out_order<'w, F: ComparableFiles, O: Write, E: Write + IsTerminal>(
         text: text.as_str(),
     };
     let is_colored = order.color.is_on(streams.err.is_terminal());
-    let expansion = match expand(alloc, file, order.config, is_colored) {
+    let expansion = match expand(alloc, file, order.shape, is_colored) {
         Ok(expansion) => expansion,
         Err(stop) => return Err(stop),
     };

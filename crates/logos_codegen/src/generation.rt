@@ -40,7 +40,7 @@ use logos_leaf::source::utf8_mode;
 use logos_pattern::leaf::{Callback, Leaf, VariantKind};
 use logos_source::analysis::{Analysis, analyze};
 use logos_source::refusal::Refusal;
-use logos_text::{Around, gap_after, text_in};
+use logos_text::{Around, front_in, gap_after, text_in};
 use logos_token::error::{Errors, FaultCode, Memory};
 use logos_token::token::{Ident, Span, TokenStream, print};
 use logos_token::util::MaybeVoid;
@@ -101,6 +101,38 @@ fn extras_text(alloc: Global, extras: &MaybeVoid<'_>) -> Result<String, Memory> 
     with_gap(extras.print(alloc)?, gap_after_void(extras))
 }
 
+/// The texts around a code, each with the gap after it.
+#[derive(Drop)]
+struct AroundTexts {
+    /// The path of the library.
+    logos: String,
+    /// The type of errors.
+    error: String,
+    /// The type of extras.
+    extras: String,
+}
+
+/// Returns the texts around a code with these options.
+fn around_texts(alloc: Global, options: &Parser<'_>) -> Result<AroundTexts, Memory> {
+    Ok(AroundTexts {
+        logos: library_text(alloc, options.logos_path.as_ref())?,
+        error: error_text(alloc, options.error_type.as_ref())?,
+        extras: extras_text(alloc, &options.extras)?,
+    })
+}
+
+impl AroundTexts {
+    /// Returns the texts, with the type of inputs.
+    fn around(&self, utf8_mode: bool) -> Around<'_> {
+        Around {
+            logos: self.logos.as_str(),
+            error: self.error.as_str(),
+            extras: self.extras.as_str(),
+            source: if utf8_mode { "str " } else { "[ u8 ] " },
+        }
+    }
+}
+
 impl Generated<'_> {
     /// Returns the whole Rust text of the lexer: the implementation of `Logos` for the enum, as printed
     /// tokens. The texts of all bit tables, by number, and after them those of the conditions of all
@@ -111,21 +143,19 @@ impl Generated<'_> {
     pub fn text(&self, alloc: Global) -> Result<String, Memory>
         ensures { IfOk result (λ text. StandInOrder (texts_of self.now.code) (string_bytes text)) }
     {
-        let source = if self.graph.utf8_mode() {
-            "str "
-        } else {
-            "[ u8 ] "
-        };
-        let logos = library_text(alloc, self.options.logos_path.as_ref())?;
-        let error = error_text(alloc, self.options.error_type.as_ref())?;
-        let extras = extras_text(alloc, &self.options.extras)?;
-        let around = Around {
-            logos: logos.as_str(),
-            error: error.as_str(),
-            extras: extras.as_str(),
-            source,
-        };
-        text_in(alloc, &self.code, around)
+        let texts = around_texts(alloc, &self.options)?;
+        text_in(alloc, &self.code, texts.around(self.graph.utf8_mode()))
+    }
+
+    /// Returns the beginning of the Rust text of the lexer: the implementation of `Logos` for the enum,
+    /// as printed tokens, up to the functions for matches and errors in the body of the function that
+    /// lexes. A shape of its own goes on from there.
+    ///
+    /// # Errors
+    /// Returns `Memory` when memory runs out.
+    pub fn front(&self, alloc: Global) -> Result<String, Memory> {
+        let texts = around_texts(alloc, &self.options)?;
+        front_in(alloc, &self.code, texts.around(self.graph.utf8_mode()))
     }
 }
 

@@ -49,6 +49,21 @@ pub fn text_in(alloc: Global, code: &Code<'_>, around: Around<'_>) -> Result<Str
     Ok(text)
 }
 
+/// Returns the beginning of the implementation of `Logos` for the enum of a code: its types, the
+/// imports of the function that lexes, and inside that function the functions for matches and errors
+/// and the enum of the leaves. Text that follows it can go on with the body of that function.
+///
+/// # Errors
+/// Returns `Memory` when memory runs out.
+pub fn front_in(alloc: Global, code: &Code<'_>, around: Around<'_>) -> Result<String, Memory> {
+    let parts = code.parts();
+    let this = print_type(alloc, &parts.header.this)?;
+    let mut text = String::new(alloc);
+    push_front(&mut text, around, &this)?;
+    push_actions(alloc, &mut text, parts, Names::new(parts, &this))?;
+    Ok(text)
+}
+
 /// Appends the body of a lexer.
 fn push_code(
     alloc: Global,
@@ -84,8 +99,20 @@ fn push_functions(
 ) -> Result<(), Memory>
     ensures { OnOk result (Grows (string_bytes text.old) (string_bytes text.new)) }
 {
+    push_actions(alloc, text, parts, names)?;
+    push_opening(alloc, text, parts, names.shape)
+}
+
+/// Appends the functions for matches and errors, and the enum of the leaves.
+fn push_actions(
+    alloc: Global,
+    text: &mut String,
+    parts: &CodeParts<'_>,
+    names: Names<'_>,
+) -> Result<(), Memory>
+    ensures { OnOk result (Grows (string_bytes text.old) (string_bytes text.new)) }
+{
     push_make_error(alloc, text, parts.header.error_callback.as_ref(), names)?;
     push_get_action(alloc, text, &parts.leaves, names)?;
-    push_leaf_names(text, parts.leaves.len())?;
-    push_opening(alloc, text, parts, names.shape)
+    push_leaf_names(text, parts.leaves.len())
 }

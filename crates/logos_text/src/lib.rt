@@ -16,5 +16,5 @@ mod states;
 mod tables;
 
 pub use callbacks::gap_after;
-pub use code::{text, text_in};
+pub use code::{front_in, text, text_in};
 pub use implementation::Around;

@@ -8,11 +8,11 @@ returns-then-is_empty-clause-done c =
     let gathered = c.in_ok-gathered.gathered in
     let none : gathered.refused.items ≡ [] =
     nil_from_length gathered.refused.items (omega (arith, gathered.refused.ok.0, eqb-true _ _ (sym c.is_empty.ensures ∙ c.if-is_empty.true))) in
-    expanded_all c.args.config c.args.file.text.now _ c.args.found.now gathered c.requires.enums c.in_ok-gathered.ensures.gathers none
+    expanded_all c.args.shape c.args.file.text.now _ c.args.found.now gathered c.requires.enums c.in_ok-gathered.ensures.gathers none
     (rw c.deref.ensures.value at c.in_ok-replace.ensures)
 
 pub refused_file-requires : goal.refused_file-requires
 refused_file-requires c =
     let gathered = c.in_ok-gathered.gathered in
-    faulty_file c.args.config c.args.file.text.now c.args.found.now gathered c.requires.enums c.in_ok-gathered.ensures.gathers
+    faulty_file c.args.shape c.args.file.text.now c.args.found.now gathered c.requires.enums c.in_ok-gathered.ensures.gathers
     (some_left gathered.refused.items gathered.refused.ok.0 (sym c.is_empty.ensures ∙ c.if-is_empty.false))

@@ -1,0 +1,10 @@
+use Rattle.std.proofs.Common.{◌∙◌, List, ℕ, ap, arith}
+use Rattle.logos_tables.specs.Layout.{rows_at}
+use Rattle.logos_tables.proofs.RowLemmas.{rows_pushed}
+use Rattle.logos_tables.proofs.rows.Rows.push.Goals as goal
+
+pub returns : goal.returns
+returns c =
+    let h = c.in_ok-place.ensures in
+    ap (λ (xs : List ℕ). rows_at xs c.insert_full.new.self.keys) c.in_ok-push.ensures.items
+    ∙ rows_pushed c.args.self.now.places.items c.args.self.now.distinct.keys c.args.row.now _ _ c.in_ok-place.place h.stored.0 (λ i l. c.args.self.now.placed i (omega arith)) h.keys h.stored.1 h.stored.2

@@ -1,0 +1,73 @@
+-- How tables hold the steps and the marks of a code.
+use Rattle.std.specs.Prelude.{◌≡◌, ℕ, zero, suc, ◌<◌, List, [], ◌∷◌, map, length, slice_index, slice_index_or}
+use Rattle.std.specs.List.{flat_map}
+use Rattle.logos_code.specs.Code.{CodeValue}
+use Rattle.logos_code.specs.CodeView.{state_at}
+use Rattle.logos_tables.specs.Steps.{HasSteps, step_number}
+
+-- one number, some times
+abbrev pub times : ℕ → ℕ → List ℕ
+times zero x = []
+times (suc n) x = x ∷ times n x
+
+-- what runs stand for: each number, as often as its run says
+abbrev pub spread : List (ℕ × ℕ) → List ℕ
+spread runs = flat_map (λ run. times run.0 run.1) runs
+
+-- the tables of the steps of a lexer
+pub record Tables : Type 0 where
+  -- the class of each symbol
+  pub classes : List ℕ
+  -- rows of steps, each with one step for each class
+  pub rows : List (List ℕ)
+  -- the rows one after another, as runs: how many equal steps, and which
+  pub runs : List (ℕ × ℕ)
+  -- the number of the row of each state
+  pub places : List ℕ
+  -- how many classes there are
+  pub width : ℕ
+
+-- the step of a symbol in a state, by the tables
+abbrev pub step_in : Tables → ℕ → ℕ → ℕ
+step_in tables state symbol =
+    slice_index (slice_index_or tables.rows (slice_index tables.places state) []) (slice_index tables.classes symbol)
+
+-- the tables hold the step of each symbol in each state of a code
+pub record Hold (code : CodeValue) (tables : Tables) : Type 0 where
+  pub steps : (state symbol : ℕ) → state < length code.states → symbol < 257 →
+      step_in tables state symbol ≡ step_number code (state_at code state) symbol
+  pub wide : (i : ℕ) → i < length tables.rows → length (slice_index_or tables.rows i []) ≡ tables.width
+  pub runs : spread tables.runs ≡ flat_map (λ row. row) tables.rows
+
+-- rows by their places among the distinct ones
+abbrev pub rows_at : List ℕ → List (List ℕ) → List (List ℕ)
+rows_at places distinct = map (λ place. slice_index_or distinct place []) places
+
+-- each row has a step for each symbol
+abbrev pub AreWide : List (List ℕ) → Type 0
+AreWide rows = (i : ℕ) → i < length rows → length (slice_index_or rows i []) ≡ 257
+
+-- these are the rows of the states of a code, as many as there are
+pub record AreRows (code : CodeValue) (rows : List (List ℕ)) : Type 0 where
+  pub count : length rows ≡ length code.states
+  pub are : (state : ℕ) → state < length code.states → HasSteps code (state_at code state) (slice_index_or rows state [])
+
+-- two symbols have the same step in each of the rows
+abbrev pub HaveSameSteps : List (List ℕ) → ℕ → ℕ → Type 0
+HaveSameSteps rows one other = (i : ℕ) → i < length rows → slice_index (slice_index_or rows i []) one ≡ slice_index (slice_index_or rows i []) other
+
+-- a class is there, and its symbol has the same steps as the one that is in the class
+abbrev pub IsClassOf : List (List ℕ) → List ℕ → ℕ → ℕ → Type 0
+IsClassOf rows symbols symbol number = (number < length symbols) × HaveSameSteps rows (slice_index symbols number) symbol
+
+-- the classes of so many symbols, each with one of its symbols
+pub record Classify (rows : List (List ℕ)) (numbers symbols : List ℕ) (count : ℕ) : Type 0 where
+  pub many : length numbers ≡ count
+  pub are : (symbol : ℕ) → symbol < count → IsClassOf rows symbols symbol (slice_index numbers symbol)
+
+abbrev pub AreClasses : List (List ℕ) → List ℕ → List ℕ → Type 0
+AreClasses rows numbers symbols = Classify rows numbers symbols 257
+
+-- a row by classes: the steps of one symbol of each
+abbrev pub by_classes : List ℕ → List ℕ → List ℕ
+by_classes symbols row = map (λ symbol. slice_index row symbol) symbols

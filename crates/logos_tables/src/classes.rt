@@ -1,0 +1,78 @@
+//! Classes of bytes: two bytes of a class do the same in each state.
+ghost use Rattle.std.specs.Prelude.{◌≡◌, ◌+◌, ◌<◌, IfOk, IfSome, OnOk, IsTrue, slice_index};
+ghost use Rattle.logos_tables.specs.Layout.{AreClasses, Classify, IsClassOf, HaveSameSteps};
+
+use crate::steps::Steps;
+use std::alloc::{AllocError, Global};
+
+/// The classes of symbols.
+#[derive(Drop)]
+pub(crate) struct Classes {
+    /// The class of each symbol.
+    pub(crate) numbers: Vec<usize>,
+    /// A symbol of each class.
+    pub(crate) symbols: Vec<usize>,
+}
+
+/// Returns the classes of all symbols. Symbols of one class have the same step in each of the rows.
+///
+/// # Errors
+/// Returns an error when memory runs out.
+pub(crate) fn classes_of(alloc: Global, rows: &[Steps]) -> Result<Classes, AllocError>
+    ensures { IfOk result (λ classes. AreClasses rows.now classes.numbers.items classes.symbols.items) }
+{
+    let mut classes = Classes {
+        numbers: Vec::new(alloc),
+        symbols: Vec::new(alloc),
+    };
+    for symbol in 0..257 {
+        add_symbol(rows, &mut classes, symbol)?;
+    }
+    Ok(classes)
+}
+
+/// Adds the class of a symbol.
+fn add_symbol(rows: &[Steps], classes: &mut Classes, symbol: usize) -> Result<(), AllocError>
+    requires { Classify rows.now classes.old.numbers.items classes.old.symbols.items symbol }
+    ensures { OnOk result (Classify rows.now classes.new.numbers.items classes.new.symbols.items
+        (symbol + 1)) }
+{
+    if let Some(number) = class_of(rows, &classes.symbols, symbol) {
+        classes.numbers.push(number)?;
+        return Ok(());
+    }
+    classes.numbers.push(classes.symbols.len())?;
+    classes.symbols.push(symbol)?;
+    Ok(())
+}
+
+/// Returns the class whose symbol has the same step as this one in each of the rows, if there is one.
+fn class_of(rows: &[Steps], symbols: &[usize], symbol: usize) -> Option<usize>
+    ensures { IfSome result (IsClassOf rows.now symbols.now symbol) }
+{
+    for number in 0..symbols.len() {
+        if have_same_steps(rows, symbols[number], symbol) {
+            return Some(number);
+        }
+    }
+    None
+}
+
+/// Returns whether two symbols have the same step in each of the rows.
+fn have_same_steps(rows: &[Steps], one: usize, other: usize) -> bool
+    ensures { IsTrue result → HaveSameSteps rows.now one other }
+{
+    for row in rows {
+        if step_at(row, one) != step_at(row, other) {
+            return false;
+        }
+    }
+    true
+}
+
+/// Returns the step of a symbol.
+pub(crate) fn step_at(row: &Steps, symbol: usize) -> usize
+    ensures { result ≡ slice_index row.now symbol }
+{
+    if symbol < 257 { row[symbol] } else { 0 }
+}

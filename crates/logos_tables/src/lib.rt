@@ -1,0 +1,15 @@
+//! The Rust text of a lexer whose states are tables: one loop over `static` tables.
+
+#![tactic(auto)]
+
+mod classes;
+mod fixed;
+mod lexer;
+mod marks;
+mod parts;
+mod printing;
+mod rows;
+mod runs;
+mod steps;
+
+pub use lexer::tables;

@@ -1,0 +1,62 @@
+//! The marks of states, and which leaves are left out, as numbers.
+ghost use Rattle.std.specs.Prelude.{◌≡◌, ◌<◌, IfOk, IfSome, map, option_map};
+ghost use Rattle.std.specs.List.{All};
+ghost use Rattle.logos_code.specs.CodeView.{mark_of, use_of};
+ghost use Rattle.logos_tables.specs.Steps.{mark_number, skip_number};
+
+use logos_code::code::{CodeLeaf, CodeState, Mark};
+use logos_pattern::leaf::VariantKind;
+use std::alloc::{AllocError, Global};
+
+/// Returns the numbers of the marks of all states.
+///
+/// # Errors
+/// Returns an error when memory runs out.
+pub(crate) fn marks_of(alloc: Global, states: &[CodeState]) -> Result<Vec<usize>, AllocError>
+    requires { All (λ state. IfSome state.mark (λ mark. mark.leaf.0 < 9223372036854775807)) states.now }
+    ensures { IfOk result (λ marks. marks.items
+        ≡ map (λ state. mark_number (option_map mark_of state.mark)) states.now) }
+{
+    let mut marks = Vec::new(alloc);
+    for state in states {
+        marks.push(mark_number(state.mark))?;
+    }
+    Ok(marks)
+}
+
+/// Returns the number of a mark: 0 for none, and else 2 more than twice the number of its leaf, and 1 more if it is late.
+fn mark_number(mark: Option<Mark>) -> usize
+    requires { IfSome mark (λ mark. mark.leaf.0 < 9223372036854775807) }
+    ensures { result ≡ mark_number (option_map mark_of mark) }
+{
+    match mark {
+        Some(mark) if mark.late => mark.leaf.0 * 2 + 3,
+        Some(mark) => mark.leaf.0 * 2 + 2,
+        None => 0,
+    }
+}
+
+/// Returns for each leaf 1 if its matches are left out without a callback, and else 0.
+///
+/// # Errors
+/// Returns an error when memory runs out.
+pub(crate) fn skips_of(alloc: Global, leaves: &[CodeLeaf<'_>]) -> Result<Vec<usize>, AllocError>
+    ensures { IfOk result (λ skips. skips.items ≡ map (λ leaf. skip_number (use_of leaf)) leaves.now) }
+{
+    let mut skips = Vec::new(alloc);
+    for leaf in leaves {
+        skips.push(skip_number(leaf))?;
+    }
+    Ok(skips)
+}
+
+/// Returns 1 if the matches of the leaf are left out without a callback, and else 0.
+fn skip_number(leaf: &CodeLeaf<'_>) -> usize
+    ensures { result ≡ skip_number (use_of leaf.now) }
+{
+    if matches!(leaf.kind, VariantKind::Skip) & leaf.callback.is_none() {
+        1
+    } else {
+        0
+    }
+}

@@ -1,0 +1,104 @@
+//! Prints the parts of the tables.
+ghost use Rattle.std.specs.Prelude.{◌∷◌, [], OnOk, string_bytes};
+ghost use Rattle.logos_text.specs.Standing.{Grows};
+ghost use Rattle.logos_tables.specs.inside.Adding.{Appends};
+ghost use Rattle.logos_tables.specs.Texts.{lengths_text, run_steps_text, size_texts, step_texts};
+
+use crate::printing::{push, push_number, push_table};
+use crate::runs::{Run, lengths_of, steps_in};
+use logos_token::error::Memory;
+use std::alloc::Global;
+
+/// Appends the tables of steps: the classes of symbols, the runs of the rows, and the row of each state.
+pub(crate) fn push_steps(
+    alloc: Global,
+    text: &mut String,
+    classes: &[usize],
+    runs: &[Run],
+    places: &[usize],
+) -> Result<(), Memory>
+    ensures { OnOk result (Appends (step_texts classes.now runs.now places.now)
+        (string_bytes text.old) (string_bytes text.new)) }
+{
+    push_table(text, "_CLASSES", classes)?;
+    push_lengths(alloc, text, runs)?;
+    push_run_steps(alloc, text, runs)?;
+    push_table(text, "_ROWS", places)?;
+    Ok(())
+}
+
+/// Appends how many steps each run has.
+fn push_lengths(alloc: Global, text: &mut String, runs: &[Run]) -> Result<(), Memory>
+    ensures { OnOk result (Appends (lengths_text runs.now ∷ []) (string_bytes text.old)
+        (string_bytes text.new)) }
+{
+    let lengths = lengths_of(alloc, runs)?;
+    push_table(text, "_RUN_LENGTHS", &lengths)
+}
+
+/// Appends the step of each run.
+fn push_run_steps(alloc: Global, text: &mut String, runs: &[Run]) -> Result<(), Memory>
+    ensures { OnOk result (Appends (run_steps_text runs.now ∷ []) (string_bytes text.old)
+        (string_bytes text.new)) }
+{
+    let steps = steps_in(alloc, runs)?;
+    push_table(text, "_RUN_STEPS", &steps)
+}
+
+/// Appends the root, how many rows there are, and how many steps each of them has.
+pub(crate) fn push_sizes(
+    text: &mut String,
+    root: usize,
+    height: usize,
+    width: usize,
+) -> Result<(), Memory>
+    ensures { OnOk result (Appends (size_texts root height width) (string_bytes text.old)
+        (string_bytes text.new)) }
+{
+    push_number(text, "_ROOT", root)?;
+    push_number(text, "_HEIGHT", height)?;
+    push_number(text, "_WIDTH", width)?;
+    Ok(())
+}
+
+/// Appends the leaves as a table.
+pub(crate) fn push_names(text: &mut String, leaves: usize) -> Result<(), Memory>
+    ensures { OnOk result (Grows (string_bytes text.old) (string_bytes text.new)) }
+{
+    write!(text, "const _NAMES: [_Option<LogosLeaf>; {leaves}] = [")?;
+    for leaf in 0..leaves {
+        push_name(text, leaf)?;
+    }
+    push(text, "];\n")
+}
+
+/// Appends a leaf.
+fn push_name(text: &mut String, leaf: usize) -> Result<(), Memory>
+    ensures { OnOk result (Grows (string_bytes text.old) (string_bytes text.new)) }
+{
+    write!(text, "_Option::Some(LogosLeaf::Leaf{leaf}),")?;
+    Ok(())
+}
+
+/// Appends the type of entries.
+pub(crate) fn push_entry_type(
+    text: &mut String,
+    height: usize,
+    width: usize,
+    leaves: usize,
+) -> Result<(), Memory>
+    ensures { OnOk result (Grows (string_bytes text.old) (string_bytes text.new)) }
+{
+    push(text, entry_type(height, width, leaves))
+}
+
+/// Returns the text of the type of entries: it has room for a place in the table, a mark, and five bits.
+fn entry_type(height: usize, width: usize, leaves: usize) -> &'static str {
+    let places = height.saturating_mul(width);
+    let all = places.saturating_mul(leaves.saturating_mul(2).saturating_add(2));
+    if all <= 33554432 {
+        "type _Entry = u32;\n"
+    } else {
+        "type _Entry = u64;\n"
+    }
+}

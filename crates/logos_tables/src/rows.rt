@@ -1,0 +1,65 @@
+//! The rows of all states, with each row once.
+ghost use Rattle.std.specs.Prelude.{◌≡◌, ℕ, ◌<◌, ◌++◌, ◌∷◌, [], IfOk, OnOk, length, vec_len};
+ghost use Rattle.std.specs.Prelude.{slice_index, slice_index_or};
+ghost use Rattle.logos_tables.specs.Layout.{AreRows, AreWide, rows_at};
+
+use crate::steps::{Steps, steps_of};
+use indexmap::IndexSet;
+use logos_code::code::Code;
+use std::alloc::{AllocError, Global};
+
+/// A list of rows.
+#[derive(Drop)]
+pub(crate) struct Rows {
+    /// The number of each row among the distinct ones.
+    pub(crate) places: Vec<usize>,
+    /// Each row once.
+    pub(crate) distinct: IndexSet<Steps>,
+    ghost wide: { AreWide distinct.keys },
+    ghost placed: { (i : ℕ) → i < vec_len places → slice_index places.items i < length distinct.keys },
+}
+
+impl Rows {
+    ghost use Rattle.logos_tables.specs.RowsView.{rows_of};
+
+    /// Returns no rows.
+    fn new(alloc: Global) -> Rows
+        ensures { rows_of result ≡ [] }
+    {
+        Rows {
+            places: Vec::new(alloc),
+            distinct: IndexSet::new(alloc),
+        }
+    }
+
+    /// Adds a row at the end.
+    fn push(&mut self, row: &Steps) -> Result<(), AllocError>
+        ensures { OnOk result (rows_of self.new ≡ rows_of self.old ++ row.now ∷ []) }
+    {
+        let (place, _) = self.distinct.insert_full(*row)?;
+        self.places.push(place)?;
+        Ok(())
+    }
+}
+
+/// Returns how many states a code has.
+fn state_count(code: &Code<'_>) -> usize
+    ensures { result ≡ length code.now.states }
+{
+    code.parts().states.len()
+}
+
+/// Returns the rows of all states.
+///
+/// # Errors
+/// Returns an error when memory runs out.
+pub(crate) fn rows_of(alloc: Global, code: &Code<'_>) -> Result<Rows, AllocError>
+    ensures { IfOk result (λ rows. AreRows code.now
+        (rows_at rows.places.items rows.distinct.keys)) }
+{
+    let mut rows = Rows::new(alloc);
+    for state in 0..state_count(code) {
+        rows.push(&steps_of(code, state))?;
+    }
+    Ok(rows)
+}

@@ -1,0 +1,93 @@
+//! Runs of equal steps.
+ghost use Rattle.std.specs.Prelude.{◌≡◌, ◌<◌, ◌++◌, ◌∷◌, [], IfOk, OnOk, IsTrue, map};
+ghost use Rattle.std.specs.List.{flat_map};
+ghost use Rattle.logos_tables.specs.Layout.{by_classes, spread};
+
+use crate::classes::step_at;
+use crate::steps::Steps;
+use std::alloc::{AllocError, Global};
+
+/// The most steps in a run.
+const LONGEST: usize = 65535;
+
+/// A run: how many steps it has, and which.
+pub(crate) type Run = (usize, usize);
+
+/// Returns the runs of the rows, one after another, each with one step for each class.
+///
+/// # Errors
+/// Returns an error when memory runs out.
+pub(crate) fn runs_of(
+    alloc: Global,
+    rows: &[Steps],
+    symbols: &[usize],
+) -> Result<Vec<Run>, AllocError>
+    ensures { IfOk result (λ runs. spread runs.items ≡ flat_map (by_classes symbols.now) rows.now) }
+{
+    let mut runs = Vec::new(alloc);
+    for row in rows {
+        push_row(&mut runs, row, symbols)?;
+    }
+    Ok(runs)
+}
+
+/// Appends the steps of a row.
+fn push_row(runs: &mut Vec<Run>, row: &Steps, symbols: &[usize]) -> Result<(), AllocError>
+    ensures { OnOk result (spread runs.new.items
+        ≡ spread runs.old.items ++ by_classes symbols.now row.now) }
+{
+    for symbol in symbols {
+        push_step(runs, step_at(row, *symbol))?;
+    }
+    Ok(())
+}
+
+/// Appends a step.
+fn push_step(runs: &mut Vec<Run>, step: usize) -> Result<(), AllocError>
+    ensures { OnOk result (spread runs.new.items ≡ spread runs.old.items ++ step ∷ []) }
+{
+    match runs.pop() {
+        Some(last) if goes_on(last, step) => runs.push((last.0 + 1, step))?,
+        Some(last) => {
+            runs.push(last)?;
+            runs.push((1, step))?;
+        }
+        None => runs.push((1, step))?,
+    }
+    Ok(())
+}
+
+/// Returns whether a run can have this step too.
+fn goes_on(run: Run, step: usize) -> bool
+    ensures { IsTrue result → (run.1 ≡ step) × (run.0 < 65535) }
+{
+    (run.1 == step) & (run.0 < LONGEST)
+}
+
+/// Returns how many steps each run has.
+///
+/// # Errors
+/// Returns an error when memory runs out.
+pub(crate) fn lengths_of(alloc: Global, runs: &[Run]) -> Result<Vec<usize>, AllocError>
+    ensures { IfOk result (λ lengths. lengths.items ≡ map (λ run. run.0) runs.now) }
+{
+    let mut lengths = Vec::new(alloc);
+    for run in runs {
+        lengths.push(run.0)?;
+    }
+    Ok(lengths)
+}
+
+/// Returns the step of each run.
+///
+/// # Errors
+/// Returns an error when memory runs out.
+pub(crate) fn steps_in(alloc: Global, runs: &[Run]) -> Result<Vec<usize>, AllocError>
+    ensures { IfOk result (λ steps. steps.items ≡ map (λ run. run.1) runs.now) }
+{
+    let mut steps = Vec::new(alloc);
+    for run in runs {
+        steps.push(run.1)?;
+    }
+    Ok(steps)
+}

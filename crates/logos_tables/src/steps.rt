@@ -1,0 +1,91 @@
+//! What each byte, and the end of the input, does in a state, as one number.
+ghost use Rattle.std.specs.Prelude.{◌≡◌, ◌<◌, length, IfSome, IsTrue};
+ghost use Rattle.logos_code.specs.Bytes.{passes_test};
+ghost use Rattle.logos_code.specs.CodeView.{code_of, state_at};
+ghost use Rattle.logos_code.specs.Headline.{NamesState, NamesTest};
+ghost use Rattle.logos_code.specs.Runs.{stays, target};
+ghost use Rattle.logos_tables.specs.Steps.{HasSteps, led_number, step_number};
+
+use logos_code::code::{Code, CodeParts};
+
+/// The symbol that stands for the end of the input; those before it are the bytes.
+const END: usize = 256;
+
+/// The steps of a state, for each symbol.
+pub(crate) type Steps = [usize; 257];
+
+/// Returns the steps of a state.
+pub(crate) fn steps_of(code: &Code<'_>, state: usize) -> Steps
+    requires { state < length code.now.states }
+    ensures { HasSteps code.now (state_at code.now state) result }
+{
+    let mut steps = [0; 257];
+    for symbol in 0..257 {
+        steps[symbol] = step_number(code, state, symbol);
+    }
+    steps
+}
+
+/// Returns the number of what the symbol does in the state: 0 for nothing, 1 where the byte stays, and else 2 more than
+/// the state that it leads to.
+fn step_number(code: &Code<'_>, state: usize, symbol: usize) -> usize
+    requires state { state < length code.now.states }
+    requires symbol { symbol < 257 }
+    ensures { result ≡ step_number code.now (state_at code.now state) symbol }
+{
+    if symbol == END {
+        return number_at_end(code, state);
+    }
+    let byte = symbol as u8;
+    if stays(code, state, byte) {
+        return 1;
+    }
+    number_of_target(code, state, byte)
+}
+
+/// Returns whether the fast loop of the state takes the byte.
+fn stays(code: &Code<'_>, state: usize, byte: u8) -> bool
+    requires { state < length code.now.states }
+    ensures { result ≡ stays code.now (state_at code.now state).fast_loop byte }
+{
+    match code.fast_loop(state) {
+        Some(test) => passes_test(code, test, byte),
+        None => false,
+    }
+}
+
+/// Returns whether the byte passes the test with this number.
+fn passes_test(code: &Code<'_>, test: usize, byte: u8) -> bool
+    requires { NamesTest code.now test }
+    ensures { result ≡ passes_test code.now.bit_tables test byte }
+{
+    code.mask(test)[8 * byte as usize] == 0
+}
+
+/// Returns the number of the step to the state that the end of the input leads to.
+fn number_at_end(code: &Code<'_>, state: usize) -> usize
+    requires { state < length code.now.states }
+    ensures { result ≡ led_number (state_at code.now state).at_end }
+{
+    led_number(code.parts(), code.at_end(state))
+}
+
+/// Returns the number of the step to the state that the byte leads to.
+fn number_of_target(code: &Code<'_>, state: usize, byte: u8) -> usize
+    requires { state < length code.now.states }
+    ensures { result ≡ led_number (target code.now (state_at code.now state).fork byte) }
+{
+    led_number(code.parts(), code.target(state, byte))
+}
+
+/// Returns the number of the step to a state, or to none.
+fn led_number(parts: &CodeParts<'_>, target: Option<usize>) -> usize
+    requires { IfSome target (NamesState (code_of parts.now)) }
+    ensures { result ≡ led_number target }
+{
+    let _ = parts;
+    match target {
+        Some(state) => state + 2,
+        None => 0,
+    }
+}
