@@ -22,6 +22,9 @@ SHOW = "crates/logos_show/out/logos_show"
 PARTS = {
     "borrows": ("bash scripts/borrows.sh", "scripts/borrows/group_returned.edit", "borrow-e0515", "borrow-e0505"),
     "definitions": ("python3 scripts/definitions.py", "docs/DEFINITIONS.md", "`IsAccepted`", "`IsAcceptable`"),
+    "lengths": ("python3 scripts/lengths.py", "scripts/lengths.py", "OF_A_FUNCTION = 40", "OF_A_FUNCTION = 20"),
+    "parameters": ("python3 scripts/parameters.py", "scripts/parameters.py", "MOST = 6", "MOST = 5"),
+    "words": ("python3 scripts/words.py", "docs/GLOSSARY.md", "`scripts/wrong_bodies.sh` |", "`scripts/wrong_body.sh` |"),
     "commands": (f"python3 scripts/rows.py commands --least 1 {PROGRAM} rows/commands/answers.rows", "rows/commands/answers.rows", "error 2..3", "error 2..4"),
     "cli": (f"python3 scripts/rows.py commands --least 1 {CLI} rows/commands_cli/rendering.rows", "rows/commands_cli/rendering.rows", "t.rs:2:10", "t.rs:2:11"),
     "show": (f"python3 scripts/rows.py commands --least 1 {SHOW} rows/commands_show/items.rows", "rows/commands_show/items.rows", "errors: 1", "errors: 2"),
@@ -35,7 +38,7 @@ PARTS = {
     "limits": ("bash scripts/limits.sh", "scripts/limits.sh", "'17..522 LimitPatternNesting", "'17..521 LimitPatternNesting"),
     "texts": ("bash scripts/texts.sh", "scripts/texts/letters.tailcall.txt", "impl < 's >", "impl < 't >"),
     "generated_sources": ("bash scripts/generated_sources.sh", "scripts/generated_sources/matching.py", "10 if byte == 10", "0 if byte == 10"),
-    "rust_text": ("bash scripts/rust_text.sh", "scripts/rust_text.sh", "comparisons=384", "comparisons=385"),
+    "rust_text": ("bash scripts/rust_text.sh", "scripts/rust_text.sh", "comparisons=576", "comparisons=577"),
     "strips": (f"python3 scripts/generated_sources/strips.py {PROGRAM}", "scripts/generated_sources/stripped.py", "'Logos'", "'Lagos'"),
     "guide": ("bash scripts/guide.sh", "docs/GUIDE.md", "token 1 0..1", "token 1 0..2"),
     "faults": ("python3 scripts/faults.py", "docs/FAULTS.md", "7..8 Lexical: unreadable source: Unbalanced", "7..9 Lexical: unreadable source: Unbalanced"),
