@@ -4,7 +4,7 @@ ghost use Rattle.logos_reduce.specs.Lists.{has, has_in, Rises, AreRising, ArePre
 ghost use Rattle.logos_reduce.specs.Table.{size, to};
 ghost use Rattle.logos_reduce.specs.Rows.{target_by};
 
-use crate::rows::{Row, target_at};
+use crate::rows::{Row, changed_target};
 use crate::table::Table;
 use std::alloc::{AllocError, Global};
 
@@ -80,7 +80,7 @@ fn file_row(
     ensures rising { AreRising (s + 1) lists.old.items → AreRising (s + 1) lists.new.items }
 {
     for k in 0..width {
-        if let Some(t) = target_at(row, k) {
+        if let Some(t) = changed_target(row, k) {
             file(lists, t, s)?;
         }
     }

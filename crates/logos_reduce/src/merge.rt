@@ -9,6 +9,7 @@ pub mod blocks;
 mod classes;
 mod hints;
 pub(crate) mod refine;
+mod symbols;
 mod twins;
 
 use crate::lists::looked_up;
@@ -31,7 +32,9 @@ fn first_difference(row: &Row, other: &Row, blocks: &Vec<usize>) -> Option<usize
         ≢ option_map (slice_index blocks.now.items) (target_by other.now k))) }
 {
     for k in 0..WIDTH {
-        if block_of(target_at(row, k), blocks) != block_of(target_at(other, k), blocks) {
+        if row[k] != other[k]
+            && block_of(target_at(row, k), blocks) != block_of(target_at(other, k), blocks)
+        {
             return Some(k);
         }
     }

@@ -29,6 +29,16 @@ impl Order {
         })
     }
 
+    /// Returns one more than the place of a state, or 0 where it was not met.
+    pub fn number_of(&self, s: usize) -> usize
+        ensures { result ≡ slice_index self.now.numbers.items s }
+    {
+        if s < self.numbers.len() {
+            return self.numbers[s];
+        }
+        0
+    }
+
     /// Adds a state at the end of the order, if it is not there yet.
     pub fn meet(&mut self, s: usize) -> Result<(), AllocError>
         requires { s < vec_len self.old.numbers }

@@ -85,7 +85,6 @@ fn useful_states(alloc: Global, table: &Table) -> Result<Order, AllocError>
 
 /// Returns the row without the targets that are not in the order.
 fn pruned_row(row: &Row, order: &Order) -> Row
-    requires { (k t : ℕ) → target_by row.now k ≡ Some t → t < vec_len order.now.numbers }
     ensures { (k : ℕ) → target_by result k
         ≡ met_target order.now.numbers.items (target_by row.now k) }
 {
@@ -98,27 +97,38 @@ fn pruned_row(row: &Row, order: &Order) -> Row
 
 /// Returns the entry of the row, or 0 where its target is not in the order.
 fn pruned_entry(row: &Row, k: usize, order: &Order) -> u32
-    requires symbol { k < 257 }
-    requires inside { (t : ℕ) → target_by row.now k ≡ Some t → t < vec_len order.now.numbers }
+    requires { k < 257 }
     ensures { target_of result ≡ met_target order.now.numbers.items (target_by row.now k) }
 {
     match target_at(row, k) {
-        Some(t) => if order.numbers[t] == 0 { 0 } else { row[k] },
+        Some(t) => if order.number_of(t) == 0 { 0 } else { row[k] },
         None => 0,
     }
 }
 
+/// Returns the distinct rows of a list, each without the targets that are not in the order.
+fn pruned_distinct(alloc: Global, rows: &Rows, order: &Order) -> Result<Rows, AllocError>
+    ensures len { IfOk result (λ r. length (rows_of r) ≡ length rows.now.distinct.keys) }
+    ensures rows { IfOk result (λ r. (i k : ℕ) → i < length rows.now.distinct.keys →
+        target_in (rows_of r) i k
+        ≡ met_target order.now.numbers.items (target_in rows.now.distinct.keys i k)) }
+{
+    let mut pruned = Rows::new(alloc);
+    for place in 0..rows.count() {
+        let row = pruned_row(rows.distinct(place), order);
+        pruned.push(&row)?;
+    }
+    Ok(pruned)
+}
+
 /// Returns the rows without the targets that are not in the order.
 fn pruned_rows(alloc: Global, table: &Table, order: &Order) -> Result<Rows, AllocError>
-    requires { vec_len order.now.numbers ≡ size table.now }
     ensures len { IfOk result (λ r. length (rows_of r) ≡ size table.now) }
     ensures rows { IfOk result (λ r. (s k : ℕ) → s < size table.now →
         target_in (rows_of r) s k ≡ met_target order.now.numbers.items (to table.now s k)) }
 {
-    let mut rows = Rows::new(alloc);
-    for s in 0..table.len() {
-        rows.push(&pruned_row(table.row(s), order))?;
-    }
+    let distinct = pruned_distinct(alloc, &table.rows, order)?;
+    let rows = distinct.picked(alloc, &table.rows.places)?;
     Ok(rows)
 }
 

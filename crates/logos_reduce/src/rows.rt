@@ -1,7 +1,8 @@
 //! A list of rows of targets, which holds equal rows once.
-ghost use Rattle.std.specs.Prelude.{◌≡◌, ℕ, ◌<◌, ◌++◌, ◌∷◌, [], OnOk, Some, length, vec_len, slice_index, slice_index_or};
+ghost use Rattle.std.specs.Prelude.{◌≡◌, ℕ, ◌-◌, ◌<◌, ◌⊎◌, ◌++◌, ◌∷◌, [], MatchOption, IfOk, OnOk, None, Some, length, vec_len, slice_index, slice_index_or};
 ghost use Rattle.logos_reduce.specs.Rows.{AreWide, target_by};
 
+use crate::lists::looked_up;
 use indexmap::IndexSet;
 use std::alloc::{AllocError, Global};
 
@@ -19,7 +20,7 @@ pub type Row = [u32; 257];
 #[derive(Drop)]
 pub struct Rows {
     /// For each row of the list its place among the distinct ones.
-    places: Vec<usize>,
+    pub(crate) places: Vec<usize>,
     /// The rows of the list, each once.
     distinct: IndexSet<Row>,
     ghost wide: { AreWide distinct.keys },
@@ -66,6 +67,45 @@ impl Rows {
         self.places[i]
     }
 
+    /// Returns how many distinct rows the list has.
+    pub(crate) fn count(&self) -> usize
+        ensures { result ≡ length self.now.distinct.keys }
+    {
+        self.distinct.len()
+    }
+
+    /// Returns the distinct row at a place.
+    pub(crate) fn distinct(&self, place: usize) -> &Row
+        requires { place < length self.now.distinct.keys }
+        ensures { result.now ≡ slice_index_or self.now.distinct.keys place [] }
+    {
+        match self.distinct.get_index(place) {
+            Some(row) => row,
+            None => unreachable!(),
+        }
+    }
+
+    /// Returns the list with the rows of this one at these indices.
+    ///
+    /// # Errors
+    ///
+    /// `AllocError` where there is no memory for the list.
+    pub(crate) fn picked(self, alloc: Global, indices: &Vec<usize>) -> Result<Rows, AllocError>
+        requires { (i : ℕ) → i < vec_len indices.now →
+            slice_index indices.now.items i < length (rows_of self) }
+        ensures len { IfOk result (λ r. length (rows_of r) ≡ vec_len indices.now) }
+        ensures rows { IfOk result (λ r. (i : ℕ) → i < vec_len indices.now →
+            slice_index_or (rows_of r) i []
+            ≡ slice_index_or (rows_of self) (slice_index indices.now.items i) []) }
+    {
+        let Rows { places, distinct } = self;
+        let picked = looked_up(alloc, &places, indices)?;
+        Ok(Rows {
+            places: picked,
+            distinct,
+        })
+    }
+
     /// Adds a row at the end.
     ///
     /// # Errors
@@ -87,4 +127,18 @@ pub fn target_at(row: &Row, k: usize) -> Option<usize>
 {
     let entry = row[k] as usize;
     if entry == 0 { None } else { Some(entry - 1) }
+}
+
+/// Returns the target of a row by a symbol, unless the symbol before it leads to the same one.
+pub(crate) fn changed_target(row: &Row, k: usize) -> Option<usize>
+    requires { k < 257 }
+    ensures { MatchOption result
+        ((target_by row.now k ≡ None)
+        ⊎ ((0 < k) × (target_by row.now k ≡ target_by row.now (k - 1))))
+        (λ t. target_by row.now k ≡ Some t) }
+{
+    if 0 < k && row[k] == row[k - 1] {
+        return None;
+    }
+    target_at(row, k)
 }

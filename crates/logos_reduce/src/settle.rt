@@ -1,34 +1,47 @@
 //! Sets early marks, and drops the late marks that they make needless.
 ghost use Rattle.std.specs.Prelude.{◌≡◌, ◌≢◌, ℕ, ◌+◌, ◌<◌, ◌↔◌, ◌⊎◌, None, Some, IfOk, length, vec_len, slice_index_or, if◌then◌else◌};
 ghost use Rattle.logos_reduce.specs.Table.{size, to, mark, mark_in};
-ghost use Rattle.logos_reduce.specs.Settle.{accepted, IsCommon, IsNeeded, IsSpare, IsSettled};
+ghost use Rattle.logos_reduce.specs.Settle.{IsNeeded, IsSpare, IsSettled};
+ghost use Rattle.logos_reduce.specs.inside.Settle.{accepted_in, IsCommonIn, AreCommonIn};
 ghost use Rattle.logos_reduce.specs.inside.Settle.{AreCommon, IsSet, AreNeeded, IsMarkedBy};
 
-use crate::rows::{END, WIDTH};
+use crate::rows::{END, Row, WIDTH, changed_target, target_at};
 use crate::table::{Mark, Table};
 use std::alloc::{AllocError, Global};
 
-/// Returns the leaf that is accepted where a symbol leads.
-fn accepted_by(table: &Table, s: usize, k: usize) -> Option<usize>
-    requires state { s < size table.now }
-    requires symbol { k < 257 }
-    ensures { result ≡ accepted table.now s k }
+/// Returns the leaf that is accepted where a row leads by a symbol.
+fn accepted_by(table: &Table, row: &Row, k: usize) -> Option<usize>
+    requires { k < 257 }
+    ensures { result ≡ accepted_in table.now row.now k }
 {
-    table.mark(table.target(s, k)?).accept
+    table.accept(target_at(row, k)?)
 }
 
-/// Returns the leaf that is accepted wherever a state leads, if every byte and the end lead somewhere.
-fn common_leaf(table: &Table, s: usize) -> Option<usize>
-    requires { s < size table.now }
-    ensures { IsCommon table.now s result }
+/// Returns the leaf that is accepted wherever a row leads, if every byte and the end lead somewhere.
+fn common_leaf(table: &Table, row: &Row) -> Option<usize>
+    ensures { IsCommonIn table.now row.now result }
 {
-    let leaf = accepted_by(table, s, END);
+    let leaf = accepted_by(table, row, END);
     for k in 0..END {
-        if accepted_by(table, s, k) != leaf {
+        if accepted_by(table, row, k) != leaf {
             return None;
         }
     }
     leaf
+}
+
+/// Returns for each distinct row the leaf that is accepted wherever it leads.
+fn common_leaves(alloc: Global, table: &Table) -> Result<Vec<Option<usize>>, AllocError>
+    ensures len { IfOk result (λ v. vec_len v ≡ length table.now.rows.distinct.keys) }
+    ensures leaves { IfOk result (λ v.
+        AreCommonIn table.now table.now.rows.distinct.keys
+        (length table.now.rows.distinct.keys) v.items) }
+{
+    let mut leaves = Vec::new(alloc);
+    for place in 0..table.rows.count() {
+        leaves.push(common_leaf(table, table.rows.distinct(place)))?;
+    }
+    Ok(leaves)
 }
 
 /// Returns the early mark of each state.
@@ -36,28 +49,26 @@ fn early_marks(alloc: Global, table: &Table) -> Result<Vec<Option<usize>>, Alloc
     ensures len { IfOk result (λ v. vec_len v ≡ size table.now) }
     ensures marks { IfOk result (λ v. AreCommon table.now (size table.now) v.items) }
 {
+    let leaves = common_leaves(alloc, table)?;
     let mut early = Vec::new(alloc);
     for s in 0..table.len() {
-        early.push(common_leaf(table, s))?;
+        early.push(leaves[table.rows.place(s)])?;
     }
     Ok(early)
 }
 
-/// Sets the flag of a target whose late mark is needed after this early mark.
-fn note_target(table: &Table, target: Option<usize>, early: Option<usize>, needed: &mut Vec<bool>)
-    requires inside { (t : ℕ) → target ≡ Some t → t < size table.now }
+/// Sets the flag of a target, if its late mark is needed after this early mark.
+fn note_target(table: &Table, t: usize, early: Option<usize>, needed: &mut Vec<bool>)
+    requires inside { t < size table.now }
     requires len { vec_len needed.old ≡ size table.now }
     ensures len { vec_len needed.new ≡ vec_len needed.old }
-    ensures stays { (t : ℕ) → IsSet needed.old.items t → IsSet needed.new.items t }
-    ensures needed { (t : ℕ) → IsSet needed.new.items t →
-        IsSet needed.old.items t ⊎ ((target ≡ Some t) × ((mark table.now t).accept ≢ early)) }
-    ensures spare { (t : ℕ) → target ≡ Some t →
-        IsSet needed.new.items t ⊎ ((mark table.now t).accept ≡ early) }
+    ensures stays { (u : ℕ) → IsSet needed.old.items u → IsSet needed.new.items u }
+    ensures needed { (u : ℕ) → IsSet needed.new.items u →
+        IsSet needed.old.items u ⊎ ((u ≡ t) × ((mark table.now t).accept ≢ early)) }
+    ensures spare { IsSet needed.new.items t ⊎ ((mark table.now t).accept ≡ early) }
 {
-    if let Some(t) = target {
-        if table.mark(t).accept != early {
-            needed[t] = true;
-        }
+    if table.mark(t).accept != early {
+        needed[t] = true;
     }
 }
 
@@ -71,8 +82,11 @@ fn note_targets(table: &Table, s: usize, early: Option<usize>, needed: &mut Vec<
         IsSet needed.old.items t ⊎ IsNeeded table.now s early t }
     ensures spare { (t : ℕ) → IsSet needed.new.items t ⊎ IsSpare table.now s early t }
 {
+    let row = table.row(s);
     for k in 0..WIDTH {
-        note_target(table, table.target(s, k), early, needed);
+        if let Some(t) = changed_target(row, k) {
+            note_target(table, t, early, needed);
+        }
     }
 }
 

@@ -56,6 +56,16 @@ impl Table {
         self.marks[s]
     }
 
+    /// Returns the leaf whose match ends one byte before a state, or none where there is no such state.
+    pub(crate) fn accept(&self, s: usize) -> Option<usize>
+        ensures { result ≡ (mark self.now s).accept }
+    {
+        if s < self.marks.len() {
+            return self.marks[s].accept;
+        }
+        None
+    }
+
     /// Returns the row of a state: its targets.
     pub fn row(&self, s: usize) -> &Row
         requires { s < size self.now }

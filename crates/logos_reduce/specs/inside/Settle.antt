@@ -1,9 +1,24 @@
 -- The early marks of states, and flags of the late marks that are needed.
-use Rattle.std.specs.Prelude.{◌≡◌, ◌<◌, ◌⊎◌, ℕ, Bool, true, false, List, Option, None, slice_index_or, if◌then◌else◌}
+use Rattle.std.specs.Prelude.{◌≡◌, ◌<◌, ◌↔◌, ◌⊎◌, ℕ, Bool, true, false, List, [], Option, Some, None, slice_index_or, if◌then◌else◌, option_and_then}
+use Rattle.logos_reduce.specs.Rows.{target_by}
 use Rattle.logos_reduce.specs.Settle.{IsCommon, IsNeeded, IsSpare}
 use Rattle.logos_reduce.specs.Table.{mark}
 use Rattle.logos_reduce.specs.declared.table.Mark.{Mark}
 use Rattle.logos_reduce.specs.declared.table.Table.{Table}
+
+-- the leaf that is accepted where a row leads by a symbol
+abbrev pub accepted_in : Table → List ℕ → ℕ → Option ℕ
+accepted_in table row k = option_and_then (λ t. (mark table t).accept) (target_by row k)
+
+-- the leaf that is accepted wherever a row leads
+abbrev pub IsCommonIn : Table → List ℕ → Option ℕ → Type 0
+IsCommonIn table row early = (leaf : ℕ) →
+    (early ≡ Some leaf) ↔ ((k : ℕ) → k < 257 → accepted_in table row k ≡ Some leaf)
+
+-- the list has the leaves that are accepted wherever the first n rows lead
+abbrev pub AreCommonIn : Table → List (List ℕ) → ℕ → List (Option ℕ) → Type 0
+AreCommonIn table rows n leaves = (i : ℕ) → i < n →
+    IsCommonIn table (slice_index_or rows i []) (slice_index_or leaves i None)
 
 -- the list has the early marks of the first n states
 abbrev pub AreCommon : Table → ℕ → List (Option ℕ) → Type 0

@@ -10,8 +10,9 @@ ghost use Rattle.logos_reduce.specs.Rows.{target_by};
 use crate::lists::{add, empty_lists, file, predecessors};
 use crate::merge::blocks::Blocks;
 use crate::merge::hints::Hints;
+use crate::merge::symbols::{Symbols, symbols_of};
 use crate::merge::twins::{Cuts, Filing, Refinement, split_on};
-use crate::rows::{Row, WIDTH, target_at};
+use crate::rows::WIDTH;
 use crate::table::Table;
 use std::alloc::{AllocError, Global};
 
@@ -96,13 +97,12 @@ fn leads_into(table: &Table, blocks: &Vec<usize>, s: usize, b: usize, k: usize) 
     s < table.len() && block_of(table.target(s, k), blocks) == Some(b)
 }
 
-/// What blocks are split by: a block, the states with an edge into it, perhaps with others, and the symbols by which one of
-/// these leads into it. No proof depends on the symbols.
+/// What blocks are split by: a block, the states with an edge into it, perhaps with others, and the symbols of these edges.
 #[derive(Drop)]
 struct Splitter {
     block: usize,
     sources: Vec<usize>,
-    used: [bool; 257],
+    used: Symbols,
 }
 
 /// Returns those of the sources that lead into the block by the symbol.
@@ -161,7 +161,7 @@ fn split_by_symbol(
         (target_block table.now (slice_index w.filing.blocks.items))
         by.now.sources.items by.now.block) }
 {
-    if !by.used[k] {
+    if !by.used.has(k) {
         return Ok(parts);
     }
     let hits = hits_of(alloc, table, &parts.filing.blocks, by, k)?;
@@ -172,27 +172,14 @@ fn split_by_symbol(
     Ok(split)
 }
 
-/// Sets the flags of the symbols by which a row leads into a block.
-fn note_symbols(used: &mut [bool; 257], row: &Row, blocks: &Vec<usize>, b: usize)
-    requires { (k t : ℕ) → target_by row.now k ≡ Some t → t < vec_len blocks.now }
+/// Returns the symbols by which some state leads into a block.
+fn symbols_into(parts: &Refinement, symbols: &Vec<Symbols>, b: usize) -> Symbols
+    requires { b < vec_len parts.now.cuts.splits }
 {
-    for k in 0..WIDTH {
-        if let Some(t) = target_at(row, k) {
-            if blocks[t] == b {
-                used[k] = true;
-            }
-        }
-    }
-}
-
-/// Returns for each symbol whether some source leads into a block by it. No proof depends on it.
-fn symbols_into(table: &Table, blocks: &Vec<usize>, sources: &Vec<usize>, b: usize) -> [bool; 257]
-    requires { vec_len blocks.now ≡ size table.now }
-{
-    let mut used = [false; 257];
-    for s in sources {
-        if *s < table.len() {
-            note_symbols(&mut used, table.row(*s), blocks, b);
+    let mut used = Symbols::new();
+    for t in &parts.filing.lists[b] {
+        if *t < symbols.len() && *t < parts.filing.blocks.len() && parts.filing.blocks[*t] == b {
+            used.add_all(&symbols[*t]);
         }
     }
     used
@@ -308,17 +295,26 @@ fn start(alloc: Global, blocks: Blocks, room: usize) -> Result<Refinement, Alloc
     })
 }
 
+/// The edges into each state.
+#[derive(Drop)]
+struct Edges {
+    /// For each state the states that lead to it.
+    from: Vec<Vec<usize>>,
+    /// For each state the symbols by which some state leads to it.
+    symbols: Vec<Symbols>,
+}
+
 /// Splits the blocks by the states that lead into a block, if there is such a block, and notes that it was looked at.
 fn look_at(
     alloc: Global,
     table: &Table,
-    from: &Vec<Vec<usize>>,
+    edges: &Edges,
     parts: Refinement,
     b: usize,
 ) -> Result<Refinement, AllocError>
     requires len { vec_len parts.filing.blocks ≡ size table.now }
-    requires from_len { vec_len from.now ≡ size table.now }
-    requires from { ArePredecessors (size table.now) 257 (to table.now) from.now.items }
+    requires from_len { vec_len edges.now.from ≡ size table.now }
+    requires from { ArePredecessors (size table.now) 257 (to table.now) edges.now.from.items }
     requires sound { IsSound table.now parts.cuts.splits.items
         (slice_index parts.filing.blocks.items) }
     ensures len { IfOk result (λ w. vec_len w.filing.blocks ≡ size table.now) }
@@ -335,8 +331,8 @@ fn look_at(
     if parts.cuts.splits.len() <= b {
         return Ok(parts);
     }
-    let sources = sources_of(alloc, &parts, from, b)?;
-    let used = symbols_into(table, &parts.filing.blocks, &sources, b);
+    let sources = sources_of(alloc, &parts, &edges.from, b)?;
+    let used = symbols_into(&parts, &edges.symbols, b);
     let by = Splitter {
         block: b,
         sources,
@@ -351,12 +347,12 @@ fn look_at(
 fn look_at_all(
     alloc: Global,
     table: &Table,
-    from: &Vec<Vec<usize>>,
+    edges: &Edges,
     parts: Refinement,
 ) -> Result<Refinement, AllocError>
     requires len { vec_len parts.filing.blocks ≡ size table.now }
-    requires from_len { vec_len from.now ≡ size table.now }
-    requires from { ArePredecessors (size table.now) 257 (to table.now) from.now.items }
+    requires from_len { vec_len edges.now.from ≡ size table.now }
+    requires from { ArePredecessors (size table.now) 257 (to table.now) edges.now.from.items }
     requires sound { IsSound table.now parts.cuts.splits.items
         (slice_index parts.filing.blocks.items) }
     ensures len { IfOk result (λ w. vec_len w.filing.blocks ≡ size table.now) }
@@ -368,7 +364,7 @@ fn look_at_all(
 {
     let mut split = parts;
     while let Some(b) = split.next() {
-        split = look_at(alloc, table, from, split, b)?;
+        split = look_at(alloc, table, edges, split, b)?;
     }
     Ok(split)
 }
@@ -385,9 +381,12 @@ pub fn refine(alloc: Global, table: &Table, blocks: Blocks) -> Result<Blocks, Al
     if blocks.splits.is_empty() {
         return Ok(blocks);
     }
-    let from = predecessors(alloc, table, WIDTH)?;
+    let edges = Edges {
+        from: predecessors(alloc, table, WIDTH)?,
+        symbols: symbols_of(alloc, table)?,
+    };
     let room = blocks.splits.len().max(table.len());
     let parts = start(alloc, blocks, room)?;
-    let split = look_at_all(alloc, table, &from, parts)?;
+    let split = look_at_all(alloc, table, &edges, parts)?;
     Ok(split.into_blocks())
 }
