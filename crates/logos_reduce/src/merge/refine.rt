@@ -295,10 +295,12 @@ fn start(alloc: Global, blocks: Blocks, room: usize) -> Result<Refinement, Alloc
     })
 }
 
-/// The edges into each state: the states that they leave, and their symbols.
+/// The edges into each state.
 #[derive(Drop)]
 struct Edges {
+    /// For each state the states that lead to it.
     from: Vec<Vec<usize>>,
+    /// For each state the symbols by which some state leads to it.
     symbols: Vec<Symbols>,
 }
 
