@@ -1,8 +1,11 @@
 //! Bytes that no pattern distinguishes.
-ghost use Rattle.std.specs.Prelude.{◌≡◌, ◌∷◌, ◌++◌, ◌<◌, ℕ, [], IsTrue, IsFalse, IfOk, OnOk, false, length, slice_index_or, if◌then◌else◌};
-ghost use Rattle.logos_automaton.specs.inside.Alike.{IsAlike, AreStartsOf, AreClassStarts, AreKindBytes, AreFirstBytes};
+ghost use Rattle.std.specs.Prelude.{◌≡◌, ◌≢◌, ◌∷◌, ◌++◌, ◌<◌, ℕ, [], IsTrue, IsFalse, IfOk, OnOk, false, length, slice_index_or, if◌then◌else◌};
+ghost use Rattle.logos_automaton.specs.inside.Alike.{IsAlike, MarksFor, AreStartsOf, AreClassStarts, AreKindBytes, AreFirstBytes};
 ghost use Rattle.logos_automaton.specs.inside.Prepared.{IsPrepared, cores_of};
+ghost use Rattle.logos_hir.specs.ByteRanges.{is_in};
+ghost use Rattle.logos_hir.specs.Hir.{pairs};
 ghost use Rattle.logos_places.specs.Core as core;
+ghost use Rattle.logos_places.specs.Core.{byte_in};
 ghost use Rattle.logos_places.specs.Kinds.{kind_of_byte};
 ghost use Rattle.logos_places.specs.Marks.{IsRising, Has};
 ghost use Rattle.logos_places.specs.Node.{core_of};
@@ -10,11 +13,11 @@ ghost use Rattle.logos_places.specs.Repeat.{spelled};
 ghost use Rattle.logos_places.specs.Table.{reader_of};
 
 use crate::trees::Trees;
+use logos_hir::hir::Range;
 use logos_places::characters::reader::Table;
 use logos_places::node::Node;
 use logos_places::places::all::next_tree;
 use logos_places::places::look::kind_of;
-use logos_places::places::step::has_byte;
 use std::alloc::{AllocError, Global};
 
 /// Returns whether the rows differ.
@@ -26,18 +29,6 @@ fn differ(row: Option<usize>, other: Option<usize>) -> bool
         (Some(row), Some(other)) => row != other,
         _ => true,
     }
-}
-
-/// Returns whether a literal can distinguish the bytes.
-fn literal_distinguishes(text: &[u8], one: u8, other: u8) -> bool
-    ensures { IsFalse result → IsAlike (spelled text.now) one other }
-{
-    for byte in text {
-        if *byte == one || *byte == other {
-            return true;
-        }
-    }
-    false
 }
 
 /// Returns whether a class of characters can distinguish the bytes.
@@ -55,27 +46,72 @@ fn table_distinguishes(table: &Table, one: u8, other: u8) -> bool
     false
 }
 
-/// Returns whether a tree can distinguish the bytes.
-#[cycle(distinguishes)]
-fn distinguishes(node: &Node, one: u8, other: u8) -> bool
-    ensures { IsFalse result → IsAlike (core_of node.now) one other }
+/// Marks a number, if it is a byte.
+fn mark(byte: usize, marked: &mut [bool; 256])
+    ensures { (x : ℕ) → x < 256 → slice_index_or marked.new x false ≡ false →
+        (slice_index_or marked.old x false ≡ false) × (x ≢ byte) }
+{
+    if byte < 256 {
+        marked[byte] = true;
+    }
+}
+
+/// Marks the first byte of a range, and the byte after its last one.
+fn mark_range(range: Range, marked: &mut [bool; 256])
+    ensures { MarksFor (byte_in (is_in ((range.first, range.last) ∷ []))) marked.old marked.new }
+{
+    mark(range.first as usize, marked);
+    mark(range.last as usize + 1, marked);
+}
+
+/// Marks the bytes that a class of bytes distinguishes from the byte before.
+fn mark_ranges(ranges: &[Range], marked: &mut [bool; 256])
+    ensures { MarksFor (byte_in (is_in (pairs ranges.now))) marked.old marked.new }
+{
+    for range in ranges {
+        mark_range(*range, marked);
+    }
+}
+
+/// Marks the bytes that a literal distinguishes from the byte before.
+fn mark_literal(text: &[u8], marked: &mut [bool; 256])
+    ensures { MarksFor (spelled text.now) marked.old marked.new }
+{
+    for byte in text {
+        let value = *byte as u32;
+        mark_range(Range::new(value, value), marked);
+    }
+}
+
+/// Marks the bytes that a class of characters distinguishes from the byte before.
+fn mark_table(table: &Table, marked: &mut [bool; 256])
+    ensures { MarksFor (core.character (reader_of table.now)) marked.old marked.new }
+{
+    for byte in 1..256usize {
+        let is_start = table_distinguishes(table, (byte - 1) as u8, byte as u8);
+        marked[byte] = marked[byte] | is_start;
+    }
+}
+
+/// Marks the bytes that a tree distinguishes from the byte before.
+#[cycle(mark_starts)]
+fn mark_starts(node: &Node, marked: &mut [bool; 256])
+    ensures { MarksFor (core_of node.now) marked.old marked.new }
 {
     match node {
-        Node::Void | Node::Empty | Node::Look(_) => false,
-        Node::Literal(text) => literal_distinguishes(text, one, other),
-        Node::Bytes(ranges) => has_byte(ranges, one) != has_byte(ranges, other),
-        Node::Characters(table) => table_distinguishes(table, one, other),
+        Node::Void | Node::Empty | Node::Look(_) => {}
+        Node::Literal(text) => mark_literal(text, marked),
+        Node::Bytes(ranges) => mark_ranges(ranges, marked),
+        Node::Characters(table) => mark_table(table, marked),
         Node::Cat { first, second, .. } => {
-            let by_first = distinguishes(first, one, other);
-            let by_second = distinguishes(second, one, other);
-            by_first | by_second
+            mark_starts(first, marked);
+            mark_starts(second, marked);
         }
         Node::Alt { first, second, .. } => {
-            let by_first = distinguishes(first, one, other);
-            let by_second = distinguishes(second, one, other);
-            by_first | by_second
+            mark_starts(first, marked);
+            mark_starts(second, marked);
         }
-        Node::Repeat { body, .. } => distinguishes(body, one, other),
+        Node::Repeat { body, .. } => mark_starts(body, marked),
     }
 }
 
@@ -109,10 +145,11 @@ pub fn note(bytes: &mut Vec<u8>, byte: u8, is_one: bool) -> Result<(), AllocErro
 fn class_starts_of(alloc: Global, node: &Node) -> Result<ClassStarts, AllocError>
     ensures { IfOk result (λ starts. AreStartsOf (core_of node.now) starts.bytes.items 256) }
 {
+    let mut marked = [false; 256];
+    mark_starts(node, &mut marked);
     let mut bytes = Vec::new(alloc);
     for byte in 1..256usize {
-        let is_start = distinguishes(node, (byte - 1) as u8, byte as u8);
-        note(&mut bytes, byte as u8, is_start)?;
+        note(&mut bytes, byte as u8, marked[byte])?;
     }
     Ok(ClassStarts { bytes })
 }

@@ -1,3 +1,4 @@
+pub mod ByteLemmas
 pub mod CopyLemmas
 pub mod IsCoreLemmas
 pub mod NodeLemmas

@@ -1,18 +1,38 @@
 //! Preparation of a pattern's tree: the tree that the automaton steps on.
 ghost use Rattle.std.specs.Prelude.{◌≡◌, ℕ, ◌+◌, ◌^◌, ◌<◌, ◌≤◌, IsTrue, IfOk, Bool, true, length, map, vec_len};
-ghost use Rattle.logos_hir.specs.Tree.{trees, repetition};
+ghost use Rattle.logos_hir.specs.Tree.{trees, literal, repetition};
 ghost use Rattle.logos_hir.specs.Hir.{class_tree, tree_of};
 ghost use Rattle.logos_places.specs.Core as core;
 ghost use Rattle.logos_places.specs.IsCore.{IsCoreOf};
 ghost use Rattle.logos_places.specs.Node.{core_of, is_measured, AreMeasured};
-ghost use Rattle.logos_places.specs.inside.Joined.{pair_up, of_none, IsJoined, AreCoresOf};
+ghost use Rattle.logos_places.specs.inside.Joined.{pair_up, of_none, IsPair, IsJoined, AreCoresOf};
 ghost use Rattle.logos_places.specs.Run.{width_of};
 ghost use Rattle.logos_places.specs.Size.{size, sizes};
 
+pub(crate) mod classes;
+
 use crate::characters::build::table_of;
 use crate::node::{Node, width};
-use logos_hir::hir::{Class, Hir};
+use crate::prepare::classes::joined_class;
+use logos_hir::hir::{Class, Hir, Range};
 use std::alloc::{AllocError, Global};
+
+/// Prepares a literal. One byte becomes a class.
+///
+/// # Errors
+///
+/// Returns `AllocError` when memory runs out.
+fn prepare_literal(alloc: Global, bytes: &[u8]) -> Result<Node, AllocError>
+    ensures stands { IfOk result (λ node. IsCoreOf (literal bytes.now) (core_of node)) }
+    ensures measured { IfOk result (λ node. IsTrue (is_measured node)) }
+{
+    if let [byte] = bytes {
+        let value = *byte as u32;
+        let ranges = vec![in alloc; Range::new(value, value)]?;
+        return Ok(Node::Bytes(ranges));
+    }
+    Ok(Node::Literal(Vec::from_slice(alloc, bytes)?))
+}
 
 /// Prepares a class.
 ///
@@ -29,12 +49,12 @@ fn prepare_class(alloc: Global, class: &Class) -> Result<Node, AllocError>
     }
 }
 
-/// Returns one tree after the other, or the choice of the two.
+/// Returns one tree after the other, or the choice of the two, each with places of its own.
 ///
 /// # Errors
 ///
 /// Returns `AllocError` when memory runs out.
-fn pair(alloc: Global, in_order: bool, first: Node, second: Node) -> Result<Node, AllocError>
+fn apart(alloc: Global, in_order: bool, first: Node, second: Node) -> Result<Node, AllocError>
     requires first { IsTrue (is_measured first) }
     requires second { IsTrue (is_measured second) }
     requires fits { core.width (core_of first) + core.width (core_of second) < 2 ^ 64 }
@@ -57,6 +77,28 @@ fn pair(alloc: Global, in_order: bool, first: Node, second: Node) -> Result<Node
         first,
         second,
     })
+}
+
+/// Returns one tree after the other, or the choice of the two: for two classes of bytes, one class.
+///
+/// # Errors
+///
+/// Returns `AllocError` when memory runs out.
+fn pair(alloc: Global, in_order: bool, first: Node, second: Node) -> Result<Node, AllocError>
+    requires first { IsTrue (is_measured first) }
+    requires second { IsTrue (is_measured second) }
+    requires fits { core.width (core_of first) + core.width (core_of second) < 2 ^ 64 }
+    ensures stands { IfOk result (λ node.
+        IsPair in_order (core_of first) (core_of second) (core_of node)) }
+    ensures measured { IfOk result (λ node. IsTrue (is_measured node)) }
+{
+    if in_order {
+        return apart(alloc, in_order, first, second);
+    }
+    match joined_class(alloc, &first, &second)? {
+        Some(ranges) => Ok(Node::Bytes(ranges)),
+        None => apart(alloc, in_order, first, second),
+    }
 }
 
 /// Returns the join of no trees.
@@ -127,7 +169,7 @@ pub fn prepare(alloc: Global, hir: &Hir) -> Result<Node, AllocError>
 {
     match hir {
         Hir::Empty => Ok(Node::Empty),
-        Hir::Literal(bytes) => Ok(Node::Literal(Vec::from_slice(alloc, bytes)?)),
+        Hir::Literal(bytes) => prepare_literal(alloc, bytes),
         Hir::Class(class) => prepare_class(alloc, class),
         Hir::Look(look) => Ok(Node::Look(*look)),
         Hir::Repetition { min, max, sub, .. } => prepare_repetition(alloc, *min, *max, sub),

@@ -1,12 +1,12 @@
 -- Bytes that a pattern does not distinguish.
-use Rattle.std.proofs.Common.{◌≡◌, ℕ, zero, suc, ◌+◌, ◌-◌, ◌<◌, ◌≤◌, ◌↔◌, ◌⊎◌, ◌==◌, Bool, true, false, IsTrue, IsFalse, if◌then◌else◌, List, [], ◌∷◌, ◌++◌, length, length-append, map, drop, get_or, slice_index, slice_index_or, drop-cons, add-one, Option, Some, None, refl, sym, ap, ◌∙◌, subst, inl, inr, ⊎_elim, true≢false, arith}
+use Rattle.std.proofs.Common.{◌≡◌, ℕ, zero, suc, ◌+◌, ◌-◌, ◌<◌, ◌≤◌, ◌↔◌, ◌⊎◌, Bool, true, false, IsTrue, IsFalse, if◌then◌else◌, List, [], ◌∷◌, ◌++◌, length, length-append, map, drop, slice_index, slice_index_or, Option, Some, None, refl, sym, ap, ◌∙◌, subst, inl, inr, ⊎_elim, true≢false, arith}
 use Rattle.std.proofs.lemmas.List.{get_or_append_left}
 use Rattle.std.proofs.Math.Seq.{get_or-append_seam}
 use Rattle.logos_automaton.specs.inside.Alike.{IsAlike, AreStartsOf, AreClassStarts, AreReadAlike}
 use Rattle.logos_places.specs.Core.{Core, void, empty, byte_in, character, look, cat, alt, plus, width, Exits, Steps}
 use Rattle.logos_places.specs.Marks.{Has}
 use Rattle.logos_places.specs.Node.{core_of}
-use Rattle.logos_places.specs.Repeat.{spelled, in_front, up_to, repeated}
+use Rattle.logos_places.specs.Repeat.{in_front, up_to, repeated}
 use Rattle.logos_places.specs.Run.{StepsIn}
 use Rattle.logos_places.specs.Several.{AreStarts}
 use Rattle.logos_automaton.specs.declared.alike.ClassStarts.{ClassStarts}
@@ -30,13 +30,6 @@ module _ (x y : ℕ) where
   alike_repeated zero None a h = (h, tt)
   alike_repeated (suc n) None a h = alike_in_front n a (plus a) h h
   alike_repeated least (Some most) a h = alike_in_front least a (up_to (most - least) a) h (alike_up_to (most - least) a h)
-
-  -- one more byte of a literal
-  pub alike_spelled : (text : List ℕ) (i d : ℕ) → i < length text → (x == get_or text i d) ≡ (y == get_or text i d) →
-      (IsAlike (spelled (drop i text)) x y → IsAlike (spelled text) x y) → IsAlike (spelled (drop (i + 1) text)) x y → IsAlike (spelled text) x y
-  alike_spelled text i d lt same before rest =
-      let e : drop i text ≡ get_or text i d ∷ drop (i + 1) text = drop-cons text i d lt ∙ ap (λ k. get_or text i d ∷ drop k text) (sym (add-one i)) in
-      before (subst (λ bs. IsAlike (spelled bs) x y) (sym e) (same, rest))
 
 pub alike_back : (t : Core) (x y : ℕ) → IsAlike t x y → IsAlike t y x
 alike_back void x y h = tt

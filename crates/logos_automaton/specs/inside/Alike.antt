@@ -19,6 +19,11 @@ IsAlike (cat a b) x y = IsAlike a x y × IsAlike b x y
 IsAlike (alt a b) x y = IsAlike a x y × IsAlike b x y
 IsAlike (plus a) x y = IsAlike a x y
 
+-- more bytes are marked, among them each byte that the pattern distinguishes from the byte before
+abbrev pub MarksFor : Core → List Bool → List Bool → Type 0
+MarksFor t old new = (byte : ℕ) → byte + 1 < 256 → slice_index_or new (byte + 1) false ≡ false →
+    (slice_index_or old (byte + 1) false ≡ false) × IsAlike t byte (byte + 1)
+
 -- each byte below n that the pattern distinguishes from the byte before is among these
 abbrev pub AreStartsOf : Core → List ℕ → ℕ → Type 0
 AreStartsOf t bytes n = (byte : ℕ) → byte + 1 < n → Has bytes (byte + 1) ⊎ IsAlike t byte (byte + 1)

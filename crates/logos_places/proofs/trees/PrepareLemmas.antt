@@ -1,5 +1,5 @@
 -- Patterns made ready: what each form of a tree is, and trees in lists.
-use Rattle.std.proofs.Common.{◌≡◌, ℕ, zero, suc, ◌+◌, ◌*◌, ◌^◌, ◌<◌, ◌≤◌, Bool, true, false, IsTrue, List, [], ◌∷◌, ◌++◌, map, length, take, drop, get_or, drop-cons, add-one, append_assoc, Option, Vec, Box, Global, refl, sym, ap, ◌∙◌, subst, arith}
+use Rattle.std.proofs.Common.{◌≡◌, ℕ, zero, suc, ◌+◌, ◌*◌, ◌^◌, ◌<◌, ◌≤◌, Bool, true, false, IsTrue, List, [], ◌∷◌, ◌++◌, map, length, take, drop, get_or, drop-cons, add-one, append_assoc, Option, Vec, Box, Global, refl, sym, ap, ◌∙◌, subst, true≢false, arith}
 use Rattle.std.proofs.lemmas.List.{map-append, take-append-drop}
 use Rattle.logos_hir.specs.Tree as tree
 use Rattle.logos_hir.specs.Tree.{Tree, Trees, none, also, trees}
@@ -8,14 +8,15 @@ use Rattle.logos_hir.specs.declared.hir.Look as look_type
 use Rattle.logos_hir.specs.declared.hir.Class as class_type
 use Rattle.logos_hir.specs.declared.hir.Hir.{Hir, Hir-F, fold-roll-Hir}
 use Rattle.logos_hir.specs.declared.hir.Hir.TheVariants.{Empty, Literal, Class, Look, Repetition, Capture, Concat, Alternation, rolls-Empty, rolls-Literal, rolls-Class, rolls-Look, rolls-Repetition, rolls-Capture, rolls-Concat, rolls-Alternation}
-use Rattle.logos_places.specs.Core.{Core, cat, alt, width}
+use Rattle.logos_places.specs.Core.{Core, byte_in, cat, alt, width}
 use Rattle.logos_places.specs.IsCore.{IsCoreOf, IsCoreOfParts, IsCoreOfBranches}
-use Rattle.logos_places.specs.inside.Joined.{pair_up, of_none, IsJoined, from_none, from_one, from_two, AreCoresOf}
+use Rattle.logos_places.specs.inside.Joined.{of_none, IsPair, apart, as_class, IsJoined, from_none, from_one, from_two, AreCoresOf}
 use Rattle.logos_places.specs.Node.{core_of, is_measured, AreMeasured}
 use Rattle.logos_places.specs.Run.{width_of}
 use Rattle.logos_places.specs.Size.{size, sizes}
 use Rattle.logos_places.specs.declared.node.Node.{Node}
 use Rattle.logos_places.proofs.trees.TreesLemmas.{join_trees, count_trees}
+use Rattle.logos_places.proofs.trees.ByteLemmas.{branches_class}
 use Rattle.logos_places.proofs.trees.PartLemmas.{parts_none, parts_one, parts_join, branches_none, branches_one, branches_join}
 
 pub tree-Empty : tree_of Empty ≡ tree.empty
@@ -53,19 +54,20 @@ width_of-cores none (c ∷ cs) h = absurd h
 width_of-cores (also t ts) [] h = absurd h
 width_of-cores (also t ts) (c ∷ cs) h = let k = width_of-cores ts cs h.1 in let s = h.0.small in omega arith
 
-width-pair : (in_order : Bool) (a b : Core) → width (pair_up in_order a b) ≡ width a + width b
-width-pair true a b = refl
-width-pair false a b = refl
+width-pair : (in_order : Bool) (a b c : Core) → IsPair in_order a b c → width c ≤ width a + width b
+width-pair true a b _ apart = omega arith
+width-pair false a b _ apart = omega arith
+width-pair in_order a b _ (as_class has e either) = let f = ap width either.first_is in omega (arith, f)
 
 width-none : (in_order : Bool) → width (of_none in_order) ≡ 0
 width-none true = refl
 width-none false = refl
 
-pub width-joined : (in_order : Bool) (cs : List Core) (c : Core) → IsJoined in_order cs c → width c ≡ width_of cs
-width-joined in_order _ _ from_none = width-none in_order
+pub width-joined : (in_order : Bool) (cs : List Core) (c : Core) → IsJoined in_order cs c → width c ≤ width_of cs
+width-joined in_order _ _ from_none = omega (arith, width-none in_order)
 width-joined in_order _ _ (from_one c) = omega arith
-width-joined in_order _ _ (from_two xs ys a b f g) =
-    width-pair in_order a b ∙ omega (arith, width-joined in_order xs a f, width-joined in_order ys b g, width_of-append xs ys)
+width-joined in_order _ _ (from_two xs ys a b c f g p) =
+    omega (arith, width-pair in_order a b c p, width-joined in_order xs a f, width-joined in_order ys b g, width_of-append xs ys)
 
 -- the trees of two groups
 split_cores : (ts : Trees) (xs ys : List Core) → AreCoresOf ts (xs ++ ys) →
@@ -82,7 +84,8 @@ joined_parts (also t ts) _ _ h from_none n = absurd h
 joined_parts none _ _ h (from_one c) n = absurd h
 joined_parts (also t none) _ _ h (from_one c) n = parts_one t c n h.0
 joined_parts (also t (also u ts)) _ _ h (from_one c) n = absurd h.1
-joined_parts ts _ _ h (from_two xs ys a b f g) n =
+joined_parts ts _ _ h (from_two xs ys a b _ f g (as_class has e either)) n = absurd (true≢false e)
+joined_parts ts _ _ h (from_two xs ys a b _ f g apart) n =
     let u = split_cores ts xs ys h in
     subst (λ k. IsCoreOfParts k n (cat a b)) (sym u.2)
     (parts_join u.0 u.1 n (n + count_trees u.0) a b refl (joined_parts u.0 xs a u.3 f n) (joined_parts u.1 ys b u.4 g (n + count_trees u.0)))
@@ -93,10 +96,17 @@ joined_branches (also t ts) _ _ h from_none n = absurd h
 joined_branches none _ _ h (from_one c) n = absurd h
 joined_branches (also t none) _ _ h (from_one c) n = branches_one t c n h.0
 joined_branches (also t (also u ts)) _ _ h (from_one c) n = absurd h.1
-joined_branches ts _ _ h (from_two xs ys a b f g) n =
+joined_branches ts _ _ h (from_two xs ys a b _ f g apart) n =
     let u = split_cores ts xs ys h in
     subst (λ k. IsCoreOfBranches k n (alt a b)) (sym u.2)
     (branches_join u.0 u.1 n (n + count_trees u.0) a b refl (joined_branches u.0 xs a u.3 f n) (joined_branches u.1 ys b u.4 g (n + count_trees u.0)))
+joined_branches ts _ _ h (from_two xs ys a b _ f g (as_class has e either)) n =
+    let u = split_cores ts xs ys h in
+    let both = branches_join u.0 u.1 n (n + count_trees u.0) a b refl (joined_branches u.0 xs a u.3 f n) (joined_branches u.1 ys b u.4 g (n + count_trees u.0)) in
+    subst (λ k. IsCoreOfBranches k n (byte_in has)) (sym u.2)
+    (branches_class either.first either.second has either.either (join_trees u.0 u.1) n
+    (subst (λ k. IsCoreOfBranches (join_trees u.0 u.1) n (alt k (byte_in either.second))) either.first_is
+    (subst (λ k. IsCoreOfBranches (join_trees u.0 u.1) n (alt a k)) either.second_is both)))
 
 pub AreMeasured-push : (xs : List Node) (x : Node) → AreMeasured xs → IsTrue (is_measured x) → AreMeasured (xs ++ x ∷ [])
 AreMeasured-push [] x h k = (k, tt)

@@ -1,7 +1,7 @@
-use Rattle.std.proofs.Common.{◌≡◌, ◌/◌, subst, arith, rules}
+use Rattle.std.proofs.Common.{◌/◌, subst, arith, rules}
 use Rattle.std.proofs.lemmas.Result.{IfOk-weaker}
 use Rattle.logos_places.specs.Node.{core_of}
-use Rattle.logos_places.specs.inside.Joined.{pair_up, IsJoined, from_two}
+use Rattle.logos_places.specs.inside.Joined.{IsPair, IsJoined, from_two}
 use Rattle.logos_places.proofs.trees.PrepareLemmas.{width-joined, AreMeasured-take, AreMeasured-drop, cores_split, widths_split}
 use Rattle.logos_places.proofs.prepare.+join.Goals as goal
 
@@ -30,7 +30,7 @@ pub returns-clause-stands : goal.returns-clause-stands
 returns-clause-stands t c =
     let first = rw c.in_ok-second.ensures.items at c.in_ok-first.ensures.stands in
     let second = rw c.in_ok-second.ensures.tail at c.in_ok-second-2.ensures.stands in
-    let both = subst (λ cs. IsJoined c.args.in_order cs (pair_up c.args.in_order (core_of c.in_ok-first.first) (core_of c.in_ok-second-2.second))) (cores_split (c.len-2.result / 2) c.args.nodes.items) (from_two _ _ _ _ first second) in
     IfOk-weaker _ _ _
-    (λ node (is : core_of node ≡ pair_up c.args.in_order (core_of c.in_ok-first.first) (core_of c.in_ok-second-2.second)). rw is both)
+    (λ node (is : IsPair c.args.in_order (core_of c.in_ok-first.first) (core_of c.in_ok-second-2.second) (core_of node)).
+    subst (λ cs. IsJoined c.args.in_order cs (core_of node)) (cores_split (c.len-2.result / 2) c.args.nodes.items) (from_two _ _ _ _ _ first second is))
     c.pair.ensures.stands

@@ -4,8 +4,8 @@ use Rattle.logos_hir.specs.Tree.{trees}
 use Rattle.logos_hir.specs.Hir.{tree_of}
 use Rattle.logos_places.specs.inside.Joined.{AreCoresOf}
 use Rattle.logos_places.specs.Node.{core_of}
-use Rattle.logos_places.proofs.trees.IsCoreLemmas.{core_empty, core_look, core_literal}
-use Rattle.logos_places.proofs.trees.NodeLemmas.{core-Void, core-Empty, core-Literal, core-Look, core-Repeat}
+use Rattle.logos_places.proofs.trees.IsCoreLemmas.{core_empty, core_look}
+use Rattle.logos_places.proofs.trees.NodeLemmas.{core-Void, core-Empty, core-Look, core-Repeat}
 use Rattle.logos_places.proofs.trees.PartLemmas.{core_concat, core_alternation}
 use Rattle.logos_places.proofs.trees.RepetitionLemmas.{core_repetition, core_no_count, core_no_turn}
 use Rattle.logos_places.proofs.trees.PrepareLemmas.{tree-Empty, tree-Literal, tree-Look, tree-Concat, tree-Alternation, joined_parts, joined_branches, width_of-cores, stand_more, size_at, AreMeasured-push}
@@ -32,10 +32,9 @@ prepare-join-requires-in-Alternation-clause-fits t c =
 pub prepare-returns-in-Empty-clause-stands : goal.prepare-returns-in-Empty-clause-stands
 prepare-returns-in-Empty-clause-stands t c = rw (c.in-Empty.is, tree-Empty, core-Empty) core_empty
 
-pub prepare-returns-in_ok-from_slice-in-Literal-clause-stands : goal.prepare-returns-in_ok-from_slice-in-Literal-clause-stands
-prepare-returns-in_ok-from_slice-in-Literal-clause-stands t c =
-    let same : c.in_ok-from_slice-in-Literal.field-0.items ≡ c.in-Literal.bytes.items = c.in_ok-from_slice-in-Literal.ensures.items ∙ c.deref.ensures.value in
-    rw (c.in-Literal.is, tree-Literal c.in-Literal.bytes, core-Literal c.in_ok-from_slice-in-Literal.field-0, same) (core_literal c.in-Literal.bytes.items)
+pub prepare-returns-in-Literal-clause-stands : goal.prepare-returns-in-Literal-clause-stands
+prepare-returns-in-Literal-clause-stands t c =
+    rw (c.in-Literal.is, tree-Literal c.in-Literal.bytes) (rw c.deref.ensures.value at c.prepare_literal.ensures.stands)
 
 pub prepare-returns-in-Look-clause-stands : goal.prepare-returns-in-Look-clause-stands
 prepare-returns-in-Look-clause-stands t c = rw (c.in-Look.is, tree-Look c.in-Look.look, core-Look c.in-Look.look) (core_look c.in-Look.look)
