@@ -276,8 +276,8 @@ entry_edge code marks s b entry is agrees t out leads none = ⊎_elim low high (
 
     low : entry < 268435456 → Follows (last_mark_at marks t) (last_mark_at marks s) (state_at code t).fast_loop
     low h =
-        let to : target code (state_at code s).fork b ≡ Some (entry / 256) = entry_leads code (state_at code s) b entry is h in
-        let same : t ≡ entry / 256 = cc in
+        let to : target code (state_at code s).fork b ≡ Some (entry / 272) = entry_leads code (state_at code s) b entry is h in
+        let same : t ≡ entry / 272 = cc in
         subst (λ (n : ℕ). Follows (last_mark_at marks n) (last_mark_at marks s) (state_at code n).fast_loop) (sym same)
         (agrees.1 h (subst (λ (n : ℕ). (state_at code n).mark ≡ None) same none))
 
@@ -289,11 +289,11 @@ entry_edge code marks s b entry is agrees t out leads none = ⊎_elim low high (
 -- a state agrees whose entries do
 pub state_agreed : (parts : CodeParts) (rows : List ℕ) (marks : List LastMark) (from : LastMark) (s : ℕ) (state : TheState) → AreRows (code_of parts) rows →
     s < length parts.states.items → state ≡ get_or parts.states.items s state → s < length (code_of parts).states → from ≡ last_mark_at marks s → IsOwn from (option_map mark_of state.mark) →
-    ((b : ℕ) → b < 256 → EntryAgrees (code_of parts) marks from (slice_index rows (256 * s + b))) → StateAgrees (code_of parts) marks s
+    ((b : ℕ) → b < 256 → EntryAgrees (code_of parts) marks from (slice_index rows (272 * s + b))) → StateAgrees (code_of parts) marks s
 state_agreed parts rows marks from s state are h is there same own entries =
     let here : state_at (code_of parts) s ≡ state_of parts.jump_tables.items state = state_there parts s state h is in
     record {
       own = subst (λ (m : LastMark). IsOwn m (state_at (code_of parts) s).mark) same (subst (λ (t : CodeState). IsOwn from t.mark) (sym here) own);
-      edges = λ b l. entry_edge (code_of parts) marks s b (slice_index rows (256 * s + b)) (are.each s b there l)
-          (subst (λ (m : LastMark). EntryAgrees (code_of parts) marks m (slice_index rows (256 * s + b))) same (entries b l));
+      edges = λ b l. entry_edge (code_of parts) marks s b (slice_index rows (272 * s + b)) (are.each s b there l)
+          (subst (λ (m : LastMark). EntryAgrees (code_of parts) marks m (slice_index rows (272 * s + b))) same (entries b l));
     }

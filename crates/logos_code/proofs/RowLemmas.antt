@@ -29,23 +29,23 @@ state_there parts s state h is =
     get_or-map (state_of parts.jump_tables.items) parts.states.items s state no_state h ∙ ap (state_of parts.jump_tables.items) (sym is)
 
 -- one more row
-pub rows_turn : (parts : CodeParts) (rows new row : List ℕ) (s : ℕ) (state : TheState) → length rows ≡ 256 * s → new ≡ rows ++ row →
+pub rows_turn : (parts : CodeParts) (rows new row : List ℕ) (s : ℕ) (state : TheState) → length rows ≡ 272 * s → new ≡ rows ++ row →
     s < length parts.states.items → state ≡ get_or parts.states.items s state → IsRow (code_of parts) (state_of parts.jump_tables.items state) row →
-    ((k b : ℕ) → k < s → b < 256 → IsEntry (code_of parts) (state_at (code_of parts) k) b (slice_index rows (256 * k + b))) →
-    (k b : ℕ) → k < s + 1 → b < 256 → IsEntry (code_of parts) (state_at (code_of parts) k) b (slice_index new (256 * k + b))
+    ((k b : ℕ) → k < s → b < 256 → IsEntry (code_of parts) (state_at (code_of parts) k) b (slice_index rows (272 * k + b))) →
+    (k b : ℕ) → k < s + 1 → b < 256 → IsEntry (code_of parts) (state_at (code_of parts) k) b (slice_index new (272 * k + b))
 rows_turn parts rows new row s state long is there here last before k b h within = ⊎_elim old now (either k s h)
   where
     either : (a b : ℕ) → a < b + 1 → (a < b) ⊎ (b ≡ a)
     either a b h = grind arith
 
-    old : k < s → IsEntry (code_of parts) (state_at (code_of parts) k) b (slice_index new (256 * k + b))
-    old l = rw (is, get_or_append_left rows row 0 (256 * k + b) (omega (arith, l, long, within))) (before k b l within)
+    old : k < s → IsEntry (code_of parts) (state_at (code_of parts) k) b (slice_index new (272 * k + b))
+    old l = rw (is, get_or_append_left rows row 0 (272 * k + b) (omega (arith, l, long, within))) (before k b l within)
 
-    added : slice_index new (256 * s + b) ≡ slice_index row b
+    added : slice_index new (272 * s + b) ≡ slice_index row b
     added = rw (is, ← long) (get_or-append-add rows row b 0)
 
-    now : s ≡ k → IsEntry (code_of parts) (state_at (code_of parts) k) b (slice_index new (256 * k + b))
-    now e = subst (λ n. IsEntry (code_of parts) (state_at (code_of parts) n) b (slice_index new (256 * n + b))) e
+    now : s ≡ k → IsEntry (code_of parts) (state_at (code_of parts) k) b (slice_index new (272 * k + b))
+    now e = subst (λ n. IsEntry (code_of parts) (state_at (code_of parts) n) b (slice_index new (272 * n + b))) e
         (rw (state_there parts s state there here, added) (last b within))
 
 -- the bytes of an input are bytes
@@ -53,28 +53,28 @@ pub are_bytes : (bytes : List ℕ) → ((i : ℕ) → Fits w8 (get_or bytes i 0)
 are_bytes bytes h = λ k d l. rw (get_or_default_zero bytes k d l) (Fits-lt-pow (h k))
 
 -- an entry as it is read
-pub read_entry : (code : CodeValue) (rows : List ℕ) (s b entry : ℕ) → AreRows code rows → s < length code.states → b < 256 → entry ≡ get_or rows (256 * s + b) entry →
+pub read_entry : (code : CodeValue) (rows : List ℕ) (s b entry : ℕ) → AreRows code rows → s < length code.states → b < 256 → entry ≡ get_or rows (272 * s + b) entry →
     IsEntry code (state_at code s) b entry
 read_entry code rows s b entry all there within is =
     let count = all.count in
-    let got : slice_get rows (256 * s + b) ≡ Some entry = slice_get-get_or rows (256 * s + b) entry (omega (arith, count, there, within)) ∙ ap Some (sym is) in
-    let same : slice_index rows (256 * s + b) ≡ entry = get_or_from_slice_get rows (256 * s + b) entry 0 got in
+    let got : slice_get rows (272 * s + b) ≡ Some entry = slice_get-get_or rows (272 * s + b) entry (omega (arith, count, there, within)) ∙ ap Some (sym is) in
+    let same : slice_index rows (272 * s + b) ≡ entry = get_or_from_slice_get rows (272 * s + b) entry 0 got in
     rw same at (all.each s b there within)
 
 -- an entry as it is read from the rest of the rows after so many
-pub read_column : (code : CodeValue) (rows : List ℕ) (place b : ℕ) → AreRows code rows → 256 * (place / 256) ≡ place → place / 256 < length code.states → b < 256 →
-    IsEntry code (state_at code (place / 256)) b (get_or (take (length rows - b) (drop b rows)) place 0)
+pub read_column : (code : CodeValue) (rows : List ℕ) (place b : ℕ) → AreRows code rows → 272 * (place / 272) ≡ place → place / 272 < length code.states → b < 256 →
+    IsEntry code (state_at code (place / 272)) b (get_or (take (length rows - b) (drop b rows)) place 0)
 read_column code rows place b all is there within =
     let rest : take (length rows - b) (drop b rows) ≡ drop b rows = take_all (length rows - b) (drop b rows) (omega (arith, length-drop b rows)) in
-    let index : 256 * (place / 256) + b ≡ b + place = omega (arith, is) in
-    let read : get_or (take (length rows - b) (drop b rows)) place 0 ≡ get_or rows (256 * (place / 256) + b) 0 =
+    let index : 272 * (place / 272) + b ≡ b + place = omega (arith, is) in
+    let read : get_or (take (length rows - b) (drop b rows)) place 0 ≡ get_or rows (272 * (place / 272) + b) 0 =
     ap (λ (l : List ℕ). get_or l place 0) rest ∙ get_or-drop b rows place 0 ∙ ap (λ (n : ℕ). get_or rows n 0) (sym index) in
-    subst (λ (entry : ℕ). IsEntry code (state_at code (place / 256)) b entry) (sym read) (all.each (place / 256) b there within)
+    subst (λ (entry : ℕ). IsEntry code (state_at code (place / 272)) b entry) (sym read) (all.each (place / 272) b there within)
 
 -- one more entry of a row
-pub row_turn : (code : CodeValue) (state : CodeState) (row : List ℕ) (b entry : ℕ) → length row ≡ 256 → b < 256 → IsEntry code state b entry →
+pub row_turn : (code : CodeValue) (state : CodeState) (row : List ℕ) (b entry : ℕ) → length row ≡ 272 → b < 256 → IsEntry code state b entry →
     ((k : ℕ) → k < b → IsEntry code state k (slice_index row k)) →
-    (length (set row b entry) ≡ 256) × ((k : ℕ) → k < b + 1 → IsEntry code state k (slice_index (set row b entry) k))
+    (length (set row b entry) ≡ 272) × ((k : ℕ) → k < b + 1 → IsEntry code state k (slice_index (set row b entry) k))
 row_turn code state row b entry long within is before = (length-set row b entry ∙ long, λ k h. ⊎_elim (old k) (now k) (either k b h))
   where
     either : (a b : ℕ) → a < b + 1 → (a < b) ⊎ (b ≡ a)
@@ -117,7 +117,7 @@ before_byte used (suc k) n = Looks (record { 0 = n }) used
 
 -- the step that an entry of this kind stands for
 abbrev decoded : (kind named : ℕ) → Step
-decoded zero n = Leads (n / 256)
+decoded zero n = Leads (n / 272)
 decoded (suc zero) n = Stays n
 decoded (suc (suc zero)) n = before_byte Skips (n / 134217728) (n % 134217728)
 decoded (suc (suc (suc zero))) n = before_byte Emits (n / 134217728) (n % 134217728)
@@ -129,7 +129,7 @@ decoded (suc (suc (suc (suc (suc (suc (suc (suc zero)))))))) n = Stuck
 decoded (suc (suc (suc (suc (suc (suc (suc (suc (suc k))))))))) n = Unsaid
 
 decodes : (entry : ℕ) (step : Step) → IsStepOf entry step → step ≡ decoded (entry / 268435456) (entry % 268435456)
-decodes entry (Leads s) f = let k : entry / 268435456 ≡ 0 = omega (arith, f.0, f.1) in let n : entry % 268435456 / 256 ≡ s = omega (arith, f.0, f.1) in rw (k, n) refl
+decodes entry (Leads s) f = let k : entry / 268435456 ≡ 0 = omega (arith, f.0, f.1) in let n : entry % 268435456 / 272 ≡ s = omega (arith, f.0, f.1) in rw (k, n) refl
 decodes entry (Stays s) f = let k : entry / 268435456 ≡ 1 = omega (arith, f.0, f.1) in let n : entry % 268435456 ≡ s = omega (arith, f.0, f.1) in rw (k, n) refl
 decodes entry (Halts s Skips) f =
     let k : entry / 268435456 ≡ 2 = omega (arith, f.0, f.1) in
@@ -265,10 +265,10 @@ module _ (code : CodeValue) (state : CodeState) where
           cc
 
   -- what an entry that leads says of its byte
-  pub entry_leads : (b entry : ℕ) → IsEntry code state b entry → entry < 268435456 → target code state.fork b ≡ Some (entry / 256)
+  pub entry_leads : (b entry : ℕ) → IsEntry code state b entry → entry < 268435456 → target code state.fork b ≡ Some (entry / 272)
   entry_leads b entry is h =
       let place = is.place h in
-      let said : Says code state b (Leads (entry / 256)) = is.says (Leads (entry / 256)) (sym place, omega (arith, h)) in
+      let said : Says code state b (Leads (entry / 272)) = is.says (Leads (entry / 272)) (sym place, omega (arith, h)) in
       said.1
 
   -- and one of a byte that leads nowhere
@@ -279,4 +279,4 @@ module _ (code : CodeValue) (state : CodeState) where
 pub first_row_says : (code : CodeValue) (rows first : List ℕ) → AreRows code rows → code.root < length code.states → IsFirstOf rows code.root first → IsFirstRow code first
 first_row_says code rows first are there firsts b h =
     let one = firsts.1 b h in
-    (first_says code (state_at code code.root) b (slice_index rows (256 * code.root + b)) (slice_index first b) (are.each code.root b there h) one.0, one.1)
+    (first_says code (state_at code code.root) b (slice_index rows (272 * code.root + b)) (slice_index first b) (are.each code.root b there h) one.0, one.1)

@@ -27,7 +27,7 @@ first_closing Asks = 1879048192
 
 -- the entry stands for this step
 abbrev pub IsStepOf : ℕ → Step → Type 0
-IsStepOf entry (Leads state) = (entry ≡ 256 * state) × (state < 1048576)
+IsStepOf entry (Leads state) = (entry ≡ 272 * state) × (state < 986896)
 IsStepOf entry (Stays test) = (entry ≡ 268435456 + test) × (test < 268435456)
 IsStepOf entry (Halts leaf used) = (entry ≡ first_halting used + leaf.0) × (leaf.0 < 134217728)
 IsStepOf entry (Looks leaf used) = (entry ≡ first_halting used + 134217728 + leaf.0) × (leaf.0 < 134217728)
@@ -35,9 +35,9 @@ IsStepOf entry (Closes leaf used) = (entry ≡ first_closing used + leaf.0) × (
 IsStepOf entry Stuck = (2147483648 ≤ entry) × (entry < 2415919104)
 IsStepOf entry Unsaid = 2415919104 ≤ entry
 
--- the place of a state: 256 times its number
+-- the place of a state: 272 times its number
 abbrev pub IsPlace : CodeValue → ℕ → Type 0
-IsPlace code place = (256 * (place / 256) ≡ place) × (place / 256 < length code.states)
+IsPlace code place = (272 * (place / 272) ≡ place) × (place / 272 < length code.states)
 
 -- what becomes of matches without a callback
 abbrev pub IsPlainUse : Use → MatchUse → Type 0
@@ -88,9 +88,9 @@ SaysAtEnd code state (Closes leaf used) = ⊥
 SaysAtEnd code state Stuck = Unit {0}
 SaysAtEnd code state Unsaid = Unit {0}
 
--- an entry that leads is a multiple of 256
+-- an entry that leads is a multiple of 272
 abbrev pub LeadsToPlace : ℕ → Type 0
-LeadsToPlace entry = entry < 268435456 → 256 * (entry / 256) ≡ entry
+LeadsToPlace entry = entry < 268435456 → 272 * (entry / 272) ≡ entry
 
 -- the entry of a byte: what it stands for is so
 pub record IsEntry (code : CodeValue) (state : CodeState) (b entry : ℕ) : Type 0 where
@@ -108,8 +108,8 @@ IsRow code state row = (b : ℕ) → b < 256 → IsEntry code state b (slice_ind
 
 -- the rows of all states, one after another
 pub record AreRows (code : CodeValue) (rows : List ℕ) : Type 0 where
-  pub count : length rows ≡ 256 * length code.states
-  pub each : (s b : ℕ) → s < length code.states → b < 256 → IsEntry code (state_at code s) b (slice_index rows (256 * s + b))
+  pub count : length rows ≡ 272 * length code.states
+  pub each : (s b : ℕ) → s < length code.states → b < 256 → IsEntry code (state_at code s) b (slice_index rows (272 * s + b))
 
 -- an entry that leads to a state, or comes after those of halting states
 abbrev pub BeginsTry : ℕ → Type 0
@@ -120,7 +120,7 @@ abbrev pub IsFirstEntry : ℕ → ℕ → Type 0
 IsFirstEntry entry first = ((first ≡ entry) ⊎ (2415919104 ≤ first)) × BeginsTry first
 
 abbrev pub IsFirstOf : List ℕ → ℕ → List ℕ → Type 0
-IsFirstOf rows root first = (length first ≡ 256) × ((b : ℕ) → b < 256 → IsFirstEntry (slice_index rows (256 * root + b)) (slice_index first b))
+IsFirstOf rows root first = (length first ≡ 256) × ((b : ℕ) → b < 256 → IsFirstEntry (slice_index rows (272 * root + b)) (slice_index first b))
 
 -- the entry of the first byte of a try
 abbrev pub IsFirst : CodeValue → ℕ → ℕ → Type 0

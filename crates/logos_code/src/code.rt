@@ -23,7 +23,7 @@ use logos_hir::leaf::LeafId;
 use logos_pattern::leaf::{Callback, VariantKind};
 use logos_token::token::Ident;
 use logos_type::TypeExpr;
-use rows::{STAYS, STUCK, UNSAID, entry_of_step};
+use rows::{STAYS, STUCK, UNSAID, WIDTH, entry_of_step};
 use signs::Sign;
 use std::marker::Model;
 use uses::LeafUse;
@@ -224,11 +224,11 @@ impl Code<'_> {
         self.first[byte as usize]
     }
 
-    /// Returns the entry of the byte in the state at the place, which is 256 times the number of the state.
+    /// Returns the entry of the byte in the state at the place, which is `WIDTH` times the number of the state.
     #[inline(always)]
     pub fn entry(&self, place: usize, byte: u8) -> u32
         requires { IsPlace self.now place }
-        ensures { IsEntry self.now (state_at self.now (place / 256)) byte result }
+        ensures { IsEntry self.now (state_at self.now (place / 272)) byte result }
     {
         // In this order the place, which comes from the entry before, need not be added before the load.
         let column = &self.rows[byte as usize..];
@@ -249,9 +249,9 @@ impl Code<'_> {
         requires { state < length self.now.states }
         ensures { result ≡ target self.now (state_at self.now state).fork byte }
     {
-        let entry = self.rows[256 * state + byte as usize];
+        let entry = self.rows[WIDTH * state + byte as usize];
         if entry < STAYS {
-            return Some(entry as usize / 256);
+            return Some(entry as usize / WIDTH);
         }
         if entry >= STUCK && entry < UNSAID {
             return None;
@@ -264,9 +264,9 @@ impl Code<'_> {
     #[inline(never)]
     pub fn last_entry(&self, place: usize) -> u32
         requires { IsPlace self.now place }
-        ensures { IsLastEntry self.now (state_at self.now (place / 256)) result }
+        ensures { IsLastEntry self.now (state_at self.now (place / 272)) result }
     {
-        let state = &self.parts.states[place / 256];
+        let state = &self.parts.states[place / WIDTH];
         if state.at_end.is_some() {
             return UNSAID;
         }
@@ -291,11 +291,21 @@ impl Code<'_> {
         self.signs[state]
     }
 
-    /// Returns what is known of the last mark that a try has passed, where it ends in the state.
-    pub fn last_mark(&self, state: usize) -> LastMark
-        ensures { IsLastMark self.now state result }
+    /// Returns what is known of the last mark that a try has passed, where it ends in the state at the place.
+    #[cold]
+    #[inline(never)]
+    pub fn last_mark(&self, place: usize) -> LastMark
+        ensures { IsLastMark self.now (place / 272) result }
     {
-        last_mark_at(&self.last_marks, state)
+        last_mark_at(&self.last_marks, place / WIDTH)
+    }
+
+    /// Returns the place of the state in which each try begins.
+    #[inline(always)]
+    pub fn root_place(&self) -> usize
+        ensures { result / 272 ≡ self.now.root }
+    {
+        WIDTH * self.parts.root
     }
 
     /// Returns the state to which the end of the input leads from this state, if it leads anywhere.

@@ -124,12 +124,12 @@ module _ (code : CodeValue) (sound : IsSound code) (bytes : List ℕ) (start : �
     at = record { state = state; offset = r.offset; context = r.comes.context }
 
     -- an entry that leads
-    pub leads_on : entry < 268435456 → Comes code bytes start (entry / 256) (stop + 1) (before + 1)
+    pub leads_on : entry < 268435456 → Comes code bytes start (entry / 272) (stop + 1) (before + 1)
     leads_on h =
         let place = r.place h in
-        let sees : Sees code bytes start state r.offset stop (Leads (entry / 256)) = r.sees (Leads (entry / 256)) (sym place, omega (arith, h)) in
+        let sees : Sees code bytes start state r.offset stop (Leads (entry / 272)) = r.sees (Leads (entry / 272)) (sym place, omega (arith, h)) in
         let does = sees r.comes.context in
-        let next : Stand = record { state = entry / 256; offset = stop + 1; context = does.0 } in
+        let next : Stand = record { state = entry / 272; offset = stop + 1; context = does.0 } in
         let n = stands_next code sound bytes start starts at next r.comes.stands does.1 in
         let few = r.comes.few in
         let moves = n.1 in

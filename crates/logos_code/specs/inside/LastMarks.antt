@@ -42,7 +42,7 @@ module _ (code : CodeValue) (marks : List LastMark) where
 
   -- the entry says something, and where it leads to a state the last mark there follows
   abbrev pub EntryAgrees : LastMark → ℕ → Type 0
-  EntryAgrees from entry = (entry < 2415919104) × (entry < 268435456 → FollowsAt from (entry / 256))
+  EntryAgrees from entry = (entry < 2415919104) × (entry < 268435456 → FollowsAt from (entry / 272))
 
   -- so does it where the byte leads
   abbrev pub EdgeAgrees : ℕ → ℕ → Type 0

@@ -10,7 +10,7 @@ ghost use Rattle.logos_code.specs.Rows.{AreRows};
 ghost use Rattle.logos_code.specs.inside.LastMarks.{IsOwn, Follows, FollowsBack, EntryAgrees};
 ghost use Rattle.logos_code.specs.inside.LastMarks.{StateAgrees, BeginsUnmarked, Agree};
 
-use super::rows::{STAYS, UNSAID};
+use super::rows::{STAYS, UNSAID, WIDTH};
 use super::{CodeParts, CodeState, Mark};
 use logos_hir::leaf::LeafId;
 use std::alloc::{AllocError, Global};
@@ -71,8 +71,8 @@ fn find(alloc: Global, parts: &CodeParts, rows: &[u32]) -> Result<Vec<LastMark>,
         let Some(state) = search.open.pop() else {
             return Ok(search.found);
         };
-        if state < rows.len() / 256 {
-            search.go_on(parts, &rows[256 * state..256 * state + 256], state)?;
+        if state < rows.len() / WIDTH {
+            search.go_on(parts, &rows[WIDTH * state..WIDTH * state + 256], state)?;
         }
     }
     Ok(search.found)
@@ -84,7 +84,7 @@ impl Search {
         let mark = last_mark_at(&self.found, state);
         for entry in row {
             if *entry < STAYS {
-                let to = *entry as usize / 256;
+                let to = *entry as usize / WIDTH;
                 if let Some(next) = parts.states.get(to) {
                     self.find_more(to, entered(next, mark))?;
                 }
@@ -175,7 +175,7 @@ fn begins_unmarked(mark: LastMark) -> bool
 fn state_agrees(parts: &CodeParts, rows: &[u32], marks: &[LastMark], state: usize) -> bool
     requires rows { AreRows (code_of parts.now) rows.now }
     requires state { state < length parts.now.states.items }
-    requires room { 256 * state + 256 ≤ length rows.now }
+    requires room { 272 * state + 256 ≤ length rows.now }
     ensures { IsTrue result → StateAgrees (code_of parts.now) marks.now state }
 {
     let from = last_mark_at(marks, state);
@@ -183,7 +183,7 @@ fn state_agrees(parts: &CodeParts, rows: &[u32], marks: &[LastMark], state: usiz
         return false;
     }
     for b in 0..256 {
-        if !entry_agrees(parts, marks, from, rows[256 * state + b]) {
+        if !entry_agrees(parts, marks, from, rows[WIDTH * state + b]) {
             return false;
         }
     }
@@ -215,7 +215,7 @@ fn entry_agrees(parts: &CodeParts, marks: &[LastMark], from: LastMark, entry: u3
     if entry >= STAYS {
         return true;
     }
-    let to = entry as usize / 256;
+    let to = entry as usize / WIDTH;
     let Some(next) = parts.states.get(to) else {
         return false;
     };

@@ -1,7 +1,7 @@
 //! Rows: what each byte does in each state, as one number.
 //!
-//! The rows of all states lie in one table, one after another, 256 entries each: what byte `b` does in state `s` is entry
-//! `256 * s + b`. The place of a state is the index of the first entry of its row. An entry has its kind in the upper
+//! The rows of all states lie in one table, one after another, `WIDTH` entries each: what byte `b` does in state `s` is entry
+//! `WIDTH * s + b`. The place of a state is the index of the first entry of its row. An entry has its kind in the upper
 //! four bits, and below them what it names. The kinds are numbered in the order in which a lexer asks for them:
 //!
 //! | Kind | It names | The byte |
@@ -44,8 +44,12 @@ use std::alloc::{AllocError, Global};
 /// How many entries a kind has.
 const NAMED: u32 = 1 << 28;
 
+/// How many entries a row has: one for each byte, and 16 more that are not used. So the entries of one byte in many states
+/// do not lie a power of two apart, where they would drive each other out of a processor's cache.
+pub const WIDTH: usize = 272;
+
 /// How many states entries can name.
-const STATES: usize = 1 << 20;
+const STATES: usize = 986_896;
 
 /// Added to an entry of a match that ends before the byte, where the byte leads to a state that marks the match late.
 pub const LATE: u32 = 1 << 27;
@@ -113,7 +117,7 @@ pub(super) fn entry_of_step(step: Step) -> u32
     ensures { IsStepOf result step ⊎ IsStepOf result Step.Unsaid }
 {
     match step {
-        Step::Leads(state) if state < STATES => 256 * state as u32,
+        Step::Leads(state) if state < STATES => WIDTH as u32 * state as u32,
         Step::Stays(test) if test < NAMED as usize => STAYS + test as u32,
         Step::Halts(leaf, used) if leaf.0 < LATE as usize => first_halting(used) + leaf.0 as u32,
         Step::Looks(leaf, used) if leaf.0 < LATE as usize => {
@@ -163,12 +167,12 @@ pub(super) fn rows_of(alloc: Global, parts: &CodeParts) -> Result<Vec<u32>, Allo
 }
 
 /// Returns what each byte does in the state.
-fn row_of(parts: &CodeParts, state: &CodeState) -> [u32; 256]
+fn row_of(parts: &CodeParts, state: &CodeState) -> [u32; 272]
     requires { NamesWhatIsThere (code_of parts.now)
         (state_of parts.now.jump_tables.items state.now) }
     ensures { IsRow (code_of parts.now) (state_of parts.now.jump_tables.items state.now) result }
 {
-    let mut row = [UNSAID; 256];
+    let mut row = [UNSAID; 272];
     for b in 0..256 {
         row[b] = entry_at(parts, state, b as u8);
     }
@@ -188,12 +192,12 @@ fn entry_at(parts: &CodeParts, state: &CodeState, byte: u8) -> u32
 /// Returns the row for the first byte of a try, from the rows of all states and the state in which tries begin. An
 /// entry of it leads to a state, closes a match or says nothing.
 pub(super) fn first_row(rows: &[u32], root: usize) -> [u32; 256]
-    requires { 256 * root + 256 ≤ length rows.now }
+    requires { 272 * root + 256 ≤ length rows.now }
     ensures { IsFirstOf rows.now root result }
 {
     let mut first = [UNSAID; 256];
     for b in 0..256 {
-        first[b] = first_entry(rows[256 * root + b]);
+        first[b] = first_entry(rows[WIDTH * root + b]);
     }
     first
 }

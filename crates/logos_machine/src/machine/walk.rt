@@ -43,7 +43,7 @@ pub(super) fn attempt(code: &Code, input: &[u8], start: usize) -> Outcome
         return Outcome::Emits(LeafId((first - CLOSES) as usize), start + 1, 2);
     }
     if first >= STAYS {
-        return end_of(code, input, start, (first, start, 0, code.root()));
+        return end_of(code, input, start, (first, start, 0, code.root_place()));
     }
     let last = walk(code, input, start, first);
     end_of(code, input, start, last)
@@ -63,16 +63,16 @@ fn attempt_slowly(code: &Code, input: &[u8], start: usize) -> Outcome
     }
 }
 
-/// Returns what a try finds that ends with this entry, where and after so many states, in this state.
+/// Returns what a try finds that ends with this entry, where and after so many states, in the state at a place.
 #[inline(always)]
 fn end_of(code: &Code, input: &[u8], start: usize, last: (u32, usize, usize, usize)) -> Outcome
     requires sound { IsSound code.now }
     requires start { start ≤ length input.now }
-    requires reaches { Reaches code.now input.now start last.3 last.0 last.1 last.2 }
+    requires reaches { Reaches code.now input.now start (last.3 / 272) last.0 last.1 last.2 }
     requires ends { 536870912 ≤ last.0 }
     ensures { IsOutcome code.now input.now start result }
 {
-    let (entry, stop, before, state) = last;
+    let (entry, stop, before, place) = last;
     if entry < HALTS {
         return Outcome::Skips(stop);
     }
@@ -94,7 +94,7 @@ fn end_of(code: &Code, input: &[u8], start: usize, last: (u32, usize, usize, usi
         return Outcome::Asks(LeafId((entry - ASKS_AFTER) as usize), stop + 1, before + 2);
     }
     if entry < UNSAID && stop < input.len() {
-        return stuck(code, input, start, (entry, stop, before, state));
+        return stuck(code, input, start, (entry, stop, before, place));
     }
     attempt_slowly(code, input, start)
 }
@@ -105,13 +105,13 @@ fn end_of(code: &Code, input: &[u8], start: usize, last: (u32, usize, usize, usi
 fn stuck(code: &Code, input: &[u8], start: usize, last: (u32, usize, usize, usize)) -> Outcome
     requires sound { IsSound code.now }
     requires start { start ≤ length input.now }
-    requires reaches { Reaches code.now input.now start last.3 last.0 last.1 last.2 }
+    requires reaches { Reaches code.now input.now start (last.3 / 272) last.0 last.1 last.2 }
     requires nowhere { (2147483648 ≤ last.0) × (last.0 < 2415919104) }
     requires inside { last.1 < length input.now }
     ensures { IsOutcome code.now input.now start result }
 {
-    let (_, stop, before, state) = last;
-    match code.last_mark(state) {
+    let (_, stop, before, place) = last;
+    match code.last_mark(place) {
         LastMark::Back(leaf, bytes) => Outcome::Asks(leaf, stop - bytes, before + 1),
         LastMark::Never => Outcome::Fails(error_end(code, input, start, stop), before + 1),
         _ => attempt_slowly(code, input, start),
@@ -128,15 +128,15 @@ fn halted(entry: u32) -> (LeafId, usize)
     (LeafId((entry % LATE) as usize), (entry / LATE) as usize)
 }
 
-/// Returns the last entry of a try, where its byte is, how many states were entered before the one that has it, and this
-/// state.
+/// Returns the last entry of a try, where its byte is, how many states were entered before the one that has it, and the
+/// place of this state.
 #[inline(always)]
 fn walk(code: &Code, input: &[u8], start: usize, first: u32) -> (u32, usize, usize, usize)
     requires sound { IsSound code.now }
     requires start { start < length input.now }
     requires leads { first < 268435456 }
     requires reaches { Reaches code.now input.now start code.now.root first start 0 }
-    ensures reaches { Reaches code.now input.now start result.3 result.0 result.1 result.2 }
+    ensures reaches { Reaches code.now input.now start (result.3 / 272) result.0 result.1 result.2 }
     ensures ends { 536870912 ≤ result.0 }
 {
     let mut place = first as usize;
@@ -151,17 +151,17 @@ fn walk(code: &Code, input: &[u8], start: usize, first: u32) -> (u32, usize, usi
             continue;
         }
         if entry >= LEAVES {
-            return (entry, at, before, place / 256);
+            return (entry, at, before, place);
         }
         let (later, stop) = look_far(code, input, place, at, entry);
         if later >= STAYS {
-            return (later, stop, before, place / 256);
+            return (later, stop, before, place);
         }
         place = later as usize;
         at = stop + 1;
         before += 1;
     }
-    (code.last_entry(place), at, before, place / 256)
+    (code.last_entry(place), at, before, place)
 }
 
 /// Returns the entry after a fast loop, and where its byte is.
@@ -171,9 +171,9 @@ fn look_far(code: &Code, input: &[u8], place: usize, at: usize, entry: u32) -> (
     requires place { IsPlace code.now place }
     requires at { at < length input.now }
     requires stays { (268435456 ≤ entry) × (entry < 536870912) }
-    requires entry { IsEntry code.now (state_at code.now (place / 256))
+    requires entry { IsEntry code.now (state_at code.now (place / 272))
         (slice_index_or input.now at 0) entry }
-    ensures { LooksAhead code.now input.now (place / 256) at result.0 result.1 }
+    ensures { LooksAhead code.now input.now (place / 272) at result.0 result.1 }
 {
     let stop = stop(code, (entry - STAYS) as usize, input, at + 1);
     if stop >= input.len() {

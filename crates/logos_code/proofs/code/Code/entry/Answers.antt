@@ -12,5 +12,5 @@ returns c =
     let b = c.args.byte in
     let p : IsPlace code place = rw (← c.self.view_is) at c.requires in
     let is = read_column code c.self.inside.rows.items place b c.self.invariant.all_rows p.0 p.1 c.ranges.byte.fits in
-    subst (λ (code : CodeValue). IsEntry code (state_at code (place / 256)) b (get_or (take (length c.deref.result.now - b) (drop b c.deref.result.now)) place 0)) c.self.view_is
-    (subst (λ (l : List ℕ). IsEntry code (state_at code (place / 256)) b (get_or (take (length l - b) (drop b l)) place 0)) (sym c.deref.ensures.value) is)
+    subst (λ (code : CodeValue). IsEntry code (state_at code (place / 272)) b (get_or (take (length c.deref.result.now - b) (drop b c.deref.result.now)) place 0)) c.self.view_is
+    (subst (λ (l : List ℕ). IsEntry code (state_at code (place / 272)) b (get_or (take (length l - b) (drop b l)) place 0)) (sym c.deref.ensures.value) is)

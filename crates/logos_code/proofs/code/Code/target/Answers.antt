@@ -14,7 +14,7 @@ returns-then-entry-lt-STAYS c =
     let there : c.args.state < length code.states = rw (← c.self.view_is) at c.requires in
     let is : IsEntry code (state_at code c.args.state) c.args.byte entry = read_entry code c.self.inside.rows.items c.args.state c.args.byte entry c.self.invariant.all_rows there c.ranges.byte.fits c.index-entry.ensures in
     let leads = entry_leads code (state_at code c.args.state) c.args.byte entry is (omega (arith, c.if-entry-lt-STAYS.true)) in
-    subst (λ (code : CodeValue). Some (entry / 256) ≡ target code (state_at code c.args.state).fork c.args.byte) c.self.view_is (sym leads)
+    subst (λ (code : CodeValue). Some (entry / 272) ≡ target code (state_at code c.args.state).fork c.args.byte) c.self.view_is (sym leads)
 
 pub returns-then-entry-lt-UNSAID : goal.returns-then-entry-lt-UNSAID
 returns-then-entry-lt-UNSAID c =

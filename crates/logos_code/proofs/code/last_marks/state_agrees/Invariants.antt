@@ -5,4 +5,4 @@ use Rattle.logos_code.proofs.code.last_marks.state_agrees.Given as goal
 
 -- the entries so far agree
 abbrev pub invariant-loop-b : goal.invariant-loop-b
-invariant-loop-b l = (b : ℕ) → b < l.b → EntryAgrees (code_of l.parts) l.marks l.from (slice_index l.rows (256 * l.state + b))
+invariant-loop-b l = (b : ℕ) → b < l.b → EntryAgrees (code_of l.parts) l.marks l.from (slice_index l.rows (272 * l.state + b))

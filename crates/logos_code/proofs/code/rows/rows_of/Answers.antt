@@ -15,7 +15,7 @@ loop-state-preserved c =
     let i = c.loop-state.invariant in
     let items = c.in_ok-extend_from_slice.ensures.items in
     let count = i.count in
-    let long : length c.row_of.result ≡ 256 = search rules in
+    let long : length c.row_of.result ≡ 272 = search rules in
     record {
       count = ap length items ∙ omega (arith, count, long, length-append c.loop-state.rows.items c.row_of.result);
       each = rows_turn c.args.parts.now c.loop-state.rows.items c.extend_from_slice.new.self.items c.row_of.result c.loop-state.state-index c.state-item.result
