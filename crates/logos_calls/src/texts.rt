@@ -19,6 +19,11 @@ pub fn alike(one: Result<String, Memory>, other: Result<String, Memory>) -> Resu
     }
 }
 
+/// Returns the text of a code, which is made twice.
+fn text_of(alloc: Global, code: &Code<'_>) -> Result<String, Stop> {
+    alike(text(alloc, code), text(alloc, code))
+}
+
 /// Adds whether the text of a code has a part.
 pub fn push_part(
     alloc: Global,
@@ -26,17 +31,18 @@ pub fn push_part(
     code: &Code<'_>,
     part: &str,
 ) -> Result<(), Stop> {
-    let text = alike(text(alloc, code), text(alloc, code))?;
-    answer.debug(&text.contains(part));
-    Ok(())
+    Ok(answer.debug("", &text_of(alloc, code)?.contains(part)))
+}
+
+/// Adds whether a text is its tokens, printed.
+fn push_is_printed(alloc: Global, answer: &mut Answer, text: &str) -> Result<(), Stop> {
+    let tokens = tokens_of(alloc, text)?;
+    Ok(answer.debug("", &(print(alloc, tokens.run())?.as_str() == text)))
 }
 
 /// Adds whether the text of a code is its tokens, printed.
 pub fn push_again(alloc: Global, answer: &mut Answer, code: &Code<'_>) -> Result<(), Stop> {
-    let text = alike(text(alloc, code), text(alloc, code))?;
-    let tokens = tokens_of(alloc, &text)?;
-    answer.debug(&(print(alloc, tokens.run())? == text));
-    Ok(())
+    push_is_printed(alloc, answer, &text_of(alloc, code)?)
 }
 
 /// A path and types that are none of those taken where a source names none.
@@ -57,6 +63,6 @@ pub fn push_around(alloc: Global, answer: &mut Answer, code: &Code<'_>) -> Resul
     let body = text(alloc, code)?;
     let whole = alike(text_in(alloc, code, AROUND), text_in(alloc, code, AROUND))?;
     let fits = whole.starts_with(HEAD) & whole.ends_with(TAIL) & whole.contains(body.as_str());
-    answer.debug(&fits);
+    answer.debug("", &fits);
     Ok(())
 }
