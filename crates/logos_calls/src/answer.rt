@@ -7,12 +7,12 @@ use logos_type::{TypeExpr, print_type};
 use std::alloc::Global;
 use std::fmt;
 
-/// The text of an answer, and why there is none, if that is so. Nothing that adds to it can fail.
+/// The text of an answer, and whether memory for it ran out. Nothing that adds to it can fail.
 #[derive(Drop)]
 pub struct Answer {
     alloc: Global,
     text: String,
-    stop: Option<Stop>,
+    lacks: bool,
 }
 
 impl Answer {
@@ -21,20 +21,13 @@ impl Answer {
         Answer {
             alloc,
             text: String::new(alloc),
-            stop: None,
-        }
-    }
-
-    /// Notes why there is no answer. The first reason stays, unless something was changed.
-    pub fn stop(&mut self, stop: Stop) {
-        if self.stop.is_none() | matches!(stop, Stop::Changed) {
-            self.stop = Some(stop);
+            lacks: false,
         }
     }
 
     /// Notes that memory ran out.
     pub fn lack(&mut self) {
-        self.stop(Stop::Memory);
+        self.lacks = true;
     }
 
     /// Adds a text.
@@ -44,42 +37,40 @@ impl Answer {
         }
     }
 
-    /// Adds a text, and how a value is debugged.
-    pub fn debug<T: fmt::Debug>(&mut self, before: &str, value: &T) {
-        if write!(self.text, "{before}{value:?}").is_err() {
+    /// Adds how a value is debugged.
+    pub fn debug<T: fmt::Debug>(&mut self, value: &T) {
+        if write!(self.text, "{value:?}").is_err() {
             self.lack();
         }
     }
 
-    /// Adds a text, and how a value is displayed.
-    pub fn display<T: fmt::Display>(&mut self, before: &str, value: &T) {
-        if write!(self.text, "{before}{value}").is_err() {
+    /// Adds how a value is displayed.
+    pub fn display<T: fmt::Display>(&mut self, value: &T) {
+        if write!(self.text, "{value}").is_err() {
             self.lack();
         }
     }
 
-    /// Adds a text, and how a value is displayed in the alternate form.
-    pub fn alternate<T: fmt::Display>(&mut self, before: &str, value: &T) {
-        if write!(self.text, "{before}{value:#}").is_err() {
+    /// Adds how a value is displayed in the alternate form.
+    pub fn alternate<T: fmt::Display>(&mut self, value: &T) {
+        if write!(self.text, "{value:#}").is_err() {
             self.lack();
         }
     }
 
-    /// Adds a text and a span.
-    pub fn span(&mut self, before: &str, span: Span) {
-        if write!(self.text, "{before}{}..{}", span.from, span.to).is_err() {
+    /// Adds a word and a span.
+    pub fn span(&mut self, word: &str, span: Span) {
+        if write!(self.text, "{word}{}..{}", span.from, span.to).is_err() {
             self.lack();
         }
     }
 
     /// Adds a number as hexadecimal digits, and after a hyphen the last one of a range.
     pub fn hexadecimal(&mut self, first: u32, last: u32) {
-        let added = if first == last {
-            write!(self.text, "{first:X}")
-        } else {
-            write!(self.text, "{first:X}-{last:X}")
-        };
-        if added.is_err() {
+        if write!(self.text, "{first:X}").is_err() {
+            self.lack();
+        }
+        if (first != last) && write!(self.text, "-{last:X}").is_err() {
             self.lack();
         }
     }
@@ -87,7 +78,7 @@ impl Answer {
     /// Adds a byte as a string literal writes it.
     fn byte(&mut self, byte: u8) {
         let added = if (0x20..0x7F).contains(&byte) {
-            self.text.push(byte as char)
+            write!(self.text, "{}", byte as char)
         } else {
             write!(self.text, "\\x{byte:02X}")
         };
@@ -105,38 +96,30 @@ impl Answer {
         self.text("'");
     }
 
-    /// Adds a text, and how a value was printed, where memory for that was enough.
-    pub fn printed(&mut self, before: &str, printed: &Result<String, Memory>) {
-        self.text(before);
-        match printed {
-            Ok(printed) => self.text(printed),
+    /// Adds how a value was printed, where memory for that was enough.
+    pub fn printed(&mut self, text: &Result<String, Memory>) {
+        match text {
+            Ok(text) => self.text(text),
             Err(Memory) => self.lack(),
         }
     }
 
-    /// Adds a text, and how a run is printed.
-    pub fn tokens(&mut self, before: &str, run: Tokens<'_, '_>) {
-        self.printed(before, &print(self.alloc, run));
+    /// Adds how a run is printed.
+    pub fn tokens(&mut self, run: Tokens<'_, '_>) {
+        self.printed(&print(self.alloc, run));
     }
 
-    /// Adds a text, and how a type is printed.
-    pub fn type_expr(&mut self, before: &str, type_expr: &TypeExpr<'_>) {
-        self.printed(before, &print_type(self.alloc, type_expr));
+    /// Adds how a type is printed.
+    pub fn type_expr(&mut self, type_expr: &TypeExpr<'_>) {
+        self.printed(&print_type(self.alloc, type_expr));
     }
 
-    /// Adds a text and a type that was made, where memory for that was enough.
-    pub fn made(&mut self, before: &str, made: &Result<TypeExpr<'_>, Memory>) {
-        match made {
-            Ok(type_expr) => self.type_expr(before, type_expr),
-            Err(Memory) => self.lack(),
-        }
-    }
-
-    /// Returns the text, or why there is none.
+    /// Returns the text, where memory for it was enough.
     pub fn finish(self) -> Result<String, Stop> {
-        match self.stop {
-            Some(stop) => Err(stop),
-            None => Ok(self.text),
+        if self.lacks {
+            Err(Stop::Memory)
+        } else {
+            Ok(self.text)
         }
     }
 }

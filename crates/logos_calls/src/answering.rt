@@ -1,6 +1,5 @@
 //! The calls, by their names.
 
-use crate::answer::Answer;
 use crate::front::{self, ParserCall, RunCall, TextCall};
 use crate::stop::Stop;
 use crate::{automata, classes, codes, expressions, graphs, runs, sources};
@@ -140,41 +139,28 @@ fn call_of(name: &str) -> Option<Call> {
     None
 }
 
-/// Adds what the library answers to a text. The call's name is that in the header, where words may follow.
-fn ask(
-    alloc: Global,
-    answer: &mut Answer,
-    call: Call,
-    (name, words): (&str, &str),
-    text: &str,
-) -> Result<(), Stop> {
-    match call {
-        // Of tokens, types, items, patterns and parsers.
-        Call::Text(call) => front::ask_text(alloc, answer, call, (name, words), text),
-        Call::Run(call) => front::of_run(alloc, answer, call, words, text),
-        Call::Parser(call) => front::of_parser(alloc, answer, call, (name, words), text),
-        // Of graphs, codes, texts and commands.
-        Call::Graph(view) => graphs::graph(alloc, answer, view, text),
-        Call::Build => automata::without_rules(alloc, answer, text),
-        Call::Comparisons => classes::comparisons(alloc, answer, text),
-        Call::Merge => classes::merged(alloc, answer, text),
-        Call::Class => classes::displayed(alloc, answer, text),
-        Call::Code(view) => codes::code(alloc, answer, view, words, text),
-        Call::Source(view) => sources::made(alloc, answer, view, words, text),
-        Call::LexSource => sources::items(alloc, answer, words, text),
-        Call::Strip => sources::stripped(alloc, answer, text),
-        Call::Tokens => expressions::tokens(alloc, answer, text),
-        Call::Command => runs::status(alloc, answer, text),
-    }
-}
-
 /// Returns what the library answers to a text, asked as the header says.
 pub fn answer(alloc: Global, header: &str, text: &str) -> Result<String, Stop> {
     let (name, words) = header.split_once(' ').unwrap_or((header, ""));
     let Some(call) = call_of(name) else {
         return Err(Stop::NoCall);
     };
-    let mut answer = Answer::new(alloc);
-    ask(alloc, &mut answer, call, (name, words), text)?;
-    answer.finish()
+    match call {
+        // Of tokens, types, items, patterns and parsers.
+        Call::Text(call) => front::of_text(alloc, call, (name, words), text),
+        Call::Run(call) => front::of_run(alloc, call, words, text),
+        Call::Parser(call) => front::of_parser(alloc, call, (name, words), text),
+        // Of graphs, codes, texts and commands.
+        Call::Graph(view) => graphs::graph(alloc, view, text),
+        Call::Build => automata::without_rules(alloc, text),
+        Call::Comparisons => classes::comparisons(alloc, text),
+        Call::Merge => classes::merged(alloc, text),
+        Call::Class => classes::displayed(alloc, text),
+        Call::Code(view) => codes::code(alloc, view, words, text),
+        Call::Source(view) => sources::made(alloc, view, words, text),
+        Call::LexSource => sources::items(alloc, words, text),
+        Call::Strip => sources::stripped(alloc, text),
+        Call::Tokens => expressions::tokens(alloc, text),
+        Call::Command => runs::status(alloc, text),
+    }
 }

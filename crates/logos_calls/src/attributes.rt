@@ -15,7 +15,8 @@ use std::alloc::Global;
 /// Adds a run as it is printed, in brackets, after a text.
 fn push_run(answer: &mut Answer, before: &str, run: Tokens<'_, '_>) {
     answer.text(before);
-    answer.tokens("[", run);
+    answer.text("[");
+    answer.tokens(run);
     answer.text("]");
 }
 
@@ -132,24 +133,7 @@ fn word_of<'s>(
     }
 }
 
-/// Adds what becomes of the next run as a way says, after a refused request too.
-fn push_word<'s>(
-    alloc: Global,
-    answer: &mut Answer,
-    way: char,
-    pieces: &mut AttributeParser<'_, 's>,
-    whole: Tokens<'_, 's>,
-    errors: &mut Errors,
-) -> Result<(), Stop> {
-    let count = errors.list().len();
-    if let Ok(word) = word_of(alloc, way, pieces, whole, errors) {
-        return Ok(answer.text(word));
-    }
-    are_unchanged(errors, count)?;
-    Ok(answer.text(word_of(alloc, way, pieces, whole, errors)?))
-}
-
-/// Adds what becomes of each run as its way says, and the faults.
+/// Adds what becomes of each run as its way says, after a refused request too, and the faults.
 fn push_words(
     alloc: Global,
     answer: &mut Answer,
@@ -158,11 +142,18 @@ fn push_words(
 ) -> Result<(), Stop> {
     let mut pieces = AttributeParser::new(whole);
     let mut errors = Errors::new(alloc);
-    let mut before = "";
-    for way in ways.chars() {
-        answer.text(before);
-        push_word(alloc, answer, way, &mut pieces, whole, &mut errors)?;
-        before = " ";
+    for (number, way) in ways.chars().enumerate() {
+        let count = errors.list().len();
+        if number > 0 {
+            answer.text(" ");
+        }
+        match word_of(alloc, way, &mut pieces, whole, &mut errors) {
+            Ok(word) => answer.text(word),
+            Err(Memory) => {
+                are_unchanged(&errors, count)?;
+                answer.text(word_of(alloc, way, &mut pieces, whole, &mut errors)?);
+            }
+        }
     }
     push_errors(answer, " ", &errors, true);
     Ok(())

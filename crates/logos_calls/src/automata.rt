@@ -34,7 +34,7 @@ fn push_matches(answer: &mut Answer, dfa: &Dfa, state: StateId) {
         return answer.text("no state");
     }
     for leaf in dfa.iter_matches(state) {
-        answer.display("", &leaf.0);
+        answer.display(&leaf.0);
         answer.text(" ");
     }
     answer.text(";");
@@ -62,7 +62,8 @@ fn push_count(answer: &mut Answer, dfa: &Dfa, child: StateId) {
     for other in dfa.iter_children(dfa.start()) {
         count = count.saturating_add(usize::from(other == child));
     }
-    answer.display(" ", &count);
+    answer.text(" ");
+    answer.display(&count);
 }
 
 /// Adds how many states an automaton has, and how many of the children of the start are the state after `a`, the state after `b`, and the
@@ -72,17 +73,19 @@ pub fn push_children(answer: &mut Answer, dfa: &Dfa) {
     for _ in dfa.get_states() {
         count = count.saturating_add(1);
     }
-    answer.display("", &count);
+    answer.display(&count);
     push_count(answer, dfa, state_after(dfa, b"a"));
     push_count(answer, dfa, state_after(dfa, b"b"));
     push_count(answer, dfa, dfa.start());
 }
 
-/// Adds what the automaton of no rules lists after each text.
-pub fn without_rules(alloc: Global, answer: &mut Answer, text: &str) -> Result<(), Stop> {
+/// Answers what the automaton of no rules lists after each text.
+pub fn without_rules(alloc: Global, text: &str) -> Result<String, Stop> {
+    let mut answer = Answer::new(alloc);
     match &build(alloc, &[]) {
-        Ok(dfa) => push_lists(alloc, answer, dfa, text, false),
-        Err(BuildError::Memory) => Err(Stop::Memory),
-        Err(error) => Ok(answer.debug("", error)),
+        Ok(dfa) => push_lists(alloc, &mut answer, dfa, text, false)?,
+        Err(BuildError::Memory) => return Err(Stop::Memory),
+        Err(error) => answer.debug(error),
     }
+    answer.finish()
 }

@@ -28,9 +28,12 @@ fn class_of(alloc: Global, ranges: &str) -> Result<ByteClass, Stop> {
 /// Adds the range, the exceptions and the number of operations of each comparison.
 fn push_comparisons(answer: &mut Answer, made: &[Comparisons]) {
     for one in made {
-        answer.debug(", ", &one.range);
-        answer.debug(" ", &one.except);
-        answer.display(" ", &one.count_ops());
+        answer.text(", ");
+        answer.debug(&one.range);
+        answer.text(" ");
+        answer.debug(&one.except);
+        answer.text(" ");
+        answer.display(&one.count_ops());
     }
 }
 
@@ -46,31 +49,23 @@ fn push_held(answer: &mut Answer, class: &ByteClass, made: &[Comparisons], byte:
     }
 }
 
-/// Adds for each byte whether it is in a class, and whether the first comparison holds for it.
-fn push_all_held(
-    answer: &mut Answer,
-    class: &ByteClass,
-    made: &[Comparisons],
-    bytes: &str,
-) -> Result<(), Stop> {
-    for byte in bytes.split_ascii_whitespace() {
-        push_held(answer, class, made, byte_of(byte)?);
-    }
-    Ok(())
-}
-
-/// Adds the comparisons of a class, and whether each byte is in it and the first comparison holds for it. The ranges and the bytes stand
+/// Answers the comparisons of a class, and whether each byte is in it and the first comparison holds for it. The ranges and the bytes stand
 /// with ` ‖ ` between them.
-pub fn comparisons(alloc: Global, answer: &mut Answer, text: &str) -> Result<(), Stop> {
+pub fn comparisons(alloc: Global, text: &str) -> Result<String, Stop> {
+    let mut answer = Answer::new(alloc);
     let (ranges, bytes) = text.split_once(" ‖ ").unwrap_or((text, ""));
     let class = class_of(alloc, ranges)?;
-    answer.debug("", &class.ranges);
+    answer.debug(&class.ranges);
     if !class.is_separated() {
-        return Ok(answer.text(" not separated"));
+        answer.text(" not separated");
+        return answer.finish();
     }
     let made = class.impl_with_cmp(alloc)?;
-    push_comparisons(answer, &made);
-    push_all_held(answer, &class, &made, bytes)
+    push_comparisons(&mut answer, &made);
+    for byte in bytes.split_ascii_whitespace() {
+        push_held(&mut answer, &class, &made, byte_of(byte)?);
+    }
+    answer.finish()
 }
 
 /// Adds the ranges of a class to another one, and where memory runs out once more. The class is unchanged then.
@@ -85,17 +80,22 @@ fn merge(alloc: Global, class: &mut ByteClass, other: &ByteClass) -> Result<(), 
     Ok(class.merge(alloc, other)?)
 }
 
-/// Adds the ranges of a class after those of another are added.
-pub fn merged(alloc: Global, answer: &mut Answer, text: &str) -> Result<(), Stop> {
+/// Answers the ranges of a class after those of another are added, and how it is displayed, plain and alternate.
+pub fn merged(alloc: Global, text: &str) -> Result<String, Stop> {
+    let mut answer = Answer::new(alloc);
     let (ranges, others) = text.split_once(" ¦ ").unwrap_or((text, ""));
     let mut class = class_of(alloc, ranges)?;
     merge(alloc, &mut class, &class_of(alloc, others)?)?;
-    Ok(answer.debug("", &class.ranges))
+    answer.debug(&class.ranges);
+    answer.finish()
 }
 
-/// Adds how a class is displayed, plain and alternate.
-pub fn displayed(alloc: Global, answer: &mut Answer, text: &str) -> Result<(), Stop> {
+/// Answers how a class is displayed, plain and alternate.
+pub fn displayed(alloc: Global, text: &str) -> Result<String, Stop> {
+    let mut answer = Answer::new(alloc);
     let class = class_of(alloc, text)?;
-    answer.display("", &class);
-    Ok(answer.alternate(";", &class))
+    answer.display(&class);
+    answer.text(";");
+    answer.alternate(&class);
+    answer.finish()
 }

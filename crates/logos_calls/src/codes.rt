@@ -111,22 +111,38 @@ fn push_asked(
     push_code(alloc, answer, &code, asked)
 }
 
-/// Adds what is asked of the code of a graph without faults, of the enum that is this type, with this callback of errors.
+/// Answers what is asked of the code that a generator makes of its graph, or of the nodes that it makes one by one.
+fn by_generator(
+    alloc: Global,
+    asked: Asked<'_>,
+    generator: &mut Generator<'_, 'static>,
+    graph: &Graph<'static>,
+) -> Result<String, Stop>
+    requires faultless { graph.now.faults ≡ [] }
+    requires same { generator.old.graph ≡ graph.now }
+{
+    let mut answer = Answer::new(alloc);
+    match push_asked(alloc, &mut answer, asked, generator, graph) {
+        Ok(()) => answer.finish(),
+        Err(stop) => Err(stop),
+    }
+}
+
+/// Answers what is asked of the code of a graph without faults, of the enum that is this type, with this callback of errors.
 fn by_graph(
     alloc: Global,
-    answer: &mut Answer,
     asked: Asked<'_>,
     graph: &Graph<'static>,
     this: &TypeExpr<'static>,
     failed: Option<&Callback<'static>>,
-) -> Result<(), Stop>
+) -> Result<String, Stop>
     requires { graph.now.faults ≡ [] }
 {
     let config = Config {
         use_state_machine_codegen: !has_word(asked.words, "tailcall"),
     };
     let mut generator = Generator::new(alloc, config, NAME, this, graph, failed);
-    push_asked(alloc, answer, asked, &mut generator, graph)
+    by_generator(alloc, asked, &mut generator, graph)
 }
 
 /// Returns the type that a text is.
@@ -135,56 +151,32 @@ fn this_of(alloc: Global, text: &'static str) -> Result<TypeExpr<'static>, Stop>
     type_of(alloc, tokens.run())
 }
 
-/// Adds what is asked of the code of a graph. Its enum is `A<u8>` with the callback `failed`, or `plain`.
-fn of_graph(
-    alloc: Global,
-    answer: &mut Answer,
-    asked: Asked<'_>,
-    graph: &Graph<'static>,
-) -> Result<(), Stop> {
+/// Answers what is asked of the code of a graph. Its enum is `A<u8>` with the callback `failed`, or `plain`.
+fn of_graph(alloc: Global, asked: Asked<'_>, graph: &Graph<'static>) -> Result<String, Stop> {
     if !graph.errors().is_empty() {
         return Err(Stop::Input);
     }
     let is_plain = has_word(asked.words, "plain");
     let this = this_of(alloc, if is_plain { "A" } else { "A<u8>" })?;
     let failed = label(alloc, if is_plain { "" } else { "failed" })?;
-    by_graph(alloc, answer, asked, graph, &this, failed.as_ref())
+    by_graph(alloc, asked, graph, &this, failed.as_ref())
 }
 
-/// Adds what is asked of the code of a graph that was made.
-fn push_graph(
-    alloc: Global,
-    answer: &mut Answer,
-    asked: Asked<'_>,
-    graph: &Result<Graph<'static>, BuildError>,
-) -> Result<(), Stop> {
-    match graph {
-        Ok(graph) => of_graph(alloc, answer, asked, graph),
+/// Answers what is asked of the code of the graph of leaves.
+fn of_leaves(alloc: Global, asked: Asked<'_>, leaves: Vec<Leaf<'static>>) -> Result<String, Stop> {
+    match &graph_of(alloc, leaves, !has_word(asked.words, "bytes")) {
+        Ok(graph) => of_graph(alloc, asked, graph),
         Err(BuildError::Memory) => Err(Stop::Memory),
         Err(_) => Err(Stop::Input),
     }
 }
 
-/// Adds what is asked of the code of the graph of leaves.
-fn of_leaves(
-    alloc: Global,
-    answer: &mut Answer,
-    asked: Asked<'_>,
-    leaves: Vec<Leaf<'static>>,
-) -> Result<(), Stop> {
-    let utf8_mode = !has_word(asked.words, "bytes");
-    push_graph(alloc, answer, asked, &graph_of(alloc, leaves, utf8_mode))
-}
-
-/// Adds what is asked of the code of rules; the text that it is asked of stands after ` ‖ `.
-pub fn code(
-    alloc: Global,
-    answer: &mut Answer,
-    view: View,
-    words: &str,
-    text: &str,
-) -> Result<(), Stop> {
+/// Answers what is asked of the code of rules; the text that it is asked of stands after ` ‖ `.
+pub fn code(alloc: Global, view: View, words: &str, text: &str) -> Result<String, Stop> {
     let (rules, input) = text.split_once(" ‖ ").unwrap_or((text, ""));
-    let leaves = leaves_of(alloc, rules)?;
-    of_leaves(alloc, answer, Asked { view, words, input }, leaves)
+    of_leaves(
+        alloc,
+        Asked { view, words, input },
+        leaves_of(alloc, rules)?,
+    )
 }

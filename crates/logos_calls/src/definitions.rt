@@ -27,9 +27,12 @@ pub fn failed(parser: &mut Parser<'_>) -> Stop {
 /// Adds a definition: its literal, its priority, whether a greedy dot is allowed, whether case is ignored, and its callback.
 fn push_definition(answer: &mut Answer, definition: &Definition<'_>) {
     answer.text(definition.literal.token().text);
-    answer.debug(" ", &definition.priority);
-    answer.debug(" ", &definition.allow_greedy);
-    answer.debug(" ", &definition.ignore_flags.ignore_case);
+    answer.text(" ");
+    answer.debug(&definition.priority);
+    answer.text(" ");
+    answer.debug(&definition.allow_greedy);
+    answer.text(" ");
+    answer.debug(&definition.ignore_flags.ignore_case);
     answer.text(" ");
     push_callback(answer, &definition.callback);
     answer.text(";");
@@ -42,49 +45,38 @@ fn push_skips(answer: &mut Answer, parser: &Parser<'_>) {
     }
 }
 
-/// Adds the path of the crate and that of charts.
-fn push_paths(answer: &mut Answer, parser: &Parser<'_>) {
-    if let Some(path) = &parser.logos_path {
-        answer.tokens("crate ", path.run());
-        answer.text(";");
-    }
-    if let Some(export) = &parser.export_path {
-        answer.debug("chart ", &export.path.as_str());
-        answer.text(";");
-    }
-}
-
-/// Adds the subpatterns.
-fn push_subpatterns(answer: &mut Answer, parser: &Parser<'_>) {
-    for (name, literal) in &parser.subpatterns {
-        answer.text(name.text);
-        answer.display("=", &literal.token().text);
-        answer.text(";");
-    }
-}
-
-/// Adds the type of errors with its callback, if there is one.
-fn push_error_type(alloc: Global, answer: &mut Answer, error_type: &Option<ErrorType<'_>>) {
-    let Some(error) = error_type else {
-        return;
-    };
-    answer.printed("error ", &error.print(alloc));
-    answer.text(" ");
-    push_callback(answer, &error.callback);
-    answer.text(";");
-}
-
 /// Adds the mode, the extras, the two paths, the subpatterns, and the type of errors with its callback.
 fn push_options(alloc: Global, answer: &mut Answer, parser: &Parser<'_>) {
     match parser.utf8_mode {
-        Some(mode) => answer.debug("", &mode.value),
+        Some(mode) => answer.debug(&mode.value),
         None => answer.text("-"),
     }
-    answer.printed(";", &parser.extras.print(alloc));
     answer.text(";");
-    push_paths(answer, parser);
-    push_subpatterns(answer, parser);
-    push_error_type(alloc, answer, &parser.error_type);
+    answer.printed(&parser.extras.print(alloc));
+    answer.text(";");
+    if let Some(path) = &parser.logos_path {
+        answer.text("crate ");
+        answer.tokens(path.run());
+        answer.text(";");
+    }
+    if let Some(export) = &parser.export_path {
+        answer.text("chart ");
+        answer.debug(&export.path.as_str());
+        answer.text(";");
+    }
+    for (name, literal) in &parser.subpatterns {
+        answer.text(name.text);
+        answer.text("=");
+        answer.text(literal.token().text);
+        answer.text(";");
+    }
+    if let Some(error) = &parser.error_type {
+        answer.text("error ");
+        answer.printed(&error.print(alloc));
+        answer.text(" ");
+        push_callback(answer, &error.callback);
+        answer.text(";");
+    }
 }
 
 /// Reads the arguments of a `logos` attribute. Adds the `skips`, the other `options`, or the faults.
@@ -94,25 +86,31 @@ pub fn read_logos<'s>(
     parser: &mut Parser<'s>,
     run: Tokens<'_, 's>,
     words: &str,
-) {
+) -> Result<(), Stop> {
     if parser.read_logos(run).is_err() {
-        return answer.stop(failed(parser));
+        return Err(failed(parser));
     }
     match words {
         "skips" => push_skips(answer, parser),
         "options" => push_options(alloc, answer, parser),
         _ => push_errors(answer, "", &parser.errors, true),
     }
+    Ok(())
 }
 
 /// Reads the arguments of a `token` or `regex`. Adds the definition, if there is one, and the faults.
-pub fn parse_definition<'s>(answer: &mut Answer, parser: &mut Parser<'s>, run: Tokens<'_, 's>) {
+pub fn parse_definition<'s>(
+    answer: &mut Answer,
+    parser: &mut Parser<'s>,
+    run: Tokens<'_, 's>,
+) -> Result<(), Stop> {
     match &parser.parse_definition(run) {
         Ok(Some(definition)) => push_definition(answer, definition),
         Ok(None) => {}
-        Err(Memory) => answer.stop(failed(parser)),
+        Err(Memory) => return Err(failed(parser)),
     }
     push_errors(answer, "", &parser.errors, true);
+    Ok(())
 }
 
 /// A definition, a type of errors and flags.
@@ -152,33 +150,25 @@ fn first_definition<'s>(
     }
 }
 
-/// Adds what the named arguments of a run do to a definition, to a type of errors and to flags, and the faults.
-fn push_lent<'s>(
+/// Adds what the named arguments after a literal do to its definition, to a type of errors and to flags, and the faults.
+pub fn named<'s>(
     alloc: Global,
     answer: &mut Answer,
-    lent: &mut Lent<'s>,
     parser: &mut Parser<'s>,
     run: Tokens<'_, 's>,
-) {
-    if give(alloc, lent, parser, run).is_err() {
-        return answer.stop(failed(parser));
+) -> Result<(), Stop> {
+    let definition = first_definition(parser, run)?;
+    let flags = IgnoreFlags { ignore_case: false };
+    let mut lent = (definition, ErrorType::default(alloc), flags);
+    if give(alloc, &mut lent, parser, run.rest()).is_err() {
+        return Err(failed(parser));
     }
     push_definition(answer, &lent.0);
     push_callback(answer, &lent.1.callback);
-    answer.debug(" ", &lent.2.ignore_case);
+    answer.text(" ");
+    answer.debug(&lent.2.ignore_case);
     push_errors(answer, " ", &parser.errors, true);
-}
-
-/// Adds what the named arguments after a literal do to its definition, to a type of errors and to flags, and the faults.
-pub fn named<'s>(alloc: Global, answer: &mut Answer, parser: &mut Parser<'s>, run: Tokens<'_, 's>) {
-    match first_definition(parser, run) {
-        Ok(definition) => {
-            let flags = IgnoreFlags { ignore_case: false };
-            let mut lent = (definition, ErrorType::default(alloc), flags);
-            push_lent(alloc, answer, &mut lent, parser, run.rest());
-        }
-        Err(stop) => answer.stop(stop),
-    }
+    Ok(())
 }
 
 /// Gives a parser the attributes of a run that are `logos` attributes.
@@ -194,18 +184,6 @@ fn parse_attributes<'s>(parser: &mut Parser<'s>, run: Tokens<'_, 's>) -> Result<
     Ok(())
 }
 
-/// Adds a definition that was read, if there is one.
-fn push_read(
-    answer: &mut Answer,
-    read: &Result<Option<Definition<'_>>, Memory>,
-) -> Result<(), Memory> {
-    match read {
-        Ok(Some(definition)) => Ok(push_definition(answer, definition)),
-        Ok(None) => Ok(()),
-        Err(Memory) => Err(Memory),
-    }
-}
-
 /// Adds the definition in the first attribute of each variant.
 fn push_definitions<'s>(
     answer: &mut Answer,
@@ -214,7 +192,9 @@ fn push_definitions<'s>(
 ) -> Result<(), Memory> {
     for variant in variants {
         if let Some((attribute, _)) = split_attribute(variant.attributes) {
-            push_read(answer, &parser.parse_definition_attr(attribute))?;
+            if let Some(definition) = &parser.parse_definition_attr(attribute)? {
+                push_definition(answer, definition);
+            }
         }
     }
     Ok(())
@@ -233,25 +213,23 @@ fn parse_item<'s>(
     push_definitions(answer, parser, item.variants.as_slice())
 }
 
-/// Gives a parser an enum. Adds the definitions of its variants and its skips, and the faults.
-fn push_item<'s>(answer: &mut Answer, parser: &mut Parser<'s>, item: &ItemEnum<'_, 's>) {
-    if parse_item(answer, parser, item).is_err() {
-        return answer.stop(failed(parser));
-    }
-    push_skips(answer, parser);
-    push_errors(answer, "", &parser.errors, false);
-}
-
 /// Gives a parser the parameters of an enum and all its attributes. Adds the definitions of its variants and its skips, and the faults.
 pub fn parse_parts<'s>(
     alloc: Global,
     answer: &mut Answer,
     parser: &mut Parser<'s>,
     run: Tokens<'_, 's>,
-) {
+) -> Result<(), Stop> {
     match &read_enum(alloc, run) {
-        Ok(item) => push_item(answer, parser, item),
-        Err(ReadError::Memory) => answer.lack(),
-        Err(_) => answer.stop(Stop::Input),
+        Ok(item) => {
+            if parse_item(answer, parser, item).is_err() {
+                return Err(failed(parser));
+            }
+        }
+        Err(ReadError::Memory) => return Err(Stop::Memory),
+        Err(_) => return Err(Stop::Input),
     }
+    push_skips(answer, parser);
+    push_errors(answer, "", &parser.errors, false);
+    Ok(())
 }

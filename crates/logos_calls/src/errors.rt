@@ -19,10 +19,11 @@ fn push_fault(answer: &mut Answer, fault: &SpannedError, has_text: bool) {
     }
     answer.text(" ");
     if !has_text {
-        return answer.display("", &fault.code);
+        return answer.display(&fault.code);
     }
     answer.text(fault.code.name());
-    answer.debug(" ", &fault.message.as_str());
+    answer.text(" ");
+    answer.debug(&fault.message.as_str());
 }
 
 /// Adds the faults after a text, with their own texts where these are asked for; nothing where there is no fault.
@@ -76,16 +77,6 @@ fn add(alloc: Global, errors: &mut Errors, name: &str, text: &str) -> Result<(),
     }
 }
 
-/// Makes the call of this name with a text, after a refused request too.
-fn add_again(alloc: Global, errors: &mut Errors, name: &str, text: &str) -> Result<(), Stop> {
-    let count = errors.list().len();
-    if add(alloc, errors, name, text).is_ok() {
-        return Ok(());
-    }
-    are_unchanged(errors, count)?;
-    Ok(add(alloc, errors, name, text)?)
-}
-
 /// Adds the faults with these texts before and after the call of this name, which is made with the text after ` + `.
 pub fn added(alloc: Global, answer: &mut Answer, name: &str, text: &str) -> Result<(), Stop> {
     let Some((lent, text)) = text.split_once(" + ") else {
@@ -93,7 +84,11 @@ pub fn added(alloc: Global, answer: &mut Answer, name: &str, text: &str) -> Resu
     };
     let mut errors = faults_of(alloc, lent)?;
     push_errors(answer, "", &errors, true);
-    add_again(alloc, &mut errors, name, text)?;
+    let count = errors.list().len();
+    if add(alloc, &mut errors, name, text).is_err() {
+        are_unchanged(&errors, count)?;
+        add(alloc, &mut errors, name, text)?;
+    }
     push_errors(answer, " | ", &errors, true);
     Ok(())
 }

@@ -12,7 +12,7 @@ fn push_tokens(answer: &mut Answer, tokens: &[ExprToken<'_>], input: &str) {
         if input.as_bytes().get(token.span.from..token.span.to) != Some(token.slice) {
             answer.text("another slice: ");
         }
-        answer.debug("", &token.kind);
+        answer.debug(&token.kind);
         answer.span(" ", token.span);
     }
 }
@@ -26,18 +26,15 @@ fn language(alloc: Global) -> Result<Box<Language>, Stop> {
     }
 }
 
-/// Adds the tokens of a text, or where its first error stands.
-fn push_read(answer: &mut Answer, read: &Result<Vec<ExprToken<'_>>, ExprError>, text: &str) {
-    match read {
-        Ok(tokens) => push_tokens(answer, tokens, text),
-        Err(ExprError::Memory) => answer.lack(),
-        Err(ExprError::Bad { span }) => answer.span("bad ", *span),
-        Err(error) => answer.debug("", error),
-    }
-}
-
-/// Adds the tokens of a text, or where its first error stands.
-pub fn tokens(alloc: Global, answer: &mut Answer, text: &str) -> Result<(), Stop> {
+/// Answers the tokens of a text, or where its first error stands.
+pub fn tokens(alloc: Global, text: &str) -> Result<String, Stop> {
+    let mut answer = Answer::new(alloc);
     let language = language(alloc)?;
-    Ok(push_read(answer, &language.tokens(alloc, text), text))
+    match &language.tokens(alloc, text) {
+        Ok(tokens) => push_tokens(&mut answer, tokens, text),
+        Err(ExprError::Memory) => return Err(Stop::Memory),
+        Err(ExprError::Bad { span }) => answer.span("bad ", *span),
+        Err(error) => answer.debug(error),
+    }
+    answer.finish()
 }

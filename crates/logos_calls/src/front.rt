@@ -66,7 +66,7 @@ pub enum ParserCall {
 }
 
 /// Adds what a call answers to a text. Its name is that in the header, where words may follow.
-pub fn ask_text(
+fn ask_text(
     alloc: Global,
     answer: &mut Answer,
     call: TextCall,
@@ -99,6 +99,18 @@ pub fn ask_text(
     }
 }
 
+/// Returns what a call answers to a text.
+pub fn of_text(
+    alloc: Global,
+    call: TextCall,
+    header: (&str, &str),
+    text: &str,
+) -> Result<String, Stop> {
+    let mut answer = Answer::new(alloc);
+    ask_text(alloc, &mut answer, call, header, text)?;
+    answer.finish()
+}
+
 /// Adds what a call answers to tokens.
 fn ask_run(
     alloc: Global,
@@ -113,24 +125,20 @@ fn ask_run(
         RunCall::Pieces => attributes::pieces(answer, run),
         RunCall::Runs => attributes::runs(answer, run),
         RunCall::Exceeds => return types::levels(alloc, answer, words, run),
-        RunCall::ReadEnum => items::read(alloc, answer, words, run),
+        RunCall::ReadEnum => return items::read(alloc, answer, words, run),
         RunCall::TypeAfter => return parameters::replaced(alloc, answer, run),
         RunCall::Lifetimes => return parameters::lifetimes(alloc, answer, run),
-        RunCall::ReadLeaves => leaves::source(alloc, answer, run),
+        RunCall::ReadLeaves => return leaves::source(alloc, answer, run),
     }
     Ok(())
 }
 
-/// Adds what a call answers to the tokens of a text.
-pub fn of_run(
-    alloc: Global,
-    answer: &mut Answer,
-    call: RunCall,
-    words: &str,
-    text: &str,
-) -> Result<(), Stop> {
+/// Returns what a call answers to the tokens of a text.
+pub fn of_run(alloc: Global, call: RunCall, words: &str, text: &str) -> Result<String, Stop> {
+    let mut answer = Answer::new(alloc);
     let stream = tokens_of(alloc, text)?;
-    ask_run(alloc, answer, call, words, stream.run())
+    ask_run(alloc, &mut answer, call, words, stream.run())?;
+    answer.finish()
 }
 
 /// Adds what a call answers to a parser and tokens.
@@ -147,23 +155,23 @@ fn ask_parser<'s>(
         ParserCall::ParseDefinition => definitions::parse_definition(answer, parser, run),
         ParserCall::Named => definitions::named(alloc, answer, parser, run),
         ParserCall::ParseParts => definitions::parse_parts(alloc, answer, parser, run),
+        ParserCall::Check => parameters::checked(answer, parser, run),
+        ParserCall::GetType => parameters::asked(alloc, answer, parser, run),
+        ParserCall::Lent => parameters::lent(alloc, answer, parser, run, name),
         ParserCall::MakeLeaf => leaves::leaf(alloc, answer, parser, run, name),
-        ParserCall::Check => return parameters::checked(answer, parser, run),
-        ParserCall::GetType => return parameters::asked(alloc, answer, parser, run),
-        ParserCall::Lent => return parameters::lent(alloc, answer, parser, run, name),
     }
-    Ok(())
 }
 
-/// Adds what a call answers to a parser that has read nothing, and to the tokens of a text.
+/// Returns what a call answers to a parser that has read nothing, and to the tokens of a text.
 pub fn of_parser(
     alloc: Global,
-    answer: &mut Answer,
     call: ParserCall,
     header: (&str, &str),
     text: &str,
-) -> Result<(), Stop> {
+) -> Result<String, Stop> {
+    let mut answer = Answer::new(alloc);
     let stream = tokens_of(alloc, text)?;
     let mut parser = Parser::new(alloc);
-    ask_parser(alloc, answer, call, header, &mut parser, stream.run())
+    ask_parser(alloc, &mut answer, call, header, &mut parser, stream.run())?;
+    answer.finish()
 }

@@ -54,8 +54,9 @@ fn push_states(answer: &mut Answer, graph: &Graph<'_>) {
     for number in graph.iter_states() {
         if graph.contains(number) {
             let state = graph.get_state(number);
-            answer.display("", &state);
-            answer.alternate("; ", &state);
+            answer.display(&state);
+            answer.text("; ");
+            answer.alternate(&state);
             answer.text(";");
         }
     }
@@ -65,7 +66,7 @@ fn push_states(answer: &mut Answer, graph: &Graph<'_>) {
 fn push_backward(answer: &mut Answer, graph: &Graph<'_>) {
     for number in graph.iter_states() {
         if graph.contains(number) {
-            answer.debug("", &graph.get_state(number).backward);
+            answer.debug(&graph.get_state(number).backward);
             answer.text(";");
         }
     }
@@ -75,8 +76,9 @@ fn push_backward(answer: &mut Answer, graph: &Graph<'_>) {
 fn push_finds(answer: &mut Answer, graph: &Graph<'_>, texts: &str) {
     for text in texts.split(" ¦ ") {
         if let Some((leaf, to)) = found(graph, text.as_bytes()) {
-            answer.display("", &leaf.0);
-            answer.display(" ", &to);
+            answer.display(&leaf.0);
+            answer.text(" ");
+            answer.display(&to);
             answer.text(" ");
         }
         answer.text(";");
@@ -91,30 +93,18 @@ fn state_at(graph: &Graph<'_>, number: &str) -> Option<State> {
     graph.iter_states().nth(number)
 }
 
-/// Adds whether bytes, or these and the end, distinguish two states: 1 if they do, else 0; `?` where a state is not there.
-fn push_differ(
-    answer: &mut Answer,
-    graph: &Graph<'_>,
-    states: (Option<State>, Option<State>),
-    bytes: &[u8],
-    at_end: bool,
-) {
-    match states {
-        (Some(one), Some(other)) if graph.contains(one) & graph.contains(other) => {
-            let differ = graph.checks(one, other, bytes, at_end);
-            answer.text(if differ { "1" } else { "0" })
-        }
-        _ => answer.text("?"),
-    }
-}
-
-/// Adds whether a text distinguishes two states.
+/// Adds whether a text distinguishes two states: 1 if it does, else 0; `?` where one is not there.
 fn push_check(answer: &mut Answer, graph: &Graph<'_>, case: &str) {
     let (head, text) = case.split_once(' ').unwrap_or((case, ""));
     let (one, rest) = head.split_once(',').unwrap_or((head, ""));
     let (other, end) = rest.split_once(',').unwrap_or((rest, ""));
-    let states = (state_at(graph, one), state_at(graph, other));
-    push_differ(answer, graph, states, text.as_bytes(), end == "end");
+    match (state_at(graph, one), state_at(graph, other)) {
+        (Some(one), Some(other)) if graph.contains(one) & graph.contains(other) => {
+            let differ = graph.checks(one, other, text.as_bytes(), end == "end");
+            answer.text(if differ { "1" } else { "0" })
+        }
+        _ => answer.text("?"),
+    }
 }
 
 /// Adds whether each text distinguishes two states.
@@ -162,7 +152,7 @@ fn push_evidence(alloc: Global, answer: &mut Answer, graph: &Graph<'_>) -> Resul
     if count == states.saturating_mul(states.saturating_sub(1)) && count > 0 {
         answer.text("all");
     } else {
-        answer.display("", &count);
+        answer.display(&count);
     }
     Ok(())
 }
@@ -176,12 +166,12 @@ fn push_view(
     texts: &str,
 ) -> Result<(), Stop> {
     match view {
-        View::Listing => answer.display("", graph),
-        View::Errors => answer.debug("", &graph.errors()),
-        View::Chart => answer.printed("", &graph.get_mermaid(alloc)),
+        View::Listing => answer.display(graph),
+        View::Errors => answer.debug(&graph.errors()),
+        View::Chart => answer.text(&graph.get_mermaid(alloc)?),
         View::States => push_states(answer, graph),
         View::Backward => push_backward(answer, graph),
-        View::Count => answer.display("", &count_states(graph)),
+        View::Count => answer.display(&count_states(graph)),
         View::Lists => return push_lists(alloc, answer, graph.dfa(), texts, false),
         View::ListsAtEnd => return push_lists(alloc, answer, graph.dfa(), texts, true),
         View::Children => push_children(answer, graph.dfa()),
@@ -214,23 +204,27 @@ fn push_graph(
     match graph {
         Ok(graph) => push_view(alloc, answer, graph, view, texts),
         Err(BuildError::Memory) => Err(Stop::Memory),
-        Err(error) => Ok(answer.debug("", error)),
+        Err(error) => Ok(answer.debug(error)),
     }
 }
 
-/// Adds what is asked of the graph of leaves, of these texts perhaps; or the limit that they pass.
+/// Answers what is asked of the graph of leaves, of these texts perhaps; or the limit that they pass.
 fn of_leaves(
     alloc: Global,
-    answer: &mut Answer,
     leaves: Vec<Leaf<'static>>,
     view: View,
     texts: &str,
-) -> Result<(), Stop> {
-    push_graph(alloc, answer, &graph_of(alloc, leaves, true), view, texts)
+) -> Result<String, Stop> {
+    let mut answer = Answer::new(alloc);
+    let graph = graph_of(alloc, leaves, true);
+    match push_graph(alloc, &mut answer, &graph, view, texts) {
+        Ok(()) => answer.finish(),
+        Err(stop) => Err(stop),
+    }
 }
 
-/// Adds what is asked of the graph of rules, of the texts after ` ‖ ` perhaps; or the limit that it passes.
-pub fn graph(alloc: Global, answer: &mut Answer, view: View, text: &str) -> Result<(), Stop> {
+/// Answers what is asked of the graph of rules, of the texts after ` ‖ ` perhaps; or the limit that it passes.
+pub fn graph(alloc: Global, view: View, text: &str) -> Result<String, Stop> {
     let (rules, texts) = text.split_once(" ‖ ").unwrap_or((text, ""));
-    of_leaves(alloc, answer, leaves_of(alloc, rules)?, view, texts)
+    of_leaves(alloc, leaves_of(alloc, rules)?, view, texts)
 }

@@ -2,6 +2,7 @@
 
 use crate::answer::Answer;
 use crate::notation::has_word;
+use crate::stop::Stop;
 use logos_item::{Field, Fields, ItemEnum, ReadError, Variant, read_enum};
 use logos_token::token::Tokens;
 use std::alloc::Global;
@@ -11,7 +12,8 @@ fn push_run(answer: &mut Answer, run: Tokens<'_, '_>) {
     if run.is_empty() {
         return;
     }
-    answer.tokens("[", run);
+    answer.text("[");
+    answer.tokens(run);
     answer.span("]", run.span());
     answer.text(" ");
 }
@@ -43,33 +45,35 @@ fn push_variant(answer: &mut Answer, variant: &Variant<'_, '_>) {
     answer.text("; ");
 }
 
-/// Adds the parameters of an enum.
-fn push_parameters(answer: &mut Answer, item: &ItemEnum<'_, '_>) {
-    for parameter in &item.parameters {
-        answer.debug("", &parameter.kind);
-        answer.display(" ", &parameter.name.text);
-        answer.span(" ", parameter.run.span());
-        answer.text(", ");
-    }
-}
-
 /// Adds the attributes, the name, the parameters and the variants of an enum.
 fn push_item(answer: &mut Answer, item: &ItemEnum<'_, '_>) {
     push_run(answer, item.attributes);
-    answer.display("", &item.name.text);
+    answer.text(item.name.text);
     answer.text(": ");
-    push_parameters(answer, item);
+    for parameter in &item.parameters {
+        answer.debug(&parameter.kind);
+        answer.text(" ");
+        answer.text(parameter.name.text);
+        answer.span(" ", parameter.run.span());
+        answer.text(", ");
+    }
     for variant in &item.variants {
         push_variant(answer, variant);
     }
 }
 
 /// Adds the enum that a source is, or why it is none; where the header asks for the `fault` alone, `none` for an enum.
-pub fn read(alloc: Global, answer: &mut Answer, words: &str, run: Tokens<'_, '_>) {
+pub fn read(
+    alloc: Global,
+    answer: &mut Answer,
+    words: &str,
+    run: Tokens<'_, '_>,
+) -> Result<(), Stop> {
     match &read_enum(alloc, run) {
         Ok(_) if has_word(words, "fault") => answer.text("none"),
         Ok(item) => push_item(answer, item),
-        Err(ReadError::Memory) => answer.lack(),
-        Err(error) => answer.debug("", error),
+        Err(ReadError::Memory) => return Err(Stop::Memory),
+        Err(error) => answer.debug(error),
     }
+    Ok(())
 }

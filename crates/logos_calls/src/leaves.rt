@@ -4,13 +4,13 @@ use crate::answer::Answer;
 use crate::definitions::failed;
 use crate::errors::push_errors;
 use crate::patterns::push_leaf;
-use logos_definition::definition::Definition;
+use crate::stop::Stop;
 use logos_leaf::leaf::{regex_leaf, token_leaf};
 use logos_leaf::source::{read_leaves, utf8_mode};
-use logos_parser::item::{ItemEnum, ReadError, read_enum};
+use logos_parser::item::{ReadError, read_enum};
 use logos_parser::parser::{Parser, Subpatterns};
 use logos_pattern::leaf::{Leaf, VariantKind};
-use logos_token::error::{Errors, Memory};
+use logos_token::error::Memory;
 use logos_token::token::{Ident, Span, Tokens};
 use std::alloc::Global;
 
@@ -19,42 +19,22 @@ const NAME: Ident<'static> = Ident {
     span: Span { from: 0, to: 0 },
 };
 
-/// Returns the leaf of a variant that a definition makes as a `token` or `regex`, if there is one.
-fn leaf_of<'s>(
-    name: &str,
-    definition: Definition<'s>,
-    subpatterns: &Subpatterns<'s>,
-    errors: &mut Errors,
-) -> Result<Option<Leaf<'s>>, Memory> {
-    if name == "token_leaf" {
-        token_leaf(definition, VariantKind::Unit(NAME), errors)
-    } else {
-        regex_leaf(definition, VariantKind::Unit(NAME), subpatterns, errors)
-    }
-}
-
-/// Adds a leaf that was made, or `-`.
-fn push_made(answer: &mut Answer, made: &Result<Option<Leaf<'_>>, Memory>) {
-    match made {
-        Ok(Some(leaf)) => push_leaf(answer, leaf),
-        Ok(None) => answer.text("-"),
-        Err(Memory) => answer.lack(),
-    }
-}
-
-/// Adds the leaf that the last `skip` makes as a `token` or `regex`, or `-`.
-fn push_last<'s>(
-    answer: &mut Answer,
+/// Returns the leaf of a variant that the last `skip` makes as a `token` or `regex`, if there is one.
+fn made<'s>(
+    alloc: Global,
     name: &str,
     parser: &mut Parser<'s>,
-    subpatterns: &Subpatterns<'s>,
-) {
-    match parser.skips.pop() {
-        Some(skip) => push_made(
-            answer,
-            &leaf_of(name, skip, subpatterns, &mut parser.errors),
-        ),
-        None => answer.text("-"),
+) -> Result<Option<Leaf<'s>>, Memory> {
+    let list = parser.subpatterns.as_slice();
+    let subpatterns = Subpatterns::new(alloc, list, false, &mut parser.errors)?;
+    let Some(definition) = parser.skips.pop() else {
+        return Ok(None);
+    };
+    let (kind, errors) = (VariantKind::Unit(NAME), &mut parser.errors);
+    if name == "token_leaf" {
+        token_leaf(definition, kind, errors)
+    } else {
+        regex_leaf(definition, kind, &subpatterns, errors)
     }
 }
 
@@ -65,23 +45,22 @@ pub fn leaf<'s>(
     parser: &mut Parser<'s>,
     run: Tokens<'_, 's>,
     name: &str,
-) {
+) -> Result<(), Stop> {
     if parser.read_logos(run).is_err() {
-        return answer.stop(failed(parser));
+        return Err(failed(parser));
     }
-    match &Subpatterns::new(alloc, &parser.subpatterns, false, &mut parser.errors) {
-        Ok(subpatterns) => push_last(answer, name, parser, subpatterns),
-        Err(Memory) => answer.lack(),
+    match &made(alloc, name, parser)? {
+        Some(leaf) => push_leaf(answer, leaf),
+        None => answer.text("-"),
     }
     push_errors(answer, " ", &parser.errors, false);
+    Ok(())
 }
 
 /// Adds the mode, the leaves and the faults of an enum.
-fn push_leaves(answer: &mut Answer, leaves: &Result<Vec<Leaf<'_>>, Memory>, parser: &Parser<'_>) {
-    let Ok(leaves) = leaves else {
-        return answer.lack();
-    };
-    answer.debug(" ", &utf8_mode(parser));
+fn push_leaves(answer: &mut Answer, leaves: &[Leaf<'_>], parser: &Parser<'_>) {
+    answer.text(" ");
+    answer.debug(&utf8_mode(parser));
     for leaf in leaves {
         answer.text(" ");
         push_leaf(answer, leaf);
@@ -89,18 +68,18 @@ fn push_leaves(answer: &mut Answer, leaves: &Result<Vec<Leaf<'_>>, Memory>, pars
     push_errors(answer, " ", &parser.errors, false);
 }
 
-/// Adds the name of an enum, its span, its mode, its leaves and its faults.
-fn push_enum<'s>(answer: &mut Answer, item: &ItemEnum<'_, 's>, parser: &mut Parser<'s>) {
-    answer.text(item.name.text);
-    answer.span(" ", item.name.span);
-    push_leaves(answer, &read_leaves(item, parser), parser);
-}
-
 /// Adds the name of the enum that a run is, its span, its mode, its leaves and its faults; or why it is not an enum.
-pub fn source(alloc: Global, answer: &mut Answer, run: Tokens<'_, '_>) {
+pub fn source(alloc: Global, answer: &mut Answer, run: Tokens<'_, '_>) -> Result<(), Stop> {
     match &read_enum(alloc, run) {
-        Ok(item) => push_enum(answer, item, &mut Parser::new(alloc)),
-        Err(ReadError::Memory) => answer.lack(),
-        Err(error) => answer.debug("", error),
+        Ok(item) => {
+            answer.text(item.name.text);
+            answer.span(" ", item.name.span);
+            let mut parser = Parser::new(alloc);
+            let leaves = read_leaves(item, &mut parser)?;
+            push_leaves(answer, &leaves, &parser);
+        }
+        Err(ReadError::Memory) => return Err(Stop::Memory),
+        Err(error) => answer.debug(error),
     }
+    Ok(())
 }

@@ -7,7 +7,6 @@ use crate::notation::has_word;
 use crate::stop::Stop;
 use logos_generator::code::Code;
 use logos_generator::machine::{Action, Item, Lexer};
-use logos_token::token::Span;
 use std::alloc::Global;
 
 /// Returns what each callback does.
@@ -26,7 +25,7 @@ pub fn push_item(answer: &mut Answer, number: usize, item: &Item<'_>) {
     answer.text(if number > 0 { ", " } else { "" });
     match item {
         Item::Token { leaf, span, .. } => {
-            answer.display("", &leaf.0);
+            answer.display(&leaf.0);
             answer.span(" at ", *span);
         }
         Item::Error {
@@ -34,7 +33,8 @@ pub fn push_item(answer: &mut Answer, number: usize, item: &Item<'_>) {
             span,
             ..
         } => {
-            answer.display("error of ", &leaf.0);
+            answer.text("error of ");
+            answer.display(&leaf.0);
             answer.span(" ", *span);
         }
         Item::Error {
@@ -87,22 +87,6 @@ pub fn push_items(
     Ok(())
 }
 
-/// Adds a span and the states entered by the last try, and whether the slice and what remains are not those of the input.
-fn push_stand(
-    answer: &mut Answer,
-    input: &[u8],
-    span: Span,
-    steps: usize,
-    (slice, remainder): (&[u8], &[u8]),
-) {
-    answer.span("", span);
-    answer.display(" by ", &steps);
-    let is_slice = input.get(span.from..span.to) == Some(slice);
-    if !(is_slice & (input.get(span.to..) == Some(remainder))) {
-        answer.text(" with another slice");
-    }
-}
-
 /// Adds where a lexer stands before the first of so many calls and after each, and the states entered by the last try.
 pub fn push_walk(answer: &mut Answer, code: &Code<'_>, asked: Asked<'_>) -> Result<(), Stop> {
     let Ok(calls) = asked.words.parse::<usize>() else {
@@ -111,9 +95,14 @@ pub fn push_walk(answer: &mut Answer, code: &Code<'_>, asked: Asked<'_>) -> Resu
     let input = asked.input.as_bytes();
     let mut lexer = Lexer::new_str(code, asked.input, |_, _: &[u8]| Action::Emit);
     for number in 0..calls {
-        answer.text(if number > 0 { "; " } else { "" });
-        let slices = (lexer.slice(), lexer.remainder());
-        push_stand(answer, input, lexer.span(), lexer.steps(), slices);
+        let span = lexer.span();
+        answer.span(if number > 0 { "; " } else { "" }, span);
+        answer.text(" by ");
+        answer.display(&lexer.steps());
+        let slice = input.get(span.from..span.to);
+        if (slice != Some(lexer.slice())) | (input.get(span.to..) != Some(lexer.remainder())) {
+            answer.text(" with another slice");
+        }
         if lexer.next().is_none() {
             answer.text("; none");
         }
@@ -140,7 +129,7 @@ pub fn push_utf8(
     let input = bytes_of(alloc, input)?;
     match Lexer::new_bytes(code, &input, |_, _: &[u8]| Action::Emit) {
         Ok(_) => answer.text("taken"),
-        Err(refused) => answer.display("", &refused.valid_up_to),
+        Err(refused) => answer.display(&refused.valid_up_to),
     }
     Ok(())
 }

@@ -64,33 +64,23 @@ fn fail(rows: &mut Rows<'_>) {
     rows.failed = rows.failed.saturating_add(1);
 }
 
-/// Adds what is wrong with the answer of a row; nothing if nothing is.
-fn push_fault(
-    alloc: Global,
-    rows: &mut Rows<'_>,
-    out: &mut String,
-    asked: &str,
-    wanted: &str,
-) -> Result<(), Stop> {
-    let answer = answer(alloc, rows.header, asked)?;
-    if answer.as_str() != wanted {
-        return Ok(write!(out, "answered {answer}\n  wanted   {wanted}")?);
-    }
-    if !rows.refuses {
-        return Ok(());
-    }
-    match refuse_each(alloc, rows.header, asked, wanted) {
-        Ok(count) => rows.refused = rows.refused.saturating_add(count),
-        Err(number) => write!(out, "another answer when request {number} is refused")?,
-    }
-    Ok(())
-}
-
 /// Returns what is wrong with a row; an empty text if nothing is.
 fn fault_of(alloc: Global, rows: &mut Rows<'_>, asked: &str, wanted: &str) -> Result<String, Stop> {
     let mut out = String::new(alloc);
-    let (asked, wanted) = (decoded(alloc, asked)?, decoded(alloc, wanted)?);
-    push_fault(alloc, rows, &mut out, &asked, &wanted)?;
+    let asked = decoded(alloc, asked)?;
+    let wanted = decoded(alloc, wanted)?;
+    let answer = answer(alloc, rows.header, &asked)?;
+    if answer != wanted {
+        write!(out, "answered {answer}\n  wanted   {wanted}")?;
+        return Ok(out);
+    }
+    if !rows.refuses {
+        return Ok(out);
+    }
+    match refuse_each(alloc, rows.header, &asked, &wanted) {
+        Ok(count) => rows.refused = rows.refused.saturating_add(count),
+        Err(number) => write!(out, "another answer when request {number} is refused")?,
+    }
     Ok(out)
 }
 

@@ -5,6 +5,12 @@ use logos_generator::code::{Code, CodeLeaf, CodeState, Condition, Fork, NOWHERE}
 use logos_graph::byte_class::Comparisons;
 use logos_pattern::leaf::{Callback, VariantKind};
 
+/// Adds a word and a number.
+pub fn push_number(answer: &mut Answer, word: &str, number: usize) {
+    answer.text(word);
+    answer.display(&number);
+}
+
 /// Returns how many operations comparisons cost.
 fn cost(comparisons: &[Comparisons]) -> usize {
     let mut operations: usize = 0;
@@ -18,17 +24,17 @@ fn cost(comparisons: &[Comparisons]) -> usize {
 fn push_condition(answer: &mut Answer, condition: &Condition) {
     match condition {
         Condition::Comparisons(all) => {
-            answer.display(" by ", &cost(all));
+            push_number(answer, " by ", cost(all));
             answer.text(" operations");
         }
-        Condition::Test(test) => answer.display(" by test ", test),
+        Condition::Test(test) => push_number(answer, " by test ", *test),
     }
 }
 
 /// Adds branches.
 fn push_branches(answer: &mut Answer, branches: &[(Condition, usize)]) {
     for (condition, target) in branches {
-        answer.display(" to ", target);
+        push_number(answer, " to ", *target);
         push_condition(answer, condition);
     }
 }
@@ -36,7 +42,7 @@ fn push_branches(answer: &mut Answer, branches: &[(Condition, usize)]) {
 /// Adds a fork.
 pub fn push_fork(answer: &mut Answer, fork: &Fork) {
     match fork {
-        Fork::Table(table) => answer.display(" table ", table),
+        Fork::Table(table) => push_number(answer, " table ", *table),
         Fork::Conditions(branches) => push_branches(answer, branches),
     }
 }
@@ -44,15 +50,15 @@ pub fn push_fork(answer: &mut Answer, fork: &Fork) {
 /// Adds a state.
 fn push_state(answer: &mut Answer, state: &CodeState) {
     if let Some(test) = state.fast_loop {
-        answer.display(" loop ", &test);
+        push_number(answer, " loop ", test);
     }
     if let Some(mark) = state.mark {
         let word = if mark.late { " late " } else { " early " };
-        answer.display(word, &mark.leaf.0);
+        push_number(answer, word, mark.leaf.0);
     }
     push_fork(answer, &state.fork);
     if let Some(target) = state.at_end {
-        answer.display(" end ", &target);
+        push_number(answer, " end ", target);
     }
     answer.text(";");
 }
@@ -69,8 +75,8 @@ fn push_states(answer: &mut Answer, states: &[CodeState]) {
 fn push_jumps(answer: &mut Answer, table: &[u32; 256]) {
     for (byte, target) in table.iter().enumerate() {
         if *target != NOWHERE {
-            answer.display(" ", &byte);
-            answer.display(" to ", &(*target as usize));
+            push_number(answer, " ", byte);
+            push_number(answer, " to ", *target as usize);
         }
     }
     answer.text(";");
@@ -95,11 +101,11 @@ fn push_test(answer: &mut Answer, table: &[u8; 256], number: usize, bit: u8) {
         }
     }
     if count > 0 {
-        answer.display(" ", &number);
-        answer.display(".", &usize::from(bit));
-        answer.display(": ", &first);
-        answer.display(" to ", &last);
-        answer.display(", ", &count);
+        push_number(answer, " ", number);
+        push_number(answer, ".", usize::from(bit));
+        push_number(answer, ": ", first);
+        push_number(answer, " to ", last);
+        push_number(answer, ", ", count);
         answer.text(";");
     }
 }
@@ -117,7 +123,8 @@ pub fn push_tests(answer: &mut Answer, tables: &[[u8; 256]]) {
 /// Adds the name of a callback, if there is one.
 fn push_callback(answer: &mut Answer, callback: Option<&Callback<'_>>) {
     if let Some(Callback::Label(label)) = callback {
-        answer.tokens(" by ", label.run());
+        answer.text(" by ");
+        answer.tokens(label.run());
     }
 }
 
@@ -137,7 +144,8 @@ pub fn push_options(answer: &mut Answer, code: &Code<'_>) {
     let is_loop = code.shape().use_state_machine_codegen;
     answer.text(if is_loop { "one loop; " } else { "functions; " });
     answer.text(code.name().text);
-    answer.type_expr("; ", code.this());
+    answer.text("; ");
+    answer.type_expr(code.this());
     answer.text(";");
     push_callback(answer, code.error_callback());
 }

@@ -2,12 +2,12 @@
 
 use crate::answer::Answer;
 use crate::notation::has_word;
-use crate::rules::kind_of;
 use crate::stop::Stop;
 use crate::tokens::tokens_of;
 use logos_pattern::leaf::{Callback, InlineCallback, Leaf, VariantKind};
 use logos_pattern::pattern::{Class, Hir, Literal, Pattern, PatternError, Range, token_priority};
 use logos_token::token::{self, Ident, Span, TokenStream};
+use logos_type::{Part, TypeExpr};
 use std::alloc::Global;
 
 /// Adds ranges with commas between them, as hexadecimal numbers.
@@ -38,10 +38,11 @@ fn push_class(answer: &mut Answer, class: &Class) {
 
 /// Adds the counts of a repetition.
 fn push_counts(answer: &mut Answer, min: u32, max: Option<u32>, greedy: bool) {
-    answer.display("){", &min);
+    answer.text("){");
+    answer.display(&min);
     answer.text(",");
     if let Some(max) = max {
-        answer.display("", &max);
+        answer.display(&max);
     }
     answer.text(if greedy { "}" } else { "}?" });
 }
@@ -53,7 +54,7 @@ pub fn push_hir(answer: &mut Answer, hir: &Hir) {
         Hir::Empty => answer.text("E"),
         Hir::Literal(bytes) => answer.bytes(bytes),
         Hir::Class(class) => push_class(answer, class),
-        Hir::Look(look) => answer.debug("", look),
+        Hir::Look(look) => answer.debug(look),
         Hir::Repetition {
             min,
             max,
@@ -91,16 +92,19 @@ fn push_row(answer: &mut Answer, open: &str, row: &[Hir]) {
 /// source, and whether it is a literal.
 fn push_pattern(answer: &mut Answer, words: &str, pattern: &Pattern<'_>) {
     if has_word(words, "measures") {
-        answer.debug("", &pattern.priority());
-        answer.debug(" ", &pattern.is_utf8());
-        answer.debug(" ", &pattern.check_for_greedy_all());
+        answer.debug(&pattern.priority());
+        answer.text(" ");
+        answer.debug(&pattern.is_utf8());
+        answer.text(" ");
+        answer.debug(&pattern.check_for_greedy_all());
         return;
     }
     if has_word(words, "printed") {
-        answer.display("", pattern);
+        answer.display(pattern);
         answer.text(" ");
         answer.text(pattern.source());
-        answer.debug(" ", &pattern.is_literal());
+        answer.text(" ");
+        answer.debug(&pattern.is_literal());
         return;
     }
     push_hir(answer, pattern.hir());
@@ -117,8 +121,9 @@ fn push_read(
         Err(PatternError::Memory) => return Err(Stop::Memory),
         Err(PatternError::LimitPatternNesting) => answer.text("too deep"),
         Err(PatternError::Syntax { kind, at }) => {
-            answer.debug("", kind);
-            answer.display(" at ", at);
+            answer.debug(kind);
+            answer.text(" at ");
+            answer.display(at);
         }
     }
     Ok(())
@@ -176,16 +181,23 @@ pub fn parts(alloc: Global, answer: &mut Answer, text: &str) -> Result<(), Stop>
         Ok(literal) => {
             answer.text(literal.token().text);
             answer.span(" ", literal.span());
-            answer.debug(" ", &literal.unicode());
+            answer.text(" ");
+            answer.debug(&literal.unicode());
             answer.text(" ");
             answer.bytes(literal.value());
-            answer.display(" ", &token_priority(literal));
+            answer.text(" ");
+            answer.display(&token_priority(literal));
         }
         Err(Stop::Input) => answer.text("none"),
         Err(stop) => return Err(*stop),
     }
     Ok(())
 }
+
+const NAME: Ident<'static> = Ident {
+    text: "A",
+    span: Span { from: 0, to: 0 },
+};
 
 /// Returns a callback with this body.
 fn inline(body: TokenStream<'_>) -> Option<Callback<'_>> {
@@ -197,32 +209,34 @@ fn inline(body: TokenStream<'_>) -> Option<Callback<'_>> {
     Some(Callback::from(InlineCallback { arg, body, span }))
 }
 
-/// Returns a callback with these tokens: what they name, for `label`, or one with this body.
-fn callback_of<'s>(words: &str, tokens: TokenStream<'s>) -> Option<Callback<'s>> {
-    if words == "label" {
-        return Some(Callback::Label(tokens));
-    }
-    inline(tokens)
-}
-
 /// Returns the leaf with what the header names set: a variant without or with a `field`, or a callback, which may be `unset` again.
 fn with<'s>(leaf: Leaf<'s>, words: &str, priority: usize, tokens: TokenStream<'s>) -> Leaf<'s> {
-    if words == "unset" {
-        return leaf.callback(inline(tokens)).callback(None);
+    match words {
+        "variant" => leaf
+            .priority(priority)
+            .variant_kind(VariantKind::Unit(NAME)),
+        "field" => leaf.priority(priority).variant_kind(VariantKind::Value(
+            NAME,
+            TypeExpr {
+                part: Part::Name("u8"),
+            },
+        )),
+        "label" => leaf.priority(7).callback(Some(Callback::Label(tokens))),
+        "inline" => leaf.priority(7).callback(inline(tokens)),
+        _ => leaf.callback(inline(tokens)).callback(None),
     }
-    if (words == "label") | (words == "inline") {
-        return leaf.priority(7).callback(callback_of(words, tokens));
-    }
-    let uses = if words == "field" { "value" } else { "" };
-    leaf.priority(priority).variant_kind(kind_of(uses))
 }
 
-/// Adds the parameter, the body and the place of a callback.
+/// Adds the parameter, the body and the place of a copy of a callback.
 fn push_inline(answer: &mut Answer, inline: &InlineCallback<'_>) {
+    let Ok(copy) = inline.clone() else {
+        return answer.lack();
+    };
     answer.text("|");
-    answer.text(inline.arg.text);
-    answer.tokens("| ", inline.body.run());
-    answer.span(" @", inline.span);
+    answer.text(copy.arg.text);
+    answer.text("| ");
+    answer.tokens(copy.body.run());
+    answer.span(" @", copy.span);
 }
 
 /// Adds a copy of a callback: what it names, or its parameter, body and place; `-` for none.
@@ -232,76 +246,53 @@ pub fn push_callback(answer: &mut Answer, callback: &Option<Callback<'_>>) {
     };
     let copy: Result<_, _> = callback.clone();
     match &copy {
-        Ok(Callback::Label(tokens)) => answer.tokens("", tokens.run()),
+        Ok(Callback::Label(tokens)) => answer.tokens(tokens.run()),
         Ok(Callback::Inline(inline)) => push_inline(answer, inline),
         Err(_) => answer.lack(),
     }
 }
 
-/// Adds where the name of a variant stands, and the type of its field; nothing of a skip.
+/// Adds where the name of a variant stands, and the type of its field, as a copy has them; nothing of a skip.
 fn push_kind(answer: &mut Answer, kind: &VariantKind<'_>) {
-    match kind {
-        VariantKind::Unit(name) => answer.span(" ", name.span),
-        VariantKind::Value(name, field) => {
-            answer.span(" ", name.span);
-            answer.type_expr(" ", field);
-        }
-        VariantKind::Skip => {}
-    }
-}
-
-/// Adds a copy of a kind.
-fn push_copy(answer: &mut Answer, kind: &VariantKind<'_>) {
     let copy: Result<_, _> = kind.clone();
     match &copy {
-        Ok(copy) => push_kind(answer, copy),
+        Ok(VariantKind::Unit(name)) => answer.span(" ", name.span),
+        Ok(VariantKind::Value(name, field)) => {
+            answer.span(" ", name.span);
+            answer.text(" ");
+            answer.type_expr(field);
+        }
+        Ok(VariantKind::Skip) => {}
         Err(_) => answer.lack(),
     }
 }
 
 /// Adds a leaf: how it is printed, its priority, where its literal stands, its variant and its callback.
 pub fn push_leaf(answer: &mut Answer, leaf: &Leaf<'_>) {
-    answer.display("", leaf);
-    answer.display(" ", &leaf.priority);
+    answer.display(leaf);
+    answer.text(" ");
+    answer.display(&leaf.priority);
     answer.span(" ", leaf.span);
-    push_copy(answer, &leaf.kind);
+    push_kind(answer, &leaf.kind);
     answer.text(" ");
     push_callback(answer, &leaf.callback);
     answer.text(";");
 }
 
-/// Returns the leaf of a literal, for which tokens are set as the header says.
-fn leaf_of<'s>(
-    alloc: Global,
-    words: &str,
-    literal: &Literal<'s>,
-    tokens: TokenStream<'s>,
-) -> Result<Leaf<'s>, Stop> {
-    match Pattern::compile_lit(alloc, literal) {
-        Ok(pattern) => {
-            let leaf = Leaf::new(literal.span(), pattern);
-            Ok(with(leaf, words, token_priority(literal), tokens))
-        }
-        Err(error) => Err(Stop::from(error)),
-    }
-}
-
-/// Adds a leaf, and the place of its callback.
-fn push_made(answer: &mut Answer, made: &Result<Leaf<'_>, Stop>) {
-    match made {
-        Ok(leaf) => {
-            push_leaf(answer, leaf);
-            if let Some(callback) = &leaf.callback {
-                answer.span(" ", callback.span());
-            }
-        }
-        Err(stop) => answer.stop(*stop),
-    }
-}
-
 /// Adds the leaf of `"ab"`, for which tokens are set as the header says, and the place of its callback.
 pub fn leaf(alloc: Global, answer: &mut Answer, words: &str, text: &str) -> Result<(), Stop> {
     let literal = literal_of(alloc, "\"ab\"")?;
-    let tokens = tokens_of(alloc, text)?;
-    Ok(push_made(answer, &leaf_of(alloc, words, &literal, tokens)))
+    let pattern = Pattern::compile_lit(alloc, &literal)?;
+    let leaf = Leaf::new(literal.span(), pattern);
+    let leaf = with(
+        leaf,
+        words,
+        token_priority(&literal),
+        tokens_of(alloc, text)?,
+    );
+    push_leaf(answer, &leaf);
+    if let Some(callback) = &leaf.callback {
+        answer.span(" ", callback.span());
+    }
+    Ok(())
 }

@@ -17,7 +17,7 @@ pub const NAME: Ident<'static> = Ident {
 };
 
 /// Returns the kind of a leaf: `skip`, `value` with a field of the type `u8`, or a variant without a field.
-pub fn kind_of<'s>(uses: &str) -> VariantKind<'s> {
+fn kind_of(uses: &str) -> VariantKind<'static> {
     if uses.contains("skip") {
         return VariantKind::Skip;
     }

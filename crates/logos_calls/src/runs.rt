@@ -128,50 +128,31 @@ fn words_of(alloc: Global, text: &str) -> Result<Vec<String>, Stop> {
 /// The line that says that memory ran out.
 const LACK: &[u8] = b"out of memory\n";
 
-/// Adds the status of a run with these words, with what comes through on standard output and on standard error.
-fn push_run(
-    alloc: Global,
-    answer: &mut Answer,
-    words: &[String],
-    files: &mut Shelf<'_>,
-    (out, err): (&mut Sink, &mut Sink),
-) {
-    let status = run(alloc, words, files, out, err);
-    let lacks = (err.through.as_slice() == LACK) | (err.held.as_slice() == LACK);
-    if lacks & files.ways.is_empty() {
-        return answer.lack();
-    }
-    answer.display("", &status);
-    answer.display(": ", &str::from_utf8(&out.through).unwrap_or("?"));
-    answer.text(str::from_utf8(&err.through).unwrap_or("?"));
-}
-
-/// Adds the status of a run, where ways stand for standard output, for standard error and for files.
-fn push_status(
-    alloc: Global,
-    answer: &mut Answer,
-    words: &str,
-    files: &mut Shelf<'_>,
-) -> Result<(), Stop> {
-    let (first, other) = files.ways.split_once(' ').unwrap_or((files.ways, ""));
-    let (second, ways) = other.split_once(' ').unwrap_or((other, ""));
-    files.ways = ways;
-    let (mut out, mut err) = (writer(alloc, first)?, writer(alloc, second)?);
-    let words = words_of(alloc, words)?;
-    Ok(push_run(alloc, answer, &words, files, (&mut out, &mut err)))
-}
-
-/// Adds the status of a run, with what comes through on standard output and on standard error. The words, the ways of both and of the
+/// Answers the status of a run, with what comes through on standard output and on standard error. The words, the ways of both and of the
 /// files, the source and the input stand with ` ‖ ` between them.
-pub fn status(alloc: Global, answer: &mut Answer, text: &str) -> Result<(), Stop> {
+pub fn status(alloc: Global, text: &str) -> Result<String, Stop> {
+    let mut answer = Answer::new(alloc);
     let (words, rest) = text.split_once(" ‖ ").unwrap_or((text, ""));
     let (ways, rest) = rest.split_once(" ‖ ").unwrap_or((rest, ""));
     let (source, input) = rest.split_once(" ‖ ").unwrap_or((rest, ""));
+    let (first, other) = ways.split_once(' ').unwrap_or((ways, ""));
+    let (second, ways) = other.split_once(' ').unwrap_or((other, ""));
     let mut files = Shelf {
         alloc,
         source,
         input,
         ways,
     };
-    push_status(alloc, answer, words, &mut files)
+    let (mut out, mut err) = (writer(alloc, first)?, writer(alloc, second)?);
+    let words = words_of(alloc, words)?;
+    let status = run(alloc, &words, &mut files, &mut out, &mut err);
+    let lacks = (err.through.as_slice() == LACK) | (err.held.as_slice() == LACK);
+    if lacks & ways.is_empty() {
+        return Err(Stop::Memory);
+    }
+    answer.display(&status);
+    answer.text(": ");
+    answer.text(str::from_utf8(&out.through).unwrap_or("?"));
+    answer.text(str::from_utf8(&err.through).unwrap_or("?"));
+    answer.finish()
 }

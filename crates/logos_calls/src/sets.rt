@@ -16,34 +16,23 @@ fn add_literal(alloc: Global, trees: &mut Vec<Hir>, text: &[u8]) -> Result<(), S
     Ok(trees.push(literal(bytes))?)
 }
 
-/// Returns neighbouring literals that stand in a concatenation.
-fn neighbours(alloc: Global) -> Result<Hir, Stop> {
-    let mut parts = Vec::new(alloc);
-    add_literal(alloc, &mut parts, b"a")?;
-    add_literal(alloc, &mut parts, b"b")?;
-    parts.push(look(Look::Start))?;
-    Ok(Hir::Concat(parts))
-}
-
 /// Returns neighbouring literals that stand in a concatenation, and a literal after it.
 fn joined(alloc: Global) -> Result<Hir, Stop> {
-    let mut parts = Vec::new(alloc);
-    parts.push(neighbours(alloc)?)?;
+    let (mut inner, mut parts) = (Vec::new(alloc), Vec::new(alloc));
+    add_literal(alloc, &mut inner, b"a")?;
+    add_literal(alloc, &mut inner, b"b")?;
+    inner.push(look(Look::Start))?;
+    parts.push(Hir::Concat(inner))?;
     add_literal(alloc, &mut parts, b"c")?;
     Ok(simplify(alloc, Hir::Concat(parts))?)
-}
-
-/// Adds a literal without bytes, counts of which the greatest is below the least, and what is joined.
-fn add_branches(alloc: Global, branches: &mut Vec<Hir>) -> Result<(), Stop> {
-    add_literal(alloc, branches, b"")?;
-    branches.push(repetition(alloc, 5, Some(0), true, look(Look::Start))?)?;
-    Ok(branches.push(joined(alloc)?)?)
 }
 
 /// Adds the alternation of a literal without bytes, of counts of which the greatest is below the least, and of what is joined.
 pub fn branches(alloc: Global, answer: &mut Answer) -> Result<(), Stop> {
     let mut branches = Vec::new(alloc);
-    add_branches(alloc, &mut branches)?;
+    add_literal(alloc, &mut branches, b"")?;
+    branches.push(repetition(alloc, 5, Some(0), true, look(Look::Start))?)?;
+    branches.push(joined(alloc)?)?;
     push_hir(answer, &alternation(branches)?);
     Ok(())
 }

@@ -6,12 +6,11 @@ ghost use Rattle.logos_graph.specs.GraphView.{graph_state_of, state_number};
 ghost use Rattle.logos_generator.specs.StateView.{IsCodable};
 
 use crate::answer::Answer;
-use crate::nodes::{push_fork, push_leaf, push_tests};
+use crate::nodes::{push_fork, push_leaf, push_number, push_tests};
 use crate::stop::Stop;
-use logos_generator::code::{CodeLeaf, Fork};
+use logos_generator::code::Fork;
 use logos_generator::generator::{FastLoop, Generator, fast_loop_macro};
 use logos_graph::graph::{ByteClass, Graph, State, StateData, States};
-use logos_token::error::Memory;
 use std::alloc::Global;
 
 /// Returns an error unless the tables of a generator are these.
@@ -79,22 +78,16 @@ fn loop_over(
     Ok(generator.impl_fast_loop(alloc, edge)?)
 }
 
-/// Returns whether the code of the graph is made. What `generate` promises ends here.
-fn generates(alloc: Global, generator: &mut Generator<'_, 'static>) -> bool {
-    generator.generate(alloc).is_ok()
-}
-
 /// Makes the code of the graph.
 fn make(alloc: Global, generator: &mut Generator<'_, 'static>) -> Result<(), Stop> {
     let before = generator.render_luts(alloc)?;
-    if generates(alloc, generator) {
+    if generator.generate(alloc).is_ok() {
         return Ok(());
     }
     stays(alloc, generator, &before)?;
-    if generates(alloc, generator) {
-        Ok(())
-    } else {
-        Err(Stop::Memory)
+    match generator.generate(alloc) {
+        Ok(_) => Ok(()),
+        Err(_) => Err(Stop::Memory),
     }
 }
 
@@ -109,7 +102,7 @@ fn push_loop_over(
 {
     if let Some(edge) = state_data.normal.first() {
         let node = loop_over(alloc, generator, &edge.0)?;
-        answer.display(" over ", &node.test);
+        push_number(answer, " over ", node.test);
     }
     answer.text(";");
     Ok(())
@@ -129,7 +122,7 @@ fn push_nodes_at(
     ensures { OnOk result (generator.new.graph ≡ generator.old.graph) }
 {
     if let Some(node) = maybe_loop(alloc, generator, state)? {
-        answer.display(" loop ", &node.test);
+        push_number(answer, " loop ", node.test);
     }
     push_fork(answer, &fork(alloc, generator, state, state_data, true)?);
     answer.text(" |");
@@ -156,34 +149,19 @@ fn push_nodes_of(
     Ok(())
 }
 
-/// Adds what becomes of the matches of a leaf, where memory for that was enough.
-fn push_made(answer: &mut Answer, made: &Result<CodeLeaf<'_>, Memory>) {
-    match made {
-        Ok(leaf) => push_leaf(answer, leaf),
-        Err(Memory) => answer.lack(),
-    }
-}
-
 /// Adds the macros, and what becomes of the matches of the first leaf.
 fn push_shared(
     alloc: Global,
     answer: &mut Answer,
     generator: &Generator<'_, 'static>,
     graph: &Graph<'static>,
-) {
-    answer.display(" restart ", &generator.take_action_macro().restart);
-    answer.display(" blocks ", &fast_loop_macro(8).unroll_factor);
+) -> Result<(), Stop> {
+    push_number(answer, " restart ", generator.take_action_macro().restart);
+    push_number(answer, " blocks ", fast_loop_macro(8).unroll_factor);
     if let Some(leaf) = graph.leaves().first() {
-        push_made(answer, &generator.generate_callback(alloc, leaf));
+        push_leaf(answer, &generator.generate_callback(alloc, leaf)?);
     }
-}
-
-/// Adds the tables of a generator's tests.
-fn push_luts(alloc: Global, answer: &mut Answer, generator: &Generator<'_, 'static>) {
-    match &generator.render_luts(alloc) {
-        Ok(tables) => push_tests(answer, tables),
-        Err(_) => answer.lack(),
-    }
+    Ok(())
 }
 
 /// Adds the nodes that a generator makes one by one for its graph, with the tables of their tests, and the tables after `generate`.
@@ -198,9 +176,9 @@ pub fn push_single(
 {
     answer.text("states");
     push_nodes_of(alloc, answer, generator, graph, graph.iter_states())?;
-    push_luts(alloc, answer, generator);
-    push_shared(alloc, answer, generator, graph);
+    push_tests(answer, &generator.render_luts(alloc)?);
+    push_shared(alloc, answer, generator, graph)?;
     make(alloc, generator)?;
-    push_luts(alloc, answer, generator);
+    push_tests(answer, &generator.render_luts(alloc)?);
     Ok(())
 }

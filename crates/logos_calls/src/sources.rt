@@ -7,12 +7,12 @@ use crate::notation::has_word;
 use crate::stop::Stop;
 use crate::texts::alike;
 use crate::tokens::tokens_of;
-use crate::types::type_of;
 use logos_codegen::code::{Code, Config};
 use logos_codegen::error::Errors;
 use logos_codegen::graph::Graph;
 use logos_codegen::leaf::{TypeExpr, VariantKind};
 use logos_codegen::machine::{Action, Item};
+use logos_codegen::nested::AttributeParser;
 use logos_codegen::{Generated, LexSourceError, Refusal, generate, lex_source, strip_attributes};
 use logos_hir::leaf::LeafId;
 use logos_token::token::TokenStream;
@@ -38,7 +38,8 @@ pub enum View {
 fn push_faults(answer: &mut Answer, errors: &Errors) {
     for (number, fault) in errors.list().iter().enumerate() {
         answer.span(if number > 0 { "; " } else { "" }, fault.span);
-        answer.display(" ", &fault.code);
+        answer.text(" ");
+        answer.display(&fault.code);
         answer.text(": ");
         answer.text(&fault.message);
     }
@@ -46,19 +47,24 @@ fn push_faults(answer: &mut Answer, errors: &Errors) {
 
 /// Adds the options of a code: its shape, its name, and what becomes of the matches of each leaf.
 fn push_options(answer: &mut Answer, code: &Code<'_>) {
-    answer.debug("", &code.shape().use_state_machine_codegen);
+    answer.debug(&code.shape().use_state_machine_codegen);
     answer.text(" ");
     answer.text(code.name().text);
     answer.text(":");
     for leaf in code.leaves() {
-        answer.display(" ", &leaf.kind);
+        answer.text(" ");
+        answer.display(&leaf.kind);
     }
 }
 
 /// Returns whether the tokens of a text are a type.
 fn has_type(alloc: Global, type_expr: &TypeExpr<'_>, text: &str) -> Result<bool, Stop> {
     let stream = tokens_of(alloc, text)?;
-    Ok(is_same_type(type_expr, &type_of(alloc, stream.run())?))
+    let mut errors = Errors::new(alloc);
+    match AttributeParser::new(stream.run()).parsed::<TypeExpr>(alloc, &mut errors)? {
+        Some(Ok(other)) => Ok(is_same_type(type_expr, &other)),
+        _ => Err(Stop::Input),
+    }
 }
 
 /// Adds what is asked of the first leaf: its priority, or whether its variant has this type.
@@ -73,12 +79,9 @@ fn push_first(
         return Err(Stop::Input);
     };
     match (view, &leaf.kind) {
-        (View::Priority, _) => answer.display("", &leaf.priority),
-        (_, VariantKind::Value(_, type_expr)) => answer.debug(
-            "",
-            &has_type(alloc, type_expr, text)?,
-        ),
-        _ => answer.debug("", &false),
+        (View::Priority, _) => answer.display(&leaf.priority),
+        (_, VariantKind::Value(_, type_expr)) => answer.debug(&has_type(alloc, type_expr, text)?),
+        _ => answer.debug(&false),
     }
     Ok(())
 }
@@ -101,17 +104,6 @@ fn push_variants(answer: &mut Answer, made: &Generated<'_>) {
     push_variant(answer, made, leaves.len());
 }
 
-/// Adds whether the text of what a source makes has a part.
-fn push_part(
-    alloc: Global,
-    answer: &mut Answer,
-    made: &Generated<'_>,
-    part: &str,
-) -> Result<(), Stop> {
-    let whole = alike(made.text(alloc), made.text(alloc))?;
-    Ok(answer.debug("", &whole.contains(part)))
-}
-
 /// Adds what is asked of what a source makes.
 fn push_view(
     alloc: Global,
@@ -124,7 +116,10 @@ fn push_view(
         View::Options => Ok(push_options(answer, &made.code)),
         View::Variants => Ok(push_variants(answer, made)),
         View::Priority | View::Type => push_first(alloc, answer, &made.graph, view, text),
-        View::Part => push_part(alloc, answer, made, text),
+        View::Part => {
+            let whole = alike(made.text(alloc), made.text(alloc))?;
+            Ok(answer.debug(&whole.contains(text)))
+        }
     }
 }
 
@@ -162,23 +157,15 @@ fn push_made(
     }
 }
 
-/// Adds what is asked of what a source makes, or its faults. The text that it is asked of stands after ` ‖ `.
-pub fn made(
-    alloc: Global,
-    answer: &mut Answer,
-    view: View,
-    words: &str,
-    text: &str,
-) -> Result<(), Stop> {
+/// Answers what is asked of what a source makes, or its faults. The text that it is asked of stands after ` ‖ `.
+pub fn made(alloc: Global, view: View, words: &str, text: &str) -> Result<String, Stop> {
+    let mut answer = Answer::new(alloc);
     let (source, asked) = text.split_once(" ‖ ").unwrap_or((text, ""));
-    let config = shape_of(words);
-    push_made(
-        alloc,
-        answer,
-        &generated(alloc, source, config),
-        view,
-        asked,
-    )
+    let made = generated(alloc, source, shape_of(words));
+    match push_made(alloc, &mut answer, &made, view, asked) {
+        Ok(()) => answer.finish(),
+        Err(stop) => Err(stop),
+    }
 }
 
 /// Adds items.
@@ -210,21 +197,37 @@ fn push_given(
         Err(LexSourceError::Refused(errors)) => push_faults(answer, errors),
         Err(LexSourceError::Memory) => return Err(Stop::Memory),
         Err(LexSourceError::NotUtf8 { valid_up_to }) => {
-            answer.display("not UTF-8 from ", valid_up_to);
+            answer.text("not UTF-8 from ");
+            answer.display(valid_up_to);
             answer.text(" on");
         }
     }
     Ok(())
 }
 
-/// Adds what a source gives on the input after ` ‖ `, in one shape. Each callback emits, or does what a word says.
-pub fn items(alloc: Global, answer: &mut Answer, words: &str, text: &str) -> Result<(), Stop> {
+/// Returns what a source gives on an input, where each callback does this.
+fn given(
+    alloc: Global,
+    source: &str,
+    input: &[u8],
+    config: Config,
+    action: Action,
+) -> Result<String, Stop> {
+    let mut answer = Answer::new(alloc);
+    let given = items_of(alloc, source, input, config, action);
+    match push_given(&mut answer, &given) {
+        Ok(()) => answer.finish(),
+        Err(stop) => Err(stop),
+    }
+}
+
+/// Answers what a source gives on the input after ` ‖ `, in one shape. Each callback emits, or does what a word says.
+pub fn items(alloc: Global, words: &str, text: &str) -> Result<String, Stop> {
     let Some((source, input)) = text.split_once(" ‖ ") else {
         return Err(Stop::Input);
     };
     let input = bytes_of(alloc, input)?;
-    let (config, action) = (shape_of(words), action_of(words));
-    push_given(answer, &items_of(alloc, source, &input, config, action))
+    given(alloc, source, &input, shape_of(words), action_of(words))
 }
 
 /// Returns a source without what belongs to the derive macro. What `strip_attributes` promises ends here.
@@ -238,12 +241,17 @@ fn push_stripped(
     stripped: &Result<TokenStream<'_>, Refusal>,
 ) -> Result<(), Stop> {
     match stripped {
-        Ok(stream) => Ok(answer.tokens("", stream.run())),
+        Ok(stream) => Ok(answer.tokens(stream.run())),
         Err(refusal) => push_refusal(answer, refusal),
     }
 }
 
-/// Adds how a source is printed without what belongs to the derive macro, or its faults.
-pub fn stripped(alloc: Global, answer: &mut Answer, text: &str) -> Result<(), Stop> {
-    push_stripped(answer, &strip(alloc, text))
+/// Answers how a source is printed without what belongs to the derive macro, or its faults.
+pub fn stripped(alloc: Global, text: &str) -> Result<String, Stop> {
+    let mut answer = Answer::new(alloc);
+    let stripped = strip(alloc, text);
+    match push_stripped(&mut answer, &stripped) {
+        Ok(()) => answer.finish(),
+        Err(stop) => Err(stop),
+    }
 }

@@ -13,7 +13,8 @@ fn push_state_names(alloc: Global, answer: &mut Answer, state: State) -> Result<
     answer.text(&state.pascal_case(alloc)?);
     answer.text(" ");
     answer.text(&state.snake_case(alloc)?);
-    answer.display(" ", &state);
+    answer.text(" ");
+    answer.display(&state);
     answer.text(";");
     Ok(())
 }
@@ -49,44 +50,25 @@ fn push_is_equal(answer: &mut Answer, one: &StateData, other: &StateData) {
     answer.text(if one == other { "1" } else { "0" });
 }
 
-/// Adds whether a state equals one of a leaf, with an edge to another from the byte `a` to a last one.
-fn push_equals(
-    alloc: Global,
-    answer: &mut Answer,
-    one: &StateData,
-    (leaf, last, target): (usize, u8, State),
-) -> Result<(), Stop> {
-    let other = state(alloc, leaf, last, target)?;
-    Ok(push_is_equal(answer, one, &other))
-}
-
-/// Adds whether a state equals one that another leads to, without an end and with one.
-fn push_led_to(
-    alloc: Global,
-    answer: &mut Answer,
-    one: &StateData,
-    target: State,
-    source: State,
-) -> Result<(), Stop> {
-    let mut other = state(alloc, 0, b'a', target)?;
-    other.backward.push(source)?;
-    push_is_equal(answer, one, &other);
-    other.eoi = Some(target);
-    Ok(push_is_equal(answer, one, &other))
-}
-
 /// Adds whether a state that leads to the second of a graph equals one that the third leads to, this one with an end, one of another leaf,
 /// one with another range, and one that leads to the third.
 pub fn push_equal(alloc: Global, answer: &mut Answer, graph: &Graph<'_>) -> Result<(), Stop> {
-    let states = (graph.iter_states().nth(1), graph.iter_states().nth(2));
-    let (Some(one), Some(other)) = states else {
+    let Some(one) = graph.iter_states().nth(1) else {
+        return Err(Stop::Input);
+    };
+    let Some(other) = graph.iter_states().nth(2) else {
         return Err(Stop::Input);
     };
     let first = state(alloc, 0, b'a', one)?;
-    push_led_to(alloc, answer, &first, one, other)?;
-    push_equals(alloc, answer, &first, (1, b'a', one))?;
-    push_equals(alloc, answer, &first, (0, b'b', one))?;
-    push_equals(alloc, answer, &first, (0, b'a', other))
+    let mut second = state(alloc, 0, b'a', one)?;
+    second.backward.push(other)?;
+    push_is_equal(answer, &first, &second);
+    second.eoi = Some(one);
+    push_is_equal(answer, &first, &second);
+    push_is_equal(answer, &first, &state(alloc, 1, b'a', one)?);
+    push_is_equal(answer, &first, &state(alloc, 0, b'b', one)?);
+    push_is_equal(answer, &first, &state(alloc, 0, b'a', other)?);
+    Ok(())
 }
 
 /// Returns where a byte leads.

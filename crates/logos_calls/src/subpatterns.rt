@@ -27,37 +27,24 @@ const TOKEN: token::Literal<'static> = token::Literal {
     span: Span { from: 0, to: 3 },
 };
 
-/// A name, and the literal after it.
-type Pair<'s> = (Ident<'s>, Literal<'s>);
-
-/// Adds a name and the literal after it.
-fn add_pair<'s>(
-    alloc: Global,
-    list: &mut Vec<Pair<'s>>,
-    name: Ident<'s>,
-    token: token::Literal<'s>,
-) -> Result<(), Stop> {
-    let literal = string_of(alloc, &token)?;
-    Ok(list.push((name, literal))?)
-}
-
-/// Adds the literals of a run, each with the name before it.
-fn add_pairs<'s>(alloc: Global, list: &mut Vec<Pair<'s>>, run: Tokens<'_, 's>) -> Result<(), Stop> {
+/// Returns the literals of a run, each with the name before it.
+fn pairs<'s>(alloc: Global, run: Tokens<'_, 's>) -> Result<Vec<(Ident<'s>, Literal<'s>)>, Stop> {
+    let mut list = Vec::new(alloc);
     let mut name = NO_NAME;
     for tree in run.iter() {
         match tree {
             TokenTree::Ident(next) => name = next,
-            TokenTree::Literal(token) => add_pair(alloc, list, name, token)?,
+            TokenTree::Literal(token) => list.push((name, string_of(alloc, &token)?))?,
             _ => {}
         }
     }
-    Ok(())
+    Ok(list)
 }
 
 /// Returns the subpatterns of a list, after a refused request too.
 fn subpatterns_of<'s>(
     alloc: Global,
-    list: &[Pair<'s>],
+    list: &[(Ident<'s>, Literal<'s>)],
     utf8_mode: bool,
     errors: &mut Errors,
 ) -> Result<Subpatterns<'s>, Stop> {
@@ -87,36 +74,26 @@ fn put_in(
     }
 }
 
-/// Adds what becomes of a pattern with its subpatterns put in, and the faults.
-fn push_whole(
-    alloc: Global,
-    answer: &mut Answer,
-    subpatterns: &Subpatterns<'_>,
-    pattern: &str,
-    errors: &mut Errors,
-) -> Result<(), Stop> {
-    match &put_in(alloc, subpatterns, pattern, errors)? {
-        Some(whole) => {
-            answer.display("[", whole);
-            answer.text("]");
-        }
-        None => answer.text("-"),
-    }
-    push_errors(answer, " ", errors, true);
-    Ok(())
-}
-
 /// Adds what becomes of a pattern with the subpatterns of a list, and the faults of both.
 fn push_put(
     alloc: Global,
     answer: &mut Answer,
-    list: &[Pair<'_>],
+    list: &[(Ident<'_>, Literal<'_>)],
     utf8_mode: bool,
     pattern: &str,
 ) -> Result<(), Stop> {
     let mut errors = Errors::new(alloc);
     let subpatterns = subpatterns_of(alloc, list, utf8_mode, &mut errors)?;
-    push_whole(alloc, answer, &subpatterns, pattern, &mut errors)
+    match &put_in(alloc, &subpatterns, pattern, &mut errors)? {
+        Some(whole) => {
+            answer.text("[");
+            answer.text(whole);
+            answer.text("]");
+        }
+        None => answer.text("-"),
+    }
+    push_errors(answer, " ", &errors, true);
+    Ok(())
 }
 
 /// Adds what becomes of the pattern after ` : ` with the subpatterns before it, and the faults of both. Inputs are UTF-8 unless they are
@@ -131,36 +108,30 @@ pub fn substituted(
         return Err(Stop::Input);
     };
     let stream = tokens_of(alloc, source)?;
-    let mut list = Vec::new(alloc);
-    add_pairs(alloc, &mut list, stream.run())?;
-    push_put(alloc, answer, &list, !has_word(words, "bytes"), pattern)
-}
-
-/// Adds the pattern that a text is, which stands in a literal, and the faults.
-fn push_read(
-    alloc: Global,
-    answer: &mut Answer,
-    text: &str,
-    literal: &Literal<'_>,
-    mode: ReadingMode,
-) {
-    let mut errors = Errors::new(alloc);
-    match &read_pattern(text, literal, mode, &mut errors) {
-        Ok(Some(pattern)) => answer.display("", pattern),
-        Ok(None) => answer.text("-"),
-        Err(Memory) => answer.lack(),
-    }
-    push_errors(answer, " ", &errors, true);
+    let list = pairs(alloc, stream.run())?;
+    push_put(
+        alloc,
+        answer,
+        list.as_slice(),
+        !has_word(words, "bytes"),
+        pattern,
+    )
 }
 
 /// Adds the pattern that a text is, which stands in the literal `"a"`, and the faults. It is of characters or of `bytes`, and may ignore
 /// `case`.
 pub fn pattern(alloc: Global, answer: &mut Answer, words: &str, text: &str) -> Result<(), Stop> {
+    let mut errors = Errors::new(alloc);
     let literal = string_of(alloc, &TOKEN)?;
     let mode = ReadingMode {
         is_literal: false,
         unicode: !has_word(words, "bytes"),
         ignore_case: has_word(words, "case"),
     };
-    Ok(push_read(alloc, answer, text, &literal, mode))
+    match &read_pattern(text, &literal, mode, &mut errors)? {
+        Some(pattern) => answer.display(pattern),
+        None => answer.text("-"),
+    }
+    push_errors(answer, " ", &errors, true);
+    Ok(())
 }

@@ -19,11 +19,6 @@ pub fn alike(one: Result<String, Memory>, other: Result<String, Memory>) -> Resu
     }
 }
 
-/// Returns the text of a code, which is made twice.
-fn text_of(alloc: Global, code: &Code<'_>) -> Result<String, Stop> {
-    alike(text(alloc, code), text(alloc, code))
-}
-
 /// Adds whether the text of a code has a part.
 pub fn push_part(
     alloc: Global,
@@ -31,18 +26,17 @@ pub fn push_part(
     code: &Code<'_>,
     part: &str,
 ) -> Result<(), Stop> {
-    Ok(answer.debug("", &text_of(alloc, code)?.contains(part)))
-}
-
-/// Adds whether a text is its tokens, printed.
-fn push_is_printed(alloc: Global, answer: &mut Answer, text: &str) -> Result<(), Stop> {
-    let tokens = tokens_of(alloc, text)?;
-    Ok(answer.debug("", &(print(alloc, tokens.run())?.as_str() == text)))
+    let text = alike(text(alloc, code), text(alloc, code))?;
+    answer.debug(&text.contains(part));
+    Ok(())
 }
 
 /// Adds whether the text of a code is its tokens, printed.
 pub fn push_again(alloc: Global, answer: &mut Answer, code: &Code<'_>) -> Result<(), Stop> {
-    push_is_printed(alloc, answer, &text_of(alloc, code)?)
+    let text = alike(text(alloc, code), text(alloc, code))?;
+    let tokens = tokens_of(alloc, &text)?;
+    answer.debug(&(print(alloc, tokens.run())? == text));
+    Ok(())
 }
 
 /// A path and types that are none of those taken where a source names none.
@@ -63,6 +57,6 @@ pub fn push_around(alloc: Global, answer: &mut Answer, code: &Code<'_>) -> Resul
     let body = text(alloc, code)?;
     let whole = alike(text_in(alloc, code, AROUND), text_in(alloc, code, AROUND))?;
     let fits = whole.starts_with(HEAD) & whole.ends_with(TAIL) & whole.contains(body.as_str());
-    answer.debug("", &fits);
+    answer.debug(&fits);
     Ok(())
 }

@@ -33,11 +33,12 @@ pub fn lexeme(alloc: Global, answer: &mut Answer, text: &str) -> Result<(), Stop
     }
     match lexeme_at(&source, from) {
         Ok((kind, to)) => {
-            answer.debug("", &kind);
-            answer.display(" ", &to);
+            answer.debug(&kind);
+            answer.text(" ");
+            answer.display(&to);
         }
         Err((kind, span)) => {
-            answer.debug("", &kind);
+            answer.debug(&kind);
             answer.span(" ", span);
         }
     }
@@ -60,12 +61,14 @@ fn push_tree(answer: &mut Answer, tree: TokenTree<'_, '_>) {
             answer.text(doc.text);
         }
         TokenTree::Punct(punct) => {
-            answer.display("", &punct.character);
-            answer.debug(" ", &punct.spacing);
+            answer.display(&punct.character);
+            answer.text(" ");
+            answer.debug(&punct.spacing);
         }
         TokenTree::Group(group) => {
-            answer.debug("", &group.delimiter);
-            answer.tokens(" ", group.run());
+            answer.debug(&group.delimiter);
+            answer.text(" ");
+            answer.tokens(group.run());
         }
     }
 }
@@ -117,25 +120,21 @@ fn made_of<'s>(alloc: Global, run: Tokens<'_, 's>) -> Result<TokenStream<'s>, St
     Ok(stream)
 }
 
-/// Adds where a run stands, and its trees before all but the first and before all but the first two; and whether there are trees, and before
-/// all of them.
-fn push_fronts(answer: &mut Answer, run: Tokens<'_, '_>) {
-    let (first, second, is_none) = fronts(run);
-    answer.span("", run.span());
-    answer.span(" ", first);
-    answer.span(" ", second);
-    answer.debug(" ", &run.is_empty());
-    answer.debug(" ", &is_none);
-    answer.text(": ");
-}
-
 /// Adds where the tokens of a source stand, those before all but the first and before all but the first two, what they are, and how a copy of
 /// them is printed.
 fn push_stream(alloc: Global, answer: &mut Answer, stream: &TokenStream<'_>) -> Result<(), Stop> {
-    push_fronts(answer, stream.run());
+    answer.span("", stream.run().span());
+    let (first, second, is_none) = fronts(stream.run());
+    answer.span(" ", first);
+    answer.span(" ", second);
+    answer.text(" ");
+    answer.debug(&stream.run().is_empty());
+    answer.text(" ");
+    answer.debug(&is_none);
+    answer.text(": ");
     push_levels(answer, stream.run());
     let copy = stream.clone()?.run().to_stream(alloc)?;
-    answer.tokens("", made_of(alloc, copy.run())?.run());
+    answer.tokens(made_of(alloc, copy.run())?.run());
     Ok(())
 }
 
@@ -145,7 +144,7 @@ pub fn stream(alloc: Global, answer: &mut Answer, words: &str, text: &str) -> Re
         Ok(_) if has_word(words, "fault") => answer.text("none"),
         Ok(stream) => return push_stream(alloc, answer, stream),
         Err(TokenError::Memory) => return Err(Stop::Memory),
-        Err(error) => answer.debug("", error),
+        Err(error) => answer.debug(error),
     }
     Ok(())
 }
@@ -158,7 +157,7 @@ fn trees(alloc: Global, text: &str) -> Result<(String, String), Stop> {
         push_tree(&mut trees, tree);
         trees.text("; ");
     }
-    printed.tokens("", stream.run());
+    printed.tokens(stream.run());
     Ok((trees.finish()?, printed.finish()?))
 }
 
@@ -177,9 +176,10 @@ pub fn printed(alloc: Global, answer: &mut Answer, text: &str) -> Result<(), Sto
 pub fn marks(answer: &mut Answer, run: Tokens<'_, '_>) {
     for expected in [',', '='] {
         if let Some(first) = run.first() {
-            answer.debug("", &is_punct(&first, expected));
+            answer.debug(&is_punct(&first, expected));
         }
-        answer.debug(" ", &expect_punct(run.first(), expected).is_none());
+        answer.text(" ");
+        answer.debug(&expect_punct(run.first(), expected).is_none());
         answer.text(" ");
     }
 }
@@ -202,7 +202,7 @@ pub fn name(alloc: Global, answer: &mut Answer, text: &str) -> Result<(), Stop> 
     let span = Span { from: 5, to: 9 };
     let alone = TokenStream::from_ident(alloc, Ident { text, span })?;
     answer.span(" ", alone.run().span());
-    answer.tokens("", alone.run());
+    answer.tokens(alone.run());
     Ok(())
 }
 
@@ -211,10 +211,13 @@ pub fn replaced(alloc: Global, answer: &mut Answer, text: &str) -> Result<(), St
     let stream = tokens_of(alloc, text)?;
     let rest = stream.run().rest().to_stream(alloc)?;
     let mut tokens = MaybeVoid::Void;
-    answer.printed("", &tokens.replace(stream).print(alloc));
-    answer.printed("; ", &tokens.replace(rest).print(alloc));
-    answer.printed("; ", &tokens.take().print(alloc));
-    answer.printed("; ", &tokens.print(alloc));
+    answer.printed(&tokens.replace(stream).print(alloc));
+    answer.text("; ");
+    answer.printed(&tokens.replace(rest).print(alloc));
+    answer.text("; ");
+    answer.printed(&tokens.take().print(alloc));
+    answer.text("; ");
+    answer.printed(&tokens.print(alloc));
     answer.text("; ");
     Ok(())
 }
@@ -226,6 +229,6 @@ pub fn value(alloc: Global, answer: &mut Answer, text: &str) -> Result<(), Stop>
         text,
         span: Span { from: 0, to },
     };
-    answer.debug("", &literal.value(alloc)?);
+    answer.debug(&literal.value(alloc)?);
     Ok(())
 }

@@ -14,7 +14,7 @@ fn push_copy(answer: &mut Answer, type_expr: &TypeExpr<'_>) {
         return answer.lack();
     };
     match copy.part.clone() {
-        Ok(part) => answer.type_expr("", &TypeExpr { part }),
+        Ok(part) => answer.type_expr(&TypeExpr { part }),
         Err(_) => answer.lack(),
     }
 }
@@ -57,19 +57,8 @@ pub fn levels(
     let Ok(levels) = words.parse::<u32>() else {
         return Err(Stop::Input);
     };
-    answer.debug("", &exceeds(&type_of(alloc, run)?.part, levels));
+    answer.debug(&exceeds(&type_of(alloc, run)?.part, levels));
     Ok(())
-}
-
-/// Adds whether the types with which two runs begin are the same.
-fn push_same(
-    alloc: Global,
-    answer: &mut Answer,
-    one: Tokens<'_, '_>,
-    other: Tokens<'_, '_>,
-) -> Result<(), Stop> {
-    let (one, other) = (type_of(alloc, one)?, type_of(alloc, other)?);
-    Ok(answer.debug("", &is_same_type(&one, &other)))
 }
 
 /// Adds whether two types are the same.
@@ -78,5 +67,7 @@ pub fn same(alloc: Global, answer: &mut Answer, text: &str) -> Result<(), Stop> 
         return Err(Stop::Input);
     };
     let (one, other) = (tokens_of(alloc, one)?, tokens_of(alloc, other)?);
-    push_same(alloc, answer, one.run(), other.run())
+    let (one, other) = (type_of(alloc, one.run())?, type_of(alloc, other.run())?);
+    answer.debug(&is_same_type(&one, &other));
+    Ok(())
 }
