@@ -7,7 +7,9 @@ import subprocess
 from dataclasses import dataclass, field
 from pathlib import Path
 
-PARTS = ('src', 'specs', 'proofs', 'c')
+PARTS = ('src', 'specs', 'proofs', 'c', 'data')
+# the stored run of a program
+RUN = ('args', 'stdin', 'stdout', 'status')
 FUNCTION = re.compile(r'fn (\S+): (.*)')
 PLACE = re.compile(r'(?:note: )?(?:\./)?(src/\S+?):(\d+):\d+: (.*)')
 PROOF = re.compile(r'(?:\./)?(proofs/\S+?):\d+:\d+: error: (.*)')
@@ -89,6 +91,9 @@ class Repository:
         for name, part in ((name, part) for name in names for part in PARTS):
             if (root / 'crates' / name / part).is_dir():
                 shutil.copytree(root / 'crates' / name / part, room / 'crates' / name / part)
+        for name, file in ((name, file) for name in names for file in RUN):
+            if (root / 'crates' / name / file).is_file():
+                shutil.copy2(root / 'crates' / name / file, room / 'crates' / name / file)
         subprocess.run(['git', 'init', '-q', str(room)], check=True)
 
     def prove(self):
