@@ -106,7 +106,8 @@ class Repository:
         """The words of a check of a crate as `rt ci` makes it, over the libraries that it built."""
         at, uses = self.kit, self.uses[crate]
         rlib = lambda name: f'{self.room}/crates/{name}/out/rlib/{name}.rlib'
-        words = [f'{at}/bin/rattle', 'check', '--crate-name', crate, 'src/lib.rt']
+        is_program = (self.root / 'crates' / crate / 'src' / 'main.rt').is_file()
+        words = [f'{at}/bin/rattle', 'check', '--crate-name', crate, 'src/main.rt' if is_program else 'src/lib.rt']
         for name in ['std', *(it for it in uses if it not in self.uses and it != 'std')]:
             words += ['--extern', f'{name}={at}/rlibs/{name}.rlib']
         words += ['-L', f'dependency={at}/rlibs']
