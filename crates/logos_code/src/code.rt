@@ -291,7 +291,8 @@ impl Code<'_> {
         self.signs[state]
     }
 
-    /// Returns what is known of the last mark that a try has passed, where it ends in the state at the place.
+    /// Returns what is known of the last mark that a try has passed, where it ends in the state at the place. It spares a
+    /// lexer a second walk, and may be `Unseen` or `Varies` of any state.
     #[cold]
     #[inline(never)]
     pub fn last_mark(&self, place: usize) -> LastMark
@@ -303,7 +304,8 @@ impl Code<'_> {
     /// Returns the place of the state in which each try begins.
     #[inline(always)]
     pub fn root_place(&self) -> usize
-        ensures { result / 272 ≡ self.now.root }
+        ensures place { result ≡ 272 * self.now.root }
+        ensures state { result / 272 ≡ self.now.root }
     {
         WIDTH * self.parts.root
     }

@@ -1,4 +1,5 @@
 pub mod Edges
+pub mod RowHash
 pub mod Rows
 pub mod RowsView
 pub mod Table

@@ -10,6 +10,7 @@ mod number;
 mod order;
 mod prune;
 pub mod reduction;
+mod row_hasher;
 pub mod rows;
 mod settle;
 pub mod table;

@@ -184,6 +184,9 @@ pub fn merge(alloc: Global, table: &Table) -> Result<Partition, AllocError>
         (slice_index m.leaders.items)) }
 {
     let classes = classes_of(alloc, table)?;
+    if table.len() - classes.count < table.len() / 8 {
+        return merge_classes(alloc, table);
+    }
     let small = class_table(alloc, table, &classes)?;
     let merged = merge_classes(alloc, &small)?;
     let of = looked_up(alloc, &merged.blocks.of, &classes.of)?;

@@ -11,7 +11,7 @@ ghost use Rattle.logos_reduce.specs.RowsView.{rows_of};
 use crate::merge::Partition;
 use crate::merge::refine::block_of;
 use crate::order::Order;
-use crate::rows::{Row, Rows, WIDTH, target_at};
+use crate::rows::{Row, Rows, WIDTH, entry_before, target_at};
 use crate::table::{Mark, Table};
 use std::alloc::{AllocError, Global};
 
@@ -113,12 +113,28 @@ fn numbered_row(row: &Row, blocks: &Vec<usize>, numbers: &Vec<usize>) -> Row
 {
     let mut numbered = [0; 257];
     for k in 0..WIDTH {
-        numbered[k] = match block_of(target_at(row, k), blocks) {
-            Some(b) => numbers[b] as u32,
-            None => 0,
+        numbered[k] = match entry_before(row, &numbered, k) {
+            Some(entry) => entry,
+            None => numbered_entry(target_at(row, k), blocks, numbers),
         };
     }
     numbered
+}
+
+/// Returns the entry for the number of the block of a target, or 0 where there is no target.
+fn numbered_entry(target: Option<usize>, blocks: &Vec<usize>, numbers: &Vec<usize>) -> u32
+    requires inside { (t : ℕ) → target ≡ Some t → t < vec_len blocks.now }
+    requires within { (s : ℕ) → s < vec_len blocks.now →
+        slice_index blocks.now.items s < vec_len numbers.now }
+    requires few { (b : ℕ) → slice_index numbers.now.items b < 2 ^ 32 }
+    ensures { target_of result
+        ≡ option_and_then (λ b. target_of (slice_index numbers.now.items b))
+        (option_map (slice_index blocks.now.items) target) }
+{
+    match block_of(target, blocks) {
+        Some(b) => numbers[b] as u32,
+        None => 0,
+    }
 }
 
 /// Returns the rows of the blocks, in their order.

@@ -12,7 +12,7 @@ ghost use Rattle.logos_reduce.specs.RowsView.{rows_of};
 
 use crate::lists::predecessors;
 use crate::order::Order;
-use crate::rows::{END, Row, Rows, WIDTH, target_at};
+use crate::rows::{END, Row, Rows, WIDTH, entry_before, target_at};
 use crate::table::{Mark, Table};
 use std::alloc::{AllocError, Global};
 
@@ -90,7 +90,10 @@ fn pruned_row(row: &Row, order: &Order) -> Row
 {
     let mut pruned = *row;
     for k in 0..WIDTH {
-        pruned[k] = pruned_entry(row, k, order);
+        pruned[k] = match entry_before(row, &pruned, k) {
+            Some(entry) => entry,
+            None => pruned_entry(row, k, order),
+        };
     }
     pruned
 }

@@ -1,10 +1,12 @@
 //! A list of rows of targets, which holds equal rows once.
-ghost use Rattle.std.specs.Prelude.{◌≡◌, ℕ, ◌-◌, ◌<◌, ◌⊎◌, ◌++◌, ◌∷◌, [], MatchOption, IfOk, OnOk, None, Some, length, vec_len, slice_index, slice_index_or};
-ghost use Rattle.logos_reduce.specs.Rows.{AreWide, target_by};
+ghost use Rattle.std.specs.Prelude.{◌≡◌, ℕ, ◌-◌, ◌<◌, ◌⊎◌, ◌++◌, ◌∷◌, [], MatchOption, IfOk, IfSome, OnOk, None, Some, length, vec_len, slice_index, slice_index_or};
+ghost use Rattle.logos_reduce.specs.Rows.{AreWide, target_by, target_of};
 
 use crate::lists::looked_up;
+use crate::row_hasher::RowHasher;
 use indexmap::IndexSet;
 use std::alloc::{AllocError, Global};
+use std::hash::BuildHasherDefault;
 
 /// The number of symbols: the bytes, and the end.
 pub const WIDTH: usize = 257;
@@ -22,7 +24,7 @@ pub struct Rows {
     /// For each row of the list its place among the distinct ones.
     pub(crate) places: Vec<usize>,
     /// The rows of the list, each once.
-    distinct: IndexSet<Row>,
+    distinct: IndexSet<Row, BuildHasherDefault<RowHasher>>,
     ghost wide: { AreWide distinct.keys },
     ghost placed: { (i : ℕ) → i < vec_len places →
         slice_index places.items i < length distinct.keys },
@@ -37,7 +39,7 @@ impl Rows {
     {
         Rows {
             places: Vec::new(alloc),
-            distinct: IndexSet::new(alloc),
+            distinct: IndexSet::with_hasher(alloc, BuildHasherDefault::new()),
         }
     }
 
@@ -127,6 +129,18 @@ pub fn target_at(row: &Row, k: usize) -> Option<usize>
 {
     let entry = row[k] as usize;
     if entry == 0 { None } else { Some(entry - 1) }
+}
+
+/// Returns the entry that is made of the symbol before, if the row leads to the same state by both.
+pub(crate) fn entry_before(row: &Row, made: &Row, k: usize) -> Option<u32>
+    requires { k < 257 }
+    ensures { IfSome result (λ entry. (0 < k) × (target_by row.now k ≡ target_by row.now (k - 1))
+        × (target_of entry ≡ target_by made.now (k - 1))) }
+{
+    if 0 < k && row[k] == row[k - 1] {
+        return Some(made[k - 1]);
+    }
+    None
 }
 
 /// Returns the target of a row by a symbol, unless the symbol before it leads to the same one.

@@ -1,5 +1,5 @@
 -- The states that have a mark or lead to one.
-use Rattle.std.proofs.Common.{◌≡◌, ◌↔◌, ℕ, ◌+◌, ◌<◌, ◌≤◌, ◌⊎◌, inl, inr, Bool, true, false, List, length, slice_index, vec_len, Vec, Global, get_or, nat_eq, Some, None, refl, sym, ◌∙◌, ap, subst, arith}
+use Rattle.std.proofs.Common.{◌≡◌, ◌↔◌, ℕ, ◌+◌, ◌<◌, ◌≤◌, ◌⊎◌, inl, inr, Bool, true, false, List, length, slice_index, vec_len, Vec, Global, get_or, nat_eq, Option, Some, None, refl, sym, ◌∙◌, ap, subst, arith}
 use Rattle.std.proofs.lemmas.Bool.{cases_lt}
 use Rattle.std.proofs.lemmas.Bool.Decides.{nat_tests}
 use Rattle.logos_reduce.specs.Lists.{has, has_in, ArePredecessors}
@@ -116,6 +116,15 @@ kept_unmet numbers t m = go (cases_lt 0 (slice_index numbers t))
     go : (0 < slice_index numbers t) ⊎ (slice_index numbers t ≤ 0) → met_target numbers (Some t) ≡ None
     go (inl l) = absurd (m l)
     go (inr l) = let e : nat_eq (slice_index numbers t) 0 ≡ true = grind (arith, nat_tests) in rw e refl
+
+-- a target that is left was there
+pub met_some : (numbers : List ℕ) (target : Option ℕ) (t : ℕ) → met_target numbers target ≡ Some t → target ≡ Some t
+met_some numbers None t e = e
+met_some numbers (Some u) t e = go (cases_lt 0 (slice_index numbers u))
+  where
+    go : (0 < slice_index numbers u) ⊎ (slice_index numbers u ≤ 0) → Some u ≡ Some t
+    go (inl m) = sym (kept_met numbers u m) ∙ e
+    go (inr m) = let gone = kept_unmet numbers u (λ l. omega arith) in absurd (cc)
 
 -- rows without the targets that are not in the order
 pub pruned_by : (old new : Table) (numbers : List ℕ) → new.marks ≡ old.marks → AreUseful old numbers →

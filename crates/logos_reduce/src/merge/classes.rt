@@ -1,7 +1,7 @@
 //! Puts states with one mark and one row into one class, so that blocks are split by classes.
 ghost use Rattle.std.specs.Prelude.{◌≡◌, ℕ, ◌+◌, ◌<◌, ◌≤◌, ◌^◌, Some, IfOk, length, vec_len, slice_index, option_map};
 ghost use Rattle.logos_reduce.specs.Merge.{target_block};
-ghost use Rattle.logos_reduce.specs.Rows.{target_by, target_in};
+ghost use Rattle.logos_reduce.specs.Rows.{target_by, target_in, target_of};
 ghost use Rattle.logos_reduce.specs.RowsView.{rows_of};
 ghost use Rattle.logos_reduce.specs.Table.{size, mark, mark_in};
 ghost use Rattle.logos_reduce.specs.inside.Classes.{AreClasses, IsClassTable};
@@ -9,7 +9,7 @@ ghost use Rattle.logos_reduce.specs.inside.Classes as inside;
 
 use crate::merge::blocks::{leaders_of, tagged};
 use crate::merge::refine::block_of;
-use crate::rows::{Row, Rows, WIDTH, target_at};
+use crate::rows::{Row, Rows, WIDTH, entry_before, target_at};
 use crate::table::{Mark, Table};
 use indexmap::IndexSet;
 use std::alloc::{AllocError, Global};
@@ -62,12 +62,24 @@ fn class_row(row: &Row, of: &Vec<usize>) -> Row
 {
     let mut made = [0; 257];
     for k in 0..WIDTH {
-        made[k] = match block_of(target_at(row, k), of) {
-            Some(class) => class as u32 + 1,
-            None => 0,
+        made[k] = match entry_before(row, &made, k) {
+            Some(entry) => entry,
+            None => class_entry(target_at(row, k), of),
         };
     }
     made
+}
+
+/// Returns the entry for the class of a target, or 0 where there is no target.
+fn class_entry(target: Option<usize>, of: &Vec<usize>) -> u32
+    requires inside { (t : ℕ) → target ≡ Some t → t < vec_len of.now }
+    requires few { (s : ℕ) → s < vec_len of.now → slice_index of.now.items s + 1 < 2 ^ 32 }
+    ensures { target_of result ≡ option_map (slice_index of.now.items) target }
+{
+    match block_of(target, of) {
+        Some(class) => class as u32 + 1,
+        None => 0,
+    }
 }
 
 /// Returns the rows of the classes, each of which leads where its leader does.

@@ -9,5 +9,8 @@ overflow_mul-result c =
     let count = c.self.invariant.all_rows.count in
     omega (arith, there, count)
 
-pub returns : goal.returns
-returns c = rw (← c.self.view_is) (omega arith)
+pub returns-clause-place : goal.returns-clause-place
+returns-clause-place c = rw (← c.self.view_is) (omega arith)
+
+pub returns-clause-state : goal.returns-clause-state
+returns-clause-state c = rw (← c.self.view_is) (omega arith)
