@@ -265,7 +265,7 @@ fn is_start_at(states: &IndexSet<Key>, state: usize) -> bool
 }
 
 /// Returns all targets of a state by bytes. The start enters each tree, and its steps serve no other state, so they are not
-/// stored.
+/// stored; nor are those of a single tree, whose states seldom come twice.
 ///
 /// # Errors
 ///
@@ -289,7 +289,7 @@ pub fn row_of(
         IsRow (cores_of trees.now) trees.now.looks states.new.keys state row 256) }
     ensures wide { IfOk result (λ row. length row ≡ 256) }
 {
-    if is_start_at(states, state) {
+    if trees.nodes.len() == 1 || is_start_at(states, state) {
         return plain_row(trees, states, state);
     }
     cache.trim();

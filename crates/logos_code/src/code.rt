@@ -1,5 +1,5 @@
 //! Code values: what a lexer does in each state.
-ghost use Rattle.std.specs.Prelude.{◌≡◌, ◌<◌, ◌/◌, length, option_map, option_copied, IfSome};
+ghost use Rattle.std.specs.Prelude.{◌≡◌, ◌*◌, ◌<◌, ◌/◌, length, option_map, option_copied, IfSome};
 ghost use Rattle.logos_code.specs.Bytes.{passes_test};
 ghost use Rattle.logos_code.specs.Headline.{IsSound, NamesTest};
 ghost use Rattle.logos_code.specs.CodeView.{entry_of, state_at, asks_for};

@@ -39,13 +39,22 @@ impl Symbols {
     }
 }
 
+/// Adds a symbol to the set of a target, if there is one.
+fn note_symbol(symbols: &mut Vec<Symbols>, target: Option<usize>, k: usize)
+    requires { k < 257 }
+{
+    if let Some(t) = target {
+        if t < symbols.len() {
+            symbols[t].add(k);
+        }
+    }
+}
+
 /// Adds each symbol of a row to the set of its target.
 fn note_symbols(symbols: &mut Vec<Symbols>, row: &Row) {
     for k in 0..WIDTH {
-        if let Some(t) = target_at(row, k) {
-            if t < symbols.len() {
-                symbols[t].add(k);
-            }
+        if row[k] != 0 {
+            note_symbol(symbols, target_at(row, k), k);
         }
     }
 }
