@@ -42,18 +42,20 @@ struct _Row {
     number: usize,
 }
 #[allow(long_running_const_eval)]
-const _KINDS: [_Row; _HEIGHT] = {
+const _KINDS: &[_Row; _HEIGHT] = &{
+    let (lengths, steps) = (&_RUN_LENGTHS, &_RUN_STEPS);
     let mut rows = [_Row { run: 0, passed: 0, leads: false, loops: false, number: 0 }; _HEIGHT];
     let (mut row, mut run, mut place, mut number) = (0, 0, 0, 0);
     while row < _HEIGHT {
-        let (mut leads, mut loops, passed, first) = (false, false, row * _WIDTH - place, run);
-        while place < (row + 1) * _WIDTH {
-            leads |= _RUN_STEPS[run] != 0;
-            loops |= _RUN_STEPS[run] == 1;
-            if place + _RUN_LENGTHS[run] as usize > (row + 1) * _WIDTH {
+        let (first, passed, row_end) = (run, row * _WIDTH - place, (row + 1) * _WIDTH);
+        let (mut leads, mut loops) = (false, false);
+        while place < row_end {
+            leads |= steps[run] != 0;
+            loops |= steps[run] == 1;
+            if place + lengths[run] as usize > row_end {
                 break;
             }
-            place += _RUN_LENGTHS[run] as usize;
+            place += lengths[run] as usize;
             run += 1;
         }
         rows[row] = _Row { run: first, passed, leads, loops, number };
@@ -62,36 +64,44 @@ const _KINDS: [_Row; _HEIGHT] = {
     }
     rows
 };
-const _LOOPS: usize = (_KINDS[_HEIGHT - 1].number + 1).next_power_of_two();
-// The entry of a match of a leaf.
-const fn _match(kind: _Entry, leaf: usize) -> _Entry {
-    kind + _SKIPS[leaf] as _Entry * _ONE_KIND + leaf as _Entry
-}
-// The entry of a step in a state.
-const fn _entry(state: usize, step: usize) -> _Entry {
-    let mark = _MARKS[if step < 2 { state } else { step - 2 }] as usize;
-    let row = _KINDS[_ROWS[if step < 2 { state } else { step - 2 }] as usize];
-    match step {
-        1 => _STAYS + row.number as _Entry,
-        0 if mark == 0 || mark % 2 == 1 => _NOWHERE,
-        0 => _match(_ENDS, mark / 2 - 1),
-        _ if mark == 0 || row.leads => ((step - 2) * _COLUMNS) as _Entry,
-        _ if mark % 2 == 1 => _match(_ENDS, mark / 2 - 1),
-        _ => _match(_CLOSES, mark / 2 - 1),
+// The entry that leads to each state, and that of each state where no step leads on.
+#[allow(long_running_const_eval)]
+static _ENTRIES: [(_Entry, _Entry); _ROWS.len()] = {
+    let (rows, marks, skips) = (&_ROWS, &_MARKS, &_SKIPS);
+    let (mut entries, mut state) = ([(0, _NOWHERE); _ROWS.len()], 0);
+    while state < _ROWS.len() {
+        let (mark, leads) = (marks[state] as usize, _KINDS[rows[state] as usize].leads);
+        entries[state].0 = (state * _COLUMNS) as _Entry;
+        if mark != 0 {
+            let leaf = mark / 2 - 1;
+            let number = skips[leaf] as _Entry * _ONE_KIND + leaf as _Entry;
+            if mark % 2 == 0 {
+                entries[state].1 = _ENDS + number;
+            }
+            if !leads {
+                entries[state].0 = if mark % 2 == 0 { _CLOSES } else { _ENDS } + number;
+            }
+        }
+        state += 1;
     }
-}
+    entries
+};
 // The rows of all states, by classes. There are so many entries that each place with each class is inside.
 #[allow(long_running_const_eval)]
 static _STEPS: [_Entry; _ROWS.len() * _WIDTH + 256] = {
-    let mut steps = [_NOWHERE; _ROWS.len() * _WIDTH + 256];
-    let mut state = 0;
+    let (lengths, steps, rows) = (&_RUN_LENGTHS, &_RUN_STEPS, &_ROWS);
+    let (mut table, mut state, mut place) = ([_NOWHERE; _ROWS.len() * _WIDTH + 256], 0, 0);
     while state < _ROWS.len() {
-        let row = _KINDS[_ROWS[state] as usize];
-        let (mut run, mut passed, mut place) = (row.run, row.passed, state * _WIDTH);
-        let row_end = place + _WIDTH;
+        let row = _KINDS[rows[state] as usize];
+        let (mut run, mut passed, row_end) = (row.run, row.passed, place + _WIDTH);
         while place < row_end {
-            let entry = _entry(state, _RUN_STEPS[run] as usize);
-            let mut end = place + _RUN_LENGTHS[run] as usize - passed;
+            let step = steps[run] as usize;
+            let entry = match step {
+                0 => _ENTRIES[state].1,
+                1 => _STAYS + row.number as _Entry,
+                _ => _ENTRIES[step - 2].0,
+            };
+            let mut end = place + lengths[run] as usize - passed;
             if end > row_end {
                 end = row_end;
             }
@@ -99,7 +109,7 @@ static _STEPS: [_Entry; _ROWS.len() * _WIDTH + 256] = {
                 place = end;
             }
             while place < end {
-                steps[place] = entry;
+                table[place] = entry;
                 place += 1;
             }
             passed = 0;
@@ -107,17 +117,17 @@ static _STEPS: [_Entry; _ROWS.len() * _WIDTH + 256] = {
         }
         state += 1;
     }
-    steps
+    table
 };
 // The rows of all states, by bytes.
 #[allow(long_running_const_eval)]
 static _TABLE: [_Entry; if _BY_BYTES { _ROWS.len() * _COLUMNS + 256 } else { 256 }] = {
+    let (classes, mut state) = (&_CLASSES, 0);
     let mut table = [_NOWHERE; if _BY_BYTES { _ROWS.len() * _COLUMNS + 256 } else { 256 }];
-    let mut state = 0;
     while _BY_BYTES && state < _ROWS.len() {
-        let mut symbol = 0;
+        let (mut symbol, row, place) = (0, state * _WIDTH, state * _COLUMNS);
         while symbol < 257 {
-            table[state * _COLUMNS + symbol] = _STEPS[state * _WIDTH + _CLASSES[symbol] as usize];
+            table[place + symbol] = _STEPS[row + classes[symbol] as usize];
             symbol += 1;
         }
         state += 1;
@@ -127,23 +137,24 @@ static _TABLE: [_Entry; if _BY_BYTES { _ROWS.len() * _COLUMNS + 256 } else { 256
 // The root's row, by bytes.
 const _START: _Entry = (_ROOT * _COLUMNS) as _Entry;
 static _FIRST: [_Entry; 256] = {
-    let (mut first, mut byte) = ([_NOWHERE; 256], 0);
+    let (mut first, mut byte, classes) = ([_NOWHERE; 256], 0, &_CLASSES);
     while byte < 256 {
-        first[byte] = _STEPS[_ROOT * _WIDTH + _CLASSES[byte] as usize];
+        first[byte] = _STEPS[_ROOT * _WIDTH + classes[byte] as usize];
         byte += 1;
     }
     first
 };
+const _LOOPS: usize = (_KINDS[_HEIGHT - 1].number + 1).next_power_of_two();
 // The loops, for eight bytes at once: entry `k` of a byte is 0 if it stays, and else has bit `k` alone.
 #[allow(long_running_const_eval)]
 static _MASKS: [[[u8; 8]; 256]; _LOOPS] = {
     let mut masks = [[[1, 2, 4, 8, 16, 32, 64, 128]; 256]; _LOOPS];
-    let mut state = 0;
+    let (mut state, rows, classes) = (0, &_ROWS, &_CLASSES);
     while state < _ROWS.len() {
-        let row = _KINDS[_ROWS[state] as usize];
+        let row = _KINDS[rows[state] as usize];
         let mut byte = 0;
         while row.loops && byte < 256 {
-            let entry = _STEPS[state * _WIDTH + _CLASSES[byte] as usize];
+            let entry = _STEPS[state * _WIDTH + classes[byte] as usize];
             if entry >= _STAYS && entry < _ENDS {
                 masks[row.number][byte] = [0; 8];
             }
