@@ -8,31 +8,32 @@ pub(crate) const LOOP: &str = "\
 // of each state: 0 where there is none, and else 2 more than twice the number of its leaf, and 1 more if the match ends one
 // byte before. `_SKIPS` is 1 for leaves that are left out without a callback.
 //
-// What the loop reads is made of them at compile time. An entry of `_TABLE` is one number. Below `_LEADS` it leads to a state: it is
-// the place of that state's row. Else its upper bits are its kind, and its lower bits the number of a leaf or of a loop.
+// What the loop reads is made of them at compile time. A row has an entry in place of each step, and an entry says all that the loop
+// has to know. Below `_LEADS` it leads to a state: it is the place of that state's row. Else its upper bits are its kind, and its
+// lower bits the number of a leaf or of a loop.
 
-// How many bits of an entry are below its kind.
 const _KIND_BIT: u32 = _Entry::BITS - 3;
-const _NUMBERS: _Entry = (1 << _KIND_BIT) - 1;
-// The byte stays in the state.
-const _STAYS: _Entry = 1 << _KIND_BIT;
-// A match ends before the byte. One more: it is left out without a callback.
-const _ENDS: _Entry = 2 << _KIND_BIT;
-// A match ends with the byte, and nothing leads on from there. One more: it is left out without a callback.
-const _CLOSES: _Entry = 4 << _KIND_BIT;
-// The byte leads nowhere, and the last match is not at hand.
-const _NOWHERE: _Entry = 6 << _KIND_BIT;
 const _ONE_KIND: _Entry = 1 << _KIND_BIT;
+const _NUMBERS: _Entry = _ONE_KIND - 1;
+// The byte stays in the state.
+const _STAYS: _Entry = _ONE_KIND;
+// A match of the leaf ends before the byte; in the next kind the leaf is left out without a callback.
+const _ENDS: _Entry = 2 * _ONE_KIND;
+// A match of the leaf ends after the byte, and nothing leads on from there; in the next kind the leaf is left out without a callback.
+const _CLOSES: _Entry = 4 * _ONE_KIND;
+// The byte leads nowhere, and the last match has to be found by another try.
+const _NOWHERE: _Entry = 6 * _ONE_KIND;
 
-// Where there are few states a row has a place for each byte and one for the end of the input, so that no class is looked up. Such rows
-// are longer than that, so that not all of them begin in the same lines of a cache.
+// Where there are few states, a row has an entry for each byte and for the end of the input, so that the loop looks up no class. Rows
+// are longer than that: at a distance of a power of two, the entries of a byte in all rows would share a few lines of a cache.
 const _BY_BYTES: bool = _ROWS.len() <= 128;
 const _COLUMNS: usize = if _BY_BYTES { 272 } else { _WIDTH };
 const _END_COLUMN: usize = if _BY_BYTES { 256 } else { _CLASSES[256] as usize };
 const _LEADS: _Entry = (_ROWS.len() * _COLUMNS) as _Entry;
 const _: () = assert!(_ROWS.len() * _COLUMNS < 1 << _KIND_BIT);
 
-// What a row has: the run of its first step, how many steps of that run are of rows before, any step at all, and a loop with its number.
+// What a row has: the run with its first step, how many steps of that run are of the rows before, whether any step leads on, and a loop
+// with its number.
 #[derive(Clone, Copy)]
 struct _Row {
     run: usize,
@@ -86,7 +87,7 @@ static _ENTRIES: [(_Entry, _Entry); _ROWS.len()] = {
     }
     entries
 };
-// The rows of all states, by classes. There are so many entries that each place with each class is inside.
+// The rows of all states, with an entry for each class. There are so many entries that each place with each class is inside.
 #[allow(long_running_const_eval)]
 static _STEPS: [_Entry; _ROWS.len() * _WIDTH + 256] = {
     let (lengths, steps, rows) = (&_RUN_LENGTHS, &_RUN_STEPS, &_ROWS);
@@ -119,7 +120,7 @@ static _STEPS: [_Entry; _ROWS.len() * _WIDTH + 256] = {
     }
     table
 };
-// The rows of all states, by bytes.
+// The rows of all states, with an entry for each byte, where a row has that.
 #[allow(long_running_const_eval)]
 static _TABLE: [_Entry; if _BY_BYTES { _ROWS.len() * _COLUMNS + 256 } else { 256 }] = {
     let (classes, mut state) = (&_CLASSES, 0);
@@ -134,8 +135,8 @@ static _TABLE: [_Entry; if _BY_BYTES { _ROWS.len() * _COLUMNS + 256 } else { 256
     }
     table
 };
-// The root's row, by bytes.
 const _START: _Entry = (_ROOT * _COLUMNS) as _Entry;
+// The entries of the root, by bytes.
 static _FIRST: [_Entry; 256] = {
     let (mut first, mut byte, classes) = ([_NOWHERE; 256], 0, &_CLASSES);
     while byte < 256 {
@@ -169,14 +170,14 @@ static _MASKS: [[[u8; 8]; 256]; _LOOPS] = {
 fn _first_step(byte: u8) -> _Entry {
     if _BY_BYTES { _TABLE[_START as usize + byte as usize] } else { _FIRST[byte as usize] }
 }
-// The byte is added to the place of the table first, since the state comes from the step before.
+// The column is added to the place of the table first: the state is known last, by the step before.
 #[inline(always)]
 fn _step(state: _Entry, byte: u8) -> _Entry {
     let classes = &_CLASSES;
-    let steps = if _BY_BYTES { &_TABLE[byte as usize..] } else { &_STEPS[classes[byte as usize] as usize..] };
-    steps[state as usize]
+    let column = if _BY_BYTES { &_TABLE[byte as usize..] } else { &_STEPS[classes[byte as usize] as usize..] };
+    column[state as usize]
 }
-// The leaf of an entry of this kind, and else a number of no leaf.
+// The leaf of an entry of this kind, or a number that no leaf has.
 #[inline(always)]
 fn _leaf(entry: _Entry, kind: _Entry) -> usize {
     entry.wrapping_sub(kind) as usize
@@ -185,6 +186,7 @@ fn _leaf(entry: _Entry, kind: _Entry) -> usize {
 fn _last_step(state: _Entry) -> _Entry {
     if _BY_BYTES { _TABLE[state as usize + _END_COLUMN] } else { _STEPS[state as usize + _END_COLUMN] }
 }
+// The bits of a block. Sums of bits that differ are their union, and keep the compiler from making one long chain of all eight.
 #[inline(always)]
 fn _bits(mask: &[[u8; 8]; 256], block: &[u8; 8]) -> u8 {
     let low = mask[block[0] as usize][0] | mask[block[1] as usize][1];
@@ -215,9 +217,8 @@ fn _stop_late(mask: &[[u8; 8]; 256], bytes: &[u8], from: usize) -> usize {
     }
     at
 }
-
-// Makes a try again, byte by byte, with the marks that it passes: the last leaf with the end of its match, or else no leaf with where
-// the try is over.
+// Makes a try again, byte by byte, with the marks that it passes: the last leaf, with the end of its match, or a number that no leaf
+// has, with where the try is over.
 #[cold]
 #[inline(never)]
 fn _try_again(bytes: &[u8], start: usize) -> (usize, usize) {
@@ -247,14 +248,14 @@ fn _try_again(bytes: &[u8], start: usize) -> (usize, usize) {
         at += 1;
     }
 }
-// The entry of the end of the input. None leads to a state here.
+// The entry of the end of the input. Where it leads on, another try finds the match.
 #[cold]
 #[inline(never)]
 fn _end_entry(state: _Entry) -> _Entry {
     let entry = _last_step(state);
     if entry < _ENDS { _NOWHERE } else { entry }
 }
-// The last entry of a try whose first byte leads to a state, and the place after it.
+// The first entry of a try that does not lead on, and the place after its byte, where the first byte leads to a state.
 #[inline(always)]
 fn _walk(bytes: &[u8], from: usize, first: _Entry) -> (_Entry, usize) {
     let (mut state, mut at) = (first, from);
@@ -283,7 +284,7 @@ let mut start = lex.offset();
 'tries: loop {
     let _Option::Some(byte) = bytes.get(start) else { return _Option::None };
     let (mut entry, mut at) = (_first_step(*byte), start + 1);
-    // The leaf, and where its match ends.
+    // The leaf, and where its match ends. Each way is a branch: the next try need not wait for the entry to know where it begins.
     let (leaf, end) = 'found: {
         let leaf = _leaf(entry, _CLOSES);
         if leaf < _NAMES.len() {
