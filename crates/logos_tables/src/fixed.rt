@@ -8,184 +8,205 @@ pub(crate) const LOOP: &str = "\
 // of each state: 0 where there is none, and else 2 more than twice the number of its leaf, and 1 more if the match ends one
 // byte before. `_SKIPS` is 1 for leaves that are left out without a callback.
 //
-// What the loop reads is made of them at compile time. An entry of `_TABLE` is one number: where a byte leads, what the state
-// there matches, and whether it has to be looked at by the loop at all.
+// What the loop reads is made of them at compile time. A row has an entry in place of each step, and an entry says all that the loop
+// has to know. Below `_LEADS` it leads to a state: it is the place of that state's row. Else its upper bits are its kind, and its
+// lower bits the number of a leaf or of a loop.
 
-// How many bits the place of a row has in `_TABLE`.
-const _PLACE_BITS: u32 = (_HEIGHT * _WIDTH).next_power_of_two().trailing_zeros();
-const _PLACES: _Entry = (1 << _PLACE_BITS) - 1;
-// How many numbers there are for marks, rounded up to a power of two.
-const _NUMBERS: usize = (2 * _SKIPS.len() + 2).next_power_of_two();
-// The upper bits of an entry are its kind. Those below `_STAYS` lead to a state: its place, and above that its mark.
-const _KIND_BIT: u32 = _Entry::BITS - 4;
-// The byte stays in the state; the lower bits are the number of its loop.
-const _STAYS: _Entry = 1 << _KIND_BIT;
-// The byte leads to a state whose match ends there, and from which nothing leads on.
-const _CLOSES: _Entry = 2 << _KIND_BIT;
-// The byte leads nowhere.
-const _NOWHERE: _Entry = 3 << _KIND_BIT;
-// The mark is of a leaf that is left out without a callback.
-const _LEFT_OUT: _Entry = 1 << (_KIND_BIT - 1);
-const _: () = assert!(_PLACE_BITS + _NUMBERS.trailing_zeros() < _KIND_BIT);
+const _KIND_BIT: u32 = _Entry::BITS - 3;
+const _ONE_KIND: _Entry = 1 << _KIND_BIT;
+const _NUMBERS: _Entry = _ONE_KIND - 1;
+// The byte stays in the state.
+const _STAYS: _Entry = _ONE_KIND;
+// A match of the leaf ends before the byte; in the next kind the leaf is left out without a callback.
+const _ENDS: _Entry = 2 * _ONE_KIND;
+// A match of the leaf ends after the byte, and nothing leads on from there; in the next kind the leaf is left out without a callback.
+const _CLOSES: _Entry = 4 * _ONE_KIND;
+// The byte leads nowhere, and the last match has to be found by another try.
+const _NOWHERE: _Entry = 6 * _ONE_KIND;
 
-// What a row has: any step at all, and a loop.
+// Where there are few states, a row has an entry for each byte and for the end of the input, so that the loop looks up no class. Rows
+// are longer than that: at a distance of a power of two, the entries of a byte in all rows would share a few lines of a cache.
+const _BY_BYTES: bool = _ROWS.len() <= 128;
+const _COLUMNS: usize = if _BY_BYTES { 272 } else { _WIDTH };
+const _END_COLUMN: usize = if _BY_BYTES { 256 } else { _CLASSES[256] as usize };
+const _LEADS: _Entry = (_ROWS.len() * _COLUMNS) as _Entry;
+const _: () = assert!(_ROWS.len() * _COLUMNS < 1 << _KIND_BIT);
+
+// What a row has: the run with its first step, how many steps of that run are of the rows before, whether any step leads on, and a loop
+// with its number.
 #[derive(Clone, Copy)]
 struct _Row {
+    run: usize,
+    passed: usize,
     leads: bool,
     loops: bool,
+    number: usize,
 }
 #[allow(long_running_const_eval)]
-const _KINDS: [_Row; _HEIGHT] = {
-    let mut rows = [_Row { leads: false, loops: false }; _HEIGHT];
-    let (mut run, mut place) = (0, 0);
-    while run < _RUN_STEPS.len() {
-        let end = place + _RUN_LENGTHS[run] as usize;
-        let step = _RUN_STEPS[run];
-        while step != 0 && place < end {
-            rows[place / _WIDTH].leads = true;
-            rows[place / _WIDTH].loops |= step == 1;
-            place += 1;
+const _KINDS: &[_Row; _HEIGHT] = &{
+    let (lengths, steps) = (&_RUN_LENGTHS, &_RUN_STEPS);
+    let mut rows = [_Row { run: 0, passed: 0, leads: false, loops: false, number: 0 }; _HEIGHT];
+    let (mut row, mut run, mut place, mut number) = (0, 0, 0, 0);
+    while row < _HEIGHT {
+        let (first, passed, row_end) = (run, row * _WIDTH - place, (row + 1) * _WIDTH);
+        let (mut leads, mut loops) = (false, false);
+        while place < row_end {
+            leads |= steps[run] != 0;
+            loops |= steps[run] == 1;
+            if place + lengths[run] as usize > row_end {
+                break;
+            }
+            place += lengths[run] as usize;
+            run += 1;
         }
-        place = end;
-        run += 1;
+        rows[row] = _Row { run: first, passed, leads, loops, number };
+        number += loops as usize;
+        row += 1;
     }
     rows
 };
-// The number of the loop of each row, and how many loops there are.
+// The entry that leads to each state, and that of each state where no step leads on.
 #[allow(long_running_const_eval)]
-const _NUMBERED: ([usize; _HEIGHT], usize) = {
-    let (mut numbers, mut count, mut row) = ([0; _HEIGHT], 0, 0);
-    while row < _HEIGHT {
-        numbers[row] = count;
-        count += _KINDS[row].loops as usize;
-        row += 1;
-    }
-    (numbers, count)
-};
-const _LOOPS: usize = _NUMBERED.1.next_power_of_two();
-// The entry that leads to each state.
-#[allow(long_running_const_eval)]
-const _ENTRIES: [_Entry; _ROWS.len()] = {
-    let (mut entries, mut state) = ([0; _ROWS.len()], 0);
+static _ENTRIES: [(_Entry, _Entry); _ROWS.len()] = {
+    let (rows, marks, skips) = (&_ROWS, &_MARKS, &_SKIPS);
+    let (mut entries, mut state) = ([(0, _NOWHERE); _ROWS.len()], 0);
     while state < _ROWS.len() {
-        let (row, mark) = (_ROWS[state] as usize, _MARKS[state] as usize);
-        let mut entry = (row * _WIDTH) as _Entry | (mark as _Entry) << _PLACE_BITS;
+        let (mark, leads) = (marks[state] as usize, _KINDS[rows[state] as usize].leads);
+        entries[state].0 = (state * _COLUMNS) as _Entry;
         if mark != 0 {
-            if _SKIPS[mark / 2 - 1] == 1 {
-                entry |= _LEFT_OUT;
+            let leaf = mark / 2 - 1;
+            let number = skips[leaf] as _Entry * _ONE_KIND + leaf as _Entry;
+            if mark % 2 == 0 {
+                entries[state].1 = _ENDS + number;
             }
-            if mark % 2 == 0 && !_KINDS[row].leads {
-                entry |= _CLOSES;
+            if !leads {
+                entries[state].0 = if mark % 2 == 0 { _CLOSES } else { _ENDS } + number;
             }
         }
-        entries[state] = entry;
         state += 1;
     }
     entries
 };
-const _START: _Entry = _ENTRIES[_ROOT] & !_CLOSES;
-// The rows of entries. There are so many that each place with each class is inside.
+// The rows of all states, with an entry for each class. There are so many entries that each place with each class is inside.
 #[allow(long_running_const_eval)]
-static _TABLE: [_Entry; (1 << _PLACE_BITS) + 256] = {
-    let mut table = [_NOWHERE; (1 << _PLACE_BITS) + 256];
-    let (mut run, mut place) = (0, 0);
-    while run < _RUN_STEPS.len() {
-        let end = place + _RUN_LENGTHS[run] as usize;
-        let step = _RUN_STEPS[run] as usize;
-        while step != 0 && place < end {
-            table[place] = if step == 1 {
-                _STAYS + _NUMBERED.0[place / _WIDTH] as _Entry
-            } else {
-                _ENTRIES[step - 2]
+static _STEPS: [_Entry; _ROWS.len() * _WIDTH + 256] = {
+    let (lengths, steps, rows) = (&_RUN_LENGTHS, &_RUN_STEPS, &_ROWS);
+    let (mut table, mut state, mut place) = ([_NOWHERE; _ROWS.len() * _WIDTH + 256], 0, 0);
+    while state < _ROWS.len() {
+        let row = _KINDS[rows[state] as usize];
+        let (mut run, mut passed, row_end) = (row.run, row.passed, place + _WIDTH);
+        while place < row_end {
+            let step = steps[run] as usize;
+            let entry = match step {
+                0 => _ENTRIES[state].1,
+                1 => _STAYS + row.number as _Entry,
+                _ => _ENTRIES[step - 2].0,
             };
-            place += 1;
+            let mut end = place + lengths[run] as usize - passed;
+            if end > row_end {
+                end = row_end;
+            }
+            if entry == _NOWHERE {
+                place = end;
+            }
+            while place < end {
+                table[place] = entry;
+                place += 1;
+            }
+            passed = 0;
+            run += 1;
         }
-        place = end;
-        run += 1;
+        state += 1;
     }
     table
 };
+// The rows of all states, with an entry for each byte, where a row has that.
+#[allow(long_running_const_eval)]
+static _TABLE: [_Entry; if _BY_BYTES { _ROWS.len() * _COLUMNS + 256 } else { 256 }] = {
+    let (classes, mut state) = (&_CLASSES, 0);
+    let mut table = [_NOWHERE; if _BY_BYTES { _ROWS.len() * _COLUMNS + 256 } else { 256 }];
+    while _BY_BYTES && state < _ROWS.len() {
+        let (mut symbol, row, place) = (0, state * _WIDTH, state * _COLUMNS);
+        while symbol < 257 {
+            table[place + symbol] = _STEPS[row + classes[symbol] as usize];
+            symbol += 1;
+        }
+        state += 1;
+    }
+    table
+};
+const _START: _Entry = (_ROOT * _COLUMNS) as _Entry;
+// The entries of the root, by bytes.
+static _FIRST: [_Entry; 256] = {
+    let (mut first, mut byte, classes) = ([_NOWHERE; 256], 0, &_CLASSES);
+    while byte < 256 {
+        first[byte] = _STEPS[_ROOT * _WIDTH + classes[byte] as usize];
+        byte += 1;
+    }
+    first
+};
+const _LOOPS: usize = (_KINDS[_HEIGHT - 1].number + 1).next_power_of_two();
 // The loops, for eight bytes at once: entry `k` of a byte is 0 if it stays, and else has bit `k` alone.
 #[allow(long_running_const_eval)]
 static _MASKS: [[[u8; 8]; 256]; _LOOPS] = {
     let mut masks = [[[1, 2, 4, 8, 16, 32, 64, 128]; 256]; _LOOPS];
-    let (mut run, mut place) = (0, 0);
-    while run < _RUN_STEPS.len() {
-        let end = place + _RUN_LENGTHS[run] as usize;
-        while _RUN_STEPS[run] == 1 && place < end {
-            let mut byte = 0;
-            while byte < 256 {
-                if _CLASSES[byte] as usize == place % _WIDTH {
-                    masks[_NUMBERED.0[place / _WIDTH]][byte] = [0; 8];
-                }
-                byte += 1;
+    let (mut state, rows, classes) = (0, &_ROWS, &_CLASSES);
+    while state < _ROWS.len() {
+        let row = _KINDS[rows[state] as usize];
+        let mut byte = 0;
+        while row.loops && byte < 256 {
+            let entry = _STEPS[state * _WIDTH + classes[byte] as usize];
+            if entry >= _STAYS && entry < _ENDS {
+                masks[row.number][byte] = [0; 8];
             }
-            place += 1;
+            byte += 1;
         }
-        place = end;
-        run += 1;
+        state += 1;
     }
     masks
 };
-// The leaf of half a mark's number.
-const _LEAVES: [_Option<LogosLeaf>; _NUMBERS / 2] = {
-    let (mut leaves, mut leaf) = ([_Option::None; _NUMBERS / 2], 0);
-    while leaf < _NAMES.len() {
-        leaves[leaf + 1] = _NAMES[leaf];
-        leaf += 1;
-    }
-    leaves
-};
 
+#[inline(always)]
+fn _first_step(byte: u8) -> _Entry {
+    if _BY_BYTES { _TABLE[_START as usize + byte as usize] } else { _FIRST[byte as usize] }
+}
+// The column is added to the place of the table first: the state is known last, by the step before.
 #[inline(always)]
 fn _step(state: _Entry, byte: u8) -> _Entry {
     let classes = &_CLASSES;
-    _TABLE[(state & _PLACES) as usize + classes[byte as usize] as usize]
+    let column = if _BY_BYTES { &_TABLE[byte as usize..] } else { &_STEPS[classes[byte as usize] as usize..] };
+    column[state as usize]
+}
+// The leaf of an entry of this kind, or a number that no leaf has.
+#[inline(always)]
+fn _leaf(entry: _Entry, kind: _Entry) -> usize {
+    entry.wrapping_sub(kind) as usize
 }
 // The step of the end of the input.
-#[inline(always)]
 fn _last_step(state: _Entry) -> _Entry {
-    _TABLE[(state & _PLACES) as usize + _CLASSES[256] as usize]
+    if _BY_BYTES { _TABLE[state as usize + _END_COLUMN] } else { _STEPS[state as usize + _END_COLUMN] }
 }
-#[inline(always)]
-fn _mark(state: _Entry) -> usize {
-    (state >> _PLACE_BITS) as usize & (_NUMBERS - 1)
-}
+// The bits of a block. Sums of bits that differ are their union, and keep the compiler from making one long chain of all eight.
 #[inline(always)]
 fn _bits(mask: &[[u8; 8]; 256], block: &[u8; 8]) -> u8 {
-    mask[block[0] as usize][0]
-        | mask[block[1] as usize][1]
-        | mask[block[2] as usize][2]
-        | mask[block[3] as usize][3]
-        | mask[block[4] as usize][4]
-        | mask[block[5] as usize][5]
-        | mask[block[6] as usize][6]
-        | mask[block[7] as usize][7]
+    let low = mask[block[0] as usize][0] | mask[block[1] as usize][1];
+    let low = low.wrapping_add(mask[block[2] as usize][2] | mask[block[3] as usize][3]);
+    let high = mask[block[4] as usize][4] | mask[block[5] as usize][5];
+    let high = high.wrapping_add(mask[block[6] as usize][6] | mask[block[7] as usize][7]);
+    low | high
 }
 // The first place from `from` on whose byte does not stay, or the end of the input.
 #[inline(always)]
 fn _stop(mask: &[[u8; 8]; 256], bytes: &[u8], from: usize) -> usize {
-    let _Option::Some(block) = bytes.get(from..).and_then(|rest| rest.first_chunk::<8>()) else {
-        return _stop_late(mask, bytes, from);
-    };
-    let bits = _bits(mask, block);
-    if bits != 0 {
-        return from + bits.trailing_zeros() as usize;
-    }
-    _stop_far(mask, bytes, from + 8)
-}
-#[cold]
-#[inline(never)]
-fn _stop_far(mask: &[[u8; 8]; 256], bytes: &[u8], from: usize) -> usize {
-    let mut at = from;
-    while let _Option::Some(block) = bytes.get(at..).and_then(|rest| rest.first_chunk::<8>()) {
+    let _Option::Some(mut rest) = bytes.get(from..) else { return from };
+    while let _Option::Some((block, tail)) = rest.split_first_chunk::<8>() {
         let bits = _bits(mask, block);
         if bits != 0 {
-            return at + bits.trailing_zeros() as usize;
+            return bytes.len() - rest.len() + bits.trailing_zeros() as usize;
         }
-        at += 8;
+        rest = tail;
     }
-    _stop_late(mask, bytes, at)
+    _stop_late(mask, bytes, bytes.len() - rest.len())
 }
 #[cold]
 #[inline(never)]
@@ -196,105 +217,116 @@ fn _stop_late(mask: &[[u8; 8]; 256], bytes: &[u8], from: usize) -> usize {
     }
     at
 }
-// Makes a try again, byte by byte, with the marks that it passes: the last one with its end, and where the try is over.
+// Makes a try again, byte by byte, with the marks that it passes: the last leaf, with the end of its match, or a number that no leaf
+// has, with where the try is over.
 #[cold]
 #[inline(never)]
-fn _try_again(bytes: &[u8], start: usize) -> (usize, usize, usize) {
+fn _try_again(bytes: &[u8], start: usize) -> (usize, usize) {
+    let marks = &_MARKS;
     let (mut state, mut at) = (_START, start);
-    let (mut mark, mut end) = (0, start);
+    let (mut leaf, mut end) = (_NAMES.len(), start);
     loop {
         let next = match bytes.get(at) {
             _Option::Some(byte) => _step(state, *byte),
             _Option::None => _last_step(state),
         };
-        if next >= _STAYS && next < _CLOSES {
+        if next >= _STAYS && next < _ENDS {
             at += 1;
             continue;
         }
-        if _mark(state) != 0 {
-            mark = _mark(state);
-            end = at - mark % 2;
+        let mark = marks[state as usize / _COLUMNS] as usize;
+        if mark != 0 {
+            (leaf, end) = (mark / 2 - 1, at - mark % 2);
         }
         if next >= _NOWHERE {
-            return (mark, end, at);
+            return (leaf, if leaf < _NAMES.len() { end } else { at });
         }
-        state = next & !_CLOSES;
-        at += 1;
-    }
-}
-// One byte before a place. Late marks are rare, so that the place of the next try does not wait for the mark.
-#[cold]
-#[inline(never)]
-fn _before(at: usize) -> usize {
-    at - 1
-}
-// The last state of a try whose first byte leads to a state, its last entry, and where that is.
-#[inline(always)]
-fn _walk(bytes: &[u8], start: usize, first: _Entry) -> (_Entry, _Entry, usize) {
-    let (mut state, mut at) = (first, start + 1);
-    loop {
-        let _Option::Some(byte) = bytes.get(at) else { return (state, _last_step(state), at) };
-        let mut next = _step(state, *byte);
-        if next >= _STAYS {
-            if next >= _CLOSES {
-                return (state, next, at);
-            }
-            at = _stop(&_MASKS[next as usize & (_LOOPS - 1)], bytes, at + 1);
-            let _Option::Some(byte) = bytes.get(at) else { return (state, _last_step(state), at) };
-            next = _step(state, *byte);
-            if next >= _STAYS {
-                return (state, next, at);
-            }
+        if next >= _ENDS {
+            return ((next & _NUMBERS) as usize, at + (next >= _CLOSES) as usize);
         }
         state = next;
         at += 1;
     }
 }
+// The entry of the end of the input. Where it leads on, another try finds the match.
+#[cold]
+#[inline(never)]
+fn _end_entry(state: _Entry) -> _Entry {
+    let entry = _last_step(state);
+    if entry < _ENDS { _NOWHERE } else { entry }
+}
+// The first entry of a try that does not lead on, and the place after its byte, where the first byte leads to a state.
+#[inline(always)]
+fn _walk(bytes: &[u8], from: usize, first: _Entry) -> (_Entry, usize) {
+    let (mut state, mut at) = (first, from);
+    loop {
+        let _Option::Some(byte) = bytes.get(at) else { return (_end_entry(state), at + 1) };
+        let mut next = _step(state, *byte);
+        at += 1;
+        if next >= _LEADS {
+            if next >= _ENDS {
+                return (next, at);
+            }
+            at = _stop(&_MASKS[next as usize & (_LOOPS - 1)], bytes, at);
+            let _Option::Some(byte) = bytes.get(at) else { return (_end_entry(state), at + 1) };
+            next = _step(state, *byte);
+            at += 1;
+            if next >= _LEADS {
+                return (next, at);
+            }
+        }
+        state = next;
+    }
+}
 
 let bytes: &[u8] = lex.source().as_ref();
+let mut start = lex.offset();
 'tries: loop {
-    let start = lex.offset();
     let _Option::Some(byte) = bytes.get(start) else { return _Option::None };
-    let first = _step(_START, *byte);
-    // The mark of the match, or 0, and where the try is over.
-    let (mark, at) = 'found: {
-        // The state that a match is of, or one without a mark.
-        let (state, at) = if first < _STAYS {
-            let (state, next, at) = _walk(bytes, start, first);
-            if next >= _NOWHERE {
-                (state, at)
-            } else if next >= _CLOSES {
-                (next, at + 1)
-            } else {
-                (_START, at)
-            }
-        } else if first.wrapping_sub(_CLOSES) < _LEFT_OUT {
-            // The byte is the whole match, which is not left out.
-            lex.end(start + 1);
-            break 'found (_mark(first), start + 1);
-        } else if first >= _CLOSES && first < _NOWHERE {
-            (first, start + 1)
-        } else {
-            (_START, start)
-        };
-        let mark = _mark(state);
-        if mark == 0 {
-            let (mark, end, at) = _try_again(bytes, start);
-            if mark != 0 {
-                lex.end(end);
-            }
-            break 'found (mark, at);
+    let (mut entry, mut at) = (_first_step(*byte), start + 1);
+    // The leaf, and where its match ends. Each way is a branch: the next try need not wait for the entry to know where it begins.
+    let (leaf, end) = 'found: {
+        let leaf = _leaf(entry, _CLOSES);
+        if leaf < _NAMES.len() {
+            break 'found (leaf, at);
         }
-        lex.end(if mark % 2 == 0 { at } else { _before(at) });
-        if state & _LEFT_OUT != 0 {
+        if entry < _LEADS {
+            (entry, at) = _walk(bytes, at, entry);
+            let leaf = _leaf(entry, _ENDS);
+            if leaf < _NAMES.len() {
+                break 'found (leaf, at - 1);
+            }
+            if entry < _CLOSES {
+                lex.end(at - 1);
+                lex.trivia();
+                start = at - 1;
+                continue 'tries;
+            }
+            let leaf = _leaf(entry, _CLOSES);
+            if leaf < _NAMES.len() {
+                break 'found (leaf, at);
+            }
+        }
+        if entry >= _CLOSES && entry < _NOWHERE {
+            lex.end(at);
             lex.trivia();
+            start = at;
             continue 'tries;
         }
-        (mark, at)
+        let (leaf, end) = _try_again(bytes, start);
+        if leaf >= _NAMES.len() {
+            lex.end_to_boundary(end.max(start + 1));
+            return _Option::Some(_Result::Err(_make_error(lex)));
+        }
+        (leaf, end)
     };
-    match _get_action(lex, at, _LEAVES[mark / 2]) {
+    lex.end(end);
+    match _get_action(lex, end, _Option::Some(_NAMES[leaf])) {
         CallbackResult::Emit(token) => return _Option::Some(_Result::Ok(token)),
-        CallbackResult::Skip => lex.trivia(),
+        CallbackResult::Skip => {
+            lex.trivia();
+            start = lex.offset();
+        }
         CallbackResult::Error(error) => return _Option::Some(_Result::Err(error)),
         CallbackResult::DefaultError => return _Option::Some(_Result::Err(_make_error(lex))),
     }

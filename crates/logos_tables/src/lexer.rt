@@ -43,7 +43,7 @@ fn push_code(alloc: Global, text: &mut String, code: &Code<'_>) -> Result<(), Me
     push_marks(alloc, text, code)?;
     push_skips(alloc, text, code)?;
     push_sizes(text, code.root(), height, width)?;
-    push_end(text, height, width, code.leaves().len())?;
+    push_end(text, rows.places.len(), width, code.leaves().len())?;
     Ok(())
 }
 
@@ -77,10 +77,10 @@ fn push_skips(alloc: Global, text: &mut String, code: &Code<'_>) -> Result<(), M
 }
 
 /// Appends the names of the leaves, and the type of entries.
-fn push_end(text: &mut String, height: usize, width: usize, leaves: usize) -> Result<(), Memory>
+fn push_end(text: &mut String, states: usize, width: usize, leaves: usize) -> Result<(), Memory>
     ensures { OnOk result (Grows (string_bytes text.old) (string_bytes text.new)) }
 {
     push_names(text, leaves)?;
-    push_entry_type(text, height, width, leaves)?;
+    push_entry_type(text, states, width)?;
     Ok(())
 }

@@ -65,7 +65,7 @@ pub(crate) fn push_sizes(
 pub(crate) fn push_names(text: &mut String, leaves: usize) -> Result<(), Memory>
     ensures { OnOk result (Grows (string_bytes text.old) (string_bytes text.new)) }
 {
-    write!(text, "const _NAMES: [_Option<LogosLeaf>; {leaves}] = [")?;
+    write!(text, "const _NAMES: [LogosLeaf; {leaves}] = [")?;
     for leaf in 0..leaves {
         push_name(text, leaf)?;
     }
@@ -76,27 +76,20 @@ pub(crate) fn push_names(text: &mut String, leaves: usize) -> Result<(), Memory>
 fn push_name(text: &mut String, leaf: usize) -> Result<(), Memory>
     ensures { OnOk result (Grows (string_bytes text.old) (string_bytes text.new)) }
 {
-    write!(text, "_Option::Some(LogosLeaf::Leaf{leaf}),")?;
+    write!(text, "LogosLeaf::Leaf{leaf},")?;
     Ok(())
 }
 
 /// Appends the type of entries.
-pub(crate) fn push_entry_type(
-    text: &mut String,
-    height: usize,
-    width: usize,
-    leaves: usize,
-) -> Result<(), Memory>
+pub(crate) fn push_entry_type(text: &mut String, states: usize, width: usize) -> Result<(), Memory>
     ensures { OnOk result (Grows (string_bytes text.old) (string_bytes text.new)) }
 {
-    push(text, entry_type(height, width, leaves))
+    push(text, entry_type(states, width))
 }
 
-/// Returns the text of the type of entries: it has room for a place in the table, a mark, and five bits.
-fn entry_type(height: usize, width: usize, leaves: usize) -> &'static str {
-    let places = height.saturating_mul(width);
-    let all = places.saturating_mul(leaves.saturating_mul(2).saturating_add(2));
-    if all <= 33554432 {
+/// Returns the text of the type of entries: it has room for a place in the table and three bits.
+fn entry_type(states: usize, width: usize) -> &'static str {
+    if states.saturating_mul(width) <= 268435456 {
         "type _Entry = u32;\n"
     } else {
         "type _Entry = u64;\n"
