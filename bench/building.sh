@@ -4,36 +4,24 @@
 # long it took as the row of 4000 keywords, which grows with its keywords. Of three runs the fastest counts. Rows of long
 # times have a number that they may not pass there: each one that passes it is named at the end, and the status is 1.
 #
-# It needs python3. The program of bench/building is built in a copy of the repository as `rt run` builds it, so the crates are
-# proved first, where they are not already. Its source does not end in .rt here, since the gate refuses such files
-# outside the crates.
+# It needs python3. `bench/program.sh` builds the program of bench/building. The variable BUILDING names a program to measure in its place, which can be
+# one that is not proved.
 set -euo pipefail
 
-bench=$(cd "$(dirname "${BASH_SOURCE[0]}")" && pwd)
-copy=$(mktemp -d)
-trap 'rm -rf "$copy"' EXIT
-tar -C "$bench/.." --exclude=out -cf - crates crates.txt HANDLES | tar -C "$copy" -xf -
-for crate in "$bench"/../crates/*/out; do
-    [ -d "$crate" ] || continue
-    name=$(basename "$(dirname "$crate")")
-    cp -R "$crate" "$copy/crates/$name/out"
-done
-echo "building_bench: logos_code logos_codegen logos_generator logos_token" >> "$copy/crates.txt"
-crate="$copy/crates/building_bench"
-mkdir -p "$crate/src" "$crate/specs" "$crate/proofs"
-touch "$crate/specs/Lib.antt" "$crate/proofs/Lib.antt"
-cp "$bench/building/main.rt.in" "$crate/src/main.rt"
-python3 "$bench/building/source.py" keywords 1 > "$copy/source"
-if ! (cd "$crate" && rt run -- "$copy/source") > "$copy/log" 2>&1; then
-    tail -n 30 "$copy/log" >&2
-    exit 1
+. "$(dirname "${BASH_SOURCE[0]}")/program.sh"
+building=${BUILDING:-$copy/crates/building_bench/out/building_bench}
+if [ -z "${BUILDING:-}" ]; then
+    copy_crates
+    add_crate building "logos_code logos_codegen logos_generator logos_token"
+    python3 "$bench/building/source.py" keywords 1 > "$copy/source"
+    build "$crate" "$copy/source"
 fi
 
 # KIND SIZE: the fastest of three runs on a source.
 fastest() {
     python3 "$bench/building/source.py" "$1" "$2" > "$copy/source"
     for _ in 1 2 3; do
-        "$crate/out/building_bench" "$copy/source"
+        "$building" "$copy/source"
     done | sort -n | head -n 1
 }
 
@@ -45,11 +33,8 @@ measure() {
     }'
 }
 
-echo "$(nproc) cores, $(sed -n 's/^model name[^:]*: //p' /proc/cpuinfo | head -n 1)"
-echo
 linear=$(fastest keywords 4000 | cut -d " " -f 1)
-echo "| Source | Seconds | States | Memory in MiB | Times 4000 keywords |"
-echo "|---|---|---|---|---|"
+print_head "Source" "Seconds" "States" "Memory in MiB" "Times 4000 keywords"
 for count in 1000 2000 4000 8000; do
     measure "$count keywords" keywords "$count"
 done
