@@ -17,7 +17,7 @@ ignore_unknown flag = fault_about IgnoreUnknown (codes "Unknown flag: ") flag (c
 abbrev pub ignore_ascii : Slice → Fault
 ignore_ascii flag = fault IgnoreAscii (codes "The flag \"ascii_case\" is no longer supported") flag.span
 
--- the fault of a flag other than `case`
+-- The fault of a flag other than `case`.
 abbrev pub other_flag : Slice → Fault
 other_flag flag =
     if bytes_eq flag.text (codes "ascii_case") then ignore_ascii flag else ignore_unknown flag
@@ -29,8 +29,8 @@ abbrev pub ignore_token : Token → Fault
 ignore_token token = fault IgnoreToken ((codes "Unexpected token: \"" ++ escaped (printed (also token none))) ++ codes "\"") (span_of token)
 
 abbrev mutual
-  -- The report of the flags in `ignore(..)`, up to the first fault. `name` is the word `ignore`, and `ignore_case` is what was set before; `found`
-  -- says whether a flag was read.
+  -- The report of the flags in `ignore(..)`, up to the first fault. `name` is the word `ignore`,
+  -- and `ignore_case` is what was set before; `found` says whether a flag was read.
   pub flags_report : Slice → (found ignore_case : Bool) → TokenList → Report Bool
   flags_report name found ignore_case none = with_faults ignore_case (if found then [] else only (ignore_empty name))
   flags_report name found ignore_case (also (identifier text span) rest) =
@@ -38,7 +38,7 @@ abbrev mutual
       else with_faults ignore_case (only (other_flag (record { text = text; span = span })))
   flags_report name found ignore_case (also token rest) = with_faults ignore_case (only (ignore_empty name))
 
-  -- the report after `case`: a lone comma, or nothing
+  -- The report after `case`: a lone comma, or nothing.
   pub after_flag : Slice → TokenList → Report Bool
   after_flag name none = without_faults true
   after_flag name (also token rest) = if is_alone comma token then flags_report name true true rest else with_faults true (only (ignore_token token))

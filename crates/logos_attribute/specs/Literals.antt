@@ -7,12 +7,12 @@ use Rattle.logos_token.specs.Held.{Held, held}
 use Rattle.logos_attribute.specs.Slices.{Slice}
 use Rattle.logos_attribute.specs.Reports.{Report, with_faults, without_faults, fault, only}
 
--- the value of a string or byte string
+-- The value of a string or byte string.
 pub record LiteralView : Type 0 where
   pub token : Slice
   pub held : Held
 
--- a literal with a name, as in the definition of a subpattern
+-- A literal with a name, as in the definition of a subpattern.
 pub record NamedLiteral : Type 0 where
   pub name : Slice
   pub literal : LiteralView
@@ -23,12 +23,12 @@ literal_syntax run = fault LiteralSyntax (codes "expected a literal") (run_span 
 abbrev pub not_text : Slice → Fault
 not_text token = fault NotText (codes "Expected a &str or &[u8] slice") token.span
 
--- a literal token with this value
+-- A literal token with this value.
 abbrev pub text_by : Slice → Option Held → Option LiteralView
 text_by token (Some held) = Some (record { token = token; held = held })
 text_by token None = None
 
--- the string or byte string that a literal token is
+-- The string or byte string that a literal token is.
 abbrev pub text_in : Slice → Option LiteralView
 text_in token = text_by token (held token.text)
 
@@ -36,17 +36,17 @@ abbrev pub text_or_fault : Slice → Option LiteralView → Report (Option Liter
 text_or_fault token (Some view) = without_faults (Some view)
 text_or_fault token None = with_faults None (only (not_text token))
 
--- the report of a literal token that must be a string or byte string
+-- The report of a literal token that must be a string or byte string.
 abbrev pub text_report : Slice → Report (Option LiteralView)
 text_report token = text_or_fault token (text_in token)
 
--- the report of the first piece of a definition; a piece without tokens has no fault here
+-- The report of the first piece of a definition; a piece without tokens has no fault here.
 abbrev pub literal_report : TokenList → Report (Option LiteralView)
 literal_report none = without_faults None
 literal_report (also (literal text span) none) = text_report (record { text = text; span = span })
 literal_report run = with_faults None (only (literal_syntax run))
 
--- the string or byte string that a run is
+-- The string or byte string that a run is.
 abbrev pub string_in : TokenList → Option LiteralView
 string_in (also (literal text span) none) = text_in (record { text = text; span = span })
 string_in run = None

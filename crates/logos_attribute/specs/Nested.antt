@@ -24,22 +24,23 @@ piece_of (Unnamed run) = unnamed (tokens_of run)
 piece_of (Named name value) = named (ident_slice name) (value_of value)
 piece_of (Unexpected run) = unexpected (tokens_of run)
 
--- the pieces that are still to come
+-- The pieces that are still to come.
 abbrev pub pieces_left : AttributeParser → List Piece
 pieces_left parser = if parser.after_group then after_group (tokens_of parser.rest) else pieces (tokens_of parser.rest)
 
--- the tokens that are left after the next piece
+-- The tokens that are left after the next piece.
 abbrev pub rest_after : AttributeParser → TokenList
 rest_after parser = if parser.after_group then rest_after_group (tokens_of parser.rest) else rest_after_piece (tokens_of parser.rest)
 
--- The parser gives the next of its pieces and takes the comma that ends it; or it has none, and nothing changes.
+-- The parser gives the next of its pieces and takes the comma that ends it; or it has none, and
+-- nothing changes.
 abbrev pub GivesNext : AttributeParser → Option Nested → AttributeParser → Type 0
 GivesNext old given new = YieldsFirstBy piece_of pieces_left old given new × MatchOption given (new ≡ old) (λ _. tokens_of new.rest ≡ rest_after old)
 
--- the pieces are this one and those that are still to come, and these tokens are left
+-- The pieces are this one and those that are still to come, and these tokens are left.
 abbrev pub Cuts : List Piece → TokenList → Nested → AttributeParser → Type 0
 Cuts pieces rest piece parser = (pieces ≡ piece_of piece ∷ pieces_left parser) × (tokens_of parser.rest ≡ rest)
 
--- a run is a tree and the trees after it
+-- A run is a tree and the trees after it.
 abbrev pub IsSplit : Tokens → TokenTree → Tokens → Type 0
 IsSplit run first rest = tokens_of run ≡ also (tree_of first) (tokens_of rest)

@@ -12,29 +12,29 @@ comma = 44
 abbrev pub equals : ℕ
 equals = 61
 
--- what follows a name
+-- What follows a name.
 pub data PieceValue : Type 0 where
   -- `= run`
   assigned : (run : TokenList) → PieceValue
-  -- a literal
+  -- A literal.
   beside : (text : Slice) → PieceValue
-  -- a group with this run inside
+  -- A group with this run inside.
   grouped : (run : TokenList) → PieceValue
-  -- a second name, and `= run`
+  -- A second name, and `= run`.
   keyed : (name : Slice) (run : TokenList) → PieceValue
 
--- a piece
+-- A piece.
 pub data Piece : Type 0 where
   unnamed : (run : TokenList) → Piece
   named : (name : Slice) (value : PieceValue) → Piece
   unexpected : (run : TokenList) → Piece
 
--- the tokens before the first lone comma
+-- The tokens before the first lone comma.
 abbrev pub up_to_comma : TokenList → TokenList
 up_to_comma none = none
 up_to_comma (also token rest) = if is_alone comma token then none else also token (up_to_comma rest)
 
--- the tokens after the first lone comma
+-- The tokens after the first lone comma.
 abbrev pub after_comma : TokenList → TokenList
 after_comma none = none
 after_comma (also token rest) = if is_alone comma token then rest else after_comma rest
@@ -60,14 +60,14 @@ abbrev mutual
       else (if is_alone comma token then unnamed (also (name_token name) none) ∷ pieces rest
       else through_comma (λ run. unnamed (also (name_token name) (also token run))) rest)
 
-  -- after a name and a group: tokens other than a comma are a piece of their own
+  -- After a name and a group: tokens other than a comma are a piece of their own.
   pub after_group : TokenList → List Piece
   after_group none = []
   after_group (also token rest) =
       if is_alone comma token then pieces rest
       else through_comma (λ run. unexpected (also token run)) rest
 
-  -- after two names: `=`; a comma in its place, or nothing, counts as one
+  -- After two names: `=`; a comma instead, or nothing, counts as one.
   pub after_keyword : Slice → Slice → TokenList → List Piece
   after_keyword keyword name none = named keyword (keyed name none) ∷ []
   after_keyword keyword name (also token rest) =
@@ -75,33 +75,35 @@ abbrev mutual
       else (if is_alone comma token then through_comma (λ run. named keyword (keyed name run)) rest
       else through_comma (λ run. unexpected (also token run)) rest)
 
-  -- a piece made of the tokens up to the next lone comma, and the pieces after that comma
+  -- A piece made of the tokens up to the next lone comma, and the pieces after that comma.
   pub through_comma : (TokenList → Piece) → TokenList → List Piece
   through_comma piece none = piece none ∷ []
   through_comma piece (also token rest) =
       if is_alone comma token then piece none ∷ pieces rest
       else through_comma (λ run. piece (also token run)) rest
 
--- the tokens without a lone comma that comes first
+-- The tokens without a lone comma that comes first.
 abbrev pub without_comma : TokenList → TokenList
 without_comma none = none
 without_comma (also token rest) = if is_alone comma token then rest else also token rest
 
--- The tokens that are left after a piece that begins with a name: those after the comma that ends the piece. After a group that is the lone comma
--- that follows directly, if one does. A comma in the place of `=` after two names does not end the piece. `rest` follows the name.
+-- The tokens that are left after a piece that begins with a name: those after the comma that ends
+-- the piece. After a group that is the lone comma that follows directly, if one does. A comma in
+-- the place of `=` after two names does not end the piece. `rest` follows the name.
 abbrev pub rest_after_name : TokenList → TokenList
 rest_after_name none = none
 rest_after_name (also (group delimiter span inside) rest) = without_comma rest
 rest_after_name (also (identifier text span) rest) = after_comma (rest_of rest)
 rest_after_name (also token rest) = after_comma (also token rest)
 
--- The tokens that are left after the first piece: those after the comma that ends it. A comma that is its first token does not end it.
+-- The tokens that are left after the first piece: those after the comma that ends it. A comma that
+-- is its first token does not end it.
 abbrev pub rest_after_piece : TokenList → TokenList
 rest_after_piece none = none
 rest_after_piece (also (identifier text span) rest) = rest_after_name rest
 rest_after_piece (also token rest) = after_comma rest
 
--- the same if the first piece follows a name and a group
+-- The same if the first piece follows a name and a group.
 abbrev pub rest_after_group : TokenList → TokenList
 rest_after_group none = none
 rest_after_group (also token rest) = if is_alone comma token then rest_after_piece rest else after_comma rest

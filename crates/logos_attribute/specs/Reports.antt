@@ -6,7 +6,7 @@ use Rattle.logos_token.specs.declared.error.fault_code.FaultCode.{FaultCode}
 use Rattle.logos_token.specs.Faults.{Fault}
 use Rattle.logos_attribute.specs.Slices.{Slice}
 
--- a value, and the faults reported on the way to it, in order
+-- A value, and the faults reported on the way to it, in order.
 pub record Report (A : Type 0) : Type 0 where
   pub value : A
   pub faults : List Fault
@@ -14,34 +14,34 @@ pub record Report (A : Type 0) : Type 0 where
 abbrev pub with_faults : {A : Type 0} → A → List Fault → Report A
 with_faults value faults = record { value = value; faults = faults }
 
--- a report without a fault
+-- A report without a fault.
 abbrev pub without_faults : {A : Type 0} → A → Report A
 without_faults value = with_faults value []
 
--- one report after another, which depends on the value of the first
+-- One report after another, which depends on the value of the first.
 abbrev pub and_then : {A B : Type 0} → Report A → (A → Report B) → Report B
 and_then report next = with_faults (next report.value).value (report.faults ++ (next report.value).faults)
 
--- the same faults, with a value made of the former one
+-- The same faults, with a value made of the former one.
 abbrev pub map_report : {A B : Type 0} → (A → B) → Report A → Report B
 map_report f report = with_faults (f report.value) report.faults
 
--- a fault that is about a second place
+-- A fault that is about a second span.
 abbrev pub fault_also : FaultCode → List ℕ → Span → Span → Fault
 fault_also code message span other = record { code = code; message = message; span = span; also = Some other }
 
--- a fault of a name, whose message has the name between two texts
+-- A fault of a name, whose message has the name between two texts.
 abbrev pub fault_about : FaultCode → List ℕ → Slice → List ℕ → Fault
 fault_about code before name after = fault code ((before ++ name.text) ++ after) name.span
 
--- one fault
+-- One fault.
 abbrev pub only : Fault → List Fault
 only f = f ∷ []
 
--- a fault was added to the list
+-- A fault was added to the list.
 abbrev pub AddsFault : Fault → List Fault → List Fault → Type 0
 AddsFault f old new = new ≡ old ++ only f
 
--- the value is that of the report, and the faults of the report were added to the list
+-- The value is that of the report, and the faults of the report were added to the list.
 abbrev pub IsReport : {A : Type 0} → Report A → A → List Fault → List Fault → Type 0
 IsReport report value old new = (value ≡ report.value) × (new ≡ old ++ report.faults)

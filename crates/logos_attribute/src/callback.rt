@@ -1,15 +1,8 @@
-//! Reads callbacks in the arguments of attributes.
+//! Reads callbacks in the arguments of attributes. Definitions and error types call it.
+
 ghost use Rattle.std.specs.Prelude.{◌≡◌, ◌++◌, ◌∷◌, [], IfOk, OnOk, OnErr, option_map};
-ghost use Rattle.logos_token.specs.Tokens.{run_span};
-ghost use Rattle.logos_token.specs.Views.{tokens_of};
-ghost use Rattle.logos_attribute.specs.Slices.{ident_slice};
-ghost use Rattle.logos_attribute.specs.Reports.{IsReport, AddsFault};
-ghost use Rattle.logos_attribute.specs.Callbacks.{body_in, bar_in, parameter_in, callback_in};
-ghost use Rattle.logos_attribute.specs.Callbacks.{callback_report, callback_set, twice_at, view_span};
-ghost use Rattle.logos_attribute.specs.Callbacks.{callback_closure, callback_body};
-ghost use Rattle.logos_attribute.specs.Callbacks.{callback_no_value};
-ghost use Rattle.logos_attribute.specs.CallbackViews.{callback_view};
-ghost use Rattle.logos_attribute.specs.inside.CallbackRuns.{run_view, callback_fault, read_view};
+ghost use Rattle.logos_attribute.specs.Words.{run_span, tokens_of, ident_slice, IsReport, AddsFault, body_in, bar_in, parameter_in, callback_in, callback_report, callback_set, twice_at, view_span, callback_closure, callback_body, callback_no_value, callback_view};
+ghost use Rattle.logos_attribute.specs.Views.{run_view, callback_fault, read_view};
 
 use crate::nested::split;
 use logos_pattern::leaf::{Callback, InlineCallback};
@@ -138,7 +131,7 @@ fn report_callback(errors: &mut Errors, cause: CallbackFault, span: Span) -> Res
 ///
 /// # Errors
 ///
-/// `Memory` if there is not enough memory. The faults are then unchanged.
+/// Returns `Memory` if memory runs out. The faults are then unchanged.
 pub fn read_callback<'s>(
     tokens: Tokens<'_, 's>,
     errors: &mut Errors,
@@ -158,7 +151,7 @@ pub fn read_callback<'s>(
     }
 }
 
-/// Reports a second callback, and the place of the first one. After an error the faults are
+/// Reports a second callback, and the span of the first one. After an error the faults are
 /// unchanged.
 fn report_again(
     errors: &mut Errors,
@@ -204,7 +197,7 @@ fn report_no_callback(errors: &mut Errors, cause: CallbackFault, span: Span) -> 
 ///
 /// # Errors
 ///
-/// `Memory` if there is not enough memory. The callback and the faults are then unchanged.
+/// Returns `Memory` if memory runs out. The callback and the faults are then unchanged.
 pub fn set_callback<'s>(
     callback: &mut Option<Callback<'s>>,
     name: Ident<'s>,

@@ -1,14 +1,8 @@
 //! Reads the flags in `ignore(..)`.
+
 ghost use Rattle.std.specs.Prelude.{◌≡◌, OnOk, OnErr, IfOk, false, string_bytes};
-ghost use Rattle.logos_token.specs.Tokens.{also, none};
-ghost use Rattle.logos_token.specs.Views.{tokens_of, tree_of};
-ghost use Rattle.logos_token.specs.Printing.{printed};
-ghost use Rattle.logos_attribute.specs.Slices.{Slice, ident_slice};
-ghost use Rattle.logos_attribute.specs.Reports.{IsReport, AddsFault};
-ghost use Rattle.logos_attribute.specs.Nested.{IsSplit};
-ghost use Rattle.logos_attribute.specs.Flags.{flags_report, ignore_ascii, other_flag};
-ghost use Rattle.logos_attribute.specs.Flags.{ignore_empty, ignore_token};
-ghost use Rattle.logos_attribute.specs.inside.FlagSteps.{GoesOn, HasCase};
+ghost use Rattle.logos_attribute.specs.Words.{also, none, tokens_of, tree_of, printed, Slice, ident_slice, IsReport, AddsFault, flags_report, ignore_ascii, other_flag, ignore_empty, ignore_token, GoesOn, HasCase};
+ghost use Rattle.logos_attribute.specs.Views.{IsSplit};
 
 use crate::nested::split;
 use crate::reporting::{report_form, report_named};
@@ -173,7 +167,7 @@ fn set_flags<'s>(
 ///
 /// # Errors
 ///
-/// `Memory` if there is not enough memory. The flag and the faults are then unchanged.
+/// Returns `Memory` if memory runs out. The flag and the faults are then unchanged.
 pub fn read_flags<'s>(
     ignore_case: &mut bool,
     name: Ident<'s>,

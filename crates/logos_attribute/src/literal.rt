@@ -1,11 +1,8 @@
-//! Reads strings and byte strings in an attribute's argument.
+//! Reads strings and byte strings in an attribute's argument. Definitions, subpatterns and the path
+//! of `export_dir` call it.
+
 ghost use Rattle.std.specs.Prelude.{◌≡◌, OnOk, OnErr, IfOk, option_map};
-ghost use Rattle.logos_token.specs.Views.{tokens_of};
-ghost use Rattle.logos_attribute.specs.Slices.{literal_slice};
-ghost use Rattle.logos_attribute.specs.Reports.{IsReport, AddsFault};
-ghost use Rattle.logos_attribute.specs.Literals.{literal_syntax, not_text, text_in, text_report};
-ghost use Rattle.logos_attribute.specs.Literals.{literal_report, string_in};
-ghost use Rattle.logos_attribute.specs.LiteralViews.{literal_view};
+ghost use Rattle.logos_attribute.specs.Words.{tokens_of, literal_slice, IsReport, AddsFault, literal_syntax, not_text, text_in, text_report, literal_report, string_in, literal_view};
 
 use crate::nested::split;
 use crate::reporting::report_run;
@@ -33,7 +30,7 @@ fn report_not_text(token: token::Literal<'_>, errors: &mut Errors) -> Result<(),
 ///
 /// # Errors
 ///
-/// `Memory` if there is not enough memory. The faults are then unchanged.
+/// Returns `Memory` if memory runs out. The faults are then unchanged.
 pub fn report_syntax(tokens: Tokens<'_, '_>, errors: &mut Errors) -> Result<(), Memory>
     ensures ok { OnOk result
         (AddsFault (literal_syntax (tokens_of tokens.entry)) errors.old errors.new) }
@@ -60,7 +57,7 @@ fn text_in<'s>(alloc: Global, token: token::Literal<'s>) -> Result<Option<Litera
 ///
 /// # Errors
 ///
-/// `Memory` if there is not enough memory. The faults are then unchanged.
+/// Returns `Memory` if memory runs out. The faults are then unchanged.
 pub fn read_text<'s>(
     alloc: Global,
     token: token::Literal<'s>,
@@ -83,7 +80,7 @@ pub fn read_text<'s>(
 ///
 /// # Errors
 ///
-/// `Memory` if there is not enough memory. The faults are then unchanged.
+/// Returns `Memory` if memory runs out. The faults are then unchanged.
 pub fn read_literal<'s>(
     alloc: Global,
     tokens: Tokens<'_, 's>,
@@ -110,7 +107,7 @@ pub fn read_literal<'s>(
 ///
 /// # Errors
 ///
-/// `Memory` if there is not enough memory.
+/// Returns `Memory` if memory runs out.
 pub fn string_in<'s>(alloc: Global, tokens: Tokens<'_, 's>) -> Result<Option<Literal<'s>>, Memory>
     ensures { IfOk result (λ literal.
         option_map literal_view literal ≡ string_in (tokens_of tokens.entry)) }

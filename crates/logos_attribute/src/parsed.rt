@@ -1,16 +1,9 @@
-//! Reads values in an attribute's argument, one after another.
+//! Reads values in an attribute's argument, one after another. No crate of this repository calls it
+//! but tests: it is one of the calls that users know.
+
 ghost use Rattle.std.specs.Prelude.{◌≡◌, ◌≢◌, List, Option, None, IfOk, OnOk, OnErr, MatchOption, option_map};
-ghost use Rattle.std.specs.Result.{result_ok};
-ghost use Rattle.logos_token.specs.Faults.{Fault};
-ghost use Rattle.logos_token.specs.Tokens.{TokenList, none, run_span};
-ghost use Rattle.logos_token.specs.Views.{tokens_of};
-ghost use Rattle.logos_type.specs.TypeTrees.{type_tree};
-ghost use Rattle.logos_type_params.specs.TypeParams.{ReadsValue};
-ghost use Rattle.logos_attribute.specs.LiteralViews.{literal_view};
-ghost use Rattle.logos_attribute.specs.Literals.{literal_report};
+ghost use Rattle.logos_attribute.specs.Words.{result_ok, Fault, TokenList, none, run_span, tokens_of, type_tree, ReadsValue, literal_view, literal_report, up_to_comma, after_comma, pieces, IsReport};
 ghost use Rattle.logos_attribute.specs.Nested.{pieces_left};
-ghost use Rattle.logos_attribute.specs.Pieces.{up_to_comma, after_comma, pieces};
-ghost use Rattle.logos_attribute.specs.Reports.{IsReport};
 
 use crate::literal::read_literal;
 use crate::nested::AttributeParser;
@@ -35,7 +28,7 @@ pub trait FromRun<'s>: Sized {
     ///
     /// # Errors
     ///
-    /// `Memory` if there is not enough memory. The faults are then unchanged.
+    /// Returns `Memory` if memory runs out. The faults are then unchanged.
     fn from_run(
         alloc: Global,
         run: Tokens<'_, 's>,
@@ -46,8 +39,8 @@ pub trait FromRun<'s>: Sized {
         ensures unreported { OnErr result (errors.new ≡ errors.old) };
 }
 
-/// Reads a string or a byte string. Reports another literal as `NotText` at the literal, and another
-/// run as `LiteralSyntax` at the run.
+/// Reads a string or a byte string. Reports another literal as `NotText` at the literal, and
+/// another run as `LiteralSyntax` at the run.
 impl<'s> FromRun<'s> for Literal<'s> {
     ghost is_read = { λ run read old new.
         IsReport (literal_report run) (option_map literal_view read) old new };
@@ -83,7 +76,7 @@ impl<'t, 's> AttributeParser<'t, 's> {
     ///
     /// # Errors
     ///
-    /// `Memory` if there is not enough memory. Nothing is taken then, and the faults are unchanged.
+    /// Returns `Memory` if memory runs out. Nothing is taken then, and the faults are unchanged.
     pub fn parsed<T: FromRun<'s>>(
         &mut self,
         alloc: Global,

@@ -1,9 +1,7 @@
 //! Reports faults whose messages have texts of the source in them. Each function adds one fault.
+
 ghost use Rattle.std.specs.Prelude.{◌≡◌, OnOk, OnErr};
-ghost use Rattle.logos_token.specs.Tokens.{run_span};
-ghost use Rattle.logos_token.specs.Views.{tokens_of};
-ghost use Rattle.logos_attribute.specs.Slices.{ident_slice};
-ghost use Rattle.logos_attribute.specs.Reports.{AddsFault, fault, fault_about};
+ghost use Rattle.logos_attribute.specs.Words.{run_span, tokens_of, ident_slice, AddsFault, fault, fault_about};
 
 use logos_token::error::{Errors, FaultCode, Memory};
 use logos_token::token::{Ident, Tokens};
@@ -13,7 +11,7 @@ use logos_type_params::reporting::report_about;
 ///
 /// # Errors
 ///
-/// `Memory` if there is not enough memory. The faults are then unchanged.
+/// Returns `Memory` if memory runs out. The faults are then unchanged.
 pub fn report_named(
     errors: &mut Errors,
     code: FaultCode,
@@ -33,7 +31,7 @@ pub fn report_named(
 ///
 /// # Errors
 ///
-/// `Memory` if there is not enough memory. The faults are then unchanged.
+/// Returns `Memory` if memory runs out. The faults are then unchanged.
 pub fn report_run(
     errors: &mut Errors,
     code: FaultCode,
@@ -53,7 +51,7 @@ pub fn report_run(
 ///
 /// # Errors
 ///
-/// `Memory` if there is not enough memory. The faults are then unchanged.
+/// Returns `Memory` if memory runs out. The faults are then unchanged.
 pub fn report_form(
     errors: &mut Errors,
     code: FaultCode,

@@ -1,8 +1,7 @@
 //! Reads numbers and booleans in an attribute's argument.
+
 ghost use Rattle.std.specs.Prelude.{◌≡◌};
-ghost use Rattle.std.specs.Str.{all_ascii_digits};
-ghost use Rattle.logos_token.specs.Views.{tokens_of};
-ghost use Rattle.logos_attribute.specs.Values.{decimal, number_in, boolean_named, boolean_in};
+ghost use Rattle.logos_attribute.specs.Words.{all_ascii_digits, tokens_of, decimal, number_in, boolean_named, boolean_in};
 
 use crate::nested::split;
 use logos_token::token::{TokenTree, Tokens};

@@ -1,8 +1,6 @@
 -- What the enums of a file give, one after another.
 use Rattle.std.proofs.Common.{◌≡◌, ◌==◌, ◌≤◌, ◌<◌, ◌+◌, ℕ, suc, List, [], ◌∷◌, ◌++◌, append_assoc, true, false, All, IfOk, OnOk, Option, Result, Ok, Err, map, length, get_or, drop, string_bytes, refl, sym, ap, ◌∙◌, arith, subst, inl, inr}
-use Rattle.std.specs.List.{Contains}
 use Rattle.std.proofs.lemmas.List.{append-nil}
-use Rattle.std.proofs.lemmas.List.Elements.{Contains-append_right, Contains-append_left}
 use Rattle.std.proofs.Math.Seq.{drop-cons}
 use Rattle.std.proofs.Math.ListN.{drop_of_length-le}
 use Rattle.logos_code.specs.Code.{CodeValue}
@@ -12,20 +10,22 @@ use Rattle.logos_codegen.specs.Source.{IsRefused}
 use Rattle.logos_codegen.specs.Source.IsRefused.{unread}
 use Rattle.logos_cli.specs.declared.expanding.Gathered.{Gathered}
 use Rattle.logos_cli.specs.declared.expanding.Refused.{Refused}
-use Rattle.logos_cli.specs.Expanding.{FailsBy, HasFaults, HasFaultyEnum, IsExpansion, IsExpanded, IsLexerText, IsUnreadable, Replaces, config_of, text_at}
+use Rattle.logos_cli.specs.Expanding.{IsExpansion, IsExpanded, IsLexerText, IsUnreadable, Replaces, config_of, text_at}
 use Rattle.logos_cli.specs.Expanding.Replaces.{ended as r_ended, stays as r_stays, gives as r_gives}
-use Rattle.logos_cli.specs.inside.Gathering.{AddsRefusal, AreFaultsOf, Gathers, GathersAll, GathersOne, IsExpansionBy, IsPrintedWith}
-use Rattle.logos_cli.specs.inside.Gathering.Gathers.{ended as g_ended, stays as g_stays, gives as g_gives, refuses as g_refuses}
-use Rattle.logos_files.specs.declared.finding.FoundEnum.{FoundEnum}
-use Rattle.logos_files.specs.declared.replacing.Replacement.{Replacement}
-use Rattle.logos_files.specs.Files.{AreEnumsOf}
-use Rattle.logos_files.specs.Replacing.{AreInOrder, found_span, place_of, replaced}
+use Rattle.logos_cli.specs.inside.Steps.{AddsRefusal, AreFaultsOf, GathersOne, IsExpansionBy, IsPrintedWith}
+use Rattle.logos_cli.specs.Gathering.{AreRefused, Gathers, GathersAll}
+use Rattle.logos_cli.specs.Gathering.AreRefused.{whole, lexers}
+use Rattle.logos_cli.specs.Gathering.Gathers.{ended as g_ended, stays as g_stays, gives as g_gives, refuses as g_refuses}
+use Rattle.logos_rust_file.specs.declared.finding.FoundEnum.{FoundEnum}
+use Rattle.logos_rust_file.specs.declared.replacing.Replacement.{Replacement}
+use Rattle.logos_rust_file.specs.Files.{AreEnumsOf}
+use Rattle.logos_rust_file.specs.Replacing.{AreInOrder, found_span, part_span, replaced}
 use Rattle.logos_graph.specs.View.{GraphValue}
-use Rattle.logos_item.specs.Values.{Slice}
+use Rattle.logos_enum.specs.Values.{Slice}
 use Rattle.logos_lexeme.specs.declared.lexeme.Span.{Span}
-use Rattle.logos_files.specs.Handed.{Refusal}
-use Rattle.logos_files.specs.Handed as refusals
-use Rattle.logos_files.specs.Handed.{Refuses}
+use Rattle.logos_rust_file.specs.Handed.{Refusal}
+use Rattle.logos_rust_file.specs.Handed as refusals
+use Rattle.logos_rust_file.specs.Handed.{Refuses}
 use Rattle.logos_token.specs.Faults.{Fault}
 
 -- ---- the enums of a file, one after another
@@ -131,27 +131,10 @@ expanded_all shape text bytes found gathered a g e b = record {
   is = b;
 }
 
--- an enum with faults
-record Faulty (text : List ℕ) (found : List FoundEnum) : Type 0 where
-  one : FoundEnum
-  contains : Contains found one
-  derives : one.derives ≡ true
-  faults : List Fault
-  refused : IsRefused (text_at text one) faults
-
-later_faulty : (text : List ℕ) (one : FoundEnum) (rest : List FoundEnum) → Faulty text rest → Faulty text (one ∷ rest)
-later_faulty text one rest f = record { one = f.one; contains = Contains-append_right (one ∷ []) rest f.one f.contains; derives = f.derives; faults = f.faults; refused = f.refused }
-
-faulty_one : (shape : Shape) (text : List ℕ) (found : List FoundEnum) (parts : List Replacement) (refused : List Refused) → Gathers shape text found parts refused → 0 < length refused → Faulty text found
-faulty_one shape text _ _ _ g_ended l = absurd (omega (arith, l))
-faulty_one shape text _ _ _ (g_stays {one} {rest} d g) l = later_faulty text one rest (faulty_one shape text rest _ _ g l)
-faulty_one shape text _ _ _ (g_gives {one} {part} {rest} d s x g) l = later_faulty text one rest (faulty_one shape text rest _ _ g l)
-faulty_one shape text _ _ _ (g_refuses {one} {bad} {rest} d s x g) l = record { one = one; contains = (0, omega arith, refl); derives = d; faults = bad.errors; refused = x }
-
-pub faulty_file : (shape : Shape) (text : List ℕ) (found : List FoundEnum) (gathered : Gathered) → AreEnumsOf text found → GathersAll shape text found gathered → 0 < length gathered.refused.items → HasFaults text
-faulty_file shape text found gathered a g l =
-    let f = faulty_one shape text found gathered.parts.items gathered.refused.items g l in
-    inr (record { found = found; are = a; one = f.one; contains = f.contains; derives = f.derives; faults = f.faults; refused = f.refused })
+-- the refusals of a file, of which there are some
+pub lexers_refused : (shape : Shape) (text : List ℕ) (found : List FoundEnum) (gathered : Gathered) → AreEnumsOf text found → GathersAll shape text found gathered → 0 < length gathered.refused.items →
+    AreRefused shape text gathered.refused.items
+lexers_refused shape text found gathered a g l = lexers a g (λ e. absurd (let n : 0 < length {A = Refused} [] = subst (λ r. 0 < length r) e l in omega (arith, n)))
 
 -- ---- the parts stand in order
 
@@ -160,17 +143,17 @@ earlier from place [] to l s = omega (arith, l, s)
 earlier from place (span ∷ rest) to l s = (omega (arith, l, s.0), s.1, s.2)
 
 order_parts : (shape : Shape) (text : List ℕ) (found : List FoundEnum) (parts : List Replacement) (refused : List Refused) (from to : ℕ) → Gathers shape text found parts refused → AreInOrder from (map found_span found) to →
-    AreInOrder from (map place_of parts) to
+    AreInOrder from (map part_span parts) to
 order_parts shape text _ _ _ from to g_ended o = o
 order_parts shape text _ _ _ from to (g_stays {one} {rest} {parts} {refused} d g) o =
-    earlier from one.span.to (map place_of parts) to (omega (arith, o.0, o.1)) (order_parts shape text rest parts refused one.span.to to g o.2)
+    earlier from one.span.to (map part_span parts) to (omega (arith, o.0, o.1)) (order_parts shape text rest parts refused one.span.to to g o.2)
 order_parts shape text _ _ _ from to (g_gives {one} {part} {rest} {parts} {refused} d s x g) o =
     rw s (o.0, o.1, order_parts shape text rest parts refused one.span.to to g o.2)
 order_parts shape text _ _ _ from to (g_refuses {one} {bad} {rest} {parts} {refused} d s x g) o =
-    earlier from one.span.to (map place_of parts) to (omega (arith, o.0, o.1)) (order_parts shape text rest parts refused one.span.to to g o.2)
+    earlier from one.span.to (map part_span parts) to (omega (arith, o.0, o.1)) (order_parts shape text rest parts refused one.span.to to g o.2)
 
 pub ordered_parts : (shape : Shape) (text : List ℕ) (found : List FoundEnum) (gathered : Gathered) → GathersAll shape text found gathered → AreInOrder 0 (map found_span found) (length text) →
-    AreInOrder 0 (map place_of gathered.parts.items) (length text)
+    AreInOrder 0 (map part_span gathered.parts.items) (length text)
 ordered_parts shape text found gathered g o = order_parts shape text found gathered.parts.items gathered.refused.items 0 (length text) g o
 
 -- ---- the expansion of an enum
@@ -186,8 +169,8 @@ expansion_made shape source shown graph code name export g b = record {
 
 -- ---- refusals
 
-pub whole_refused : (text : List ℕ) (refusal : Refusal) (old new : List Refused) → Refuses (IsUnreadable text) refusal → AddsRefusal 0 refusal old new → HasFaults text
-whole_refused text refusal old new h a = inl (a.bad.errors, faults_hold (IsUnreadable text) refusal a.bad.errors h a.faults)
+pub whole_refused : (shape : Shape) (text : List ℕ) (refusal : Refusal) (old new : List Refused) → old ≡ [] → Refuses (IsUnreadable text) refusal → AddsRefusal 0 refusal old new → AreRefused shape text new
+whole_refused shape text refusal old new e h a = whole (a.are ∙ ap (λ r. r ++ a.bad ∷ []) e) a.is_offset (faults_hold (IsUnreadable text) refusal a.bad.errors h a.faults)
 
 -- a source that is not read is refused
 pub unread_refused : (source : List ℕ) (refusal : Refusal) → Refuses (IsUnreadable source) refusal → Refuses (IsRefused source) refusal

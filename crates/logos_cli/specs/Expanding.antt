@@ -1,23 +1,19 @@
 -- A file with the derive of its lexers expanded.
-use Rattle.std.specs.Prelude.{◌≡◌, ◌⊎◌, ℕ, List, [], ◌∷◌, ◌++◌, Option, true, false, slice_range, string_bytes}
-use Rattle.std.specs.List.{Contains}
+use Rattle.std.specs.Prelude.{◌≡◌, ℕ, List, [], ◌∷◌, ◌++◌, Option, true, false, slice_range, string_bytes}
 use Rattle.logos_code.specs.Code.{CodeValue}
 use Rattle.logos_code.specs.declared.code.Config.{Config}
 use Rattle.logos_cli.specs.declared.options.Shape.{Shape}
 use Rattle.logos_cli.specs.declared.options.Shape.TheVariants.{Code, Tables}
 use Rattle.logos_tables.specs.Texts.{HoldsTables}
 use Rattle.logos_codegen.specs.Given.{IsGiven}
-use Rattle.logos_codegen.specs.Source.{IsRefused}
-use Rattle.logos_files.specs.declared.finding.FoundEnum.{FoundEnum}
-use Rattle.logos_files.specs.declared.replacing.Replacement.{Replacement}
-use Rattle.logos_files.specs.Files.{AreEnumsOf}
-use Rattle.logos_files.specs.Replacing.{replaced}
+use Rattle.logos_rust_file.specs.declared.finding.FoundEnum.{FoundEnum}
+use Rattle.logos_rust_file.specs.declared.replacing.Replacement.{Replacement}
+use Rattle.logos_rust_file.specs.Files.{AreEnumsOf}
+use Rattle.logos_rust_file.specs.Replacing.{replaced}
 use Rattle.logos_graph.specs.View.{GraphValue}
-use Rattle.logos_item.specs.Values.{Slice}
-use Rattle.logos_report.specs.declared.stop.Stop.{Stop}
-use Rattle.logos_report.specs.Stops.{status_of}
-use Rattle.logos_files.specs.Handed.{EndsReading}
-use Rattle.logos_files.specs.Handed.{IsStripped}
+use Rattle.logos_enum.specs.Values.{Slice}
+use Rattle.logos_rust_file.specs.Handed.{EndsReading}
+use Rattle.logos_rust_file.specs.Handed.{IsStripped}
 use Rattle.logos_text.specs.Standing.{StandInOrder}
 use Rattle.logos_text.specs.Texts.{texts_of}
 use Rattle.logos_token.specs.Faults.{Fault}
@@ -70,24 +66,6 @@ pub record IsExpanded (shape : Shape) (text bytes : List ℕ) : Type 0 where
   pub replaces : Replaces shape text found parts
   pub is : bytes ≡ replaced text 0 parts
 
--- an enum of the file that derives `Logos` has faults
-pub record HasFaultyEnum (text : List ℕ) : Type 0 where
-  pub found : List FoundEnum
-  pub are : AreEnumsOf text found
-  pub one : FoundEnum
-  pub contains : Contains found one
-  pub derives : one.derives ≡ true
-  pub faults : List Fault
-  pub refused : IsRefused (text_at text one) faults
-
 -- the file cannot be read into tokens, and this is its one fault
 abbrev pub IsUnreadable : List ℕ → List Fault → Type 0
 IsUnreadable text faults = (ending : Fault) × EndsReading text ending × (faults ≡ ending ∷ [])
-
--- the file cannot be read into tokens, or one of its lexers has faults
-abbrev pub HasFaults : List ℕ → Type 0
-HasFaults text = ((faults : List Fault) × IsUnreadable text faults) ⊎ HasFaultyEnum text
-
--- what was asked for was refused, for this reason, or a file or memory failed
-abbrev pub FailsBy : Type 0 → Stop → Type 0
-FailsBy Reason stop = (status_of stop ≡ 3) ⊎ ((status_of stop ≡ 1) × Reason)

@@ -1,46 +1,71 @@
--- What a run of the program does, by what its files give. `gives` holds of files, a path, all bytes that are read there, and the files after that; `makes` holds of files, a path, the bytes of the file there from then on, and the files after that.
-use Rattle.std.specs.Prelude.{◌≡◌, ◌⊎◌, ℕ, List, Bool, false, IsTrue, IsSome, Option, Some, None}
-use Rattle.logos_disk.specs.Reading.{Reads}
-use Rattle.logos_cli.specs.Expanding.{IsExpanded, HasFaults}
+-- What a run of the program does, by what its files give. `gives` holds of files, a path, all bytes that are read there, and the files after that; `makes` of files, a path,
+-- the bytes of the file there from then on, and the files after that; `finds` of files, a path, some bytes, how the file there compares with them, and the files after that.
+use Rattle.std.specs.Prelude.{◌≡◌, ◌≢◌, ◌⊎◌, ℕ, List, Bool, true, false, IsTrue, Option, Some, None, IfSome}
+use Rattle.std.specs.Io.KnownBytes.{Appends, Keeps}
+use Rattle.logos_host.specs.declared.comparing.Standing.{Standing}
+use Rattle.logos_host.specs.declared.comparing.Standing.TheVariants.{Same}
+use Rattle.logos_host.specs.Reading.{Reads}
+use Rattle.logos_cli.specs.Expanding.{IsExpanded}
+use Rattle.logos_cli.specs.Gathering.{ShowsFaults}
 use Rattle.logos_cli.specs.Orders.{Asked, asks_help, asks_version, asks_expansion, OrderValue}
 
--- a file has these bytes already, and nothing was written
-abbrev pub IsThere : {F : Type 0} → (F → List ℕ → List ℕ → F → Type 0) → List ℕ → List ℕ → F → F → Type 0
-IsThere gives path bytes files after = Reads gives files path (λ there read. (there ≡ bytes) × (after ≡ read))
+-- a file has other bytes than these, or cannot be read
+pub record IsOther {F : Type 0} (finds : F → List ℕ → List ℕ → Standing → F → Type 0) (path bytes : List ℕ) (files after : F) : Type 0 where
+  pub standing : Standing
+  pub found : finds files path bytes standing after
+  pub other : standing ≢ Same
 
--- these bytes were written to a file
-pub record IsWritten {F : Type 0} (makes : F → List ℕ → List ℕ → F → Type 0) (path bytes : List ℕ) (after : F) : Type 0 where
-  pub before : F
-  pub made : makes before path bytes after
+-- a file had other bytes, and these were written to it
+pub record IsRewritten {F : Type 0} (makes : F → List ℕ → List ℕ → F → Type 0) (finds : F → List ℕ → List ℕ → Standing → F → Type 0) (path bytes : List ℕ) (files after : F) : Type 0 where
+  pub between : F
+  pub other : IsOther finds path bytes files between
+  pub made : makes between path bytes after
 
-module _ {F : Type 0} (gives makes : F → List ℕ → List ℕ → F → Type 0) where
-  -- the result is in a file: it was there, or it was written and not only to be compared
+module _ {F : Type 0} (gives makes : F → List ℕ → List ℕ → F → Type 0) (finds : F → List ℕ → List ℕ → Standing → F → Type 0) where
+  -- a file has these bytes, and was not written
+  abbrev pub IsThere : List ℕ → List ℕ → F → F → Type 0
+  IsThere path bytes files after = finds files path bytes Same after × gives files path bytes after
+
+  -- the result is in a file: it was there, or it was written, and not only to be compared
   abbrev pub IsSettled : OrderValue → List ℕ → List ℕ → F → F → Type 0
-  IsSettled order path bytes files after = IsThere gives path bytes files after ⊎ ((order.is_check ≡ false) × IsWritten makes path bytes after)
+  IsSettled order path bytes files after = IsThere path bytes files after ⊎ ((order.is_check ≡ false) × IsRewritten makes finds path bytes files after)
 
-  -- The result is where it was asked for. What goes to standard output leaves all files as they are.
-  abbrev pub IsDelivered : OrderValue → Option (List ℕ) → List ℕ → F → F → Type 0
-  IsDelivered order None bytes files after = after ≡ files
-  IsDelivered order (Some path) bytes files after = IsSettled order path bytes files after
+  -- The result is where it was asked for: in a file, or at the end of standard output. What goes to one leaves the other as it is.
+  abbrev pub IsDelivered : OrderValue → Option (List ℕ) → List ℕ → F → F → Option (List ℕ) → Option (List ℕ) → Type 0
+  IsDelivered order None bytes files after old new = (after ≡ files) × Appends old new bytes
+  IsDelivered order (Some path) bytes files after old new = IsSettled order path bytes files after × Keeps old new
 
   -- the file is read and expanded, and the result is where it was asked for
-  abbrev pub IsCarriedOut : OrderValue → F → F → Type 0
-  IsCarriedOut order files after =
-      Reads gives files order.input (λ text read. (bytes : List ℕ) × IsExpanded order.shape text bytes × IsDelivered order order.output bytes read after)
+  abbrev pub IsCarriedOut : OrderValue → F → F → Option (List ℕ) → Option (List ℕ) → Type 0
+  IsCarriedOut order files after old new =
+      Reads gives files order.input (λ text read. (bytes : List ℕ) × IsExpanded order.shape text bytes × IsDelivered order order.output bytes read after old new)
 
   -- what is asked for is done
-  abbrev pub IsDone : Asked → F → F → Type 0
-  IsDone asks_help files after = after ≡ files
-  IsDone asks_version files after = after ≡ files
-  IsDone (asks_expansion order) files after = IsCarriedOut order files after
+  abbrev pub IsDone : Asked → F → F → Option (List ℕ) → Option (List ℕ) → Type 0
+  IsDone asks_help files after old new = after ≡ files
+  IsDone asks_version files after old new = after ≡ files
+  IsDone (asks_expansion order) files after old new = IsCarriedOut order files after old new
 
--- the file is read, and it has faults; or its expansion was only to be compared
-abbrev pub IsDeniedOrder : {F : Type 0} → (F → List ℕ → List ℕ → F → Type 0) → OrderValue → F → Type 0
-IsDeniedOrder gives order files =
-    Reads gives files order.input (λ text read. HasFaults text ⊎ (IsTrue order.is_check × ((bytes : List ℕ) × IsExpanded order.shape text bytes)))
+  -- the file is read, and has faults, which this text shows; or its expansion was only to be compared, and is not what the other file has. No file is written.
+  abbrev pub IsDeniedOrder : OrderValue → F → F → List ℕ → Type 0
+  IsDeniedOrder order files after shown =
+      Reads gives files order.input (λ text read. ((after ≡ read) × ShowsFaults order.shape (record { path = order.input; text = text }) shown)
+      ⊎ (IsTrue order.is_check × ((bytes : List ℕ) × IsExpanded order.shape text bytes × IfSome order.output (λ path. IsOther finds path bytes read after))))
 
--- what is asked for is refused
-abbrev pub IsDenied : {F : Type 0} → (F → List ℕ → List ℕ → F → Type 0) → Asked → F → Type 0
-IsDenied gives asks_help files = ⊥
-IsDenied gives asks_version files = ⊥
-IsDenied gives (asks_expansion order) files = IsDeniedOrder gives order files
+  -- what is asked for is refused, for what this text says
+  abbrev pub IsDenied : Asked → F → F → List ℕ → Type 0
+  IsDenied asks_help files after shown = ⊥
+  IsDenied asks_version files after shown = ⊥
+  IsDenied (asks_expansion order) files after shown = IsDeniedOrder order files after shown
+
+-- the file for the result is the file that is read; `same` holds of files, two paths, and whether these lead to one file
+abbrev pub IsOwnOutput : {F : Type 0} → (F → List ℕ → List ℕ → Bool → Type 0) → Asked → F → Type 0
+IsOwnOutput same asks_help files = ⊥
+IsOwnOutput same asks_version files = ⊥
+IsOwnOutput same (asks_expansion order) files = IfSome order.output (λ path. same files order.input path true)
+
+-- it is another file
+abbrev pub IsApart : {F : Type 0} → (F → List ℕ → List ℕ → Bool → Type 0) → Asked → F → Type 0
+IsApart same asks_help files = Unit {0}
+IsApart same asks_version files = Unit {0}
+IsApart same (asks_expansion order) files = IfSome order.output (λ path. same files order.input path false)

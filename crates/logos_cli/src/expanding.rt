@@ -1,23 +1,26 @@
 //! A file with the derive of its lexers expanded.
+
 ghost use Rattle.std.specs.Prelude.{◌≡◌, ◌≤◌, All, IfErr, IfOk, OnOk, length, map, string_bytes};
 ghost use Rattle.logos_token.specs.Views.{tokens_of};
 ghost use Rattle.logos_codegen.specs.Source.{IsRefused};
-ghost use Rattle.logos_files.specs.Replacing.{AreInOrder, IsFoundCut, found_span, place_of};
-ghost use Rattle.logos_files.specs.Files.{AreEnumsOf};
+ghost use Rattle.logos_rust_file.specs.Replacing.{AreInOrder, IsFoundCut, found_span, part_span};
+ghost use Rattle.logos_rust_file.specs.Files.{AreEnumsOf};
 ghost use Rattle.logos_report.specs.Pages.{Shows, StandInOrder};
-ghost use Rattle.logos_files.specs.Handed.{Refuses};
-ghost use Rattle.logos_cli.specs.Expanding.{FailsBy, HasFaults, IsExpanded, IsExpansion};
+ghost use Rattle.logos_rust_file.specs.Handed.{Refuses};
+ghost use Rattle.logos_cli.specs.Expanding.{IsExpanded, IsExpansion};
 ghost use Rattle.logos_cli.specs.Expanding.{IsShown, IsUnreadable, config_of};
-ghost use Rattle.logos_cli.specs.inside.Gathering.{AddsRefusal, GathersAll, GathersOne};
-ghost use Rattle.logos_cli.specs.inside.Gathering.{IsExpansionBy, IsPrintedWith, refused_texts};
+ghost use Rattle.logos_cli.specs.Gathering.{AreRefused, FailsFor, GathersAll, refused_texts};
+ghost use Rattle.logos_cli.specs.inside.Steps.{AddsRefusal, GathersOne};
+ghost use Rattle.logos_cli.specs.inside.Steps.{IsExpansionBy, IsPrintedWith};
 
 use crate::options::Shape;
 use logos_codegen::error::{Errors, Memory};
 use logos_codegen::generator::Config;
 use logos_codegen::token::{Tokens, print};
 use logos_codegen::{Generated, Refusal, generate, strip_attributes};
-use logos_files::{FoundEnum, Replacement, enums_in, replace};
-use logos_report::{Page, Part, Source, Stop, count_errors, push_faults, push_summary};
+use logos_host::Failure;
+use logos_report::{Page, Part, Source, count_errors, push_faults, push_summary};
+use logos_rust_file::{FoundEnum, Replacement, enums_in, replace};
 use logos_tables::tables;
 use std::alloc::{AllocError, Global};
 
@@ -43,13 +46,6 @@ struct Gathered {
     refused: Vec<Refused>,
 }
 
-/// A file: its path and its text.
-#[derive(Clone, Copy)]
-pub(crate) struct File<'f> {
-    pub(crate) path: &'f str,
-    pub(crate) text: &'f str,
-}
-
 /// Returns a file with each enum that derives `Logos` replaced by the enum without what belongs to
 /// the derive, and by the implementation. All other text stays as it is. `is_colored` says whether
 /// messages have colors.
@@ -60,54 +56,59 @@ pub(crate) struct File<'f> {
 /// fault of a file that cannot be read into tokens. Returns `Memory` if memory runs out.
 pub(crate) fn expand<'w>(
     alloc: Global,
-    file: File<'_>,
+    source: &Source<'_>,
     shape: Shape,
     is_colored: bool,
-) -> Result<Expansion, Stop<'w>>
-    ensures done { IfOk result (λ made. IsExpanded shape file.entry.text.now made.bytes.items) }
-    ensures denied { IfErr result (FailsBy (HasFaults file.entry.text.now)) }
+) -> Result<Expansion, Failure<'w>>
+    ensures done { IfOk result (λ made. IsExpanded shape source.now.text made.bytes.items) }
+    ensures denied { IfErr result (FailsFor shape source.now) }
 {
-    let found = match enums_in(alloc, file.text) {
+    let found = match enums_in(alloc, source.text()) {
         Ok(found) => found,
-        Err(refusal) => return Err(refused_whole(alloc, file, is_colored, refusal)),
+        Err(refusal) => return Err(refused_whole(alloc, source, is_colored, refusal)),
     };
-    expand_enums(alloc, file, shape, is_colored, &found)
+    expand_enums(alloc, source, shape, is_colored, &found)
 }
 
 /// Returns the refusal of a file that cannot be read into tokens.
-fn refused_whole<'w>(alloc: Global, file: File<'_>, is_colored: bool, refusal: Refusal) -> Stop<'w>
-    requires { Refuses (IsUnreadable file.text.now) refusal }
-    ensures { FailsBy (HasFaults file.entry.text.now) result }
+fn refused_whole<'w>(
+    alloc: Global,
+    source: &Source<'_>,
+    is_colored: bool,
+    refusal: Refusal,
+) -> Failure<'w>
+    requires { Refuses (IsUnreadable source.now.text) refusal }
+    ensures { (shape : Shape) → FailsFor shape source.now result }
 {
     let mut refused = Vec::new(alloc);
     match push_refusal(&mut refused, 0, refusal) {
-        Ok(()) => refused_file(alloc, file, is_colored, &refused),
-        Err(Memory) => Stop::Memory,
+        Ok(()) => refused_file(alloc, source, is_colored, &refused),
+        Err(Memory) => Failure::Memory,
     }
 }
 
 /// Returns a file with these enums expanded.
 fn expand_enums<'w>(
     alloc: Global,
-    file: File<'_>,
+    source: &Source<'_>,
     shape: Shape,
     is_colored: bool,
     found: &[FoundEnum],
-) -> Result<Expansion, Stop<'w>>
-    requires enums { AreEnumsOf file.text.now found.now }
-    requires order { AreInOrder 0 (map found_span found.now) (length file.text.now) }
-    requires cut { All (IsFoundCut file.text.now) found.now }
-    ensures done { IfOk result (λ made. IsExpanded shape file.entry.text.now made.bytes.items) }
-    ensures denied { IfErr result (FailsBy (HasFaults file.entry.text.now)) }
+) -> Result<Expansion, Failure<'w>>
+    requires enums { AreEnumsOf source.now.text found.now }
+    requires order { AreInOrder 0 (map found_span found.now) (length source.now.text) }
+    requires cut { All (IsFoundCut source.now.text) found.now }
+    ensures done { IfOk result (λ made. IsExpanded shape source.now.text made.bytes.items) }
+    ensures denied { IfErr result (FailsFor shape source.now) }
 {
-    let gathered = gather(alloc, file.text, shape, found)?;
+    let gathered = gather(alloc, source.text(), shape, found)?;
     if gathered.refused.is_empty() {
         return Ok(Expansion {
-            bytes: replace(alloc, file.text, &gathered.parts)?,
+            bytes: replace(alloc, source.text(), &gathered.parts)?,
             count: gathered.parts.len(),
         });
     }
-    Err(refused_file(alloc, file, is_colored, &gathered.refused))
+    Err(refused_file(alloc, source, is_colored, &gathered.refused))
 }
 
 /// Returns the replacements of these enums of a file, and the faults of those that are refused.
@@ -116,7 +117,7 @@ fn gather(alloc: Global, text: &str, shape: Shape, found: &[FoundEnum]) -> Resul
     requires cut { All (IsFoundCut text.now) found.now }
     ensures gathers { IfOk result (GathersAll shape text.now found.now) }
     ensures order { IfOk result (λ gathered.
-        AreInOrder 0 (map place_of gathered.parts.items) (length text.now)) }
+        AreInOrder 0 (map part_span gathered.parts.items) (length text.now)) }
 {
     let mut gathered = Gathered {
         parts: Vec::new(alloc),
@@ -240,41 +241,39 @@ fn printed_with(
 /// Returns the refusal of a file, with the text of all its faults.
 fn refused_file<'w>(
     alloc: Global,
-    file: File<'_>,
+    source: &Source<'_>,
     is_colored: bool,
     refused: &[Refused],
-) -> Stop<'w>
-    requires { HasFaults file.text.now }
-    ensures { FailsBy (HasFaults file.entry.text.now) result }
+) -> Failure<'w>
+    ensures { (shape : Shape) → AreRefused shape source.now.text refused.now →
+        FailsFor shape source.now result }
 {
-    match refusal_text(alloc, file, is_colored, refused) {
-        Ok(text) => Stop::Refused(text),
-        Err(AllocError) => Stop::Memory,
+    match refusal_text(alloc, source, is_colored, refused) {
+        Ok(text) => Failure::Refused(text),
+        Err(AllocError) => Failure::Memory,
     }
 }
 
-/// Returns the text of all faults of a file, in order, with their number. The text has for each the
-/// name of its code, the first line of its message and its place in the file.
+/// Returns the text of all faults of a file, in order, with their number. For each, a line with the
+/// name of its code and the first line of its message, and one with its place in the file stand in it.
 fn refusal_text(
     alloc: Global,
-    file: File<'_>,
+    source: &Source<'_>,
     is_colored: bool,
     refused: &[Refused],
 ) -> Result<String, AllocError>
-    ensures { IfOk result (λ text. StandInOrder (refused_texts
-        (record { path = file.entry.path.now; text = file.entry.text.now }) refused.now)
+    ensures { IfOk result (λ text. StandInOrder (refused_texts is_colored source.now refused.now)
         (string_bytes text)) }
 {
-    let source = Source::new(alloc, file.path, file.text)?;
     let mut page = Page::new(alloc, is_colored);
-    let count = push_refused(&mut page, &source, refused);
+    let count = push_refused(&mut page, source, refused);
     push_summary(&mut page, count);
     page.finish()
 }
 
 /// Pushes all these faults. Returns how many of them are errors.
 fn push_refused(page: &mut Page, source: &Source<'_>, refused: &[Refused]) -> usize
-    ensures { Shows (refused_texts source.now refused.now) page.old page.new }
+    ensures { Shows (refused_texts page.old.is_colored source.now refused.now) page.old page.new }
 {
     let mut count: usize = 0;
     for one in refused {

@@ -1,13 +1,16 @@
 //! What the words of a command line ask for.
+
 ghost use Rattle.std.specs.Prelude.{◌≡◌, IfErr, IfOk, None, Some, is_some, map, option_map, string_bytes};
-ghost use Rattle.logos_report.specs.Stops.{status_of};
-ghost use Rattle.logos_cli.specs.Orders.{answer_named, asked, asked_given, begins_option, first_answer};
-ghost use Rattle.logos_cli.specs.Orders.{given_nothing, given_value, order_given, shape_named};
-ghost use Rattle.logos_cli.specs.Orders.{request_value, valued_named, with_flag, with_input};
-ghost use Rattle.logos_cli.specs.Orders.{with_option, with_value, with_word, with_words};
+ghost use Rattle.logos_host.specs.Failures.{status_of};
+ghost use Rattle.logos_host.specs.WordSteps.{use_value};
+ghost use Rattle.logos_cli.specs.Orders.{asked, asked_given, given_nothing, given_value, order_given};
+ghost use Rattle.logos_cli.specs.Orders.{given_or, path_named, request_value, shape_named, with_flag};
+ghost use Rattle.logos_cli.specs.Orders.{with_found, with_output, with_path, with_shape, with_color};
+ghost use Rattle.logos_cli.specs.Orders.{with_value, with_word, with_words};
+ghost use Rattle.logos_host.specs.Colors.{color_named};
 
 use logos_codegen::generator::Config;
-use logos_report::{Color, Stop, color_by_name};
+use logos_host::{Color, Failure, OptionName, Progress, Use, color_by_name, next_step};
 
 /// What is asked for.
 #[derive(Clone, Copy)]
@@ -41,14 +44,6 @@ pub(crate) struct Order<'w> {
     pub(crate) color: Color,
 }
 
-/// Options that take a value.
-#[derive(Clone, Copy)]
-enum Valued {
-    Output,
-    Shape,
-    Color,
-}
-
 /// Options that ask for a text.
 #[derive(Clone, Copy)]
 enum Answer {
@@ -62,81 +57,94 @@ struct Given<'w> {
     input: Option<&'w str>,
     output: Option<&'w str>,
     is_check: bool,
-    shape: Shape,
-    color: Color,
+    shape: Option<Shape>,
+    color: Option<Color>,
     answer: Option<Answer>,
-    /// The option whose value the next word is.
-    pending: Option<Valued>,
+    progress: Progress,
 }
+
+/// The options that the program takes.
+pub(crate) const TAKEN: [OptionName; 6] = [
+    OptionName::Check,
+    OptionName::Color,
+    OptionName::Help,
+    OptionName::Output,
+    OptionName::Shape,
+    OptionName::Version,
+];
+
+/// The path of standard input.
+const STANDARD_INPUT: &str = "/dev/stdin";
 
 /// Returns what the words ask for.
 ///
 /// # Errors
 ///
-/// Returns `Misuse` if they are not a command.
-pub(crate) fn request_of(words: &[String]) -> Result<Request<'_>, Stop<'_>>
+/// Returns `Misuse` or `UnknownOption` if they are not a command.
+pub(crate) fn request_of(words: &[String]) -> Result<Request<'_>, Failure<'_>>
     ensures asked { IfOk result (λ request.
         asked (map string_bytes words.now) ≡ Some (request_value request)) }
-    ensures misuse { IfErr result (λ stop.
-        (asked (map string_bytes words.now) ≡ None) × (status_of stop ≡ 2)) }
+    ensures misuse { IfErr result (λ failure.
+        (asked (map string_bytes words.now) ≡ None) × (status_of failure ≡ 2)) }
 {
     match read_words(words) {
         Ok(given) => request_given(given),
-        Err(stop) => Err(stop),
+        Err(failure) => Err(failure),
     }
 }
 
 /// Reads all words.
-fn read_words(words: &[String]) -> Result<Given<'_>, Stop<'_>>
+fn read_words(words: &[String]) -> Result<Given<'_>, Failure<'_>>
     ensures given { IfOk result (λ given.
         with_words (Some given_nothing) (map string_bytes words.now) ≡ Some (given_value given)) }
-    ensures misuse { IfErr result (λ stop.
+    ensures misuse { IfErr result (λ failure.
         (with_words (Some given_nothing) (map string_bytes words.now) ≡ None)
-        × (status_of stop ≡ 2)) }
+        × (status_of failure ≡ 2)) }
 {
     let mut given = Given {
         input: None,
         output: None,
         is_check: false,
-        shape: Shape::Code(Config {
-            use_state_machine_codegen: true,
-        }),
-        color: Color::Auto,
+        shape: None,
+        color: None,
         answer: None,
-        pending: None,
+        progress: Progress {
+            pending: None,
+            is_over: false,
+        },
     };
     for word in words {
         given = match read_word(given, word.as_str()) {
             Ok(next) => next,
-            Err(stop) => return Err(stop),
+            Err(failure) => return Err(failure),
         };
     }
     Ok(given)
 }
 
 /// Returns what the words ask for, by what they give.
-fn request_given(given: Given<'_>) -> Result<Request<'_>, Stop<'_>>
+fn request_given(given: Given<'_>) -> Result<Request<'_>, Failure<'_>>
     ensures asked { IfOk result (λ request.
         asked_given (Some (given_value given.entry)) ≡ Some (request_value request)) }
-    ensures misuse { IfErr result (λ stop.
-        (asked_given (Some (given_value given.entry)) ≡ None) × (status_of stop ≡ 2)) }
+    ensures misuse { IfErr result (λ failure.
+        (asked_given (Some (given_value given.entry)) ≡ None) × (status_of failure ≡ 2)) }
 {
-    if let Some(option) = given.pending {
-        return Err(misuse("a value is missing after", word_of(option)));
-    }
     match given.answer {
         Some(Answer::Help) => Ok(Request::Help),
         Some(Answer::Version) => Ok(Request::Version),
-        None => order_given(given),
+        None => match given.progress.pending {
+            Some(option) => Err(misuse("a value is missing after", option.word())),
+            None => order_given(given),
+        },
     }
 }
 
 /// Returns the file to expand.
-fn order_given(given: Given<'_>) -> Result<Request<'_>, Stop<'_>>
+fn order_given(given: Given<'_>) -> Result<Request<'_>, Failure<'_>>
     ensures asked { IfOk result (λ request. order_given (given_value given.entry)
         (given_value given.entry).input ≡ Some (request_value request)) }
-    ensures misuse { IfErr result (λ stop. (order_given (given_value given.entry)
-        (given_value given.entry).input ≡ None) × (status_of stop ≡ 2)) }
+    ensures misuse { IfErr result (λ failure. (order_given (given_value given.entry)
+        (given_value given.entry).input ≡ None) × (status_of failure ≡ 2)) }
 {
     let Some(input) = given.input else {
         return Err(misuse("no input file", ""));
@@ -148,126 +156,126 @@ fn order_given(given: Given<'_>) -> Result<Request<'_>, Stop<'_>>
         input,
         output: given.output,
         is_check: given.is_check,
-        shape: given.shape,
-        color: given.color,
+        shape: shape_or_tables(given.shape),
+        color: color_or_auto(given.color),
     }))
 }
 
+/// Returns the shape that is given, or tables.
+fn shape_or_tables(shape: Option<Shape>) -> Shape
+    ensures { result ≡ given_or Shape.Tables shape }
+{
+    match shape {
+        Some(shape) => shape,
+        None => Shape::Tables,
+    }
+}
+
+/// Returns when messages have colors: as is given, or on a terminal.
+fn color_or_auto(color: Option<Color>) -> Color
+    ensures { result ≡ given_or Color.Auto color }
+{
+    match color {
+        Some(color) => color,
+        None => Color::Auto,
+    }
+}
+
 /// Returns the error of words that are not a command.
-fn misuse<'w>(what: &'static str, word: &'w str) -> Stop<'w>
+fn misuse<'w>(what: &'static str, word: &'w str) -> Failure<'w>
     ensures { status_of result ≡ 2 }
 {
-    Stop::Misuse { what, word }
+    Failure::Misuse { what, word }
 }
 
-/// Reads one more word.
-fn read_word<'w>(given: Given<'w>, word: &'w str) -> Result<Given<'w>, Stop<'w>>
+/// Returns the error of an option that is given twice.
+fn twice<'w>(option: OptionName) -> Failure<'w>
+    ensures { status_of result ≡ 2 }
+{
+    misuse("given twice:", option.word())
+}
+
+/// Returns the error of an option that the program does not take.
+fn unknown<'w>(option: OptionName) -> Failure<'w>
+    ensures { status_of result ≡ 2 }
+{
+    Failure::UnknownOption {
+        word: option.word(),
+        nearest: "",
+    }
+}
+
+/// Reads one more word. After `--help` and `--version` no word is read.
+fn read_word<'w>(given: Given<'w>, word: &'w str) -> Result<Given<'w>, Failure<'w>>
     ensures given { IfOk result (λ next.
         with_word (given_value given.entry) word.now ≡ Some (given_value next)) }
-    ensures misuse { IfErr result (λ stop.
-        (with_word (given_value given.entry) word.now ≡ None) × (status_of stop ≡ 2)) }
+    ensures misuse { IfErr result (λ failure.
+        (with_word (given_value given.entry) word.now ≡ None) × (status_of failure ≡ 2)) }
 {
-    match given.pending {
-        Some(option) => read_value(given, option, word),
-        None => read_option(given, word),
+    if is_answered(given.answer) {
+        return Ok(given);
+    }
+    match next_step(given.progress, word) {
+        Ok(next) => read_found(
+            Given {
+                progress: next.progress,
+                ..given
+            },
+            next.found,
+        ),
+        Err(failure) => Err(failure),
     }
 }
 
-/// Reads the value of an option.
-fn read_value<'w>(given: Given<'w>, option: Valued, value: &'w str) -> Result<Given<'w>, Stop<'w>>
-    ensures given { IfOk result (λ next.
-        with_value (given_value given.entry) option value.now ≡ Some (given_value next)) }
-    ensures misuse { IfErr result (λ stop.
-        (with_value (given_value given.entry) option value.now ≡ None) × (status_of stop ≡ 2)) }
+/// Returns whether a text is asked for.
+fn is_answered(answer: Option<Answer>) -> bool
+    ensures { result ≡ is_some answer }
 {
-    let given = Given {
-        pending: None,
-        ..given
-    };
-    match option {
-        Valued::Output => Ok(Given {
-            output: Some(value),
-            ..given
-        }),
-        Valued::Shape => match shape_by_name(value) {
-            Some(shape) => Ok(Given { shape, ..given }),
-            None => Err(misuse(
-                "`--shape` is `tailcall`, `state_machine` or `tables`, not",
-                value,
-            )),
-        },
-        Valued::Color => match color_by_name(value) {
-            Some(color) => Ok(Given { color, ..given }),
-            None => Err(misuse("`--color` is `always`, `never` or `auto`, not", value)),
-        },
+    match answer {
+        Some(_) => true,
+        None => false,
     }
 }
 
-/// Reads a word that no option waits for.
-fn read_option<'w>(given: Given<'w>, word: &'w str) -> Result<Given<'w>, Stop<'w>>
-    ensures given { IfOk result (λ next. with_option (given_value given.entry)
-        (valued_named word.now) word.now ≡ Some (given_value next)) }
-    ensures misuse { IfErr result (λ stop. (with_option (given_value given.entry)
-        (valued_named word.now) word.now ≡ None) × (status_of stop ≡ 2)) }
+/// Reads what a word gives.
+fn read_found<'w>(given: Given<'w>, found: Option<Use<'w>>) -> Result<Given<'w>, Failure<'w>>
+    ensures given { IfOk result (λ next. with_found (given_value given.entry)
+        (option_map use_value found.entry) ≡ Some (given_value next)) }
+    ensures misuse { IfErr result (λ failure. (with_found (given_value given.entry)
+        (option_map use_value found.entry) ≡ None) × (status_of failure ≡ 2)) }
 {
-    match valued_by_word(word) {
-        Some(option) => Ok(Given {
-            pending: Some(option),
-            ..given
-        }),
-        None => read_flag(given, word),
-    }
-}
-
-/// Reads a word that is not an option with a value.
-fn read_flag<'w>(given: Given<'w>, word: &'w str) -> Result<Given<'w>, Stop<'w>>
-    ensures given { IfOk result (λ next. with_flag (given_value given.entry)
-        (answer_named word.now) word.now ≡ Some (given_value next)) }
-    ensures misuse { IfErr result (λ stop. (with_flag (given_value given.entry)
-        (answer_named word.now) word.now ≡ None) × (status_of stop ≡ 2)) }
-{
-    if let Some(answer) = answer_by_word(word) {
-        return Ok(Given {
-            answer: first_answer(given.answer, answer),
-            ..given
-        });
-    }
-    if word == "--check" {
-        return Ok(Given {
-            is_check: true,
-            ..given
-        });
-    }
-    read_input(given, word)
-}
-
-/// Returns the first of two answers.
-fn first_answer(first: Option<Answer>, answer: Answer) -> Option<Answer>
-    ensures { result ≡ first_answer first answer }
-{
-    match first {
-        Some(first) => Some(first),
-        None => Some(answer),
+    match found {
+        None => Ok(given),
+        Some(Use::Path(path)) => read_path(given, path),
+        Some(Use::Flag(option)) => read_flag(given, option),
+        Some(Use::Value(option, value)) => read_value(given, option, value),
     }
 }
 
 /// Reads the path of the input.
-fn read_input<'w>(given: Given<'w>, word: &'w str) -> Result<Given<'w>, Stop<'w>>
+fn read_path<'w>(given: Given<'w>, path: &'w str) -> Result<Given<'w>, Failure<'w>>
     ensures given { IfOk result (λ next.
-        with_input (given_value given.entry) word.now ≡ Some (given_value next)) }
-    ensures misuse { IfErr result (λ stop.
-        (with_input (given_value given.entry) word.now ≡ None) × (status_of stop ≡ 2)) }
+        with_path (given_value given.entry) path.now ≡ Some (given_value next)) }
+    ensures misuse { IfErr result (λ failure.
+        (with_path (given_value given.entry) path.now ≡ None) × (status_of failure ≡ 2)) }
 {
-    if is_option(word) {
-        return Err(misuse("unknown option", word));
-    }
     if is_given(given.input) {
-        return Err(misuse("a second input file", word));
+        return Err(misuse("a second input file", path));
     }
     Ok(Given {
-        input: Some(word),
+        input: Some(path_by_word(path)),
         ..given
     })
+}
+
+/// Returns the path that a word is: `-` is standard input.
+fn path_by_word(word: &str) -> &str
+    ensures { result.now ≡ path_named word.now }
+{
+    if word == "-" {
+        return STANDARD_INPUT;
+    }
+    word
 }
 
 /// Returns whether there is a path.
@@ -280,54 +288,106 @@ fn is_given(path: Option<&str>) -> bool
     }
 }
 
-/// Returns whether a word begins with `-`.
-fn is_option(word: &str) -> bool
-    ensures { result ≡ begins_option word.now }
-{
-    match word.as_bytes() {
-        [first, ..] => *first == b'-',
-        [] => false,
-    }
-}
-
-/// Returns the option with a value that has this word.
-fn valued_by_word(word: &str) -> Option<Valued>
-    ensures { result ≡ valued_named word.now }
-{
-    if word == "--output" {
-        return Some(Valued::Output);
-    }
-    if word == "--shape" {
-        return Some(Valued::Shape);
-    }
-    if word == "--color" {
-        return Some(Valued::Color);
-    }
-    None
-}
-
-/// Returns the word of an option with a value.
-fn word_of(option: Valued) -> &'static str
-    ensures { valued_named result.now ≡ Some option }
+/// Reads an option without a value.
+fn read_flag<'w>(given: Given<'w>, option: OptionName) -> Result<Given<'w>, Failure<'w>>
+    ensures given { IfOk result (λ next.
+        with_flag (given_value given.entry) option ≡ Some (given_value next)) }
+    ensures misuse { IfErr result (λ failure.
+        (with_flag (given_value given.entry) option ≡ None) × (status_of failure ≡ 2)) }
 {
     match option {
-        Valued::Output => "--output",
-        Valued::Shape => "--shape",
-        Valued::Color => "--color",
+        OptionName::Help => Ok(Given {
+            answer: Some(Answer::Help),
+            ..given
+        }),
+        OptionName::Version => Ok(Given {
+            answer: Some(Answer::Version),
+            ..given
+        }),
+        OptionName::Check if given.is_check => Err(twice(option)),
+        OptionName::Check => Ok(Given {
+            is_check: true,
+            ..given
+        }),
+        _ => Err(unknown(option)),
     }
 }
 
-/// Returns the option that asks for a text and has this word.
-fn answer_by_word(word: &str) -> Option<Answer>
-    ensures { result ≡ answer_named word.now }
+/// Reads an option with its value.
+fn read_value<'w>(
+    given: Given<'w>,
+    option: OptionName,
+    value: &'w str,
+) -> Result<Given<'w>, Failure<'w>>
+    ensures given { IfOk result (λ next.
+        with_value (given_value given.entry) option value.now ≡ Some (given_value next)) }
+    ensures misuse { IfErr result (λ failure.
+        (with_value (given_value given.entry) option value.now ≡ None)
+        × (status_of failure ≡ 2)) }
 {
-    if word == "--help" {
-        return Some(Answer::Help);
+    match option {
+        OptionName::Output => read_output(given, value),
+        OptionName::Shape => read_shape(given, value),
+        OptionName::Color => read_color(given, value),
+        _ => Err(unknown(option)),
     }
-    if word == "--version" {
-        return Some(Answer::Version);
+}
+
+/// Reads the path of the file for the result.
+fn read_output<'w>(given: Given<'w>, path: &'w str) -> Result<Given<'w>, Failure<'w>>
+    ensures given { IfOk result (λ next.
+        with_output (given_value given.entry) path.now ≡ Some (given_value next)) }
+    ensures misuse { IfErr result (λ failure.
+        (with_output (given_value given.entry) path.now ≡ None) × (status_of failure ≡ 2)) }
+{
+    if is_given(given.output) {
+        return Err(twice(OptionName::Output));
     }
-    None
+    Ok(Given {
+        output: Some(path),
+        ..given
+    })
+}
+
+/// Reads the name of a shape.
+fn read_shape<'w>(given: Given<'w>, name: &'w str) -> Result<Given<'w>, Failure<'w>>
+    ensures given { IfOk result (λ next.
+        with_shape (given_value given.entry) given.entry.shape (shape_named name.now)
+        ≡ Some (given_value next)) }
+    ensures misuse { IfErr result (λ failure.
+        (with_shape (given_value given.entry) given.entry.shape (shape_named name.now) ≡ None)
+        × (status_of failure ≡ 2)) }
+{
+    match (given.shape, shape_by_name(name)) {
+        (Some(_), _) => Err(twice(OptionName::Shape)),
+        (None, Some(shape)) => Ok(Given {
+            shape: Some(shape),
+            ..given
+        }),
+        (None, None) => Err(misuse(
+            "`--shape` is `tables`, `tailcall` or `state_machine`, not",
+            name,
+        )),
+    }
+}
+
+/// Reads when messages have colors.
+fn read_color<'w>(given: Given<'w>, name: &'w str) -> Result<Given<'w>, Failure<'w>>
+    ensures given { IfOk result (λ next.
+        with_color (given_value given.entry) given.entry.color (color_named name.now)
+        ≡ Some (given_value next)) }
+    ensures misuse { IfErr result (λ failure.
+        (with_color (given_value given.entry) given.entry.color (color_named name.now) ≡ None)
+        × (status_of failure ≡ 2)) }
+{
+    match (given.color, color_by_name(name)) {
+        (Some(_), _) => Err(twice(OptionName::Color)),
+        (None, Some(color)) => Ok(Given {
+            color: Some(color),
+            ..given
+        }),
+        (None, None) => Err(misuse("`--color` is `always`, `never` or `auto`, not", name)),
+    }
 }
 
 /// Returns the shape with this name.

@@ -1,22 +1,33 @@
 //! From words to a status.
-ghost use Rattle.std.specs.Prelude.{◌≡◌, ◌≤◌, ◌⊎◌, ◌↔◌, None, IfErr, IfOk, IfSome, OnOk};
-ghost use Rattle.std.specs.Prelude.{IsTrue, map, string_bytes};
-ghost use Rattle.logos_report.specs.Stops.{status_of};
-ghost use Rattle.logos_cli.specs.Expanding.{FailsBy};
+
+ghost use Rattle.std.specs.Prelude.{◌≡◌, ◌≢◌, ◌≤◌, ◌++◌, ◌⊎◌, None, MatchOption, false, true, IfErr, IfOk, IfSome};
+ghost use Rattle.std.specs.Prelude.{OnOk, ℕ, List};
+ghost use Rattle.std.specs.Prelude.{IsTrue, ⊤, map, string_bytes};
+ghost use Rattle.std.specs.Io.KnownBytes.{Appends, Keeps};
+ghost use Rattle.logos_host.specs.Failures.{status_of};
+ghost use Rattle.logos_host.specs.Messages.{message_of};
 ghost use Rattle.logos_cli.specs.Orders.{asked, order_value, request_value};
 ghost use Rattle.logos_cli.specs.Runs.{IsCarriedOut, IsDelivered, IsDenied, IsDeniedOrder, IsDone};
-ghost use Rattle.logos_cli.specs.Runs.{IsSettled};
+ghost use Rattle.logos_cli.specs.Runs.{IsApart, IsOwnOutput, IsSettled};
+ghost use Rattle.logos_cli.specs.Expanding.{IsExpanded};
+ghost use Rattle.logos_cli.specs.Gathering.{FailsBy, IsRefusedFor};
+ghost use Rattle.logos_cli.specs.Runs.{IsOther};
+ghost use Rattle.logos_host.specs.Reading.{Reads};
 
-use crate::expanding::{Expansion, File, expand};
-use crate::options::{Order, Request, request_of};
-use logos_disk::{ComparableFiles, FileError, Files, Standing};
-use logos_report::{Stop, report};
+use crate::expanding::{Expansion, expand};
+use crate::options::{Order, Request, TAKEN, request_of};
+use logos_host::{
+    ComparableFiles, Failure, Files, Standing, read_text, report, with_nearest, write_through,
+};
+use logos_report::Source;
 use std::alloc::{AllocError, Global};
 use std::io;
-use std::io::{ErrorKind, IsTerminal, Write};
+use std::io::{IsTerminal, Write};
 
-const USAGE: &str =
-    "usage: logos_cli INPUT [--output FILE] [--check] [--shape tailcall|state_machine|tables] [--color always|never|auto]\n";
+pub(crate) const USAGE: &str = "\
+usage: logos_cli INPUT [-o FILE] [-c] [--shape tables|tailcall|state_machine]
+                 [--color always|never|auto]
+";
 
 const HELP: &str = "\
 logos_cli: a Rust file with the derive of `Logos` expanded
@@ -25,191 +36,298 @@ usage: logos_cli INPUT [OPTIONS]
 
 Prints the file INPUT with each enum that derives `Logos` replaced by the enum
 without what belongs to the derive, and by the implementation. All other text
-stays as it is.
+stays as it is. INPUT may be `-`, which is standard input.
 
 options:
-  --output FILE     write to FILE, if its content is another
-  --check           write nothing; status 1 if FILE is missing or differs
-  --shape SHAPE     tailcall: a function for each state
-                    state_machine: one loop over a state (the default)
-                    tables: tables, and one loop over them
-  --color WHEN      always, never or auto (on a terminal; the default)
-  --help            print this text
-  --version         print the version
+  -o, --output FILE  write to FILE, if its content is another
+  -c, --check        write nothing; status 1 if FILE is missing or differs
+      --shape SHAPE  tables: tables, and one loop over them (the default)
+                     tailcall: a function for each state
+                     state_machine: one loop over a state
+      --color WHEN   always, never or auto (on a terminal; the default)
+  -h, --help         print this text
+  -V, --version      print the version
+      --             what follows is INPUT, even if it begins with `-`
 ";
 
-const VERSION: &str = "logos_cli 0.16.1\n";
+const VERSION: &str = "logos_cli 0.1.0 (for logos 0.16)\n";
 
-/// The streams that the program writes to: standard output and standard error.
-#[derive(Drop)]
-pub(crate) struct Streams<'s, O, E> {
-    pub(crate) out: &'s mut O,
-    pub(crate) err: &'s mut E,
+/// How a run ended.
+#[derive(Clone, Copy)]
+pub(crate) struct Ending {
+    /// The exit status.
+    pub(crate) status: u8,
+    /// Whether standard error took all messages.
+    pub(crate) is_written: bool,
 }
 
-/// Does what the words ask for, and returns the exit status: 0 done, 1 refused, 2 for words that are
-/// not a command, 3 if a file or memory fails. What is wrong is written to standard error.
+/// Does what the words ask for. The exit status is 0 if it is done, 1 if it is refused, 2 for words
+/// that are not a command or name the input as the output, and 3 if a file or memory fails. What is
+/// wrong is written to standard error.
 pub(crate) fn run<F: ComparableFiles, O: Write, E: Write + IsTerminal>(
     alloc: Global,
     words: &[String],
     files: &mut F,
-    streams: &mut Streams<'_, O, E>,
-) -> u8
-    ensures usage { (result ≡ 2) ↔ (asked (map string_bytes words.now) ≡ None) }
-    // The files gave what was asked for, and the result is there.
-    ensures done { result ≡ 0 → IfSome (asked (map string_bytes words.now))
-        (λ order. IsDone F.read_gives F.write_makes order files.old files.new) }
-    // A refusal stands: a lexer of the file has faults, or a file that is only compared is not the result.
-    ensures denied { result ≡ 1 → IfSome (asked (map string_bytes words.now))
-        (λ order. IsDenied F.read_gives order files.old) }
-    ensures known { result ≤ 3 }
+    out: &mut O,
+    err: &mut E,
+) -> Ending
+    ensures usage { asked (map string_bytes words.now) ≡ None → result.status ≡ 2 }
+    ensures misuse { result.status ≡ 2 → (asked (map string_bytes words.now) ≡ None)
+        ⊎ IfSome (asked (map string_bytes words.now)) (λ order. IsOwnOutput F.same_finds order files.old) }
+    // The output is not the input.
+    ensures apart { result.status ≡ 0 → IfSome (asked (map string_bytes words.now))
+        (λ order. IsApart F.same_finds order files.old) }
+    // No file was read or written, and nothing was printed.
+    ensures untouched { result.status ≡ 2 →
+        (files.new ≡ files.old) × Keeps (O.contents out.old) (O.contents out.new) }
+    // The files gave what was asked for, and the result is there whole.
+    ensures done { result.status ≡ 0 → IfSome (asked (map string_bytes words.now))
+        (λ order. IsDone F.read_gives F.write_makes F.compare_finds order files.old files.new
+        (O.contents out.old) (O.contents out.new)) }
+    // A refusal stands: a lexer of the file has faults, or a file that is only compared is not the result. The
+    // text that says so is what standard error got last, and nothing was printed or written.
+    ensures denied { result.status ≡ 1 → IfSome (asked (map string_bytes words.now))
+        (λ order. (shown : List ℕ) × IsDenied F.read_gives F.write_makes F.compare_finds order
+        files.old files.new shown × (IsTrue result.is_written → (front : List ℕ)
+        × Appends (E.contents err.old) (E.contents err.new) (front ++ shown))) }
+    ensures silent { result.status ≡ 1 → Keeps (O.contents out.old) (O.contents out.new) }
+    ensures known { result.status ≤ 3 }
 {
-    let request = match request_of(words) {
-        Ok(request) => request,
-        Err(stop) => return report(&stop, USAGE, streams.err),
-    };
-    match carry_out(alloc, request, files, streams) {
-        Ok(()) => 0,
-        Err(stop) => report(&stop, USAGE, streams.err),
+    match request_of(words) {
+        Ok(Request::Help) => ended(print_bytes(HELP.as_bytes(), out), err),
+        Ok(Request::Version) => ended(print_bytes(VERSION.as_bytes(), out), err),
+        Ok(Request::Expand(order)) => run_order(alloc, order, files, out, err),
+        Err(failure) => failed(&with_nearest(failure, &TAKEN), err),
     }
 }
 
-/// Writes why the words cannot be read, and returns the exit status: 3 if memory ran out, and else 2, since
-/// a word is not UTF-8.
-pub(crate) fn refuse_words<E: Write>(why: ErrorKind, err: &mut E) -> u8
-    ensures memory { (result ≡ 3) ↔ (why ≡ ErrorKind.OutOfMemory) }
-    ensures known { (result ≡ 2) ⊎ (result ≡ 3) }
+/// Ends a run that has no warnings.
+fn ended<E: Write>(done: Result<(), Failure<'_>>, err: &mut E) -> Ending
+    requires { IfErr done (λ failure. status_of failure ≡ 3) }
+    ensures { (result.status ≡ 3) ⊎ (result.status ≡ 0) }
 {
-    match why {
-        ErrorKind::OutOfMemory => report(&Stop::Memory, USAGE, err),
-        _ => report(&NOT_TEXT, USAGE, err),
+    match done {
+        Ok(()) => Ending {
+            status: 0,
+            is_written: true,
+        },
+        Err(failure) => failed(&failure, err),
     }
 }
 
-/// The error of a word that is not UTF-8.
-const NOT_TEXT: Stop<'static> = Stop::Misuse {
-    what: "a word is not UTF-8",
-    word: "",
-};
+/// Ends a run that failed: writes why.
+fn failed<E: Write>(failure: &Failure<'_>, err: &mut E) -> Ending
+    ensures status { result.status ≡ status_of failure.now }
+    ensures written { IsTrue result.is_written → (usage : List ℕ) × Appends (E.contents err.old)
+        (E.contents err.new) (message_of usage failure.now) }
+{
+    Ending {
+        status: failure.status(),
+        is_written: report(failure, USAGE, err).is_ok(),
+    }
+}
 
-/// Does what is asked for.
-fn carry_out<'w, F: ComparableFiles, O: Write, E: Write + IsTerminal>(
+/// Expands a file, and delivers the result.
+fn run_order<F: ComparableFiles, O: Write, E: Write + IsTerminal>(
     alloc: Global,
-    request: Request<'w>,
+    order: Order<'_>,
     files: &mut F,
-    streams: &mut Streams<'_, O, E>,
-) -> Result<(), Stop<'w>>
-    ensures done { OnOk result (IsDone F.read_gives F.write_makes
-        (request_value request.entry) files.old files.new) }
-    ensures denied { IfErr result (FailsBy
-        (IsDenied F.read_gives (request_value request.entry) files.old)) }
+    out: &mut O,
+    err: &mut E,
+) -> Ending
+    ensures own { result.status ≡ 2 → IfSome (order_value order.entry).output
+        (λ path. F.same_finds files.old (order_value order.entry).input path true) }
+    ensures apart { result.status ≡ 0 → IfSome (order_value order.entry).output
+        (λ path. F.same_finds files.old (order_value order.entry).input path false) }
+    ensures untouched { result.status ≡ 2 →
+        (files.new ≡ files.old) × Keeps (O.contents out.old) (O.contents out.new) }
+    ensures done { result.status ≡ 0 → IsCarriedOut F.read_gives F.write_makes F.compare_finds
+        (order_value order.entry) files.old files.new (O.contents out.old) (O.contents out.new) }
+    ensures denied { result.status ≡ 1 → (shown : List ℕ) × IsDeniedOrder F.read_gives F.write_makes
+        F.compare_finds (order_value order.entry) files.old files.new shown
+        × (IsTrue result.is_written → (front : List ℕ)
+        × Appends (E.contents err.old) (E.contents err.new) (front ++ shown)) }
+    ensures silent { result.status ≡ 1 → Keeps (O.contents out.old) (O.contents out.new) }
+    ensures known { result.status ≤ 3 }
 {
-    match request {
-        Request::Help => write_out(HELP.as_bytes(), streams.out),
-        Request::Version => write_out(VERSION.as_bytes(), streams.out),
-        Request::Expand(order) => carry_out_order(alloc, order, files, streams),
+    if let Some(path) = own_output(order, files) {
+        return failed(&Failure::OwnOutput(path), err);
+    }
+    let is_colored = order.color.is_on(err.is_terminal());
+    match expansion_of(alloc, order, is_colored, files) {
+        Ok(expansion) => deliver_and_end(alloc, order, &expansion, files, out, err),
+        Err(failure) => failed(&failure, err),
     }
 }
 
-/// Reads a file, expands it, and delivers the result.
-fn carry_out_order<'w, F: ComparableFiles, O: Write, E: Write + IsTerminal>(
+/// Returns the path of the file for the result, if it leads to the file that is read.
+fn own_output<'w, F: ComparableFiles>(order: Order<'w>, files: &F) -> Option<&'w str>
+    ensures { MatchOption result
+        (IfSome (order_value order.entry).output
+        (λ path. F.same_finds files.now (order_value order.entry).input path false))
+        (λ found. IfSome (order_value order.entry).output
+        (λ path. F.same_finds files.now (order_value order.entry).input path true)) }
+{
+    match order.output {
+        Some(path) if files.is_same_file(order.input, path) => Some(path),
+        _ => None,
+    }
+}
+
+/// Reads a file, and expands it.
+fn expansion_of<'w, F: ComparableFiles>(
     alloc: Global,
     order: Order<'w>,
+    is_colored: bool,
     files: &mut F,
-    streams: &mut Streams<'_, O, E>,
-) -> Result<(), Stop<'w>>
-    ensures done { OnOk result (IsCarriedOut F.read_gives F.write_makes
-        (order_value order.entry) files.old files.new) }
-    ensures denied { IfErr result (FailsBy
-        (IsDeniedOrder F.read_gives (order_value order.entry) files.old)) }
+) -> Result<Expansion, Failure<'w>>
+    ensures done { IfOk result (λ made. Reads F.read_gives files.old (order_value order.entry).input
+        (λ text read. (files.new ≡ read)
+        × IsExpanded (order_value order.entry).shape text made.bytes.items)) }
+    ensures denied { IfErr result (FailsBy (IsRefusedFor (IsDeniedOrder F.read_gives F.write_makes
+        F.compare_finds (order_value order.entry) files.old files.new))) }
 {
-    let text = read_text(order.input, files)?;
-    let file = File {
-        path: order.input,
-        text: text.as_str(),
+    let text = match read_text(order.input, files) {
+        Ok(text) => text,
+        Err(error) => return Err(Failure::of_reading(order.input, error)),
     };
-    let is_colored = order.color.is_on(streams.err.is_terminal());
-    let expansion = match expand(alloc, file, order.shape, is_colored) {
-        Ok(expansion) => expansion,
-        Err(stop) => return Err(stop),
+    let source = match Source::new(alloc, order.input, text.as_str()) {
+        Ok(source) => source,
+        Err(AllocError) => return Err(Failure::Memory),
     };
-    warn(order.input, &expansion, streams.err);
-    deliver(alloc, order, &expansion.bytes, files, streams.out)
+    expand(alloc, &source, order.shape, is_colored)
 }
 
-/// Warns if nothing was expanded.
-fn warn<E: Write>(path: &str, expansion: &Expansion, err: &mut E) {
-    if expansion.count == 0 {
-        let _ = writeln!(err, "warning: no enum in {path} derives `Logos`");
-        let _ = err.flush();
+/// Warns, delivers an expansion, and ends.
+fn deliver_and_end<F: ComparableFiles, O: Write, E: Write>(
+    alloc: Global,
+    order: Order<'_>,
+    expansion: &Expansion,
+    files: &mut F,
+    out: &mut O,
+    err: &mut E,
+) -> Ending
+    ensures done { result.status ≡ 0 → IsDelivered F.read_gives F.write_makes F.compare_finds
+        (order_value order.entry) (order_value order.entry).output expansion.now.bytes.items files.old
+        files.new (O.contents out.old) (O.contents out.new) }
+    ensures denied { result.status ≡ 1 → (shown : List ℕ) × IsTrue (order_value order.entry).is_check
+        × IfSome (order_value order.entry).output (λ path. IsOther F.compare_finds path
+        expansion.now.bytes.items files.old files.new) × (IsTrue result.is_written → (front : List ℕ)
+        × Appends (E.contents err.old) (E.contents err.new) (front ++ shown)) }
+    ensures silent { result.status ≡ 1 → Keeps (O.contents out.old) (O.contents out.new) }
+    ensures known { (result.status ≤ 3) × (result.status ≢ 2) }
+{
+    let is_warned = warn(order.input, expansion, err);
+    match deliver(alloc, order, &expansion.bytes, files, out) {
+        Ok(()) => Ending {
+            status: 0,
+            is_written: is_warned,
+        },
+        Err(failure) => failed_after(is_warned, &failure, err),
     }
 }
 
-/// Returns the text of a file.
-fn read_text<'w, F: Files>(path: &'w str, files: &mut F) -> Result<String, Stop<'w>>
-    ensures read { IfOk result (λ text.
-        F.read_gives files.old path.now (string_bytes text) files.new) }
-    ensures failed { IfErr result (λ stop. status_of stop ≡ 3) }
+/// Ends a run that failed after a warning: writes why.
+fn failed_after<E: Write>(is_warned: bool, failure: &Failure<'_>, err: &mut E) -> Ending
+    ensures status { result.status ≡ status_of failure.now }
+    ensures written { IsTrue result.is_written → IsTrue is_warned × ((usage : List ℕ)
+        × Appends (E.contents err.old) (E.contents err.new) (message_of usage failure.now)) }
 {
-    let bytes = match files.read(path) {
-        Ok(bytes) => bytes,
-        Err(FileError::Failed) => return Err(Stop::Read(path)),
-        Err(FileError::Memory) => return Err(Stop::Memory),
-    };
-    match String::from_utf8(bytes) {
-        Ok(text) => Ok(text),
-        Err(_) => Err(Stop::Read(path)),
+    let ending = failed(failure, err);
+    Ending {
+        status: ending.status,
+        is_written: is_warned & ending.is_written,
     }
 }
 
-/// Brings the result where it was asked for.
+/// Warns if nothing was expanded. Returns whether standard error took the warning.
+fn warn<E: Write>(path: &str, expansion: &Expansion, err: &mut E) -> bool
+    ensures { IsTrue result → (text : List ℕ)
+        × Appends (E.contents err.old) (E.contents err.new) text }
+{
+    if expansion.count != 0 {
+        return true;
+    }
+    write_warning(path, err).is_ok()
+}
+
+/// Writes that nothing was expanded.
+fn write_warning<E: Write>(path: &str, err: &mut E) -> io::Result<()>
+    ensures { OnOk result ((text : List ℕ)
+        × Appends (E.contents err.old) (E.contents err.new) text) }
+{
+    writeln!(err, "warning: no enum in {path} derives `Logos`")?;
+    err.flush()
+}
+
+/// Writes the result to standard output or to the output file.
 fn deliver<'w, F: ComparableFiles, O: Write>(
     alloc: Global,
     order: Order<'w>,
     bytes: &[u8],
     files: &mut F,
     out: &mut O,
-) -> Result<(), Stop<'w>>
-    ensures done { OnOk result (IsDelivered F.read_gives F.write_makes (order_value order.entry)
-        (order_value order.entry).output bytes.now files.old files.new) }
-    ensures denied { IfErr result (FailsBy (IsTrue order.entry.is_check)) }
+) -> Result<(), Failure<'w>>
+    ensures done { OnOk result (IsDelivered F.read_gives F.write_makes F.compare_finds
+        (order_value order.entry) (order_value order.entry).output bytes.now files.old files.new
+        (O.contents out.old) (O.contents out.new)) }
+    ensures denied { IfErr result (FailsBy (IsRefusedFor (λ shown.
+        IsTrue (order_value order.entry).is_check × IfSome (order_value order.entry).output
+        (λ path. IsOther F.compare_finds path bytes.now files.old files.new)))) }
+    ensures silent { IfErr result (λ failure. status_of failure ≡ 1 →
+        Keeps (O.contents out.old) (O.contents out.new)) }
 {
     match order.output {
-        None => write_out(bytes, out),
+        None => print_bytes(bytes, out),
         Some(path) => settle(alloc, order, path, bytes, files),
     }
 }
 
-/// Brings the result to a file: writes it if the file has other content, or only compares it.
+/// Prints bytes.
+fn print_bytes<'w, O: Write>(bytes: &[u8], out: &mut O) -> Result<(), Failure<'w>>
+    ensures done { OnOk result (Appends (O.contents out.old) (O.contents out.new) bytes.now) }
+    ensures failed { IfErr result (λ failure. status_of failure ≡ 3) }
+{
+    match write_through(bytes, out) {
+        Ok(()) => Ok(()),
+        Err(error) => Err(Failure::of_output(&error)),
+    }
+}
+
+/// Writes a file unless it has this content; with `--check`, only compares.
 fn settle<'w, F: ComparableFiles>(
     alloc: Global,
     order: Order<'w>,
     path: &'w str,
     bytes: &[u8],
     files: &mut F,
-) -> Result<(), Stop<'w>>
-    ensures done { OnOk result (IsSettled F.read_gives F.write_makes (order_value order.entry)
-        path.now bytes.now files.old files.new) }
-    ensures denied { IfErr result (FailsBy (IsTrue order.entry.is_check)) }
+) -> Result<(), Failure<'w>>
+    ensures done { OnOk result (IsSettled F.read_gives F.write_makes F.compare_finds
+        (order_value order.entry) path.now bytes.now files.old files.new) }
+    ensures denied { IfErr result (FailsBy (IsRefusedFor (λ shown.
+        IsTrue (order_value order.entry).is_check
+        × IsOther F.compare_finds path.now bytes.now files.old files.new))) }
 {
-    let standing = files.compare(path, bytes)?;
+    let standing = match files.compare(path, bytes) {
+        Ok(standing) => standing,
+        Err(AllocError) => return Err(Failure::Memory),
+    };
     if matches!(standing, Standing::Same) {
         return Ok(());
     }
     if order.is_check {
-        return Err(difference(alloc, order, path, standing));
+        return Err(difference(alloc, order.input, path, standing));
     }
     write_file(path, bytes, files)
 }
 
 /// Returns how the file at a path differs from what another file gives.
-fn difference<'w>(alloc: Global, order: Order<'_>, path: &str, standing: Standing) -> Stop<'w>
-    requires { IsTrue order.is_check }
-    ensures { FailsBy (IsTrue order.entry.is_check) result }
+fn difference<'w>(alloc: Global, input: &str, path: &str, standing: Standing) -> Failure<'w>
+    ensures { FailsBy (IsRefusedFor (λ shown. ⊤)) result }
 {
-    match difference_text(alloc, order.input, path, standing) {
-        Ok(text) => Stop::Refused(text),
-        Err(AllocError) => Stop::Memory,
+    match difference_text(alloc, input, path, standing) {
+        Ok(text) => Failure::Refused(text),
+        Err(AllocError) => Failure::Memory,
     }
 }
 
@@ -227,29 +345,12 @@ fn difference_text(
 }
 
 /// Writes bytes to a file.
-fn write_file<'w, F: Files>(path: &'w str, bytes: &[u8], files: &mut F) -> Result<(), Stop<'w>>
+fn write_file<'w, F: Files>(path: &'w str, bytes: &[u8], files: &mut F) -> Result<(), Failure<'w>>
     ensures done { OnOk result (F.write_makes files.old path.now bytes.now files.new) }
-    ensures failed { IfErr result (λ stop. status_of stop ≡ 3) }
+    ensures failed { IfErr result (λ failure. status_of failure ≡ 3) }
 {
     match files.write(path, bytes) {
         Ok(()) => Ok(()),
-        Err(FileError::Failed) => Err(Stop::Write(path)),
-        Err(FileError::Memory) => Err(Stop::Memory),
+        Err(error) => Err(Failure::of_writing(path, error)),
     }
-}
-
-/// Writes bytes to standard output, and flushes it.
-fn write_out<'w, O: Write>(bytes: &[u8], out: &mut O) -> Result<(), Stop<'w>>
-    ensures { IfErr result (λ stop. status_of stop ≡ 3) }
-{
-    match write_through(bytes, out) {
-        Ok(()) => Ok(()),
-        Err(_) => Err(Stop::Output),
-    }
-}
-
-/// Writes all bytes, and flushes the writer.
-fn write_through<O: Write>(bytes: &[u8], out: &mut O) -> io::Result<()> {
-    out.write_all(bytes)?;
-    out.flush()
 }

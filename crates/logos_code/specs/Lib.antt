@@ -11,3 +11,6 @@ pub mod Rows
 pub mod Masks
 pub mod LastMarks
 pub mod inside
+pub mod Shapes
+pub mod Words
+pub mod Views

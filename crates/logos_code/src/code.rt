@@ -1,14 +1,7 @@
 //! Code values: what a lexer does in each state.
 ghost use Rattle.std.specs.Prelude.{◌≡◌, ◌*◌, ◌<◌, ◌/◌, length, option_map, option_copied, IfSome};
-ghost use Rattle.logos_code.specs.Bytes.{passes_test};
-ghost use Rattle.logos_code.specs.Headline.{IsSound, NamesTest};
-ghost use Rattle.logos_code.specs.CodeView.{entry_of, state_at, asks_for};
-ghost use Rattle.logos_code.specs.CodeView.{skips_over, code_of, IsValid};
-ghost use Rattle.logos_code.specs.Runs.{target};
-ghost use Rattle.logos_code.specs.LastMarks.{IsLastMark};
-ghost use Rattle.logos_code.specs.Masks.{IsMask};
-ghost use Rattle.logos_code.specs.Rows.{IsEntry, IsFirst, IsLastEntry, IsPlace};
-ghost use Rattle.logos_code.specs.Signs.{mark_by};
+ghost use Rattle.logos_code.specs.Words.{passes_test};
+ghost use Rattle.logos_code.specs.Views.{IsSound, NamesTest, entry_of, state_at, asks_for, skips_over, code_of, IsValid, target, IsLastMark, IsMask, IsEntry, IsFirst, IsLastEntry, IsPlace, shape_named, mark_by};
 
 pub mod last_marks;
 pub(crate) mod making;
@@ -83,6 +76,31 @@ pub struct Config {
     pub use_state_machine_codegen: bool,
 }
 
+impl Config {
+    /// One loop over a state variable.
+    pub const STATE_MACHINE: Config = Config {
+        use_state_machine_codegen: true,
+    };
+
+    /// A function for each state.
+    pub const TAILCALL: Config = Config {
+        use_state_machine_codegen: false,
+    };
+
+    /// Returns the shape with this name: `state_machine` or `tailcall`.
+    pub fn by_name(name: &str) -> Option<Config>
+        ensures { result ≡ shape_named name.now }
+    {
+        if name == "state_machine" {
+            return Some(Config::STATE_MACHINE);
+        }
+        if name == "tailcall" {
+            return Some(Config::TAILCALL);
+        }
+        None
+    }
+}
+
 /// The header of a code's text. The generator copies it from what it is given beside the graph.
 #[derive(Drop)]
 pub struct Header<'s> {
@@ -122,8 +140,8 @@ pub struct Code<'s> {
     first: [u32; 256],
     /// What each byte does in each state, so that running the code takes one look a byte. `rows` describes the layout.
     rows: Vec<u32>,
-    /// The tests, for eight bytes at once.
-    masks: Vec<[u8; 2048]>,
+    /// The tests, for sixteen bytes at once.
+    masks: Vec<[u8; 32]>,
     /// The mark of each state.
     signs: Vec<Sign>,
     /// The last mark that a try has passed, where it ends in each state.
@@ -133,18 +151,16 @@ pub struct Code<'s> {
 }
 
 impl<'s> Model for Code<'s> {
-    ghost use Rattle.std.specs.Coded.{codes};
-    ghost use Rattle.logos_type.specs.contracts.type_expr.Part as p;
-    ghost use mir.Syntax.{named};
     ghost use Rattle.std.specs.Prelude.{[]};
-    ghost use Rattle.logos_code.specs.Code.{CodeValue};
+    ghost use Rattle.logos_code.specs.Words.{codes, named};
+    ghost use Rattle.logos_code.specs.Views.{CodeValue};
+    ghost use Rattle.logos_type.specs.contracts.type_expr.Part as p;
 
     ghost Value = { CodeValue };
 
     ghost coded = { Prim.hlevel (codes, (p.the_row (record { mir = named 1; lft = [] })).coded) };
 
-    ghost use Rattle.logos_code.specs.CodeView.{code_of};
-    ghost use Rattle.logos_code.specs.Uses.{IsWhole};
+    ghost use Rattle.logos_code.specs.Views.{code_of, IsWhole};
 
     ghost view = { λ code. code_of code.parts };
 
@@ -220,6 +236,7 @@ impl Code<'_> {
         ensures first { IsFirst self.now byte result }
         ensures sound { IsSound self.now }
     {
+        // A read of a field brings the invariant of the type into the proof.
         let _ = &self.parts;
         self.first[byte as usize]
     }
@@ -235,9 +252,17 @@ impl Code<'_> {
         column[place]
     }
 
-    /// Returns the mask of the test. Entry `8 * b + k` is 0 where byte `b` passes the test, and else has bit `k` alone.
+    /// Returns whether the byte passes the test.
+    pub fn passes_test(&self, test: usize, byte: u8) -> bool
+        requires { NamesTest self.now test }
+        ensures { result ≡ passes_test self.now.bit_tables test byte }
+    {
+        self.parts.passes_test(test, byte)
+    }
+
+    /// Returns the mask of the test. Bit `b / 16 % 8` of entry `16 * (b / 128) + b % 16` is set where byte `b` passes it.
     #[inline(always)]
-    pub fn mask(&self, test: usize) -> &[u8; 2048]
+    pub fn mask(&self, test: usize) -> &[u8; 32]
         requires { NamesTest self.now test }
         ensures { IsMask (passes_test self.now.bit_tables test) result.now }
     {

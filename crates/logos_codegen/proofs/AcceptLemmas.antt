@@ -4,22 +4,22 @@ use Rattle.logos_lexeme.specs.declared.lexeme.Span.{Span}
 use Rattle.logos_token.specs.Faults.{Fault as SourceFault}
 use Rattle.logos_token.specs.Tokens.{TokenList, run_span}
 use Rattle.logos_token.proofs.reading.SpellingLaws.{spells-one, unreadable-excludes, deep-excludes}
-use Rattle.logos_item.specs.Enum.{Reads}
-use Rattle.logos_item.specs.EnumValues.{EnumValue}
-use Rattle.logos_item.proofs.EnumOnce.{once-reads}
-use Rattle.logos_definition.specs.Options.{OptionsView}
+use Rattle.logos_enum.specs.Enum.{Reads}
+use Rattle.logos_enum.specs.EnumValues.{EnumValue}
+use Rattle.logos_enum.proofs.EnumOnce.{once-reads}
+use Rattle.logos_definition.specs.Options.{OptionsView, utf8_mode}
 use Rattle.logos_leaf.specs.Leaves.{LeafView}
-use Rattle.logos_leaf.specs.Sources.{SourceSays, utf8_mode}
+use Rattle.logos_leaf.specs.Sources.{ReadsSource}
 use Rattle.logos_leaf.proofs.agreement.Sources.{source_once}
 use Rattle.logos_automaton.specs.Munch.{Rule}
 use Rattle.logos_automaton.specs.Faults.{AreFaults}
 use Rattle.logos_automaton.proofs.ambiguity.OneFaults.{faults_once}
-use Rattle.logos_source.specs.Endings.{Says, EndsTokens, EndsReading, source_limit, nesting_limit, unreadable, misread}
-use Rattle.logos_source.specs.Refusals.{Refuses, IsMemory}
-use Rattle.logos_source.specs.Analyses.{EnumSays, type_faults}
-use Rattle.logos_source.specs.Utf8Faults.{utf8_faults}
-use Rattle.logos_source.specs.declared.refusal.Refusal.{Refusal}
-use Rattle.logos_source.specs.declared.refusal.Refusal.TheVariants.{Errors, Memory}
+use Rattle.logos_parser.specs.Endings.{GivesEnum, EndsTokens, EndsReading, source_limit, nesting_limit, unreadable, misread}
+use Rattle.logos_parser.specs.Refusals.{Refuses, IsMemory}
+use Rattle.logos_parser.specs.Analyses.{ReadsEnum, type_faults}
+use Rattle.logos_parser.specs.Utf8Faults.{utf8_faults}
+use Rattle.logos_parser.specs.declared.refusal.Refusal.{Refusal}
+use Rattle.logos_parser.specs.declared.refusal.Refusal.TheVariants.{Errors, Memory}
 use Rattle.logos_codegen.specs.Texts.{reported_as}
 use Rattle.logos_codegen.specs.Rules.{NamedRule, named_of_view, rules_of_views, rules_in, names_in, GraphReports, graph_faults, size_limit, states_limit}
 use Rattle.logos_codegen.specs.Source.{IsAccepted, IsRefused, unread, faulty, IsWithinLimits}
@@ -41,7 +41,7 @@ pub record AreSilent (leaves : List LeafView) (options : OptionsView) (of_parts 
   pub text : utf8_faults (utf8_mode options) leaves ≡ []
   pub types : type_faults options ≡ []
 
-pub silent : (enum : EnumValue) (leaves : List LeafView) (options : OptionsView) (a : EnumSays enum leaves options []) → AreSilent leaves options a.of_parts
+pub silent : (enum : EnumValue) (leaves : List LeafView) (options : OptionsView) (a : ReadsEnum enum leaves options []) → AreSilent leaves options a.of_parts
 silent enum leaves options a =
     let all = nothing_in (a.of_parts ++ utf8_faults (utf8_mode options) leaves) (type_faults options) a.all in
     let first = nothing_in a.of_parts (utf8_faults (utf8_mode options) leaves) (sym all.0) in
@@ -49,10 +49,10 @@ silent enum leaves options a =
 
 -- an enum without faults has one list of leaves and one set of options
 pub enum_once : (enum : EnumValue) (leaves others : List LeafView) (options other : OptionsView) (faults : List SourceFault) →
-    EnumSays enum leaves options [] → EnumSays enum others other faults → (faults ≡ []) × (rules_of_views leaves ≡ rules_of_views others) × (options ≡ other)
+    ReadsEnum enum leaves options [] → ReadsEnum enum others other faults → (faults ≡ []) × (rules_of_views leaves ≡ rules_of_views others) × (options ≡ other)
 enum_once enum leaves others options other faults a b =
     let none = silent enum leaves options a in
-    let says : SourceSays enum a.read.options leaves [] = rw none.parts at a.read.says in
+    let says : ReadsSource enum a.read.options leaves [] = rw none.parts at a.read.says in
     let once = source_once says b.read.says in
     let same : options ≡ other = a.read.same ∙ ap without_skips once.1 ∙ sym b.read.same in
     let text : utf8_faults (utf8_mode other) others ≡ [] = sym (same_faults (utf8_mode other) leaves others once.2) ∙ rw same at none.text in
@@ -64,15 +64,15 @@ enum_once enum leaves others options other faults a b =
     )
 
 -- it gives tokens of the same kinds
-kinds_alike : (enum : EnumValue) (leaves others : List LeafView) (options other : OptionsView) → EnumSays enum leaves options [] → EnumSays enum others other [] → kinds_of_views leaves ≡ kinds_of_views others
+kinds_alike : (enum : EnumValue) (leaves others : List LeafView) (options other : OptionsView) → ReadsEnum enum leaves options [] → ReadsEnum enum others other [] → kinds_of_views leaves ≡ kinds_of_views others
 kinds_alike enum leaves others options other a b =
     let none = silent enum leaves options a in
-    let says : SourceSays enum a.read.options leaves [] = rw none.parts at a.read.says in
+    let says : ReadsSource enum a.read.options leaves [] = rw none.parts at a.read.says in
     same_kinds leaves others (source_once says b.read.says).2
 
 -- ---- a source is one enum at most
 
-pub one_value : (source : List ℕ) (value other : EnumValue) (item place : Span) → Says source value item → Says source other place → (value ≡ other) × (item ≡ place)
+pub one_value : (source : List ℕ) (value other : EnumValue) (item place : Span) → GivesEnum source value item → GivesEnum source other place → (value ≡ other) × (item ≡ place)
 one_value source value other item place a b =
     let tokens = spells-one source a.tokens b.tokens a.spelled b.spelled in
     let reads : Reads b.tokens (Ok value) = rw tokens at a.reads in
@@ -86,7 +86,7 @@ tokens_exclude tokens value faults reads ends =
     absurd (cc)
 
 -- the reading of an enum within the limits is not ended by a fault
-ends_excludes : (source : List ℕ) (rules : List Rule) (value : EnumValue) (item : Span) (fault : SourceFault) → Says source value item → IsWithinLimits source rules → EndsReading source fault → ⊥
+ends_excludes : (source : List ℕ) (rules : List Rule) (value : EnumValue) (item : Span) (fault : SourceFault) → GivesEnum source value item → IsWithinLimits source rules → EndsReading source fault → ⊥
 ends_excludes source rules value item fault says limits (source_limit l is) = let s = limits.sizes.short in omega arith
 ends_excludes source rules value item fault says limits (nesting_limit deep is) =
     let more = deep-excludes source _ says.tokens deep says.spelled in
@@ -109,16 +109,16 @@ graph_reports_none source leaves item faults none limits (states_limit small sta
 pub accepted_once : (source : List ℕ) (rules rules' : List Rule) (utf8 utf8' : Bool) → IsAccepted source rules utf8 → IsAccepted source rules' utf8' → (rules ≡ rules') × (utf8 ≡ utf8')
 accepted_once source rules rules' utf8 utf8' a b =
     let same = one_value source a.enum b.enum a.item b.item a.says b.says in
-    let says : EnumSays b.enum a.leaves a.options [] = rw same.0 at a.enum_says in
+    let says : ReadsEnum b.enum a.leaves a.options [] = rw same.0 at a.enum_says in
     let once = enum_once b.enum a.leaves b.leaves a.options b.options [] says b.enum_says in
     (a.same_rules ∙ once.1 ∙ sym b.same_rules, a.same_mode ∙ ap utf8_mode once.2 ∙ sym b.same_mode)
 
 -- a source without faults gives tokens of the kinds of its leaves
-pub kinds_as_analyzed : (source : List ℕ) (rules : List Rule) (utf8 : Bool) (enum : EnumValue) (item : Span) (leaves : List LeafView) (options : OptionsView) → Says source enum item → EnumSays enum leaves options [] →
+pub kinds_as_analyzed : (source : List ℕ) (rules : List Rule) (utf8 : Bool) (enum : EnumValue) (item : Span) (leaves : List LeafView) (options : OptionsView) → GivesEnum source enum item → ReadsEnum enum leaves options [] →
     (a : IsAccepted source rules utf8) → kinds_of_views leaves ≡ kinds_of_views a.leaves
 kinds_as_analyzed source rules utf8 enum item leaves options says enum_says a =
     let same = one_value source enum a.enum item a.item says a.says in
-    let own : EnumSays a.enum leaves options [] = rw same.0 at enum_says in
+    let own : ReadsEnum a.enum leaves options [] = rw same.0 at enum_says in
     kinds_alike a.enum leaves a.leaves options a.options own a.enum_says
 
 -- a source that is accepted gives tokens of one list of kinds
@@ -130,7 +130,7 @@ accepted_or_refused : (source : List ℕ) (rules : List Rule) (utf8 : Bool) (fau
 accepted_or_refused source rules utf8 faults a limits (unread ends is) = ends_excludes source rules a.enum a.item _ a.says limits ends
 accepted_or_refused source rules utf8 faults a limits (faulty {enum} {item} {leaves} short shallow says reported some) =
     let same = one_value source a.enum enum a.item item a.says says in
-    let own : EnumSays enum a.leaves a.options [] = rw same.0 at a.enum_says in
+    let own : ReadsEnum enum a.leaves a.options [] = rw same.0 at a.enum_says in
     let once = enum_once enum a.leaves leaves a.options reported.options reported.enum_faults own reported.says in
     let rules_are : rules_in (map named_of_view leaves) ≡ rules_of_views a.leaves = rules_of_named leaves ∙ sym once.1 in
     let faultless : AreFaults (rules_in (map named_of_view leaves)) [] = rw rules_are a.faultless in

@@ -16,10 +16,12 @@ use Rattle.logos_code.specs.declared.action.Action.TheVariants.{Emit, Skip, Erro
 use Rattle.logos_code.specs.Items.{Callback, Search, Item, token, error, asks, MayAnswer, items_of, over, match, fault, NextItem, passes, gives as gives_item, fails, Items, IsNext}
 use Rattle.logos_generator.proofs.Compose.{runs_iff, next_iff}
 use Rattle.logos_generator.proofs.InOrder.{best_within, stop_within}
+use Rattle.logos_generator.proofs.Once.{items_once}
+use Rattle.logos_generator.specs.Laws.{AnswersOnce}
 use Rattle.logos_codegen.specs.Source.{IsRefused}
-use Rattle.logos_source.specs.Refusals.{Refuses}
-use Rattle.logos_source.specs.declared.refusal.Refusal.{Refusal}
-use Rattle.logos_source.specs.declared.refusal.Refusal.TheVariants as refusals
+use Rattle.logos_parser.specs.Refusals.{Refuses}
+use Rattle.logos_parser.specs.declared.refusal.Refusal.{Refusal}
+use Rattle.logos_parser.specs.declared.refusal.Refusal.TheVariants as refusals
 use Rattle.logos_codegen.specs.declared.expr.ExprError.{ExprError}
 use Rattle.logos_codegen.specs.declared.expr.ExprKind.{ExprKind}
 use Rattle.logos_lexeme.specs.declared.lexeme.Span.{Span}
@@ -118,6 +120,9 @@ module _ (rules : List Rule) (utf8 : Bool) (code : CodeValue) (text : List ℕ) 
 
 -- ---- a text has one list of items
 
+emits_once : AnswersOnce emits
+emits_once leaf slice one other a b = a ∙ sym b
+
 module _ (rules : List Rule) (utf8 : Bool) (text : List ℕ) where
   abbrev uses_of : List Use
   uses_of = map (λ rule. rule.use_of) rules
@@ -143,28 +148,6 @@ module _ (rules : List Rule) (utf8 : Bool) (text : List ℕ) where
 
   one_end : (from leaf to other end : ℕ) → from ≤ length text → Finds rules utf8 text from (matched leaf to) → Finds rules utf8 text from (matched other end) → matched leaf to ≡ matched other end
   one_end from leaf to other end inside s t = finds_one rules utf8 text from inside (matched leaf to) (matched other end) s t
-
-  -- a place has one list of items
-  items_once : {at : ℕ} {items others : List Item} → at ≤ length text → Items rules emits utf8 text at items → Items rules emits utf8 text at others → items ≡ others
-  items_once inside (over from s) (over place t) = refl
-  items_once inside (over from s) (match place to leaf answer rest t m l) = absurd (let f : ended ≡ matched leaf to = finds_one rules utf8 text from inside ended (matched leaf to) s t in cc)
-  items_once inside (over from s) (fault place to rest t l) = absurd (let f : ended ≡ failed to = finds_one rules utf8 text from inside ended (failed to) s t in cc)
-  items_once inside (match from to leaf answer rest s m l) (over place t) = absurd (let f : matched leaf to ≡ ended = finds_one rules utf8 text from inside (matched leaf to) ended s t in cc)
-  items_once inside (match from to leaf answer rest s m l) (match place end other reply others t n k) =
-      let f = one_end from leaf to other end inside s t in
-      let e : to ≡ end = cc in
-      let k' : Items rules emits utf8 text to others = rw e k in
-      let same = items_once (best_within rules text from to leaf inside s) l k' in
-      ap (λ x. items_of uses_of emits text answer leaf from to ++ x) same ∙ ap (λ x. x ++ others) (sym (same_items from leaf to other end answer reply f m n))
-  items_once inside (match from to leaf answer rest s m l) (fault place end others t k) = absurd (let f : matched leaf to ≡ failed end = finds_one rules utf8 text from inside (matched leaf to) (failed end) s t in cc)
-  items_once inside (fault from to rest s l) (over place t) = absurd (let f : failed to ≡ ended = finds_one rules utf8 text from inside (failed to) ended s t in cc)
-  items_once inside (fault from to rest s l) (match place end leaf answer others t m k) = absurd (let f : failed to ≡ matched leaf end = finds_one rules utf8 text from inside (failed to) (matched leaf end) s t in cc)
-  items_once inside (fault from to rest s l) (fault place end others t k) =
-      let f : failed to ≡ failed end = finds_one rules utf8 text from inside (failed to) (failed end) s t in
-      let e : to ≡ end = cc in
-      let k' : Items rules emits utf8 text to others = rw e k in
-      let same = items_once (stop_within rules utf8 text from to s.0 s.2) l k' in
-      ap (λ x. error None from to (slice_range text from to) ∷ x) same ∙ ap (λ x. error None from x (slice_range text from x) ∷ others) e
 
   -- all items begin with the next one
   record BeginsWith (item : Item) (next : ℕ) (all : List Item) : Type 0 where
@@ -199,7 +182,7 @@ module _ (rules : List Rule) (utf8 : Bool) (text : List ℕ) where
 
   -- what is read has the outcome of all items
   read_outcome : (kinds : List ExprKind) {at : ℕ} {items all : List Item} → at ≤ length text → AreRead rules utf8 text at items → Items rules emits utf8 text at all → outcome_of kinds items ≡ outcome_of kinds all
-  read_outcome kinds inside (all_read at o) a = ap (outcome_of kinds) (items_once inside o a)
+  read_outcome kinds inside (all_read at o) a = ap (outcome_of kinds) (items_once rules emits emits_once utf8 text inside o a)
   read_outcome kinds inside (token_read at leaf from to slice next items n r) a =
       let b = begins_with inside n a in
       ap (λ x. in_front (record { kind = kind_at kinds leaf; from = from; to = to; slice = slice } ∷ []) x) (read_outcome kinds b.inside r b.items) ∙ ap (outcome_of kinds) (sym b.are)

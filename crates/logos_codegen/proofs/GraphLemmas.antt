@@ -4,8 +4,8 @@ use Rattle.std.proofs.lemmas.Bool.{cases_lt}
 use Rattle.logos_lexeme.specs.declared.lexeme.Span.{Span}
 use Rattle.logos_token.specs.Faults.{Fault as SourceFault}
 use Rattle.logos_pattern.specs.declared.leaf.Leaf.{Leaf}
-use Rattle.logos_item.specs.EnumValues.{EnumValue}
-use Rattle.logos_definition.specs.Options.{OptionsView}
+use Rattle.logos_enum.specs.EnumValues.{EnumValue}
+use Rattle.logos_definition.specs.Options.{OptionsView, utf8_mode}
 use Rattle.logos_pattern.specs.Leaf.{kind_text, kind_value, is_skip}
 use Rattle.logos_pattern.specs.declared.leaf.VariantKind.{VariantKind}
 use Rattle.logos_pattern.specs.declared.leaf.VariantKind.TheVariants.{Unit as UnitVariant, Value, Skip}
@@ -13,11 +13,10 @@ use Rattle.logos_pattern.specs.declared.leaf.Callback.{Callback}
 use Rattle.logos_attribute.specs.CallbackViews.{callback_view}
 use Rattle.logos_leaf.specs.Leaves.{LeafView}
 use Rattle.logos_leaf.specs.LeafViews.{leaf_view}
-use Rattle.logos_leaf.specs.Sources.{utf8_mode}
-use Rattle.logos_source.specs.Endings.{Says, IsShallow}
-use Rattle.logos_source.specs.Refusals.{Refuses as RefusesSource}
-use Rattle.logos_source.specs.Analyses.{EnumSays, AnalysisView}
-use Rattle.logos_source.specs.Utf8Faults.{kind_name}
+use Rattle.logos_parser.specs.Endings.{GivesEnum, IsShallow}
+use Rattle.logos_parser.specs.Refusals.{Refuses as RefusesSource}
+use Rattle.logos_parser.specs.Analyses.{ReadsEnum, AnalysisView}
+use Rattle.logos_parser.specs.Utf8Faults.{kind_name}
 use Rattle.logos_automaton.specs.Munch.{Rule}
 use Rattle.logos_automaton.specs.Faults.{AreFaults}
 use Rattle.logos_automaton.specs.Measures.{size_of}
@@ -30,8 +29,8 @@ use Rattle.logos_codegen.specs.Rules.{NamedRule, named_rule, named_of_view, rule
 use Rattle.logos_codegen.specs.Source.{AreReported, IsRefused, faulty}
 use Rattle.logos_codegen.specs.Given.{IsGraphOfSource}
 use Rattle.logos_codegen.specs.inside.Steps.{IsLimit, ReportsGraph, AreGraphFaults, IsGraphMade}
-use Rattle.logos_source.specs.declared.refusal.Refusal.{Refusal}
-use Rattle.logos_source.proofs.RefusalLemmas.{refuses_by}
+use Rattle.logos_parser.specs.declared.refusal.Refusal.{Refusal}
+use Rattle.logos_parser.proofs.RefusalLemmas.{refuses_by}
 use Rattle.logos_codegen.proofs.ReportingLemmas.{reports_some}
 
 pub rules_are : (leaves : List Leaf) → rules_in (map named_rule leaves) ≡ rules_of leaves
@@ -141,7 +140,7 @@ rules_view leaves = sym (rules_of_named (map leaf_view leaves)) ∙ ap rules_in 
 -- ---- an enum, and the graph of its leaves
 
 module _ (source : List ℕ) (enum : EnumValue) (item : Span) (leaves : List Leaf) (options : OptionsView) (before : List SourceFault)
-    (says : Says source enum item) (enum_says : EnumSays enum (map leaf_view leaves) options before) where
+    (says : GivesEnum source enum item) (enum_says : ReadsEnum enum (map leaf_view leaves) options before) where
   -- all faults
   abbrev AllReported : List SourceFault → Type 0
   AllReported faults = AreReported enum item faults (map leaf_view leaves)
@@ -168,7 +167,7 @@ module _ (source : List ℕ) (enum : EnumValue) (item : Span) (leaves : List Lea
       let both = both_empty before found.faults (sym found.all) in
       let held = found.is graph refl in
       let made = held.0 in
-      let none : EnumSays enum (map leaf_view leaves) options [] = rw both.0 at enum_says in
+      let none : ReadsEnum enum (map leaf_view leaves) options [] = rw both.0 at enum_says in
       let reports : GraphReports (map named_rule leaves) item found.faults = found.reports in
       let rules : rules_in (map named_rule leaves) ≡ rules_of leaves = rules_are leaves in
       let faultless : AreFaults (rules_of leaves) [] = rw rules at (graph_faultless (map named_rule leaves) item found.faults both.1 reports) in

@@ -1,8 +1,6 @@
 -- From a code value's runs to the items of maximal munch.
-use Rattle.std.proofs.Common.{◌≡◌, ℕ, Bool, true, false, List, [], ◌∷◌, ◌++◌, length, get_or, map, refl, sym, ◌∙◌, arith, append_assoc, append-nil, if◌then◌else◌, MatchBool, IsTrue, IsUtf8, Result, Ok, Err, IfOk, IfErr, Vec, Global, Fits, w8}
+use Rattle.std.proofs.Common.{◌≡◌, ℕ, Bool, true, false, List, [], ◌∷◌, ◌++◌, length, map, refl, sym, ◌∙◌, arith, append_assoc, append-nil, if◌then◌else◌, MatchBool, IsTrue, IsUtf8, Result, Ok, Err, IfOk, IfErr, Vec, Global}
 use Rattle.std.proofs.lemmas.Str.{IsCharBoundary-start}
-use Rattle.std.proofs.Math.Facts.{Fits-lt-pow}
-use Rattle.std.proofs.lemmas.Grind.{get_or_default_zero}
 use Rattle.std.proofs.lemmas.List.Elements.{All-nil, All-cons}
 use Rattle.std.specs.List.{All}
 use Rattle.logos_hir.specs.Text.{IsBytes}
@@ -14,28 +12,25 @@ use Rattle.logos_machine.specs.LexerValue.{LexerValue, Gives, Ends, item_of}
 use Rattle.logos_machine.specs.declared.machine.Item.{Item as TheItem}
 use Rattle.logos_code.specs.declared.action.Action.{Action}
 use Rattle.logos_code.specs.declared.action.Action.TheVariants.{Emit, Skip, Error}
-use Rattle.logos_measures.specs.Measure.{is_text}
+use Rattle.logos_hir.specs.Measure.{is_text}
 use Rattle.logos_attribute.specs.Reports.{only}
 use Rattle.logos_leaf.specs.Leaves.{LeafView}
 use Rattle.logos_code.specs.Order.{AreInOrder, Parts, IsLeftOut}
 use Rattle.logos_code.specs.Runs.{CodeFinds, Runs}
 use Rattle.logos_generator.proofs.Compose.{runs_iff}
 use Rattle.logos_generator.proofs.InOrder.{in_order, parted}
-use Rattle.logos_source.specs.Refusals.{IsMemory}
-use Rattle.logos_source.specs.Utf8Faults.{utf8_fault, utf8_faults}
+use Rattle.logos_parser.specs.Refusals.{IsMemory}
+use Rattle.logos_parser.specs.Utf8Faults.{utf8_fault, utf8_faults}
 use Rattle.logos_codegen.specs.Rules.{rule_of_view, rules_of_views}
 use Rattle.logos_codegen.specs.Source.{IsAccepted}
 use Rattle.logos_codegen.specs.RunLaws.{anything, RunsAreCut}
 use Rattle.logos_codegen.specs.Refusals.{IsUnlexed, IsJust, IsNoRefusal, IsThatRefusal}
-use Rattle.logos_source.specs.declared.refusal.Refusal.{Refusal}
-use Rattle.logos_source.specs.declared.refusal.Refusal.TheVariants.{Errors, Memory}
+use Rattle.logos_parser.specs.declared.refusal.Refusal.{Refusal}
+use Rattle.logos_parser.specs.declared.refusal.Refusal.TheVariants.{Errors, Memory}
 use Rattle.logos_codegen.specs.declared.lexing.LexSourceError.{LexSourceError}
 use Rattle.logos_codegen.specs.declared.lexing.LexSourceError.TheVariants.{Refused, NotUtf8, Memory as OutOfMemory}
 use Rattle.logos_codegen.proofs.AcceptLemmas.{accepted_once, silent}
 use Rattle.logos_generator.proofs.CutLemmas.{items_cut}
-
-pub are_bytes : (bytes : List ℕ) → ((i : ℕ) → Fits w8 (get_or bytes i 0)) → IsBytes bytes
-are_bytes bytes h = λ k d l. rw (get_or_default_zero bytes k d l) (Fits-lt-pow (h k))
 
 -- where no leaf is reported in UTF-8 mode, all trees match UTF-8 alone
 texts_are : (leaves : List LeafView) → utf8_faults true leaves ≡ [] → All (λ rule. is_text rule.tree ≡ true) (rules_of_views leaves)

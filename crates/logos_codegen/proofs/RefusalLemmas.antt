@@ -1,8 +1,8 @@
 -- Why a source is refused.
 use Rattle.std.proofs.Common.{ℕ, List}
-use Rattle.logos_source.specs.Refusals.{Refuses}
-use Rattle.logos_source.specs.declared.refusal.Refusal.{Refusal}
-use Rattle.logos_source.proofs.RefusalLemmas.{refuses_by, OneEnds}
+use Rattle.logos_parser.specs.Refusals.{Refuses}
+use Rattle.logos_parser.specs.declared.refusal.Refusal.{Refusal}
+use Rattle.logos_parser.proofs.RefusalLemmas.{refuses_by, OneEnds}
 use Rattle.logos_codegen.specs.Source.{IsRefused, unread}
 
 -- a fault that ends the reading is a reason to refuse

@@ -3,15 +3,15 @@ use Rattle.std.proofs.Common.{◌≡◌, ℕ, Bool, true, false, not, List, [], 
 use Rattle.logos_token.specs.declared.error.fault_code.FaultCode.TheVariants.{Utf8Pattern}
 use Rattle.logos_token.specs.Faults.{Fault as SourceFault}
 use Rattle.logos_type.specs.Parts.{Tree as TypeTree}
-use Rattle.logos_measures.specs.Measure.{is_text}
-use Rattle.logos_item.specs.Values.{Slice}
+use Rattle.logos_hir.specs.Measure.{is_text}
+use Rattle.logos_enum.specs.Values.{Slice}
 use Rattle.logos_pattern.specs.Leaf.{KindValue, plain, holding, skipped}
 use Rattle.logos_attribute.specs.Reports.{fault, only}
 use Rattle.logos_automaton.specs.Munch.{Rule}
 use Rattle.logos_leaf.specs.Leaves.{LeafView}
 use Rattle.logos_leaf.proofs.agreement.Leaves.{ShownKind, Shown, shown_kind, shown}
-use Rattle.logos_source.specs.Utf8Faults.{kind_name, leaf_faults, utf8_faults}
-use Rattle.logos_source.proofs.ModeLemmas.{text_by}
+use Rattle.logos_parser.specs.Utf8Faults.{kind_name, leaf_faults, utf8_faults}
+use Rattle.logos_parser.proofs.ModeLemmas.{text_by}
 use Rattle.logos_codegen.specs.Rules.{skips, rule_of_view, rules_of_views}
 use Rattle.logos_codegen.specs.Tokenizing.{kind_named, kind_given, kinds_of_views}
 use Rattle.logos_codegen.specs.declared.expr.ExprKind.{ExprKind}

@@ -4,18 +4,17 @@ use Rattle.logos_lexeme.specs.declared.lexeme.Span.{Span}
 use Rattle.logos_token.specs.declared.token.Ident.{Ident}
 use Rattle.logos_type.specs.TypeTrees.{type_tree}
 use Rattle.logos_type_params.specs.Generics.{generics}
-use Rattle.logos_item.specs.EnumValues.{EnumValue}
-use Rattle.logos_item.specs.Values.{Slice, ident_slice}
+use Rattle.logos_enum.specs.EnumValues.{EnumValue}
+use Rattle.logos_enum.specs.Values.{Slice, ident_slice}
 use Rattle.logos_attribute.specs.CallbackViews.{callback_view}
 use Rattle.logos_attribute.specs.Callbacks.{CallbackView}
-use Rattle.logos_definition.specs.Options.{OptionsView}
-use Rattle.logos_pattern.specs.Leaf.{KindValue, plain, holding, skipped, kind_value}
+use Rattle.logos_definition.specs.Options.{OptionsView, utf8_mode}
+use Rattle.logos_pattern.specs.Leaf.{kind_value, variant_name}
 use Rattle.logos_pattern.specs.declared.leaf.Leaf.{Leaf}
 use Rattle.logos_leaf.specs.LeafViews.{leaf_view}
-use Rattle.logos_leaf.specs.Sources.{utf8_mode}
-use Rattle.logos_source.specs.Endings.{Says}
-use Rattle.logos_source.specs.EnumTypes.{enum_type}
-use Rattle.logos_source.specs.Analyses.{EnumSays}
+use Rattle.logos_parser.specs.Endings.{GivesEnum}
+use Rattle.logos_parser.specs.EnumTypes.{enum_type}
+use Rattle.logos_parser.specs.Analyses.{ReadsEnum}
 use Rattle.logos_graph.specs.GraphOf.{IsGraphOf}
 use Rattle.logos_graph.specs.View.{GraphValue}
 use Rattle.logos_code.specs.Code.{CodeValue}
@@ -27,9 +26,9 @@ use Rattle.logos_code.specs.declared.code.Config.{Config}
 pub record IsGraphOfSource (source : List ℕ) (name : Slice) (options : OptionsView) (graph : GraphValue) : Type 0 where
   pub enum : EnumValue
   pub item : Span
-  pub says : Says source enum item
+  pub says : GivesEnum source enum item
   pub is_name : enum.name ≡ name
-  pub enum_says : EnumSays enum (map leaf_view graph.leaves) options []
+  pub enum_says : ReadsEnum enum (map leaf_view graph.leaves) options []
   pub same_mode : graph.utf8 ≡ utf8_mode options
   pub of_leaves : IsGraphOf graph.leaves graph.utf8 graph
   pub faultless : graph.faults ≡ []
@@ -52,12 +51,6 @@ pub record IsGiven (source : List ℕ) (config : Config) (graph : GraphValue) (c
   pub of_source : IsGraphOfSource source name options graph
   pub keeps : KeepsEnum config name options graph code
   pub exports : export ≡ option_map (λ e. e.path) options.export_path
-
--- The name of the variant of this kind; a skip has none.
-abbrev pub variant_name : KindValue → Option Ident
-variant_name (plain name) = Some name
-variant_name (holding name type) = Some name
-variant_name skipped = None
 
 -- The name of the variant of the leaf of this number. A skip has none, and where there is no such leaf there is none.
 abbrev pub variant_at : List Leaf → ℕ → Option Ident

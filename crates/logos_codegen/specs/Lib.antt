@@ -1,3 +1,4 @@
+pub mod Fronts
 pub mod Texts
 pub mod Rules
 pub mod Source
@@ -7,3 +8,5 @@ pub mod RunLaws
 pub mod Tokenizing
 pub mod Language
 pub mod inside
+pub mod Words
+pub mod Views

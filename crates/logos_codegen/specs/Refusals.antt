@@ -4,8 +4,8 @@ use Rattle.std.specs.Str.{IsUtf8, IsValidUpTo}
 use Rattle.logos_automaton.specs.Munch.{Rule}
 use Rattle.logos_code.specs.Code.{CodeValue}
 use Rattle.logos_codegen.specs.Source.{IsAccepted, IsRefused}
-use Rattle.logos_source.specs.declared.refusal.Refusal.{Refusal}
-use Rattle.logos_source.specs.declared.refusal.Refusal.TheVariants as refusals
+use Rattle.logos_parser.specs.declared.refusal.Refusal.{Refusal}
+use Rattle.logos_parser.specs.declared.refusal.Refusal.TheVariants as refusals
 use Rattle.logos_codegen.specs.declared.lexing.LexSourceError.{LexSourceError}
 use Rattle.logos_codegen.specs.declared.lexing.LexSourceError.TheVariants as errors
 

@@ -11,7 +11,7 @@ use Rattle.logos_automaton.specs.Faults.{AllStart, Fault, AreFaults}
 use Rattle.logos_automaton.specs.Measures.{size_of}
 use Rattle.logos_automaton.specs.ReadKeys.{HasMoreKeys}
 use Rattle.logos_leaf.specs.Leaves.{LeafView}
-use Rattle.logos_source.specs.Utf8Faults.{kind_name}
+use Rattle.logos_parser.specs.Utf8Faults.{kind_name}
 use Rattle.logos_codegen.specs.Texts.{NamedLeaf, named_leaf, fault_at, size_text, states_text, reported_as}
 
 -- A leaf: how messages name it, and the rule that it stands for.

@@ -2,12 +2,11 @@
 use Rattle.std.specs.Prelude.{◌≡◌, ◌≢◌, ℕ, ◌≤◌, ◌^◌, Bool, List, [], ◌∷◌, ◌++◌, length, map}
 use Rattle.logos_lexeme.specs.declared.lexeme.Span.{Span}
 use Rattle.logos_token.specs.Faults.{Fault as SourceFault}
-use Rattle.logos_item.specs.EnumValues.{EnumValue}
-use Rattle.logos_definition.specs.Options.{OptionsView}
+use Rattle.logos_enum.specs.EnumValues.{EnumValue}
+use Rattle.logos_definition.specs.Options.{OptionsView, utf8_mode}
 use Rattle.logos_leaf.specs.Leaves.{LeafView}
-use Rattle.logos_leaf.specs.Sources.{utf8_mode}
-use Rattle.logos_source.specs.Endings.{Says, EndsReading, IsShallow}
-use Rattle.logos_source.specs.Analyses.{EnumSays}
+use Rattle.logos_parser.specs.Endings.{GivesEnum, EndsReading, IsShallow}
+use Rattle.logos_parser.specs.Analyses.{ReadsEnum}
 use Rattle.logos_automaton.specs.Munch.{Rule}
 use Rattle.logos_automaton.specs.Faults.{AreFaults}
 use Rattle.logos_automaton.specs.Measures.{size_of}
@@ -19,7 +18,7 @@ pub record AreReported (enum : EnumValue) (item : Span) (faults : List SourceFau
   pub options : OptionsView
   pub enum_faults : List SourceFault
   pub graph_faults : List SourceFault
-  pub says : EnumSays enum leaves options enum_faults
+  pub says : ReadsEnum enum leaves options enum_faults
   pub graph : GraphReports (map named_of_view leaves) item graph_faults
   pub all : faults ≡ enum_faults ++ graph_faults
 
@@ -27,10 +26,10 @@ pub record AreReported (enum : EnumValue) (item : Span) (faults : List SourceFau
 pub record IsAccepted (source : List ℕ) (rules : List Rule) (utf8 : Bool) : Type 0 where
   pub enum : EnumValue
   pub item : Span
-  pub says : Says source enum item
+  pub says : GivesEnum source enum item
   pub leaves : List LeafView
   pub options : OptionsView
-  pub enum_says : EnumSays enum leaves options []
+  pub enum_says : ReadsEnum enum leaves options []
   pub faultless : AreFaults (rules_of_views leaves) []
   pub same_rules : rules ≡ rules_of_views leaves
   pub same_mode : utf8 ≡ utf8_mode options
@@ -39,7 +38,7 @@ pub record IsAccepted (source : List ℕ) (rules : List Rule) (utf8 : Bool) : Ty
 pub data IsRefused (source : List ℕ) (faults : List SourceFault) : Type 0 where
   unread : {fault : SourceFault} → EndsReading source fault → faults ≡ fault ∷ [] → IsRefused source faults
   faulty : {enum : EnumValue} {item : Span} {leaves : List LeafView} → length source ≤ 16777216 → IsShallow source →
-      Says source enum item → AreReported enum item faults leaves → faults ≢ [] → IsRefused source faults
+      GivesEnum source enum item → AreReported enum item faults leaves → faults ≢ [] → IsRefused source faults
 
 -- The length of the source and the nesting of its delimiters are within their limits, and so is the size of the trees of the rules.
 pub record IsWithinSizes (source : List ℕ) (rules : List Rule) : Type 0 where

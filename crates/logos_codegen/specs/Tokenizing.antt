@@ -9,8 +9,8 @@ use Rattle.logos_leaf.specs.Leaves.{LeafView}
 use Rattle.logos_codegen.specs.Source.{IsAccepted, IsRefused}
 use Rattle.logos_lexeme.specs.declared.lexeme.Span.{Span}
 use Rattle.logos_token.specs.Faults.{Fault as SourceFault}
-use Rattle.logos_source.specs.declared.refusal.Refusal.{Refusal}
-use Rattle.logos_source.specs.declared.refusal.Refusal.TheVariants as refusals
+use Rattle.logos_parser.specs.declared.refusal.Refusal.{Refusal}
+use Rattle.logos_parser.specs.declared.refusal.Refusal.TheVariants as refusals
 use Rattle.logos_codegen.specs.declared.expr.TheConstants.{SOURCE}
 use Rattle.logos_codegen.specs.declared.expr.ExprKind.{ExprKind}
 use Rattle.logos_codegen.specs.declared.expr.ExprKind.TheVariants.{Number, Name, Let, EqEq, Eq, Plus, Minus, Star, Slash, Open, Close}

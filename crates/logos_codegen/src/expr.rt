@@ -2,20 +2,16 @@
 //! `Lexer`, by their contracts alone.
 
 ghost use Rattle.std.specs.Prelude.{◌≡◌, IfOk, IfErr, map};
-ghost use Rattle.logos_machine.specs.LexerValue.{item_of};
-ghost use Rattle.logos_pattern.specs.Leaf.{kind_value};
-ghost use Rattle.logos_codegen.specs.Language.{IsLanguage};
-ghost use Rattle.logos_codegen.specs.Tokenizing.{kind_at, kind_given, kind_named};
-ghost use Rattle.logos_codegen.specs.Tokenizing.{IsToken, IsErrorAt, Tokenizes, IsOutcome};
-ghost use Rattle.logos_codegen.specs.Tokenizing.{Answers, IsRefusalOf};
+ghost use Rattle.logos_codegen.specs.Words.{item_of, kind_value};
+ghost use Rattle.logos_codegen.specs.Views.{IsLanguage, kind_at, kind_given, kind_named, IsToken, IsErrorAt, Tokenizes, IsOutcome, Answers, IsRefusalOf};
 
 use crate::generation::{Generated, generate};
 use logos_generator::code::Code;
 use logos_generator::generator::Config;
 use logos_generator::machine::{Action, Item, Lexer};
 use logos_hir::leaf::LeafId;
+use logos_parser::refusal::Refusal;
 use logos_pattern::leaf::{Leaf, VariantKind};
-use logos_source::refusal::Refusal;
 use logos_token::token::Span;
 use std::alloc::{AllocError, AllocFailed, Global};
 use std::marker::Model;
@@ -106,7 +102,7 @@ impl<T: Drop> From<AllocFailed<T>> for ExprError {
 }
 
 impl From<Refusal> for ExprError {
-    ghost use Rattle.logos_codegen.specs.Tokenizing.{IsThatError};
+    ghost use Rattle.logos_codegen.specs.Views.{IsThatError};
 
     ghost from_gives = { IsThatError };
 
@@ -127,11 +123,10 @@ pub struct Language {
 }
 
 impl Model for Language {
-    ghost use Rattle.std.specs.Coded.{codes};
-    ghost use Rattle.logos_type.specs.contracts.type_expr.Part as p;
-    ghost use mir.Syntax.{named};
     ghost use Rattle.std.specs.Prelude.{[]};
-    ghost use Rattle.logos_codegen.specs.Language.{LanguageValue, IsLanguage};
+    ghost use Rattle.logos_codegen.specs.Words.{codes, named};
+    ghost use Rattle.logos_codegen.specs.Views.{LanguageValue, IsLanguage};
+    ghost use Rattle.logos_type.specs.contracts.type_expr.Part as p;
 
     ghost Value = { LanguageValue };
 
@@ -152,10 +147,7 @@ impl Language {
         // It is refused only if the enum is refused, and no input is at fault.
         ensures err { IfErr result IsRefusalOf }
     {
-        let config = Config {
-            use_state_machine_codegen: true,
-        };
-        let made = generate(alloc, SOURCE, config)?;
+        let made = generate(alloc, SOURCE, Config::STATE_MACHINE)?;
         let kinds = kinds_of(alloc, made.graph.leaves());
         let code = code_in(made);
         match kinds {

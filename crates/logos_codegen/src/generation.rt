@@ -1,49 +1,22 @@
 //! From a source text to the code of its lexer.
 
-ghost use Rattle.std.specs.Prelude.{◌≡◌, ◌<◌, ◌↔◌, ◌∷◌, ◌++◌, Bool, List, [], length};
-ghost use Rattle.std.specs.Prelude.{map, flat_map, option_map, IfOk, IfErr, IsErrAnd, OnOk};
-ghost use Rattle.std.specs.Prelude.{IsTrue, string_bytes, option_copied};
-ghost use Rattle.logos_automaton.specs.Munch.{Rule};
-ghost use Rattle.logos_automaton.specs.Errors.{fault_of};
-ghost use Rattle.logos_item.specs.Values.{ident_slice};
-ghost use Rattle.logos_attribute.specs.CallbackViews.{callback_view};
-ghost use Rattle.logos_definition.specs.ParserViews.{parser_view};
-ghost use Rattle.logos_pattern.specs.Leaf.{kind_value};
-ghost use Rattle.logos_leaf.specs.Sources.{utf8_mode};
-ghost use Rattle.logos_graph.specs.GraphOf.{IsGraphOf};
-ghost use Rattle.logos_graph.specs.View.{rules_of};
-ghost use Rattle.logos_generator.specs.GeneratorValue.{KeepsGiven};
-ghost use Rattle.logos_code.specs.Headline.{IsLexer};
-ghost use Rattle.logos_source.specs.Analyses.{HasItsType};
-ghost use Rattle.logos_source.specs.AnalysisViews.{analysis_view};
-ghost use Rattle.logos_source.specs.Endings.{too_long};
-ghost use Rattle.logos_source.specs.Refusals.{Refuses, IsMemory};
-ghost use Rattle.logos_text.specs.Standing.{StandInOrder};
-ghost use Rattle.logos_text.specs.Texts.{texts_of};
-ghost use Rattle.logos_codegen.specs.Texts.{named_leaf, reported_as};
-ghost use Rattle.logos_codegen.specs.Given.{IsGiven, KeepsEnum, error_callback};
-ghost use Rattle.logos_codegen.specs.Given.{variant_name, variant_at};
-ghost use Rattle.logos_codegen.specs.RunLaws.{RunsAreCut};
-ghost use Rattle.logos_codegen.specs.Source.{IsAccepted, IsRefused};
-ghost use Rattle.logos_codegen.specs.Source.{IsWithinSizes, IsWithinLimits};
-ghost use Rattle.logos_codegen.specs.inside.Steps.{IsLimit, ReportsGraph, IsFaultless, AreGraphFaults};
-ghost use Rattle.logos_codegen.specs.inside.Steps.{IsGraphMade, AreTakenOut};
+ghost use Rattle.std.specs.Prelude.{◌≡◌, ◌<◌, ◌↔◌, ◌∷◌, ◌++◌, Bool, List, [], length, map, flat_map, option_map, IfOk, IfErr, IsErrAnd, OnOk, IsTrue, string_bytes, option_copied};
+ghost use Rattle.logos_codegen.specs.Words.{Rule, fault_of, ident_slice, callback_view, parser_view, kind_value, utf8_mode, IsGraphOf, rules_of, KeepsGiven, IsLexer, HasItsType, analysis_view, too_long, Refuses, IsMemory, StandInOrder, texts_of, named_leaf, reported_as, IsGiven, KeepsEnum, error_callback, variant_at, RunsAreCut, IsAccepted, IsRefused, IsWithinSizes, IsWithinLimits, IsLimit, ReportsGraph, IsFaultless, AreGraphFaults, IsGraphMade, AreTakenOut};
+ghost use Rattle.logos_codegen.specs.Views.{BeginsImplementation, IsFrontOf};
 
+use crate::around::around_texts;
 use crate::reporting::report_fault;
-use logos_definition::error_type::ErrorType;
 use logos_definition::parser::{ExportPath, Parser};
 use logos_generator::code::Code;
 use logos_generator::generator::{Config, Generator};
 use logos_graph::graph::{BuildError, Config as GraphConfig, Graph, GraphError};
 use logos_hir::leaf::LeafId;
-use logos_leaf::source::utf8_mode;
-use logos_pattern::leaf::{Callback, Leaf, VariantKind};
-use logos_source::analysis::{Analysis, analyze};
-use logos_source::refusal::Refusal;
-use logos_text::{Around, front_in, gap_after, text_in};
+use logos_parser::analysis::{Analysis, analyze};
+use logos_parser::refusal::Refusal;
+use logos_pattern::leaf::{Callback, Leaf};
+use logos_text::{front_in, text_in};
 use logos_token::error::{Errors, FaultCode, Memory};
-use logos_token::token::{Ident, Span, TokenStream, print};
-use logos_token::util::MaybeVoid;
+use logos_token::token::{Ident, Span};
 use logos_type::TypeExpr;
 use std::alloc::Global;
 use std::mem;
@@ -63,76 +36,6 @@ pub struct Generated<'s> {
     options: Parser<'s>,
 }
 
-/// Returns the text with the gap after it.
-fn with_gap(text: String, gap: &str) -> Result<String, Memory>
-    ensures { IfOk result (λ whole. string_bytes whole ≡ string_bytes text ++ gap.now) }
-{
-    let mut text = text;
-    text.push_str(gap)?;
-    Ok(text)
-}
-
-/// Returns the gap to print after `tokens`, or after `( )` when they are left out.
-fn gap_after_void(tokens: &MaybeVoid<'_>) -> &'static str {
-    match tokens {
-        MaybeVoid::Some(stream) => gap_after(stream.run()),
-        MaybeVoid::Void => " ",
-    }
-}
-
-/// Returns the text of the path of the library, with the gap after it.
-fn library_text(alloc: Global, path: Option<&TokenStream<'_>>) -> Result<String, Memory> {
-    match path {
-        Some(stream) => with_gap(print(alloc, stream.run())?, gap_after(stream.run())),
-        None => Ok(String::from_str(alloc, ":: logos ")?),
-    }
-}
-
-/// Returns the text of the type of errors, with the gap after it.
-fn error_text(alloc: Global, error: Option<&ErrorType<'_>>) -> Result<String, Memory> {
-    match error {
-        Some(error) => with_gap(error.print(alloc)?, gap_after_void(&error.ty)),
-        None => Ok(String::from_str(alloc, "( ) ")?),
-    }
-}
-
-/// Returns the text of the type of extras, with the gap after it.
-fn extras_text(alloc: Global, extras: &MaybeVoid<'_>) -> Result<String, Memory> {
-    with_gap(extras.print(alloc)?, gap_after_void(extras))
-}
-
-/// The texts around a code, each with the gap after it.
-#[derive(Drop)]
-struct AroundTexts {
-    /// The path of the library.
-    logos: String,
-    /// The type of errors.
-    error: String,
-    /// The type of extras.
-    extras: String,
-}
-
-/// Returns the texts around a code with these options.
-fn around_texts(alloc: Global, options: &Parser<'_>) -> Result<AroundTexts, Memory> {
-    Ok(AroundTexts {
-        logos: library_text(alloc, options.logos_path.as_ref())?,
-        error: error_text(alloc, options.error_type.as_ref())?,
-        extras: extras_text(alloc, &options.extras)?,
-    })
-}
-
-impl AroundTexts {
-    /// Returns the texts, with the type of inputs.
-    fn around(&self, utf8_mode: bool) -> Around<'_> {
-        Around {
-            logos: self.logos.as_str(),
-            error: self.error.as_str(),
-            extras: self.extras.as_str(),
-            source: if utf8_mode { "str " } else { "[ u8 ] " },
-        }
-    }
-}
-
 impl Generated<'_> {
     /// Returns the whole Rust text of the lexer: the implementation of `Logos` for the enum, as printed
     /// tokens. The texts of all bit tables, by number, and after them those of the conditions of all
@@ -141,7 +44,10 @@ impl Generated<'_> {
     /// # Errors
     /// Returns `Memory` when memory runs out.
     pub fn text(&self, alloc: Global) -> Result<String, Memory>
-        ensures { IfOk result (λ text. StandInOrder (texts_of self.now.code) (string_bytes text)) }
+        ensures stand { IfOk result (λ text.
+            StandInOrder (texts_of self.now.code) (string_bytes text)) }
+        // It begins with the head of the implementation, by the options of the source.
+        ensures begins { IfOk result (λ text. BeginsImplementation self.now (string_bytes text)) }
     {
         let texts = around_texts(alloc, &self.options)?;
         text_in(alloc, &self.code, texts.around(self.graph.utf8_mode()))
@@ -153,20 +59,11 @@ impl Generated<'_> {
     ///
     /// # Errors
     /// Returns `Memory` when memory runs out.
-    pub fn front(&self, alloc: Global) -> Result<String, Memory> {
+    pub fn front(&self, alloc: Global) -> Result<String, Memory>
+        ensures { IfOk result (λ text. IsFrontOf self.now (string_bytes text)) }
+    {
         let texts = around_texts(alloc, &self.options)?;
         front_in(alloc, &self.code, texts.around(self.graph.utf8_mode()))
-    }
-}
-
-/// Returns the name of the variant of this kind, unless it is a skip.
-fn variant_name<'s>(kind: &VariantKind<'s>) -> Option<Ident<'s>>
-    ensures { result ≡ variant_name (kind_value kind.now) }
-{
-    match kind {
-        VariantKind::Unit(name) => Some(*name),
-        VariantKind::Value(name, _) => Some(*name),
-        VariantKind::Skip => None,
     }
 }
 
@@ -179,7 +76,7 @@ impl<'s> Generated<'s> {
         ensures { result ≡ variant_at self.now.graph.leaves leaf.0 }
     {
         match self.graph.leaves().get(leaf.0) {
-            Some(leaf) => variant_name(&leaf.kind),
+            Some(leaf) => leaf.kind.name(),
             None => None,
         }
     }
@@ -277,7 +174,7 @@ fn graph_of_analysis<'s>(analysis: &mut Analysis<'s>) -> Result<Graph<'s>, Refus
     ensures taken { AreTakenOut (analysis_view analysis.old) (analysis_view analysis.new) }
 {
     let alloc = analysis.parser.errors.alloc();
-    let mode = utf8_mode(&analysis.parser);
+    let mode = analysis.parser.is_utf8();
     let leaves = mem::replace(&mut analysis.leaves, Vec::new(alloc));
     let errors = mem::replace(&mut analysis.parser.errors, Errors::new(alloc));
     faultless_graph(leaves, mode, analysis.span, errors)

@@ -1,17 +1,19 @@
-//! Laws of the definitions. The contract of each function is a law, and no code calls these functions.
+//! Laws of the definitions, with those of the crates below. The contract of each function is a law. To use one in a proof, call its function: the call does
+//! nothing.
 
 ghost use Rattle.std.specs.Prelude.{◌≡◌, ℕ, ◌↔◌, Bool, true, List};
-ghost use Rattle.std.specs.List.{All};
-ghost use Rattle.logos_automaton.specs.Munch.{Rule, IsInput};
-ghost use Rattle.logos_code.specs.Code.{CodeValue};
-ghost use Rattle.logos_code.specs.Headline.{IsCut, IsLexer};
-ghost use Rattle.logos_code.specs.Items.{Item};
-ghost use Rattle.logos_machine.specs.LexerValue.{answers_of};
-ghost use Rattle.logos_code.specs.Runs.{Runs};
-ghost use Rattle.logos_codegen.specs.Source.{IsAccepted};
+ghost use Rattle.logos_codegen.specs.Words.{All, Rule, IsInput, CodeValue, IsCut, IsLexer, Item, answers_of, Runs, IsAccepted};
 
+pub use logos_generator::laws::{
+    a_text_is_an_input, an_input_has_one_list_of_items, bytes_are_an_input,
+    code_of_a_graph_is_a_lexer, codes_of_the_same_rules_agree, items_are_cut_between_characters,
+    items_are_in_order, items_go_over, items_part_the_input, next_items_are_the_next,
+    runs_are_the_items,
+};
 use logos_generator::machine::Action;
+pub use logos_graph::laws::{early_marks_are_found, one_is_found, one_list_of_faults};
 use logos_hir::leaf::LeafId;
+pub use logos_machine::laws::{items_given_are_a_run, next_adds_its_item, runs_go_over};
 
 /// A source without faults has one list of rules and one mode.
 pub fn a_source_has_one_list_of_rules()

@@ -1,24 +1,15 @@
 //! Lexing of an input by a source.
 
 ghost use Rattle.std.specs.Prelude.{◌≡◌, List, Bool, map, length, true, IfOk, IfErr, IsTrue};
-ghost use Rattle.std.specs.List.{All};
-ghost use Rattle.std.specs.Str.{IsUtf8};
-ghost use Rattle.logos_automaton.specs.Munch.{Rule};
-ghost use Rattle.logos_code.specs.Code.{CodeValue};
-ghost use Rattle.logos_code.specs.Headline.{IsCut, IsLexer};
-ghost use Rattle.logos_code.specs.Items.{Items};
-ghost use Rattle.logos_machine.specs.LexerValue.{answers_of, item_of};
-ghost use Rattle.logos_code.specs.Order.{AreInOrder, Parts, IsLeftOut};
-ghost use Rattle.logos_code.specs.Runs.{Runs};
-ghost use Rattle.logos_codegen.specs.Source.{IsAccepted, IsWithinLimits};
-ghost use Rattle.logos_codegen.specs.Refusals.{IsUnlexed, IsJust, IsNoRefusal};
+ghost use Rattle.logos_codegen.specs.Words.{All, IsUtf8, Rule, CodeValue, IsCut, IsLexer, Items, answers_of, item_of, AreInOrder, Parts, IsLeftOut, Runs, IsAccepted, IsWithinLimits};
+ghost use Rattle.logos_codegen.specs.Views.{IsUnlexed, IsJust, IsNoRefusal};
 
 use crate::generation::generate;
 use logos_generator::code::Code;
 use logos_generator::generator::Config;
 use logos_generator::machine::{Action, Item, Lexer, NotUtf8};
 use logos_hir::leaf::LeafId;
-use logos_source::refusal::Refusal;
+use logos_parser::refusal::Refusal;
 use logos_token::error::Errors;
 use std::alloc::{AllocError, AllocFailed, Global};
 
@@ -35,7 +26,7 @@ pub enum LexSourceError {
 
 impl From<AllocError> for LexSourceError {
     ghost use Rattle.std.specs.Prelude.{◌≡◌};
-    ghost use Rattle.logos_codegen.specs.declared.lexing.LexSourceError.TheVariants.{Memory as OutOfMemory};
+    ghost use Rattle.logos_codegen.specs.Views.{Memory as OutOfMemory};
 
     ghost from_gives = { λ _ e. e ≡ OutOfMemory };
 
@@ -46,7 +37,7 @@ impl From<AllocError> for LexSourceError {
 
 impl<T: Drop> From<AllocFailed<T>> for LexSourceError {
     ghost use Rattle.std.specs.Prelude.{◌≡◌};
-    ghost use Rattle.logos_codegen.specs.declared.lexing.LexSourceError.TheVariants.{Memory as OutOfMemory};
+    ghost use Rattle.logos_codegen.specs.Views.{Memory as OutOfMemory};
 
     ghost from_gives = { λ _ e. e ≡ OutOfMemory };
 
@@ -57,7 +48,7 @@ impl<T: Drop> From<AllocFailed<T>> for LexSourceError {
 
 impl From<NotUtf8> for LexSourceError {
     ghost use Rattle.std.specs.Prelude.{◌≡◌};
-    ghost use Rattle.logos_codegen.specs.declared.lexing.LexSourceError.TheVariants.{NotUtf8 as NoUtf8};
+    ghost use Rattle.logos_codegen.specs.Views.{NotUtf8 as NoUtf8};
 
     ghost from_gives = { λ error e. e ≡ NoUtf8 error.valid_up_to };
 
@@ -69,7 +60,7 @@ impl From<NotUtf8> for LexSourceError {
 }
 
 impl From<Refusal> for LexSourceError {
-    ghost use Rattle.logos_codegen.specs.Refusals.{IsThatRefusal};
+    ghost use Rattle.logos_codegen.specs.Views.{IsThatRefusal};
 
     ghost from_gives = { IsThatRefusal };
 

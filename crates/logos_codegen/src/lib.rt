@@ -2,6 +2,8 @@
 
 #![tactic(auto)]
 
+mod around;
+pub mod code;
 pub mod expr;
 mod generation;
 pub mod generator;
@@ -11,11 +13,11 @@ mod reporting;
 
 pub use generation::{Generated, generate};
 pub use lexing::{LexSourceError, lex_source};
-pub use logos_generator::{code, machine};
+pub use logos_generator::machine;
 pub use logos_graph::graph;
+pub use logos_parser::refusal::Refusal;
 pub use logos_parser::{item, nested, parser};
 pub use logos_pattern::{leaf, pattern};
-pub use logos_source::refusal::Refusal;
 pub use logos_strip::stripping::strip_attributes;
 pub use logos_text::text;
 pub use logos_token::{error, token, util};

@@ -1,9 +1,7 @@
 //! Reporting the faults of a graph.
 
 ghost use Rattle.std.specs.Prelude.{◌≡◌, ◌++◌, ◌==◌, ◌∷◌, [], map, flat_map, slice_get, option_map, if◌then◌else◌, IfOk, OnOk, string_bytes};
-ghost use Rattle.std.specs.Option.{option_map_or};
-ghost use Rattle.logos_automaton.specs.Errors.{fault_of, numbers};
-ghost use Rattle.logos_codegen.specs.Texts.{named_leaf, fault_at, line_of, other_lines, empty_match_faults, disambiguation_text, disambiguation_faults, reported_as};
+ghost use Rattle.logos_codegen.specs.Words.{option_map_or, fault_of, numbers, named_leaf, fault_at, line_of, other_lines, empty_match_faults, disambiguation_text, disambiguation_faults, reported_as};
 
 use logos_graph::graph::GraphError;
 use logos_hir::leaf::LeafId;

@@ -2,3 +2,4 @@ mod CutLemmas
 mod LexingLemmas
 mod LineLemmas
 mod RefusalLemmas
+mod RunLemmas

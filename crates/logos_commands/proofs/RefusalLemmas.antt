@@ -1,11 +1,11 @@
 -- Failures that stand for refusals.
 use Rattle.std.proofs.Common.{◌≡◌, ◌≢◌, ℕ, List, ◌∷◌, [], Result, Ok, Err, Option, IfErr, arith}
 use Rattle.logos_token.specs.Faults.{Fault}
-use Rattle.logos_item.specs.Values.{Slice}
-use Rattle.logos_source.specs.declared.refusal.Refusal.{Refusal}
-use Rattle.logos_source.specs.declared.refusal.Refusal.TheVariants as refusals
-use Rattle.logos_source.specs.Endings.{EndsReading}
-use Rattle.logos_source.specs.Refusals.{Refuses}
+use Rattle.logos_enum.specs.Values.{Slice}
+use Rattle.logos_parser.specs.declared.refusal.Refusal.{Refusal}
+use Rattle.logos_parser.specs.declared.refusal.Refusal.TheVariants as refusals
+use Rattle.logos_parser.specs.Endings.{EndsReading}
+use Rattle.logos_parser.specs.Refusals.{Refuses}
 use Rattle.logos_graph.specs.View.{GraphValue}
 use Rattle.logos_code.specs.Code.{CodeValue}
 use Rattle.logos_code.specs.declared.code.Config.{Config}

@@ -1,8 +1,8 @@
 -- What the program's words ask for, and the status of what it cannot do.
 use Rattle.std.specs.Prelude.{◌∷◌, [], ℕ, List, Option, Some, None, true, false, if◌then◌else◌, option_map, bytes_eq, codes}
 use Rattle.logos_code.specs.declared.code.Config.{Config}
-use Rattle.logos_source.specs.declared.refusal.Refusal.{Refusal}
-use Rattle.logos_source.specs.declared.refusal.Refusal.TheVariants as refusals
+use Rattle.logos_parser.specs.declared.refusal.Refusal.{Refusal}
+use Rattle.logos_parser.specs.declared.refusal.Refusal.TheVariants as refusals
 use Rattle.logos_commands.specs.declared.command.Command.{Command}
 use Rattle.logos_commands.specs.declared.command.Command.TheVariants.{Text, Items, Chart, Export, Strip}
 use Rattle.logos_commands.specs.declared.failure.Failure.{Failure}
@@ -69,7 +69,7 @@ asked (name ∷ rest) =
 -- what a command asks for
 abbrev pub command_asked : Command → Asked
 command_asked (Text file config) = asks_text file.now config
-command_asked (Items file input config) = asks_items file.now input.now config
+command_asked (Items request) = asks_items request.source.now request.input.now request.config
 command_asked (Chart file) = asks_chart file.now
 command_asked (Export file) = asks_export file.now
 command_asked (Strip file) = asks_strip file.now

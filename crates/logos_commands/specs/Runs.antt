@@ -1,45 +1,81 @@
 -- What a run of the program does, by what its files give.
-use Rattle.std.specs.Prelude.{◌≡◌, ◌∷◌, [], ℕ, List, Bool, true, Option, IsTrue}
+use Rattle.std.specs.Prelude.{◌≡◌, ◌∷◌, ◌++◌, [], ℕ, List, Bool, true, Option, IsTrue}
 use Rattle.std.specs.Str.{IsUtf8, IsValidUpTo}
+use Rattle.std.specs.Io.KnownBytes.{Appends, Keeps}
 use Rattle.logos_automaton.specs.Munch.{Rule}
 use Rattle.logos_token.specs.Faults.{Fault}
 use Rattle.logos_token.specs.Tokens.{TokenList}
-use Rattle.logos_item.specs.Values.{Slice}
-use Rattle.logos_source.specs.Endings.{EndsReading}
+use Rattle.logos_token.specs.Printing.{printed}
+use Rattle.logos_enum.specs.Values.{Slice}
+use Rattle.logos_parser.specs.Endings.{EndsReading}
 use Rattle.logos_strip.specs.Results.{IsStripped}
 use Rattle.logos_graph.specs.View.{GraphValue}
+use Rattle.logos_graph.specs.Mermaid.{mermaid_of}
 use Rattle.logos_code.specs.Code.{CodeValue}
+use Rattle.logos_code.specs.Items.{Item, Items}
 use Rattle.logos_code.specs.declared.code.Config.{Config}
 use Rattle.logos_codegen.specs.Given.{IsGiven}
 use Rattle.logos_codegen.specs.Source.{IsAccepted, IsRefused}
-use Rattle.logos_disk.specs.Reading.{ReadsSome, ReadsBoth}
+use Rattle.logos_host.specs.Reading.{Reads}
+use Rattle.logos_text.specs.Standing.{StandInOrder}
+use Rattle.logos_text.specs.Texts.{texts_of}
 use Rattle.logos_commands.specs.declared.failure.Failure.{Failure}
 use Rattle.logos_commands.specs.declared.failure.Failure.TheVariants.{Refused, NotUtf8, NotExported}
 use Rattle.logos_commands.specs.declared.failure.ExportRefusal.{ExportRefusal}
 use Rattle.logos_commands.specs.declared.outcome.Asked.{Asked as Part}
 use Rattle.logos_commands.specs.declared.outcome.Asked.TheVariants.{Text, Chart, Export}
 use Rattle.logos_commands.specs.Commands.{Asked, asks_text, asks_items, asks_chart, asks_export, asks_strip}
-use Rattle.logos_commands.specs.Charts.{Destination, refused, export_destination}
+use Rattle.logos_commands.specs.Charts.{Destination, file_at, refused, export_destination}
+use Rattle.logos_commands.specs.Lines.{emits, lines_of}
 
 -- ---- what is done
 
--- the source has no faults
-pub record IsFaultless (source : List ℕ) : Type 0 where
+-- What a command does: it prints a text, or makes a file.
+pub data Effect : Type 0 where
+  prints : (text : List ℕ) → Effect
+  makes_file : (path text : List ℕ) → Effect
+
+-- the shape of the code of which a part is made
+abbrev pub shape_of : Part → Config
+shape_of (Text shape) = shape
+shape_of Chart = record { use_state_machine_codegen = true }
+shape_of Export = record { use_state_machine_codegen = true }
+
+-- What a part of a lexer is: its text, and LF; the chart of its graph; or the same chart for the file that the source names. The texts of all tables
+-- of the code, and those of all its conditions, stand in the text.
+abbrev pub IsPart : Part → GraphValue → CodeValue → Slice → Option (List ℕ) → Effect → Type 0
+IsPart (Text shape) graph code name export (prints shown) = (text : List ℕ) × StandInOrder (texts_of code) text × (shown ≡ text ++ 10 ∷ [])
+IsPart Chart graph code name export (prints shown) = shown ≡ mermaid_of graph.states
+IsPart Export graph code name export (makes_file path shown) = (file_at path ≡ export_destination export name.text) × (shown ≡ mermaid_of graph.states)
+IsPart part graph code name export effect = ⊥
+
+-- the source has no faults, and this is a part of its lexer
+pub record IsPartOf (part : Part) (source : List ℕ) (effect : Effect) : Type 0 where
   pub rules : List Rule
   pub utf8 : Bool
   pub accepted : IsAccepted source rules utf8
+  pub graph : GraphValue
+  pub code : CodeValue
+  pub name : Slice
+  pub export : Option (List ℕ)
+  pub given : IsGiven source (shape_of part) graph code name export
+  pub is : IsPart part graph code name export effect
 
--- the source has no faults, and in UTF-8 mode the input is UTF-8
-pub record IsLexed (source input : List ℕ) : Type 0 where
+-- the source spells an enum, and this is what is left of it, and LF
+abbrev pub IsLeft : List ℕ → Effect → Type 0
+IsLeft source (prints shown) = (left : TokenList) × IsStripped source left × (shown ≡ printed left ++ 10 ∷ [])
+IsLeft source (makes_file path shown) = ⊥
+
+-- The source has no faults, in UTF-8 mode the input is UTF-8, and the lines of the items of maximal munch are printed. A match of a leaf with a
+-- callback is emitted.
+pub record PrintsItemsOf (source input : List ℕ) (old new : Option (List ℕ)) : Type 0 where
   pub rules : List Rule
   pub utf8 : Bool
   pub accepted : IsAccepted source rules utf8
   pub is_text : IsTrue utf8 → IsUtf8 input
-
--- the source spells an enum, of which something is left
-pub record IsStrippable (source : List ℕ) : Type 0 where
-  pub left : TokenList
-  pub stripped : IsStripped source left
+  pub items : List Item
+  pub are : Items rules emits utf8 input 0 items
+  pub appends : Appends old new (lines_of items)
 
 -- ---- what is refused
 
@@ -93,21 +129,47 @@ abbrev pub RefusesExport : Destination → Failure → Type 0
 RefusesExport destination (NotExported why) = destination ≡ refused why
 RefusesExport destination failure = ⊥
 
--- ---- runs: `gives` holds of files, a path, all bytes that are read there, and the files after that
+-- ---- runs: `gives` holds of files, a path, all bytes that are read there, and the files after that; `makes` holds of files, a path, the bytes of the
+-- file there from then on, and the files after that
+
+-- what a command does to files and to standard output
+abbrev pub HasEffect : {F : Type 0} → (F → List ℕ → List ℕ → F → Type 0) → Effect → F → F → Option (List ℕ) → Option (List ℕ) → Type 0
+HasEffect makes (prints text) files after old new = (after ≡ files) × Appends old new text
+HasEffect makes (makes_file path text) files after old new = makes files path text after × Keeps old new
 
 module _ {F : Type 0} (gives : F → List ℕ → List ℕ → F → Type 0) where
-  -- what is asked for can be had: the files give what is accepted
-  abbrev pub IsDone : Asked → F → Type 0
-  IsDone (asks_text file shape) files = ReadsSome gives files file IsFaultless
-  IsDone (asks_items file input shape) files = ReadsBoth gives files file input IsLexed
-  IsDone (asks_chart file) files = ReadsSome gives files file IsFaultless
-  IsDone (asks_export file) files = ReadsSome gives files file IsFaultless
-  IsDone (asks_strip file) files = ReadsSome gives files file IsStrippable
+  -- a file is read, and then an input, and all items are printed
+  abbrev pub PrintsItems : List ℕ → List ℕ → F → F → Option (List ℕ) → Option (List ℕ) → Type 0
+  PrintsItems file input files after old new =
+      Reads gives files file (λ source between. Reads gives between input (λ bytes read. (after ≡ read) × PrintsItemsOf source bytes old new))
 
-  -- what is asked for cannot be had: the files give what is refused so
-  abbrev pub IsDenied : Asked → F → Failure → Type 0
-  IsDenied (asks_text file shape) files failure = ReadsSome gives files file (λ source. RefusesLexer source (Text shape) failure)
-  IsDenied (asks_items file input shape) files failure = ReadsBoth gives files file input (λ source bytes. RefusesInput source bytes failure)
-  IsDenied (asks_chart file) files failure = ReadsSome gives files file (λ source. RefusesLexer source Chart failure)
-  IsDenied (asks_export file) files failure = ReadsSome gives files file (λ source. RefusesLexer source Export failure)
-  IsDenied (asks_strip file) files failure = ReadsSome gives files file (λ source. RefusesStripping source failure)
+  -- a file is read, and then an input, which are refused so
+  abbrev pub RefusesItems : List ℕ → List ℕ → F → F → Failure → Type 0
+  RefusesItems file input files after failure =
+      Reads gives files file (λ source between. Reads gives between input (λ bytes read. (after ≡ read) × RefusesInput source bytes failure))
+
+  -- a file is read, and of its source this holds
+  abbrev pub ReadsSource : List ℕ → F → F → (List ℕ → Type 0) → Type 0
+  ReadsSource file files after Holds = Reads gives files file (λ source read. (after ≡ read) × Holds source)
+
+  module _ (makes : F → List ℕ → List ℕ → F → Type 0) where
+    -- a file is read, and the command has an effect that its source gives
+    abbrev pub Carries : List ℕ → F → F → Option (List ℕ) → Option (List ℕ) → (List ℕ → Effect → Type 0) → Type 0
+    Carries file files after old new Gives =
+        Reads gives files file (λ source read. (effect : Effect) × Gives source effect × HasEffect makes effect read after old new)
+
+    -- what is asked for is done
+    abbrev pub IsDone : Asked → F → F → Option (List ℕ) → Option (List ℕ) → Type 0
+    IsDone (asks_text file shape) files after old new = Carries file files after old new (IsPartOf (Text shape))
+    IsDone (asks_items file input shape) files after old new = PrintsItems file input files after old new
+    IsDone (asks_chart file) files after old new = Carries file files after old new (IsPartOf Chart)
+    IsDone (asks_export file) files after old new = Carries file files after old new (IsPartOf Export)
+    IsDone (asks_strip file) files after old new = Carries file files after old new IsLeft
+
+  -- what is asked for cannot be had: the files give what is refused so, and stay as they are
+  abbrev pub IsDenied : Asked → F → F → Failure → Type 0
+  IsDenied (asks_text file shape) files after failure = ReadsSource file files after (λ source. RefusesLexer source (Text shape) failure)
+  IsDenied (asks_items file input shape) files after failure = RefusesItems file input files after failure
+  IsDenied (asks_chart file) files after failure = ReadsSource file files after (λ source. RefusesLexer source Chart failure)
+  IsDenied (asks_export file) files after failure = ReadsSource file files after (λ source. RefusesLexer source Export failure)
+  IsDenied (asks_strip file) files after failure = ReadsSource file files after (λ source. RefusesStripping source failure)

@@ -4,34 +4,22 @@ ghost use Rattle.std.specs.Prelude.{◌≡◌, bytes_eq, map, option_map, string
 ghost use Rattle.logos_commands.specs.Commands.{asked, chart_in, command_asked, export_in, items_in, shape_in};
 ghost use Rattle.logos_commands.specs.Commands.{shape_named, strip_in, text_in};
 
+use crate::lexing::LexRequest;
 use logos_codegen::generator::Config;
 
 /// A command with its files.
 #[derive(Clone, Copy)]
 pub(super) enum Command<'w> {
     /// `gen`: print the Rust text of the lexer whose enum is in the file.
-    Text {
-        file: &'w str,
-        config: Config,
-    },
+    Text { file: &'w str, config: Config },
     /// `lex`: print the items that the lexer whose enum is in the file finds in the input.
-    Items {
-        file: &'w str,
-        input: &'w str,
-        config: Config,
-    },
+    Items(LexRequest<'w>),
     /// `mermaid`: print the chart of the graph of that lexer.
-    Chart {
-        file: &'w str,
-    },
+    Chart { file: &'w str },
     /// `export`: write the same chart to the file that the source names.
-    Export {
-        file: &'w str,
-    },
+    Export { file: &'w str },
     /// `strip`: print the enum in the file without the attributes of the derive macro.
-    Strip {
-        file: &'w str,
-    },
+    Strip { file: &'w str },
 }
 
 /// Returns the command that the words are, or `None`.
@@ -86,12 +74,11 @@ fn items_of(words: &[String]) -> Option<Command<'_>>
         return None;
     };
     let config = shape_of(words)?;
-    let (file, input) = (file.as_str(), input.as_str());
-    Some(Command::Items {
-        file,
-        input,
+    Some(Command::Items(LexRequest {
+        source: file.as_str(),
+        input: input.as_str(),
         config,
-    })
+    }))
 }
 
 /// Returns the command `mermaid` with these words after its name.

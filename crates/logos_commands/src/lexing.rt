@@ -1,13 +1,15 @@
 //! The command `lex`: a line for each item of an input, written in blocks while the input is lexed.
 
-ghost use Rattle.std.specs.Prelude.{◌≡◌, ◌++◌, ◌+◌, ◌<◌, ◌≤◌, IfErr, OnOk, IsTrue, IsUtf8};
+ghost use Rattle.std.specs.Prelude.{◌≡◌, ◌++◌, ◌+◌, ◌<◌, ◌≤◌, ℕ, List, [], IfErr, OnOk, IsTrue, IsUtf8};
 ghost use Rattle.std.specs.Prelude.{vec_len, vec_capacity};
-ghost use Rattle.logos_machine.specs.LexerValue.{item_of};
+ghost use Rattle.std.specs.Io.KnownBytes.{Appends, Keeps};
+ghost use Rattle.logos_code.specs.declared.action.Action.{Action as Answer};
+ghost use Rattle.logos_machine.specs.LexerValue.{answers_of, item_of};
 ghost use Rattle.logos_commands.specs.Commands.{status_of};
-ghost use Rattle.logos_commands.specs.Lines.{line_of};
+ghost use Rattle.logos_commands.specs.Lines.{WritesLines, emits, line_of};
 ghost use Rattle.logos_commands.specs.declared.failure.Failure.TheVariants.{Output};
-ghost use Rattle.logos_commands.specs.Runs.{IsLexed, IsTornBy, RefusesInput};
-ghost use Rattle.logos_disk.specs.Reading.{ReadsBoth};
+ghost use Rattle.logos_host.specs.Writers.{AppendsFront};
+ghost use Rattle.logos_commands.specs.Runs.{IsTornBy, PrintsItems, PrintsItemsOf, RefusesInput, RefusesItems};
 
 use crate::failure::Failure;
 use crate::lines::{LONGEST, write_line};
@@ -17,7 +19,7 @@ use logos_codegen::generate;
 use logos_codegen::generator::Config;
 use logos_codegen::leaf::LeafId;
 use logos_codegen::machine::{Action, Item, Lexer};
-use logos_disk::Files;
+use logos_host::{Files, write_full, write_through};
 use std::alloc::Global;
 use std::io::Write;
 
@@ -41,11 +43,13 @@ pub(super) fn lex<'w, F: Files, O: Write>(
     files: &mut F,
     out: &mut O,
 ) -> Result<(), Failure<'w>>
-    ensures done { OnOk result (ReadsBoth F.read_gives files.old
-        request.entry.source.now request.entry.input.now IsLexed) }
+    ensures done { OnOk result (PrintsItems F.read_gives request.entry.source.now
+        request.entry.input.now files.old files.new (O.contents out.old) (O.contents out.new)) }
     ensures denied { IfErr result (λ failure. status_of failure ≡ 1 →
-        ReadsBoth F.read_gives files.old request.entry.source.now request.entry.input.now
-        (λ source bytes. RefusesInput source bytes failure)) }
+        RefusesItems F.read_gives request.entry.source.now request.entry.input.now files.old
+        files.new failure) }
+    ensures silent { IfErr result (λ failure. status_of failure ≡ 1 →
+        Keeps (O.contents out.old) (O.contents out.new)) }
 {
     let source = read_text(request.source, files)?;
     let bytes = read(request.input, files)?;
@@ -66,9 +70,12 @@ fn lex_by_source<O: Write>(
     config: Config,
     out: &mut O,
 ) -> Result<(), Failure<'static>>
-    ensures done { OnOk result (IsLexed source.now input.now) }
+    ensures done { OnOk result (PrintsItemsOf source.now input.now (O.contents out.old)
+        (O.contents out.new)) }
     ensures denied { IfErr result (λ failure. status_of failure ≡ 1 →
         RefusesInput source.now input.now failure) }
+    ensures silent { IfErr result (λ failure. status_of failure ≡ 1 →
+        Keeps (O.contents out.old) (O.contents out.new)) }
 {
     match generate(alloc, source, config) {
         Ok(made) => lex_by_code(alloc, &made.code, input, out),
@@ -83,9 +90,13 @@ fn lex_by_code<O: Write>(
     input: &[u8],
     out: &mut O,
 ) -> Result<(), Failure<'static>>
-    ensures done { OnOk result (IsTrue code.now.utf8 → IsUtf8 input.now) }
+    ensures text { OnOk result (IsTrue code.now.utf8 → IsUtf8 input.now) }
+    ensures lines { OnOk result (WritesLines code.now emits input.now 0 [] (O.contents out.old)
+        (O.contents out.new)) }
     ensures denied { IfErr result (λ failure. status_of failure ≡ 1 →
         IsTornBy code.now input.now failure) }
+    ensures silent { IfErr result (λ failure. status_of failure ≡ 1 →
+        Keeps (O.contents out.old) (O.contents out.new)) }
 {
     let emit = |_leaf: LeafId, _slice: &[u8]| Action::Emit;
     match Lexer::new_bytes(code, input, emit) {
@@ -99,20 +110,26 @@ fn lex_by_code<O: Write>(
     }
 }
 
-/// Writes a line for each further item of a lexer, and flushes the writer.
+/// Writes a line for each further item of a lexer whose callback answers `Emit` alone, and flushes the
+/// writer.
 fn write_items<C: Fn(LeafId, &[u8]) -> Action, O: Write>(
     alloc: Global,
     lexer: &mut Lexer<'_, '_, '_, C>,
     out: &mut O,
 ) -> Result<(), Failure<'static>>
-    requires { C.IsAlwaysCallable lexer.old.callback }
-    ensures { IfErr result (λ failure. status_of failure ≡ 3) }
+    requires callable { C.IsAlwaysCallable lexer.old.callback }
+    requires emits { (leaf : ℕ) (slice : List ℕ) (answer : Answer) →
+        answers_of C.Fn lexer.old.callback leaf slice answer → emits leaf slice answer }
+    ensures lines { OnOk result (WritesLines lexer.old.code emits lexer.old.input lexer.old.to []
+        (O.contents out.old) (O.contents out.new)) }
+    ensures failed { IfErr result (λ failure. status_of failure ≡ 3) }
 {
     let mut block = Vec::with_capacity(alloc, BLOCK + LONGEST)?;
     write_lines(lexer, &mut block, out)
 }
 
-/// Writes a line for each further item of a lexer, collected in a block, and flushes the writer. Only writing can fail.
+/// Writes a line for each further item of a lexer, collected in a block, and flushes the writer. Only
+/// writing can fail.
 fn write_lines<C: Fn(LeafId, &[u8]) -> Action, O: Write>(
     lexer: &mut Lexer<'_, '_, '_, C>,
     block: &mut Vec<u8>,
@@ -120,14 +137,41 @@ fn write_lines<C: Fn(LeafId, &[u8]) -> Action, O: Write>(
 ) -> Result<(), Failure<'static>>
     requires callable { C.IsAlwaysCallable lexer.old.callback }
     requires room { (vec_len block.old < BLOCK) × (BLOCK + LONGEST ≤ vec_capacity block.old) }
-    ensures { IfErr result (λ failure. failure ≡ Output) }
+    ensures lines { OnOk result (WritesLines lexer.old.code
+        (answers_of C.Fn lexer.old.callback) lexer.old.input lexer.old.to block.old.items
+        (O.contents out.old) (O.contents out.new)) }
+    ensures failed { IfErr result (λ failure. failure ≡ Output) }
 {
     while let Some(item) = lexer.next() {
         push_line(block, item);
-        write_full(block, out)?;
+        write_if_full(block, out)?;
     }
-    write_block(block, out)?;
-    flush(out)
+    write_rest(block, out)
+}
+
+/// Writes a block if it is full, and empties it.
+fn write_if_full<O: Write>(block: &mut Vec<u8>, out: &mut O) -> Result<(), Failure<'static>>
+    ensures few { vec_len block.new < BLOCK }
+    ensures room { vec_capacity block.new ≡ vec_capacity block.old }
+    ensures written { OnOk result (AppendsFront (O.contents out.old) (O.contents out.new)
+        block.old.items block.new.items) }
+    ensures failure { IfErr result (λ failure. failure ≡ Output) }
+{
+    match write_full(block, BLOCK, out) {
+        Ok(()) => Ok(()),
+        Err(_) => Err(Failure::Output),
+    }
+}
+
+/// Writes what is left in a block, and flushes the writer.
+fn write_rest<O: Write>(block: &[u8], out: &mut O) -> Result<(), Failure<'static>>
+    ensures written { OnOk result (Appends (O.contents out.old) (O.contents out.new) block.now) }
+    ensures failure { IfErr result (λ failure. failure ≡ Output) }
+{
+    match write_through(block, out) {
+        Ok(()) => Ok(()),
+        Err(_) => Err(Failure::Output),
+    }
 }
 
 /// Adds the line of an item to a block that has room for it.
@@ -141,41 +185,5 @@ fn push_line(block: &mut Vec<u8>, item: Item<'_>)
     let from = write_line(&mut line, item);
     if block.extend_from_slice(&line[from..]).is_err() {
         unreachable!();
-    }
-}
-
-/// Writes a block if it is full, and empties it.
-fn write_full<O: Write>(block: &mut Vec<u8>, out: &mut O) -> Result<(), Failure<'static>>
-    ensures few { vec_len block.new < BLOCK }
-    ensures room { vec_capacity block.new ≡ vec_capacity block.old }
-    ensures failure { IfErr result (λ failure. failure ≡ Output) }
-{
-    if block.len() < BLOCK {
-        return Ok(());
-    }
-    write_block(block, out)
-}
-
-/// Writes a block, and empties it.
-fn write_block<O: Write>(block: &mut Vec<u8>, out: &mut O) -> Result<(), Failure<'static>>
-    ensures empty { vec_len block.new ≡ 0 }
-    ensures room { vec_capacity block.new ≡ vec_capacity block.old }
-    ensures failure { IfErr result (λ failure. failure ≡ Output) }
-{
-    let written = out.write_all(block.as_slice());
-    block.clear();
-    match written {
-        Ok(()) => Ok(()),
-        Err(_) => Err(Failure::Output),
-    }
-}
-
-/// Flushes a writer.
-fn flush<O: Write>(out: &mut O) -> Result<(), Failure<'static>>
-    ensures { IfErr result (λ failure. failure ≡ Output) }
-{
-    match out.flush() {
-        Ok(()) => Ok(()),
-        Err(_) => Err(Failure::Output),
     }
 }

@@ -11,5 +11,5 @@ mod outcome;
 mod reading;
 mod running;
 
-pub use logos_disk::{FileError, Files};
+pub use logos_host::{FileError, Files, Reason};
 pub use running::{refuse_words, run};

@@ -1,11 +1,14 @@
 //! The outcomes of commands, each made as a whole before any of it is written.
 
-ghost use Rattle.std.specs.Prelude.{◌≡◌, ◌≢◌, IfErr, IfOk, option_map, string_bytes};
+ghost use Rattle.std.specs.Prelude.{◌≡◌, ◌≢◌, ◌++◌, ◌∷◌, [], IfErr, IfOk, option_map, string_bytes};
+ghost use Rattle.logos_enum.specs.Values.{ident_slice};
+ghost use Rattle.logos_graph.specs.Mermaid.{mermaid_of};
+ghost use Rattle.logos_text.specs.Standing.{StandInOrder};
+ghost use Rattle.logos_text.specs.Texts.{texts_of};
 ghost use Rattle.logos_commands.specs.Charts.{export_destination, file_at};
-ghost use Rattle.logos_commands.specs.inside.Destinations.{FailsAt, IsChartAt};
+ghost use Rattle.logos_commands.specs.inside.Destinations.{EndsWithLine, FailsAt, effect_of};
 ghost use Rattle.logos_commands.specs.Commands.{status_of};
-ghost use Rattle.logos_commands.specs.Runs.{IsFaultless, IsStrippable};
-ghost use Rattle.logos_disk.specs.Reading.{ReadsSome};
+ghost use Rattle.logos_commands.specs.Runs.{IsLeft, IsPart, IsPartOf, ReadsSource, prints, shape_of};
 ghost use Rattle.logos_commands.specs.Runs.{RefusesExport, RefusesLexer, RefusesStripping};
 
 use crate::chart_path::chart_path;
@@ -15,7 +18,7 @@ use logos_codegen::generator::Config;
 use logos_codegen::graph::{Graph, State};
 use logos_codegen::token::print;
 use logos_codegen::{Generated, generate, strip_attributes};
-use logos_disk::Files;
+use logos_host::Files;
 use std::alloc::Global;
 
 /// The outcome of a command.
@@ -50,9 +53,11 @@ pub(super) fn of_file<'w, F: Files>(
     asked: Asked,
     files: &mut F,
 ) -> Result<Outcome, Failure<'w>>
-    ensures done { IfOk result (λ outcome. ReadsSome F.read_gives files.old file.now IsFaultless) }
+    ensures done { IfOk result (λ outcome. ReadsSource F.read_gives file.now files.old files.new
+        (λ source. IsPartOf asked source (effect_of outcome))) }
     ensures denied { IfErr result (λ failure. status_of failure ≡ 1 →
-        ReadsSome F.read_gives files.old file.now (λ source. RefusesLexer source asked failure)) }
+        ReadsSource F.read_gives file.now files.old files.new
+        (λ source. RefusesLexer source asked failure)) }
 {
     let source = read_text(file, files)?;
     of_source(alloc, source.as_str(), asked)
@@ -60,7 +65,7 @@ pub(super) fn of_file<'w, F: Files>(
 
 /// Makes the outcome of a command on a source.
 fn of_source(alloc: Global, source: &str, asked: Asked) -> Result<Outcome, Failure<'static>>
-    ensures done { IfOk result (λ outcome. IsFaultless source.now) }
+    ensures done { IfOk result (λ outcome. IsPartOf asked source.now (effect_of outcome)) }
     ensures denied { IfErr result (λ failure. status_of failure ≡ 1 →
         RefusesLexer source.now asked failure) }
 {
@@ -71,7 +76,9 @@ fn of_source(alloc: Global, source: &str, asked: Asked) -> Result<Outcome, Failu
 }
 
 /// Returns the shape of the code that a command needs.
-fn shape_of(asked: Asked) -> Config {
+fn shape_of(asked: Asked) -> Config
+    ensures { result ≡ shape_of asked }
+{
     match asked {
         Asked::Text(config) => config,
         _ => ANY_SHAPE,
@@ -80,6 +87,9 @@ fn shape_of(asked: Asked) -> Config {
 
 /// Makes the outcome of a command on a lexer.
 fn of_lexer(alloc: Global, made: &Generated<'_>, asked: Asked) -> Result<Outcome, Failure<'static>>
+    ensures part { IfOk result (λ outcome. IsPart asked made.now.graph made.now.code
+        (ident_slice made.now.name) (option_map string_bytes made.now.export_path)
+        (effect_of outcome)) }
     ensures plain { asked ≢ Asked.Export → IfErr result (λ failure. status_of failure ≡ 3) }
     ensures export { IfErr result (λ failure. status_of failure ≡ 1 → RefusesExport
         (export_destination (option_map string_bytes made.now.export_path) made.now.name.text.now)
@@ -94,7 +104,9 @@ fn of_lexer(alloc: Global, made: &Generated<'_>, asked: Asked) -> Result<Outcome
 
 /// Returns the Rust text of a lexer, and LF.
 fn text_of_lexer(alloc: Global, made: &Generated<'_>) -> Result<String, Failure<'static>>
-    ensures { IfErr result (λ failure. status_of failure ≡ 3) }
+    ensures text { IfOk result (λ text. EndsWithLine (StandInOrder (texts_of made.now.code))
+        (string_bytes text)) }
+    ensures failed { IfErr result (λ failure. status_of failure ≡ 3) }
 {
     let mut text = made.text(alloc)?;
     text.push('\n')?;
@@ -107,30 +119,36 @@ pub(super) fn stripped<'w, F: Files>(
     file: &'w str,
     files: &mut F,
 ) -> Result<Outcome, Failure<'w>>
-    ensures done { IfOk result (λ outcome. ReadsSome F.read_gives files.old file.now IsStrippable) }
+    ensures done { IfOk result (λ outcome. ReadsSource F.read_gives file.now files.old files.new
+        (λ source. IsLeft source (effect_of outcome))) }
     ensures denied { IfErr result (λ failure. status_of failure ≡ 1 →
-        ReadsSome F.read_gives files.old file.now (λ source. RefusesStripping source failure)) }
+        ReadsSource F.read_gives file.now files.old files.new
+        (λ source. RefusesStripping source failure)) }
 {
     let source = read_text(file, files)?;
-    let mut text = stripped_source(alloc, source.as_str())?;
-    text.push('\n')?;
-    Ok(Outcome::Text(text))
+    match stripped_source(alloc, source.as_str()) {
+        Ok(text) => Ok(Outcome::Text(text)),
+        Err(failure) => Err(failure),
+    }
 }
 
-/// Returns the enum of a source without the attributes of the derive macro.
+/// Returns the enum of a source without the attributes of the derive macro, and LF.
 fn stripped_source(alloc: Global, source: &str) -> Result<String, Failure<'static>>
-    ensures done { IfOk result (λ text. IsStrippable source.now) }
+    ensures done { IfOk result (λ text. IsLeft source.now (prints (string_bytes text))) }
     ensures denied { IfErr result (λ failure. status_of failure ≡ 1 →
         RefusesStripping source.now failure) }
 {
     let left = strip_attributes(alloc, source)?;
-    Ok(print(alloc, left.run())?)
+    let mut text = print(alloc, left.run())?;
+    text.push('\n')?;
+    Ok(text)
 }
 
 /// Makes the chart of the graph of a lexer, for the file that its source names.
 fn export_of_lexer(alloc: Global, made: &Generated<'_>) -> Result<Outcome, Failure<'static>>
-    ensures chart { IfOk result (IsChartAt (export_destination
-        (option_map string_bytes made.now.export_path) made.now.name.text.now)) }
+    ensures chart { IfOk result (λ outcome. IsPart Asked.Export made.now.graph made.now.code
+        (ident_slice made.now.name) (option_map string_bytes made.now.export_path)
+        (effect_of outcome)) }
     ensures denied { IfErr result (λ failure. status_of failure ≡ 1 → RefusesExport
         (export_destination (option_map string_bytes made.now.export_path) made.now.name.text.now)
         failure) }
@@ -155,7 +173,8 @@ fn path_of_chart(alloc: Global, made: &Generated<'_>) -> Result<String, Failure<
 
 /// Returns the chart of a graph, after testing that each state differs from the next.
 fn tested_chart(alloc: Global, graph: &Graph<'_>) -> Result<String, Failure<'static>>
-    ensures { IfErr result (λ failure. status_of failure ≡ 3) }
+    ensures chart { IfOk result (λ text. string_bytes text ≡ mermaid_of graph.now.states) }
+    ensures failed { IfErr result (λ failure. status_of failure ≡ 3) }
 {
     test_neighbours(alloc, graph)?;
     Ok(graph.get_mermaid(alloc)?)

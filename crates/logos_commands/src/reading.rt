@@ -4,7 +4,7 @@ ghost use Rattle.std.specs.Prelude.{◌≡◌, IfErr, IfOk, string_bytes};
 ghost use Rattle.logos_commands.specs.Commands.{status_of};
 
 use crate::failure::Failure;
-use logos_disk::{FileError, Files};
+use logos_host::{FileError, Files};
 
 /// Reads all bytes of a file.
 pub(super) fn read<'w, F: Files>(path: &'w str, files: &mut F) -> Result<Vec<u8>, Failure<'w>>
@@ -13,8 +13,7 @@ pub(super) fn read<'w, F: Files>(path: &'w str, files: &mut F) -> Result<Vec<u8>
 {
     match files.read(path) {
         Ok(bytes) => Ok(bytes),
-        Err(FileError::Failed) => Err(Failure::Read(path)),
-        Err(FileError::Memory) => Err(Failure::Memory),
+        Err(error) => Err(unread(path, error)),
     }
 }
 
@@ -24,8 +23,18 @@ pub(super) fn read_text<'w, F: Files>(path: &'w str, files: &mut F) -> Result<St
         F.read_gives files.old path.now (string_bytes text) files.new) }
     ensures err { IfErr result (λ failure. status_of failure ≡ 3) }
 {
-    let Ok(text) = String::from_utf8(read(path, files)?) else {
-        return Err(Failure::Read(path));
-    };
-    Ok(text)
+    match logos_host::read_text(path, files) {
+        Ok(text) => Ok(text),
+        Err(error) => Err(unread(path, error)),
+    }
+}
+
+/// Returns the failure of a file at a path that is not read.
+fn unread<'w>(path: &'w str, error: FileError) -> Failure<'w>
+    ensures { status_of result ≡ 3 }
+{
+    match error {
+        FileError::Memory => Failure::Memory,
+        _ => Failure::Read(path),
+    }
 }

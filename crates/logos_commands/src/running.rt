@@ -2,19 +2,19 @@
 
 ghost use Rattle.std.specs.Prelude.{◌≡◌, ◌≤◌, ◌⊎◌, ◌↔◌, None, map, string_bytes};
 ghost use Rattle.std.specs.Prelude.{IfErr, IfSome, OnOk};
+ghost use Rattle.std.specs.Io.KnownBytes.{Appends, Keeps};
 ghost use Rattle.logos_commands.specs.Commands.{asked, command_asked, status_of};
-ghost use Rattle.logos_commands.specs.Runs.{IsDone, IsDenied, IsFaultless, IsStrippable};
-ghost use Rattle.logos_commands.specs.Runs.{RefusesLexer, RefusesStripping};
-ghost use Rattle.logos_disk.specs.Reading.{ReadsSome};
+ghost use Rattle.logos_commands.specs.inside.Destinations.{effect_of};
+ghost use Rattle.logos_commands.specs.Runs.{Carries, HasEffect, IsDone, IsDenied, IsLeft, IsPartOf};
+ghost use Rattle.logos_commands.specs.Runs.{ReadsSource, RefusesLexer, RefusesStripping};
 ghost use Rattle.logos_commands.specs.declared.failure.Failure.{Failure as Why};
 
 use crate::command::{Command, command_of};
 use crate::failure::{Failure, report};
-use crate::lexing::{LexRequest, lex};
+use crate::lexing::lex;
 use crate::outcome::{Asked, Outcome, of_file, stripped};
-use logos_disk::{FileError, Files};
+use logos_host::{FileError, Files, write_through};
 use std::alloc::Global;
-use std::io;
 use std::io::{ErrorKind, Write};
 
 /// Runs the command that the words name, and returns the exit status: 0 if it was carried out, 1 if the source or the input was
@@ -29,12 +29,17 @@ pub fn run<F: Files, O: Write, E: Write>(
     err: &mut E,
 ) -> u8
     ensures usage { (result ≡ 2) ↔ (asked (map string_bytes words.now) ≡ None) }
-    // At status 0 the files gave a source that is accepted, and for `lex` an input that its mode takes.
+    // At status 0 the files gave a source that is accepted, and what the command gives was printed or written whole.
     ensures done { result ≡ 0 → IfSome (asked (map string_bytes words.now))
-        (λ command. IsDone F.read_gives command files.old) }
-    // At status 1 what the files gave is refused, or the path of a chart is.
+        (λ command. IsDone F.read_gives F.write_makes command files.old files.new
+        (O.contents out.old) (O.contents out.new)) }
+    // At status 1 what the files gave is refused, or the path of a chart is. Nothing was written.
     ensures denied { result ≡ 1 → IfSome (asked (map string_bytes words.now))
-        (λ command. (failure : Why) × IsDenied F.read_gives command files.old failure) }
+        (λ command. (failure : Why) × IsDenied F.read_gives command files.old files.new failure) }
+    ensures silent { result ≡ 1 → Keeps (O.contents out.old) (O.contents out.new) }
+    // At status 2 no file was read or written, and nothing was printed.
+    ensures untouched { result ≡ 2 →
+        (files.new ≡ files.old) × Keeps (O.contents out.old) (O.contents out.new) }
     ensures known { result ≤ 3 }
 {
     let Some(command) = command_of(words) else {
@@ -53,23 +58,15 @@ fn carry_out<'w, F: Files, O: Write>(
     files: &mut F,
     out: &mut O,
 ) -> Result<(), Failure<'w>>
-    ensures done { OnOk result (IsDone F.read_gives (command_asked command.entry) files.old) }
+    ensures done { OnOk result (IsDone F.read_gives F.write_makes (command_asked command.entry)
+        files.old files.new (O.contents out.old) (O.contents out.new)) }
     ensures denied { IfErr result (λ failure. status_of failure ≡ 1 →
-        IsDenied F.read_gives (command_asked command.entry) files.old failure) }
+        IsDenied F.read_gives (command_asked command.entry) files.old files.new failure) }
+    ensures silent { IfErr result (λ failure. status_of failure ≡ 1 →
+        Keeps (O.contents out.old) (O.contents out.new)) }
 {
     match command {
-        Command::Items {
-            file,
-            input,
-            config,
-        } => {
-            let request = LexRequest {
-                source: file,
-                input,
-                config,
-            };
-            lex(alloc, request, files, out)
-        }
+        Command::Items(request) => lex(alloc, request, files, out),
         Command::Text { file, config } => {
             write_lexer(alloc, file, Asked::Text(config), files, out)
         }
@@ -87,10 +84,13 @@ fn write_lexer<'w, F: Files, O: Write>(
     files: &mut F,
     out: &mut O,
 ) -> Result<(), Failure<'w>>
-    ensures done { OnOk result (ReadsSome F.read_gives files.old file.now IsFaultless) }
+    ensures done { OnOk result (Carries F.read_gives F.write_makes file.now files.old files.new
+        (O.contents out.old) (O.contents out.new) (IsPartOf asked)) }
     ensures denied { IfErr result (λ failure. status_of failure ≡ 1 →
-        ReadsSome F.read_gives files.old file.now
+        ReadsSource F.read_gives file.now files.old files.new
         (λ source. RefusesLexer source asked failure)) }
+    ensures silent { IfErr result (λ failure. status_of failure ≡ 1 →
+        Keeps (O.contents out.old) (O.contents out.new)) }
 {
     match of_file(alloc, file, asked, files) {
         Ok(outcome) => deliver(outcome, files, out),
@@ -105,9 +105,13 @@ fn write_stripped<'w, F: Files, O: Write>(
     files: &mut F,
     out: &mut O,
 ) -> Result<(), Failure<'w>>
-    ensures done { OnOk result (ReadsSome F.read_gives files.old file.now IsStrippable) }
+    ensures done { OnOk result (Carries F.read_gives F.write_makes file.now files.old files.new
+        (O.contents out.old) (O.contents out.new) IsLeft) }
     ensures denied { IfErr result (λ failure. status_of failure ≡ 1 →
-        ReadsSome F.read_gives files.old file.now (λ source. RefusesStripping source failure)) }
+        ReadsSource F.read_gives file.now files.old files.new
+        (λ source. RefusesStripping source failure)) }
+    ensures silent { IfErr result (λ failure. status_of failure ≡ 1 →
+        Keeps (O.contents out.old) (O.contents out.new)) }
 {
     match stripped(alloc, file, files) {
         Ok(outcome) => deliver(outcome, files, out),
@@ -121,7 +125,9 @@ fn deliver<F: Files, O: Write>(
     files: &mut F,
     out: &mut O,
 ) -> Result<(), Failure<'static>>
-    ensures { IfErr result (λ failure. status_of failure ≡ 3) }
+    ensures done { OnOk result (HasEffect F.write_makes (effect_of outcome) files.old files.new
+        (O.contents out.old) (O.contents out.new)) }
+    ensures failed { IfErr result (λ failure. status_of failure ≡ 3) }
 {
     match outcome {
         Outcome::Text(text) => write_out(text.as_str(), out),
@@ -131,28 +137,24 @@ fn deliver<F: Files, O: Write>(
 
 /// Writes a text to standard output, and flushes it.
 fn write_out<O: Write>(text: &str, out: &mut O) -> Result<(), Failure<'static>>
-    ensures { IfErr result (λ failure. status_of failure ≡ 3) }
+    ensures done { OnOk result (Appends (O.contents out.old) (O.contents out.new) text.now) }
+    ensures failed { IfErr result (λ failure. status_of failure ≡ 3) }
 {
-    match write_through(text, out) {
+    match write_through(text.as_bytes(), out) {
         Ok(()) => Ok(()),
         Err(_) => Err(Failure::Output),
     }
 }
 
-/// Writes a whole text, and flushes the writer.
-fn write_through<O: Write>(text: &str, out: &mut O) -> io::Result<()> {
-    out.write_all(text.as_bytes())?;
-    out.flush()
-}
-
 /// Writes a text to a file.
 fn write_file<F: Files>(path: String, text: &str, files: &mut F) -> Result<(), Failure<'static>>
-    ensures { IfErr result (λ failure. status_of failure ≡ 3) }
+    ensures done { OnOk result (F.write_makes files.old (string_bytes path) text.now files.new) }
+    ensures failed { IfErr result (λ failure. status_of failure ≡ 3) }
 {
     match files.write(path.as_str(), text.as_bytes()) {
         Ok(()) => Ok(()),
-        Err(FileError::Failed) => Err(Failure::Write(path)),
         Err(FileError::Memory) => Err(Failure::Memory),
+        Err(_) => Err(Failure::Write(path)),
     }
 }
 

@@ -6,7 +6,7 @@ use Rattle.std.specs.Slice.{IsItemAt}
 use Rattle.std.specs.Option.{option_copied}
 use Rattle.std.specs.List.{Contains, slice_get}
 use Rattle.logos_cycles.specs.Cycles.{targets_of, Leads, one, on}
-use Rattle.logos_cycles.specs.inside.Places.{graph, Edge}
+use Rattle.logos_cycles.specs.inside.Memberships.{graph, Edge}
 
 pub front : (xs : List ℕ) (k : ℕ) → k < length xs → drop k xs ≡ get_or xs k 0 ∷ drop (k + 1) xs
 front xs k lt = at_drop_more (λ ys. ys) xs k 0 lt
@@ -27,7 +27,7 @@ contains_none y (k, lt, e) = absurd (omega arith)
 pub contains_past : (xs : List ℕ) (k y : ℕ) → length xs ≤ k → Contains (drop k xs) y → ⊥
 contains_past xs k y past (i, lt, e) = absurd (let l = length-drop k xs in omega (arith, l, lt, past))
 
--- what reading at a place says
+-- what reading at a membership says
 pub read_at : {X : Type 0} (xs : List X) (i : ℕ) (r : Bor X) → IsItemAt xs i (Some r) → slice_get xs i ≡ Some r.now
 read_at xs i r h = slice_get_read xs (length xs) i r.now refl h.3.0 h.1
 

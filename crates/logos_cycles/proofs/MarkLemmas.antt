@@ -3,9 +3,9 @@ use Rattle.std.proofs.Common.{◌≡◌, ◌<◌, ◌+◌, ◌⊎◌, ◌↔◌,
 use lib.ListN.{get_or-append}
 use Rattle.std.proofs.lemmas.List.{get_or_push}
 use Rattle.std.proofs.lemmas.Option.{slice_get-get_or}
-use Rattle.logos_cycles.specs.declared.evidence.Place.{Place}
+use Rattle.logos_cycles.specs.declared.evidence.Membership.{Membership}
 use Rattle.logos_cycles.specs.Cycles.{targets_of, Leads}
-use Rattle.logos_cycles.specs.inside.Places.{IsEvidence, HasInner}
+use Rattle.logos_cycles.specs.inside.Memberships.{IsEvidence, HasInner}
 use Rattle.logos_cycles.proofs.PlaceLemmas.{inner_leads, leads_inner}
 
 -- the first of these are marked where they lead to themselves
@@ -21,7 +21,7 @@ marked_more g marks marks' b n len e old here node lt = rw e (⊎_elim
     (λ (s : node ≡ n). let p : get_or (marks ++ b ∷ []) node false ≡ b = get_or_push marks b false node (len ∙ sym s) in rw p (rw s here))
     (before_or_at node n lt))
 
-pub mark_is : (g : List (List ℕ)) (ps : List Place) → IsEvidence g ps → (node : ℕ) (d : Place) → node < length ps → (ts : List ℕ) → ts ≡ targets_of g node → (b : Bool) →
+pub mark_is : (g : List (List ℕ)) (ps : List Membership) → IsEvidence g ps → (node : ℕ) (d : Membership) → node < length ps → (ts : List ℕ) → ts ≡ targets_of g node → (b : Bool) →
     (IsTrue b ↔ HasInner ps (get_or ps node d).root ts) → IsTrue b ↔ Leads g node node
 mark_is g ps ev node d lt ts e b h =
     let is = slice_get-get_or ps node d lt in (

@@ -5,7 +5,7 @@ use Rattle.std.proofs.lemmas.List.Elements.{Contains-append_left, Contains-push,
 use Rattle.std.proofs.lemmas.Bool.{cases_lt}
 use Rattle.std.specs.List.{Contains}
 use Rattle.logos_cycles.specs.Cycles.{targets_of, Leads, one, on}
-use Rattle.logos_cycles.specs.inside.Places.{Edge}
+use Rattle.logos_cycles.specs.inside.Memberships.{Edge}
 use Rattle.logos_cycles.specs.inside.Traversals.{Reaches, IsFound, left_in}
 use Rattle.logos_cycles.proofs.ListLemmas.{starts, join, contains_none}
 

@@ -1,2 +1,4 @@
 pub mod Cycles
 pub mod inside
+pub mod Words
+pub mod Views

@@ -1,5 +1,6 @@
-//! Finds the place of each node among the components of a graph. The functions here have no
+//! Finds the membership of each node among the components of a graph. The functions here have no
 //! contracts: what they find is checked afterwards.
+
 mod backward;
 mod forward;
 
@@ -7,10 +8,10 @@ use crate::evidence::backward::Backward;
 use crate::evidence::forward::Forward;
 use std::alloc::{AllocError, Global};
 
-/// The place of a node among the components of its graph. A component is a greatest set of nodes
-/// that all lead to one another.
+/// The membership of a node among the components of its graph. A component is a greatest set of
+/// nodes that all lead to one another.
 #[derive(Clone, Copy)]
-pub(crate) struct Place {
+pub(crate) struct Membership {
     /// The node that its component is named by.
     pub(crate) root: usize,
     /// The number of its component. Edges between components lead to greater numbers.
@@ -39,16 +40,19 @@ fn meets(met: &mut [bool], node: usize) -> bool {
     true
 }
 
-/// Returns the place of each node. A walk along the edges gives the order in which nodes are
+/// Returns the membership of each node. A walk along the edges gives the order in which nodes are
 /// finished. Walks against the edges, from the last node of that order on, give the components.
 ///
 /// # Errors
 ///
-/// `AllocError` if there is not enough memory.
-pub(crate) fn places(alloc: Global, lists: &[Vec<usize>]) -> Result<Vec<Place>, AllocError> {
+/// Returns `AllocError` if memory runs out.
+pub(crate) fn memberships(
+    alloc: Global,
+    lists: &[Vec<usize>],
+) -> Result<Vec<Membership>, AllocError> {
     let mut forward = Forward::new(alloc, lists.len())?;
     forward.walk(lists)?;
-    let mut backward = Backward::new(alloc, lists, forward.places)?;
+    let mut backward = Backward::new(alloc, lists, forward.memberships)?;
     backward.walk(&forward.left)?;
-    Ok(backward.places)
+    Ok(backward.memberships)
 }

@@ -3,7 +3,7 @@
 #![tactic(auto)]
 
 ghost use Rattle.std.specs.Prelude.{true, false, ◌≡◌, ℕ, ◌<◌, ◌↔◌, List, IfOk, IsTrue, length, map, vec_len, slice_index_or};
-ghost use Rattle.logos_cycles.specs.Cycles.{Leads};
+ghost use Rattle.logos_cycles.specs.Words.{Leads};
 
 mod check;
 mod evidence;
@@ -21,16 +21,16 @@ use std::alloc::{AllocError, Global};
 ///
 /// # Errors
 ///
-/// `AllocError` if there is not enough memory.
+/// Returns `AllocError` if memory runs out.
 pub fn on_cycles(alloc: Global, lists: &[Vec<usize>]) -> Result<Vec<bool>, AllocError>
     ensures length { IfOk result (λ marks. vec_len marks ≡ length lists.now) }
     ensures marks { IfOk result (λ marks. (node : ℕ) → node < length lists.now →
         IsTrue (slice_index_or marks.items node false) ↔
         Leads (map (λ list. list.items) lists.now) node node) }
 {
-    let places = evidence::places(alloc, lists)?;
-    if check::is_evidence(lists, &places) {
-        return check::marks(alloc, lists, &places);
+    let memberships = evidence::memberships(alloc, lists)?;
+    if check::is_evidence(lists, &memberships) {
+        return check::marks(alloc, lists, &memberships);
     }
     plain::marks(alloc, lists)
 }

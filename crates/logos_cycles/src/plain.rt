@@ -1,8 +1,8 @@
 //! Finds the nodes that lie on a cycle by a walk from each of them.
+
 ghost use Rattle.std.specs.Prelude.{◌≡◌, ℕ, ◌<◌, ◌↔◌, [], ◌∷◌, true, false, IfOk, OnOk, IsTrue, Contains, length, vec_len, slice_index_or};
-ghost use Rattle.logos_cycles.specs.Cycles.{Leads, targets_of};
-ghost use Rattle.logos_cycles.specs.inside.Places.{graph};
-ghost use Rattle.logos_cycles.specs.inside.Traversals.{Reaches};
+ghost use Rattle.logos_cycles.specs.Words.{Leads, targets_of, Reaches};
+ghost use Rattle.logos_cycles.specs.Views.{graph};
 
 use std::alloc::{AllocError, Global};
 
@@ -74,7 +74,7 @@ fn leads_back(alloc: Global, lists: &[Vec<usize>], node: usize) -> Result<bool, 
 ///
 /// # Errors
 ///
-/// `AllocError` if there is not enough memory.
+/// Returns `AllocError` if memory runs out.
 pub(crate) fn marks(alloc: Global, lists: &[Vec<usize>]) -> Result<Vec<bool>, AllocError>
     ensures length { IfOk result (λ marks. vec_len marks ≡ length lists.now) }
     ensures marks { IfOk result (λ marks. (node : ℕ) → node < length lists.now →

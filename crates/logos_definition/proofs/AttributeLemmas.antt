@@ -6,12 +6,12 @@ use Rattle.logos_token.specs.Views.{tokens_of}
 use Rattle.logos_token.specs.declared.token.views.Tokens.{Tokens}
 use Rattle.logos_attribute.specs.Pieces.{Piece, pieces}
 use Rattle.logos_definition.specs.declared.meta.Meta.{Meta}
-use Rattle.logos_definition.specs.Arguments.{PiecesSay}
-use Rattle.logos_definition.specs.Attributes.{MetaSays, with_arguments}
+use Rattle.logos_definition.specs.Arguments.{ReadsPieces}
+use Rattle.logos_definition.specs.Attributes.{ReadsMeta, with_arguments}
 use Rattle.logos_definition.specs.Metas.{arguments_view, meta_view}
 use Rattle.logos_definition.specs.Options.{OptionsView}
 
 -- what the pieces in the arguments say is what the attribute says
 pub says_arguments : {o : OptionsView} {o' : OptionsView} {old new : List Fault} {span : Span} (meta : Meta) (run : Tokens) (left : List Piece) →
-    meta.arguments ≡ Some run → left ≡ pieces (tokens_of run) → PiecesSay o o' old new left → MetaSays o o' old new (meta_view meta) span
+    meta.arguments ≡ Some run → left ≡ pieces (tokens_of run) → ReadsPieces o o' old new left → ReadsMeta o o' old new (meta_view meta) span
 says_arguments meta run left e f s = with_arguments (ap arguments_view e) (rw f at s)

@@ -1,4 +1,5 @@
--- The arguments of a `logos` attribute, one after another. A type in them is read by the grammar of types.
+-- The arguments of a `logos` attribute, one after another. A type in them is read by the grammar of
+-- types.
 use Rattle.std.specs.Prelude.{◌≡◌, ◌≢◌, Bool, true, false, List, [], ◌∷◌, ◌++◌, codes, Option, Some, None}
 use Rattle.std.specs.Str.{bytes_eq}
 use Rattle.logos_token.specs.Faults.{Fault}
@@ -12,55 +13,56 @@ use Rattle.logos_definition.specs.ErrorTypes.{ErrorView, error_read, error_argum
 use Rattle.logos_definition.specs.Options.{OptionsView, error_set, error_report, option_report}
 use Rattle.logos_definition.specs.OptionFaults.{error_empty, type_form, invalid_nested}
 
--- The result of `error(..)`: its type is read from the tokens up to the first comma, and the other arguments follow. Without a type there is none,
--- which is reported.
+-- The result of `error(..)`: its type is read from the tokens up to the first comma, and the other
+-- arguments follow. Without a type there is none, which is reported.
 pub data ErrorGroup (group : TokenList) (old new : List Fault) : Option ErrorView → Type 0 where
   nothing : up_to_comma group ≡ none → new ≡ old ++ only (error_empty group) → ErrorGroup group old new None
   no_type : up_to_comma group ≢ none → ReadsValue (up_to_comma group) (run_span group) old new None → ErrorGroup group old new None
   a_type : {mid : List Fault} {tree : Tree} {error : ErrorView} → up_to_comma group ≢ none → ReadsValue (up_to_comma group) (run_span group) old mid (Some tree) →
       IsReport (error_arguments_report true (pieces (after_comma group)) (error_read (up_to_comma group) tree)) error mid new → ErrorGroup group old new (Some error)
 
--- the value is in parentheses
+-- The value is in parentheses.
 abbrev pub is_grouped : PieceValue → Bool
 is_grouped (grouped run) = true
 is_grouped value = false
 
--- the value is that of a second name
+-- The value is that of a second name.
 abbrev pub is_keyed : PieceValue → Bool
 is_keyed (keyed name run) = true
 is_keyed value = false
 
--- The result of `error`, and whether the arguments after it are read: they are not if it has no type.
-pub data ErrorSays (name : Slice) (o : OptionsView) (o' : OptionsView) (old new : List Fault) : PieceValue → Bool → Type 0 where
-  alone : {value : PieceValue} → is_grouped value ≡ false → IsReport (error_report name value o) o' old new → ErrorSays name o o' old new value true
+-- The result of `error`, and whether the arguments after it are read: they are not if it has no
+-- type.
+pub data ReadsError (name : Slice) (o : OptionsView) (o' : OptionsView) (old new : List Fault) : PieceValue → Bool → Type 0 where
+  alone : {value : PieceValue} → is_grouped value ≡ false → IsReport (error_report name value o) o' old new → ReadsError name o o' old new value true
   with_arguments : {group : TokenList} {mid : List Fault} {error : ErrorView} → ErrorGroup group old mid (Some error) → IsReport (error_set group error o) o' mid new →
-      ErrorSays name o o' old new (grouped group) true
-  without_type : {group : TokenList} → ErrorGroup group old new None → o' ≡ o → ErrorSays name o o' old new (grouped group) false
+      ReadsError name o o' old new (grouped group) true
+  without_type : {group : TokenList} → ErrorGroup group old new None → o' ≡ o → ReadsError name o o' old new (grouped group) false
 
--- the options with other type parameters
+-- The options with other type parameters.
 abbrev pub with_types : OptionsView → Value → OptionsView
 with_types o types = record o { types = types }
 
--- the result of `type`
-pub data TypeSays (name : Slice) (o : OptionsView) (o' : OptionsView) (old new : List Fault) : PieceValue → Type 0 where
+-- The result of `type`.
+pub data ReadsType (name : Slice) (o : OptionsView) (o' : OptionsView) (old new : List Fault) : PieceValue → Type 0 where
   is_given : {second : Slice} {run : TokenList} {types : Value} → IsSet o.types (record { text = second.text; at = second.span }) run old types new → o' ≡ with_types o types →
-      TypeSays name o o' old new (keyed second run)
-  other_form : {value : PieceValue} → is_keyed value ≡ false → IsReport (with_faults o (only (type_form name))) o' old new → TypeSays name o o' old new value
+      ReadsType name o o' old new (keyed second run)
+  other_form : {value : PieceValue} → is_keyed value ≡ false → IsReport (with_faults o (only (type_form name))) o' old new → ReadsType name o o' old new value
 
--- the result of an argument, and whether the arguments after it are read
-pub data PieceSays (o : OptionsView) (o' : OptionsView) (old new : List Fault) : Piece → Bool → Type 0 where
-  on_error : {name : Slice} {value : PieceValue} {goes_on : Bool} → bytes_eq name.text (codes "error") ≡ true → ErrorSays name o o' old new value goes_on →
-      PieceSays o o' old new (named name value) goes_on
-  on_type : {name : Slice} {value : PieceValue} → bytes_eq name.text (codes "error") ≡ false → bytes_eq name.text (codes "type") ≡ true → TypeSays name o o' old new value →
-      PieceSays o o' old new (named name value) true
+-- The result of an argument, and whether the arguments after it are read.
+pub data ReadsPiece (o : OptionsView) (o' : OptionsView) (old new : List Fault) : Piece → Bool → Type 0 where
+  on_error : {name : Slice} {value : PieceValue} {goes_on : Bool} → bytes_eq name.text (codes "error") ≡ true → ReadsError name o o' old new value goes_on →
+      ReadsPiece o o' old new (named name value) goes_on
+  on_type : {name : Slice} {value : PieceValue} → bytes_eq name.text (codes "error") ≡ false → bytes_eq name.text (codes "type") ≡ true → ReadsType name o o' old new value →
+      ReadsPiece o o' old new (named name value) true
   on_other : {name : Slice} {value : PieceValue} → bytes_eq name.text (codes "error") ≡ false → bytes_eq name.text (codes "type") ≡ false → IsReport (option_report name value o) o' old new →
-      PieceSays o o' old new (named name value) true
-  without_name : {run : TokenList} → IsReport (with_faults o (only (invalid_nested run))) o' old new → PieceSays o o' old new (unnamed run) true
-  no_argument : {run : TokenList} → IsReport (with_faults o (only (invalid_nested run))) o' old new → PieceSays o o' old new (unexpected run) true
+      ReadsPiece o o' old new (named name value) true
+  without_name : {run : TokenList} → IsReport (with_faults o (only (invalid_nested run))) o' old new → ReadsPiece o o' old new (unnamed run) true
+  no_argument : {run : TokenList} → IsReport (with_faults o (only (invalid_nested run))) o' old new → ReadsPiece o o' old new (unexpected run) true
 
--- the result of all arguments, up to one after which no more are read
-pub data PiecesSay : (o : OptionsView) (o' : OptionsView) (old new : List Fault) → List Piece → Type 0 where
-  no_piece : {o : OptionsView} {faults : List Fault} → PiecesSay o o faults faults []
+-- The result of all arguments, up to one after which no more are read.
+pub data ReadsPieces : (o : OptionsView) (o' : OptionsView) (old new : List Fault) → List Piece → Type 0 where
+  no_piece : {o : OptionsView} {faults : List Fault} → ReadsPieces o o faults faults []
   one_more : {o : OptionsView} {o' : OptionsView} {o'' : OptionsView} {old mid new : List Fault} {piece : Piece} {rest : List Piece} →
-      PieceSays o o' old mid piece true → PiecesSay o' o'' mid new rest → PiecesSay o o'' old new (piece ∷ rest)
-  ends : {o : OptionsView} {o' : OptionsView} {old new : List Fault} {piece : Piece} {rest : List Piece} → PieceSays o o' old new piece false → PiecesSay o o' old new (piece ∷ rest)
+      ReadsPiece o o' old mid piece true → ReadsPieces o' o'' mid new rest → ReadsPieces o o'' old new (piece ∷ rest)
+  ends : {o : OptionsView} {o' : OptionsView} {old new : List Fault} {piece : Piece} {rest : List Piece} → ReadsPiece o o' old new piece false → ReadsPieces o o' old new (piece ∷ rest)

@@ -12,7 +12,7 @@ use Rattle.logos_attribute.specs.Flags.{flags_report}
 use Rattle.logos_attribute.specs.Values.{number_in, boolean_in}
 use Rattle.logos_attribute.specs.Literals.{LiteralView, literal_report}
 
--- a definition
+-- A definition.
 pub record DefinitionView : Type 0 where
   pub literal : LiteralView
   pub priority : Option ℕ
@@ -20,11 +20,11 @@ pub record DefinitionView : Type 0 where
   pub allow_greedy : Option Bool
   pub ignore_case : Bool
 
--- a literal without arguments
+-- A literal without arguments.
 abbrev pub plain : LiteralView → DefinitionView
 plain literal = record { literal = literal; priority = None; callback = None; allow_greedy = None; ignore_case = false }
 
--- the fault of a second value
+-- The fault of a second value.
 abbrev pub again : {A : Type 0} → Option A → Fault → List Fault
 again None f = []
 again (Some former) f = only f
@@ -62,14 +62,14 @@ named_expected run = fault NamedExpected (codes "Expected a named argument at th
 abbrev pub unexpected_token : TokenList → Fault
 unexpected_token run = fault UnexpectedToken (codes "Unexpected token in attribute") (run_span run)
 
--- the report of `priority = run` after former arguments: the new priority replaces the former one
+-- The report of `priority = run` after former arguments: the new priority replaces the former one.
 abbrev pub priority_set : TokenList → Option ℕ → Report (Option ℕ)
 priority_set run former = elim (number_in run) [
   | Some priority ↦ with_faults (Some priority) (again former (priority_twice run))
   | None ↦ with_faults former (only (priority_value run))
 ]
 
--- the report of `allow_greedy = run` after former arguments: the new value replaces the former one
+-- The report of `allow_greedy = run` after former arguments: the new value replaces the former one.
 abbrev pub greedy_set : TokenList → Option Bool → Report (Option Bool)
 greedy_set run former = elim (boolean_in run) [
   | Some allow ↦ with_faults (Some allow) (again former (greedy_twice run))
@@ -80,9 +80,18 @@ abbrev pub priority_report : Slice → PieceValue → DefinitionView → Report 
 priority_report name (assigned run) d = map_report (λ priority. record d { priority = priority }) (priority_set run d.priority)
 priority_report name value d = with_faults d (only (priority_form name))
 
-abbrev pub named_callback_report : Slice → PieceValue → DefinitionView → Report DefinitionView
-named_callback_report name (assigned run) d = map_report (λ callback. record d { callback = callback }) (callback_set name run d.callback)
-named_callback_report name value d = with_faults d (only (callback_form name))
+-- The report of the argument `callback`, in place of a former callback.
+abbrev pub named_callback : Slice → PieceValue → Option CallbackView → Report (Option CallbackView)
+named_callback name (assigned run) former = callback_set name run former
+named_callback name value former = with_faults former (only (callback_form name))
+
+-- The report of an argument without a name: only the first one can be a callback.
+abbrev pub unnamed_callback : Bool → TokenList → Option CallbackView → Report (Option CallbackView)
+unnamed_callback true run former = callback_report run
+unnamed_callback false run former = with_faults former (only (named_expected run))
+
+abbrev pub with_callback : DefinitionView → Option CallbackView → DefinitionView
+with_callback d callback = record d { callback = callback }
 
 abbrev pub ignore_report : Slice → PieceValue → DefinitionView → Report DefinitionView
 ignore_report name (grouped run) d = map_report (λ ignore_case. record d { ignore_case = ignore_case }) (flags_report name false d.ignore_case run)
@@ -92,32 +101,31 @@ abbrev pub greedy_report : Slice → PieceValue → DefinitionView → Report De
 greedy_report name (assigned run) d = map_report (λ allow. record d { allow_greedy = allow }) (greedy_set run d.allow_greedy)
 greedy_report name value d = with_faults d (only (greedy_form name))
 
--- the report of a named argument
+-- The report of a named argument.
 abbrev pub named_report : Slice → PieceValue → DefinitionView → Report DefinitionView
 named_report name value d =
     if bytes_eq name.text (codes "priority") then priority_report name value d
-    else (if bytes_eq name.text (codes "callback") then named_callback_report name value d
+    else (if bytes_eq name.text (codes "callback") then map_report (with_callback d) (named_callback name value d.callback)
     else (if bytes_eq name.text (codes "ignore") then ignore_report name value d
     else (if bytes_eq name.text (codes "allow_greedy") then greedy_report name value d
     else with_faults d (only (unknown_nested name)))))
 
--- the report of an argument after the literal; only the first one can be a callback without a name
+-- The report of an argument after the literal; only the first one can be a callback without a name.
 abbrev pub argument_report : Bool → Piece → DefinitionView → Report DefinitionView
 argument_report first (unexpected run) d = with_faults d (only (unexpected_token run))
-argument_report true (unnamed run) d = map_report (λ callback. record d { callback = callback }) (callback_report run)
-argument_report false (unnamed run) d = with_faults d (only (named_expected run))
+argument_report first (unnamed run) d = map_report (with_callback d) (unnamed_callback first run d.callback)
 argument_report first (named name value) d = named_report name value d
 
--- the report of all arguments after the literal
+-- The report of all arguments after the literal.
 abbrev pub arguments_report : Bool → List Piece → DefinitionView → Report DefinitionView
 arguments_report first [] d = without_faults d
 arguments_report first (piece ∷ rest) d = and_then (argument_report first piece d) (arguments_report false rest)
 
--- the report of the arguments after a literal, if there is one
+-- The report of the arguments after a literal, if there is one.
 abbrev pub definition_after : TokenList → Option LiteralView → Report (Option DefinitionView)
 definition_after rest None = without_faults None
 definition_after rest (Some literal) = map_report (λ d. Some d) (arguments_report true (pieces rest) (plain literal))
 
--- the report of the tokens in the parentheses of `token`, `regex` or `skip`
+-- The report of the tokens in the parentheses of `token`, `regex` or `skip`.
 abbrev pub definition_report : TokenList → Report (Option DefinitionView)
 definition_report run = and_then (literal_report (up_to_comma run)) (definition_after (after_comma run))

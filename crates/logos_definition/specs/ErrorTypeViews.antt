@@ -9,7 +9,7 @@ use Rattle.logos_attribute.specs.CallbackViews.{callback_view}
 use Rattle.logos_definition.specs.declared.error_type.ErrorType.{ErrorType}
 use Rattle.logos_definition.specs.ErrorTypes.{ErrorView}
 
--- the tokens, if there are some
+-- The tokens, if there are some.
 abbrev pub run_in : MaybeVoid → Option TokenList
 run_in (SomeTokens stream) = Some (stream_tokens stream)
 run_in Void = None

@@ -9,36 +9,36 @@ use Rattle.logos_token.specs.Printing.{printed}
 use Rattle.logos_type.specs.Parts.{Tree}
 use Rattle.logos_type.specs.Printed.{printed_type}
 use Rattle.logos_attribute.specs.Slices.{Slice}
-use Rattle.logos_attribute.specs.Pieces.{PieceValue, assigned, Piece, unnamed, named, unexpected}
+use Rattle.logos_attribute.specs.Pieces.{PieceValue, Piece, unnamed, named, unexpected}
 use Rattle.logos_attribute.specs.Reports.{Report, with_faults, without_faults, and_then, map_report, fault_about, only}
-use Rattle.logos_attribute.specs.Callbacks.{CallbackView, callback_report, callback_set}
-use Rattle.logos_definition.specs.Definitions.{callback_form, named_expected, unexpected_token}
+use Rattle.logos_attribute.specs.Callbacks.{CallbackView}
+use Rattle.logos_definition.specs.Definitions.{named_callback, unnamed_callback, unexpected_token}
 
--- The tokens of an error type, which is `()` without tokens; the type as it was read from them, if it was; and the callback that makes an error, if
--- there is one.
+-- The tokens of an error type, which is `()` without tokens; the type as it was read from them, if
+-- it was; and the callback that makes an error, if there is one.
 pub record ErrorView : Type 0 where
   pub type_run : Option TokenList
   pub type : Option Tree
   pub callback : Option CallbackView
 
--- tokens that are not read as a type
+-- Tokens that are not read as a type.
 abbrev pub error_alone : TokenList → ErrorView
 error_alone run = record { type_run = Some run; type = None; callback = None }
 
--- a type as it was read from its tokens, without a callback
+-- A type as it was read from its tokens, without a callback.
 abbrev pub error_read : TokenList → Tree → ErrorView
 error_read run tree = record { type_run = Some run; type = Some tree; callback = None }
 
--- the type `()`
+-- The type `()`.
 abbrev pub no_error : ErrorView
 no_error = record { type_run = None; type = None; callback = None }
 
--- the printed text of tokens, or `()` if there are none
+-- The printed text of tokens, or `()` if there are none.
 abbrev pub run_text : Option TokenList → List ℕ
 run_text (Some run) = printed run
 run_text None = codes "( )"
 
--- the printed text of the type that was read if it was, or else of the tokens
+-- The printed text of the type that was read if it was, or else of the tokens.
 abbrev pub type_or_run : Option Tree → Option TokenList → List ℕ
 type_or_run (Some tree) run = printed_type tree
 type_or_run None run = run_text run
@@ -46,7 +46,7 @@ type_or_run None run = run_text run
 abbrev pub error_text : ErrorView → List ℕ
 error_text e = type_or_run e.type e.type_run
 
--- the span of the type
+-- The span of the type.
 abbrev pub run_place : Option TokenList → Span
 run_place (Some run) = run_span run
 run_place None = run_span none
@@ -57,24 +57,23 @@ error_span e = run_place e.type_run
 abbrev pub unknown_error_argument : Slice → Fault
 unknown_error_argument name = fault_about UnknownNested (codes "Unknown nested attribute: ") name (codes "\n\nExpected one of: callback")
 
-abbrev pub error_callback_report : Slice → PieceValue → ErrorView → Report ErrorView
-error_callback_report name (assigned run) e = map_report (λ callback. record e { callback = callback }) (callback_set name run e.callback)
-error_callback_report name value e = with_faults e (only (callback_form name))
+abbrev pub error_with : ErrorView → Option CallbackView → ErrorView
+error_with e callback = record e { callback = callback }
 
--- the report of a named argument of `error(..)`
+-- The report of a named argument of `error(..)`.
 abbrev pub error_named_report : Slice → PieceValue → ErrorView → Report ErrorView
 error_named_report name value e =
-    if bytes_eq name.text (codes "callback") then error_callback_report name value e
+    if bytes_eq name.text (codes "callback") then map_report (error_with e) (named_callback name value e.callback)
     else with_faults e (only (unknown_error_argument name))
 
--- the report of an argument after the type of `error(..)`; only the first one can be a callback without a name
+-- The report of an argument after the type of `error(..)`; only the first one can be a callback
+-- without a name.
 abbrev pub error_argument_report : Bool → Piece → ErrorView → Report ErrorView
 error_argument_report first (unexpected run) e = with_faults e (only (unexpected_token run))
-error_argument_report true (unnamed run) e = map_report (λ callback. record e { callback = callback }) (callback_report run)
-error_argument_report false (unnamed run) e = with_faults e (only (named_expected run))
+error_argument_report first (unnamed run) e = map_report (error_with e) (unnamed_callback first run e.callback)
 error_argument_report first (named name value) e = error_named_report name value e
 
--- the report of all arguments after the type
+-- The report of all arguments after the type.
 abbrev pub error_arguments_report : Bool → List Piece → ErrorView → Report ErrorView
 error_arguments_report first [] e = without_faults e
 error_arguments_report first (piece ∷ rest) e = and_then (error_argument_report first piece e) (error_arguments_report false rest)

@@ -4,30 +4,31 @@ use Rattle.logos_token.specs.Tokens.{TokenList, identifier, punctuation, group, 
 use Rattle.logos_token.specs.Views.{tokens_of}
 use Rattle.logos_token.specs.declared.token.views.Tokens.{Tokens}
 use Rattle.logos_attribute.specs.Slices.{Slice, ident_slice}
-use Rattle.logos_item.specs.AttributeValues.{AttributeValue}
+use Rattle.logos_enum.specs.AttributeValues.{AttributeValue}
 use Rattle.logos_definition.specs.declared.meta.Meta.{Meta as MetaView}
 
 -- `:`
 abbrev pub colon : ℕ
 colon = 58
 
--- an attribute whose path is one identifier: its name, and the tokens inside its group, if it has one
+-- An attribute whose path is one identifier: its name, and the tokens inside its group, if it has
+-- one.
 pub record Meta : Type 0 where
   pub name : Slice
   pub arguments : Option TokenList
 
--- after the name: nothing, a group, or `=` and a value; if the path goes on, it has no name
+-- After the name: nothing, a group, or `=` and a value; if the path goes on, it has no name.
 abbrev pub after_name : Slice → TokenList → Option Meta
 after_name name (also (group delimiter span inside) rest) = Some (record { name = name; arguments = Some inside })
 after_name name (also (punctuation character spacing span) rest) = if character == colon then None else Some (record { name = name; arguments = None })
 after_name name run = Some (record { name = name; arguments = None })
 
--- the attribute with these tokens inside its brackets
+-- The attribute with these tokens inside its brackets.
 abbrev pub meta_inside : TokenList → Option Meta
 meta_inside (also (identifier text span) rest) = after_name (record { text = text; span = span }) rest
 meta_inside run = None
 
--- the name and the arguments of an attribute; a documentation comment has no name
+-- The name and the arguments of an attribute; a documentation comment has no name.
 abbrev pub inside_meta : Option TokenList → Option Meta
 inside_meta None = None
 inside_meta (Some run) = meta_inside run

@@ -8,11 +8,11 @@ use Rattle.logos_token.specs.Tokens.{TokenList, run_span}
 use Rattle.logos_attribute.specs.Slices.{Slice}
 use Rattle.logos_attribute.specs.Reports.{fault, fault_about}
 
--- the faults of a second value here, with the former one there
+-- The faults of a second value here, with the former one there.
 abbrev pub once_only : FaultCode → List ℕ → (here there : Span) → List Fault
 once_only code message here there = fault code message here ∷ fault Previous (codes "Previous definition here") there ∷ []
 
--- the faults of a second value, if there is a former one
+-- The faults of a second value, if there is a former one.
 abbrev pub once_again : FaultCode → List ℕ → (here : Span) → (former : Option Span) → List Fault
 once_again code message here None = []
 once_again code message here (Some there) = once_only code message here there

@@ -1,5 +1,5 @@
 -- The options of a lexer: the arguments of `#[logos(..)]`.
-use Rattle.std.specs.Prelude.{ℕ, Bool, false, List, [], ◌∷◌, ◌++◌, codes, Option, Some, None, option_map, if◌then◌else◌}
+use Rattle.std.specs.Prelude.{ℕ, Bool, true, false, List, [], ◌∷◌, ◌++◌, codes, Option, Some, None, unwrap_or, option_map, if◌then◌else◌}
 use Rattle.std.specs.Str.{bytes_eq}
 use Rattle.logos_lexeme.specs.declared.lexeme.Span.{Span}
 use Rattle.logos_token.specs.Held.{Held, of_text, of_bytes}
@@ -14,17 +14,17 @@ use Rattle.logos_definition.specs.Definitions.{DefinitionView, plain, definition
 use Rattle.logos_definition.specs.ErrorTypes.{ErrorView, error_span, error_alone}
 use Rattle.logos_definition.specs.OptionFaults.{utf8_twice, extras_twice, error_twice, export_twice, skip_form, skip_group, utf8_value, utf8_form, extras_form, crate_form, export_bytes, export_form, subpattern_form, error_form, source_old, unknown_logos}
 
--- whether inputs are UTF-8, and where the source gives that
+-- Whether inputs are UTF-8, and where the source gives that.
 pub record ModeView : Type 0 where
   pub value : Bool
   pub span : Span
 
--- the path of the exported chart, and where the source gives it
+-- The path of the exported chart, and where the source gives it.
 pub record ExportView : Type 0 where
   pub path : List ℕ
   pub span : Span
 
--- the options given so far
+-- The options given so far.
 pub record OptionsView : Type 0 where
   pub utf8 : Option ModeView
   pub skips : List DefinitionView
@@ -35,19 +35,23 @@ pub record OptionsView : Type 0 where
   pub export_path : Option ExportView
   pub types : Value
 
--- no options are given
+-- Inputs are UTF-8, unless the option `utf8` is `false`.
+abbrev pub utf8_mode : OptionsView → Bool
+utf8_mode o = unwrap_or (option_map (λ m. m.value) o.utf8) true
+
+-- No options are given.
 abbrev pub no_options : OptionsView
 no_options = record { utf8 = None; skips = []; extras = None; subpatterns = []; error_type = None; logos_path = None; export_path = None; types = record { names = []; types = []; lifetime = false } }
 
 abbrev pub more_skips : OptionsView → DefinitionView → OptionsView
 more_skips o definition = record o { skips = o.skips ++ definition ∷ [] }
 
--- a literal of `skip`, if it is a string or byte string
+-- A literal of `skip`, if it is a string or byte string.
 abbrev pub skip_plain : OptionsView → Option LiteralView → OptionsView
 skip_plain o None = o
 skip_plain o (Some literal) = more_skips o (plain literal)
 
--- a definition of `skip(..)`, if there is one
+-- A definition of `skip(..)`, if there is one.
 abbrev pub skip_whole : TokenList → OptionsView → Option DefinitionView → Report OptionsView
 skip_whole run o None = with_faults o (only (skip_group run))
 skip_whole run o (Some definition) = without_faults (more_skips o definition)
@@ -74,7 +78,7 @@ abbrev pub extras_report : Slice → PieceValue → OptionsView → Report Optio
 extras_report name (assigned run) o = extras_set run o
 extras_report name value o = with_faults o (only (extras_form name))
 
--- the last path replaces the former ones, without a fault
+-- The last path replaces the former ones, without a fault.
 abbrev pub crate_report : Slice → PieceValue → OptionsView → Report OptionsView
 crate_report name (assigned run) o = without_faults (record o { logos_path = Some run })
 crate_report name value o = with_faults o (only (crate_form name))
@@ -82,12 +86,12 @@ crate_report name value o = with_faults o (only (crate_form name))
 abbrev pub path_set : TokenList → List ℕ → OptionsView → Report OptionsView
 path_set run path o = with_faults (record o { export_path = Some (record { path = path; span = run_span run }) }) (export_twice (run_span run) (option_map (λ e. e.span) o.export_path))
 
--- the path that a literal holds
+-- The path that a literal holds.
 abbrev pub held_path : TokenList → OptionsView → Held → Report OptionsView
 held_path run o (of_text path) = path_set run path o
 held_path run o (of_bytes bytes) = with_faults o (only (export_bytes run))
 
--- the literal of a path, if the run is one
+-- The literal of a path, if the run is one.
 abbrev pub path_report : TokenList → OptionsView → Option LiteralView → Report OptionsView
 path_report run o (Some literal) = held_path run o literal.held
 path_report run o None = with_faults o (only (literal_syntax run))
@@ -96,7 +100,7 @@ abbrev pub export_report : Slice → PieceValue → OptionsView → Report Optio
 export_report name (assigned run) o = path_report run o (string_in run)
 export_report name value o = with_faults o (only (export_form name))
 
--- the literal of a subpattern, if the run is one
+-- The literal of a subpattern, if the run is one.
 abbrev pub subpattern_set : Slice → TokenList → OptionsView → Option LiteralView → Report OptionsView
 subpattern_set name run o (Some literal) = without_faults (record o { subpatterns = o.subpatterns ++ (record { name = name; literal = literal }) ∷ [] })
 subpattern_set name run o None = with_faults o (only (literal_syntax run))
@@ -105,16 +109,16 @@ abbrev pub subpattern_report : Slice → PieceValue → OptionsView → Report O
 subpattern_report name (keyed second run) o = subpattern_set second run o (string_in run)
 subpattern_report name value o = with_faults o (only (subpattern_form name))
 
--- the report of an error type after former options
+-- The report of an error type after former options.
 abbrev pub error_set : TokenList → ErrorView → OptionsView → Report OptionsView
 error_set run error o = with_faults (record o { error_type = Some error }) (error_twice (run_span run) (option_map error_span o.error_type))
 
--- the report of `error = run`
+-- The report of `error = run`.
 abbrev pub error_report : Slice → PieceValue → OptionsView → Report OptionsView
 error_report name (assigned run) o = error_set run (error_alone run) o
 error_report name value o = with_faults o (only (error_form name))
 
--- the report of `utf8`, `extras` or `crate`, and of `source` and unknown names
+-- The report of `utf8`, `extras` or `crate`, and of `source` and unknown names.
 abbrev pub setting_report : Slice → PieceValue → OptionsView → Report OptionsView
 setting_report name value o =
     if bytes_eq name.text (codes "utf8") then utf8_report name value o
@@ -123,7 +127,7 @@ setting_report name value o =
     else (if bytes_eq name.text (codes "source") then with_faults o (only (source_old name))
     else with_faults o (only (unknown_logos name)))))
 
--- the report of a named argument other than `error` and `type`
+-- The report of a named argument other than `error` and `type`.
 abbrev pub option_report : Slice → PieceValue → OptionsView → Report OptionsView
 option_report name value o =
     if bytes_eq name.text (codes "skip") then skip_report name value o

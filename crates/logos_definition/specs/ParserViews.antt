@@ -28,6 +28,6 @@ parser_view p = record {
   types = value_of p.types;
 }
 
--- a call found a parser that had not failed, and left it so
+-- A call found a parser that had not failed, and left it so.
 abbrev pub HasNotFailed : Parser → Parser → Type 0
 HasNotFailed before after = (before.failed ≡ false) × (after.failed ≡ false)

@@ -1,20 +1,19 @@
 //! Reads definitions: the literal of a `token`, `regex` or `skip(..)`, and the arguments after it.
+//! `logos_leaf` reads one for each `token` and `regex`, and the parser one for each `skip(..)`.
+
 ghost use Rattle.std.specs.Prelude.{◌≡◌, OnOk, OnErr, IfOk, option_map};
-ghost use Rattle.logos_token.specs.Views.{tokens_of};
-ghost use Rattle.logos_attribute.specs.Slices.{ident_slice};
-ghost use Rattle.logos_attribute.specs.Reports.{IsReport};
-ghost use Rattle.logos_definition.specs.Definitions.{priority_set, greedy_set, definition_report};
-ghost use Rattle.logos_definition.specs.DefinitionViews.{definition_view};
+ghost use Rattle.logos_definition.specs.Words.{tokens_of, ident_slice, IsReport, priority_set, greedy_set, definition_report};
+ghost use Rattle.logos_definition.specs.Views.{definition_view};
 
 pub(crate) mod faults;
 
+use crate::arguments::{add_callback, add_unnamed};
 use crate::definition::faults::{
-    report_callback_form, report_greedy_form, report_greedy_twice, report_greedy_value,
-    report_ignore_form, report_named_expected, report_priority_form, report_priority_twice,
-    report_priority_value, report_unexpected, report_unknown,
+    report_greedy_form, report_greedy_twice, report_greedy_value, report_ignore_form,
+    report_priority_form, report_priority_twice, report_priority_value, report_unexpected,
+    report_unknown,
 };
 use crate::ignore_flags::IgnoreFlags;
-use logos_attribute::callback::{read_callback, set_callback};
 use logos_attribute::flags::read_flags;
 use logos_attribute::literal::read_literal;
 use logos_attribute::nested::{AttributeParser, Nested, NestedValue};
@@ -83,15 +82,8 @@ fn set_greedy(
 
 impl<'s> Definition<'s> {
     ghost use Rattle.std.specs.Prelude.{◌≡◌, OnOk, OnErr, true};
-    ghost use Rattle.logos_attribute.specs.Slices.{ident_slice};
-    ghost use Rattle.logos_attribute.specs.Reports.{IsReport};
-    ghost use Rattle.logos_attribute.specs.Nested.{value_of, piece_of, pieces_left};
-    ghost use Rattle.logos_attribute.specs.LiteralViews.{literal_view};
-    ghost use Rattle.logos_definition.specs.Definitions.{plain, priority_report};
-    ghost use Rattle.logos_definition.specs.Definitions.{named_callback_report, ignore_report};
-    ghost use Rattle.logos_definition.specs.Definitions.{greedy_report, named_report};
-    ghost use Rattle.logos_definition.specs.Definitions.{argument_report, arguments_report};
-    ghost use Rattle.logos_definition.specs.DefinitionViews.{definition_view};
+    ghost use Rattle.logos_definition.specs.Words.{ident_slice, IsReport, value_of, piece_of, pieces_left, literal_view, plain, priority_report, ignore_report, greedy_report, named_report, argument_report, arguments_report};
+    ghost use Rattle.logos_definition.specs.Views.{definition_view};
 
     /// Returns the definition with this literal and no arguments.
     pub fn new(literal: Literal<'s>) -> Definition<'s>
@@ -122,28 +114,6 @@ impl<'s> Definition<'s> {
         match value {
             NestedValue::Assign(tokens) => set_priority(&mut self.priority, *tokens, errors)?,
             _ => report_priority_form(name, errors)?,
-        }
-        Ok(())
-    }
-
-    /// Adds the argument `callback`. After an error the definition is unchanged.
-    fn add_callback(
-        &mut self,
-        name: Ident<'s>,
-        value: &NestedValue<'_, 's>,
-        errors: &mut Errors,
-    ) -> Result<(), Memory>
-        ensures ok { OnOk result (IsReport
-            (named_callback_report (ident_slice name.entry) (value_of value.now)
-            (definition_view self.old))
-            (definition_view self.new) errors.old errors.new) }
-        ensures unchanged { OnErr result (self.new ≡ self.old) }
-    {
-        match value {
-            NestedValue::Assign(tokens) => {
-                set_callback(&mut self.callback, name, *tokens, errors)?
-            }
-            _ => report_callback_form(name, errors)?,
         }
         Ok(())
     }
@@ -204,7 +174,7 @@ impl<'s> Definition<'s> {
             return self.add_priority(name, value, errors);
         }
         if name.text == "callback" {
-            return self.add_callback(name, value, errors);
+            return add_callback(&mut self.callback, name, value, errors);
         }
         if name.text == "ignore" {
             return self.add_ignore(name, value, errors);
@@ -228,13 +198,7 @@ impl<'s> Definition<'s> {
     {
         match piece {
             Nested::Unexpected(tokens) => report_unexpected(tokens, errors)?,
-            Nested::Unnamed(tokens) => {
-                if first {
-                    self.callback = read_callback(tokens, errors)?;
-                } else {
-                    report_named_expected(tokens, errors)?;
-                }
-            }
+            Nested::Unnamed(tokens) => add_unnamed(&mut self.callback, first, tokens, errors)?,
             Nested::Named(name, value) => self.add_named(name, &value, errors)?,
         }
         Ok(())

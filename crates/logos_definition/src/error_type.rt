@@ -1,18 +1,11 @@
-//! Reads error types and their callbacks.
-ghost use Rattle.std.specs.Prelude.{OnOk, IfOk, option_map, true};
-ghost use Rattle.logos_type.specs.TypeTrees.{type_tree};
-ghost use Rattle.logos_token.specs.Views.{tokens_of};
-ghost use Rattle.logos_attribute.specs.Slices.{ident_slice};
-ghost use Rattle.logos_attribute.specs.Nested.{pieces_left};
-ghost use Rattle.logos_attribute.specs.Reports.{AddsFault, IsReport};
-ghost use Rattle.logos_definition.specs.ErrorTypes.{unknown_error_argument, error_read};
-ghost use Rattle.logos_definition.specs.ErrorTypes.{error_arguments_report};
-ghost use Rattle.logos_definition.specs.ErrorTypeViews.{error_view};
-ghost use Rattle.logos_definition.specs.OptionFaults.{error_empty};
-ghost use Rattle.logos_definition.specs.Arguments.{ErrorGroup};
+//! Reads error types and their callbacks. The parser reads it at `error` in `logos(..)`.
 
-use crate::definition::faults::{report_callback_form, report_named_expected, report_unexpected};
-use logos_attribute::callback::{read_callback, set_callback};
+ghost use Rattle.std.specs.Prelude.{OnOk, IfOk, option_map, true};
+ghost use Rattle.logos_definition.specs.Words.{type_tree, tokens_of, ident_slice, pieces_left, AddsFault, IsReport, unknown_error_argument, error_read, error_arguments_report, error_empty, ErrorGroup};
+ghost use Rattle.logos_definition.specs.Views.{error_view};
+
+use crate::arguments::{add_callback, add_unnamed};
+use crate::definition::faults::report_unexpected;
 use logos_attribute::nested::{AttributeParser, Nested, NestedValue};
 use logos_attribute::reporting::{report_named, report_run};
 use logos_pattern::leaf::Callback;
@@ -50,15 +43,8 @@ fn report_unknown(name: Ident<'_>, errors: &mut Errors) -> Result<(), Memory>
 
 impl<'s> ErrorType<'s> {
     ghost use Rattle.std.specs.Prelude.{◌≡◌, IfOk, OnOk, OnErr, true, string_bytes};
-    ghost use Rattle.logos_token.specs.Views.{stream_tokens};
-    ghost use Rattle.logos_attribute.specs.Slices.{ident_slice};
-    ghost use Rattle.logos_attribute.specs.Reports.{IsReport};
-    ghost use Rattle.logos_attribute.specs.Nested.{value_of, piece_of, pieces_left};
-    ghost use Rattle.logos_definition.specs.ErrorTypes.{error_alone, no_error, error_span, error_text};
-    ghost use Rattle.logos_definition.specs.ErrorTypes.{error_callback_report, error_named_report};
-    ghost use Rattle.logos_definition.specs.ErrorTypes.{error_argument_report};
-    ghost use Rattle.logos_definition.specs.ErrorTypes.{error_arguments_report};
-    ghost use Rattle.logos_definition.specs.ErrorTypeViews.{error_view};
+    ghost use Rattle.logos_definition.specs.Words.{stream_tokens, ident_slice, IsReport, value_of, piece_of, pieces_left, error_alone, no_error, error_span, error_text, error_named_report, error_argument_report, error_arguments_report};
+    ghost use Rattle.logos_definition.specs.Views.{error_view};
 
     /// Returns the error type of these tokens, without a callback.
     pub fn new(ty: TokenStream<'s>) -> ErrorType<'s>
@@ -87,7 +73,7 @@ impl<'s> ErrorType<'s> {
     ///
     /// # Errors
     ///
-    /// `Memory` if there is not enough memory.
+    /// Returns `Memory` if memory runs out.
     pub fn print(&self, alloc: Global) -> Result<String, Memory>
         ensures { IfOk result (λ text. string_bytes text ≡ error_text (error_view self.now)) }
     {
@@ -108,28 +94,6 @@ impl<'s> ErrorType<'s> {
         }
     }
 
-    /// Adds the argument `callback`. After an error the type is unchanged.
-    fn add_callback(
-        &mut self,
-        name: Ident<'s>,
-        value: &NestedValue<'_, 's>,
-        errors: &mut Errors,
-    ) -> Result<(), Memory>
-        ensures ok { OnOk result (IsReport
-            (error_callback_report (ident_slice name.entry) (value_of value.now)
-            (error_view self.old))
-            (error_view self.new) errors.old errors.new) }
-        ensures unchanged { OnErr result (self.new ≡ self.old) }
-    {
-        match value {
-            NestedValue::Assign(tokens) => {
-                set_callback(&mut self.callback, name, *tokens, errors)?
-            }
-            _ => report_callback_form(name, errors)?,
-        }
-        Ok(())
-    }
-
     /// Adds a named argument, and reports its faults. After an error the type is unchanged.
     pub(crate) fn add_named(
         &mut self,
@@ -143,7 +107,7 @@ impl<'s> ErrorType<'s> {
         ensures unchanged { OnErr result (self.new ≡ self.old) }
     {
         if name.text == "callback" {
-            return self.add_callback(name, value, errors);
+            return add_callback(&mut self.callback, name, value, errors);
         }
         report_unknown(name, errors)
     }
@@ -161,13 +125,7 @@ impl<'s> ErrorType<'s> {
     {
         match piece {
             Nested::Unexpected(tokens) => report_unexpected(tokens, errors)?,
-            Nested::Unnamed(tokens) => {
-                if first {
-                    self.callback = read_callback(tokens, errors)?;
-                } else {
-                    report_named_expected(tokens, errors)?;
-                }
-            }
+            Nested::Unnamed(tokens) => add_unnamed(&mut self.callback, first, tokens, errors)?,
             Nested::Named(name, value) => self.add_named(name, &value, errors)?,
         }
         Ok(())

@@ -2,6 +2,7 @@
 
 #![tactic(auto)]
 
+mod arguments;
 pub mod definition;
 pub mod error_type;
 pub mod ignore_flags;

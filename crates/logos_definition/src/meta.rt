@@ -1,12 +1,12 @@
-//! Reads the names and the arguments of attributes.
+//! Reads the names and the arguments of attributes. The attributes of an enum and of its variants
+//! are distinguished by it.
+
 ghost use Rattle.std.specs.Prelude.{◌≡◌, MatchOption, None, Some};
-ghost use Rattle.logos_token.specs.Views.{tokens_of};
-ghost use Rattle.logos_attribute.specs.Slices.{ident_slice};
-ghost use Rattle.logos_item.specs.AttributeValues.{attribute_value};
-ghost use Rattle.logos_definition.specs.Metas.{after_name, meta_of, meta_view};
+ghost use Rattle.logos_definition.specs.Words.{tokens_of, ident_slice, attribute_value};
+ghost use Rattle.logos_definition.specs.Views.{after_name, meta_of, meta_view};
 
 use logos_attribute::nested::split;
-use logos_item::Attribute;
+use logos_enum::Attribute;
 use logos_token::token::{Ident, TokenTree, Tokens};
 
 /// An attribute whose path is one identifier.

@@ -1,4 +1,4 @@
-//! Reads the attributes of an enum.
+//! Reads the attributes of an enum. `logos_leaf` fills one for each enum.
 
 /// Makes a call that changes a parser, unless the parser has failed. It has failed after an error.
 macro_rules! unless_failed {
@@ -71,17 +71,8 @@ pub struct Parser<'s> {
 
 impl<'s> Parser<'s> {
     ghost use Rattle.std.specs.Prelude.{◌≡◌, IfOk, OnOk, OnErr, option_map, true, false, []};
-    ghost use Rattle.logos_token.specs.Views.{tokens_of};
-    ghost use Rattle.logos_attribute.specs.Slices.{literal_slice};
-    ghost use Rattle.logos_attribute.specs.Reports.{IsReport, AddsFault, fault};
-    ghost use Rattle.logos_attribute.specs.Pieces.{pieces};
-    ghost use Rattle.logos_attribute.specs.Literals.{text_report};
-    ghost use Rattle.logos_attribute.specs.LiteralViews.{literal_view};
-    ghost use Rattle.logos_definition.specs.Definitions.{definition_report};
-    ghost use Rattle.logos_definition.specs.DefinitionViews.{definition_view};
-    ghost use Rattle.logos_definition.specs.Options.{no_options};
-    ghost use Rattle.logos_definition.specs.Arguments.{PiecesSay};
-    ghost use Rattle.logos_definition.specs.ParserViews.{parser_view, HasNotFailed};
+    ghost use Rattle.logos_definition.specs.Words.{tokens_of, literal_slice, IsReport, AddsFault, fault, pieces, text_report, literal_view, definition_report, no_options, utf8_mode, ReadsPieces};
+    ghost use Rattle.logos_definition.specs.Views.{definition_view, parser_view, HasNotFailed};
 
     /// Returns a parser without options. It takes its memory from `alloc`.
     pub fn new(alloc: Global) -> Parser<'s>
@@ -104,13 +95,23 @@ impl<'s> Parser<'s> {
         }
     }
 
+    /// Returns whether inputs are UTF-8, which they are unless the option `utf8` is `false`.
+    pub fn is_utf8(&self) -> bool
+        ensures { result ≡ utf8_mode (parser_view self.now) }
+    {
+        match self.utf8_mode {
+            Some(mode) => mode.value,
+            None => true,
+        }
+    }
+
     /// Adds the arguments in the parentheses of a `logos` attribute, and reports their faults.
     ///
     /// # Errors
     ///
-    /// `Memory` if there is not enough memory. The parser has then failed.
+    /// Returns `Memory` if memory runs out. The parser has then failed.
     pub fn read_logos(&mut self, tokens: Tokens<'_, 's>) -> Result<(), Memory>
-        ensures ok { OnOk result (PiecesSay
+        ensures ok { OnOk result (ReadsPieces
             (parser_view self.old) (parser_view self.new) self.old.errors self.new.errors
             (pieces (tokens_of tokens.entry))) }
         ensures going { OnOk result (HasNotFailed self.old self.new) }
@@ -123,7 +124,7 @@ impl<'s> Parser<'s> {
     ///
     /// # Errors
     ///
-    /// `Memory` if there is not enough memory. The parser has then failed.
+    /// Returns `Memory` if memory runs out. The parser has then failed.
     pub fn err(&mut self, code: FaultCode, message: &str, span: Span) -> Result<(), Memory>
         ensures ok { OnOk result
             (AddsFault (fault code message.now span) self.old.errors self.new.errors) }
@@ -139,7 +140,7 @@ impl<'s> Parser<'s> {
     ///
     /// # Errors
     ///
-    /// `Memory` if there is not enough memory. The parser has then failed.
+    /// Returns `Memory` if memory runs out. The parser has then failed.
     pub fn parse_literal(
         &mut self,
         literal: token::Literal<'s>,
@@ -159,7 +160,7 @@ impl<'s> Parser<'s> {
     ///
     /// # Errors
     ///
-    /// `Memory` if there is not enough memory. The parser has then failed.
+    /// Returns `Memory` if memory runs out. The parser has then failed.
     pub fn parse_definition(
         &mut self,
         tokens: Tokens<'_, 's>,
@@ -177,19 +178,15 @@ impl<'s> Parser<'s> {
 
 impl<'s> Definition<'s> {
     ghost use Rattle.std.specs.Prelude.{◌≡◌, OnOk, OnErr, true};
-    ghost use Rattle.logos_attribute.specs.Slices.{ident_slice};
-    ghost use Rattle.logos_attribute.specs.Reports.{IsReport};
-    ghost use Rattle.logos_attribute.specs.Nested.{value_of};
-    ghost use Rattle.logos_definition.specs.Definitions.{named_report};
-    ghost use Rattle.logos_definition.specs.DefinitionViews.{definition_view};
-    ghost use Rattle.logos_definition.specs.ParserViews.{parser_view, HasNotFailed};
+    ghost use Rattle.logos_definition.specs.Words.{ident_slice, IsReport, value_of, named_report};
+    ghost use Rattle.logos_definition.specs.Views.{definition_view, parser_view, HasNotFailed};
 
     /// Adds a named argument, and reports its faults in `parser`, of which nothing else changes.
     /// Memory is taken from the allocator of `parser`.
     ///
     /// # Errors
     ///
-    /// `Memory` if there is not enough memory. The parser has then failed, and the definition is
+    /// Returns `Memory` if memory runs out. The parser has then failed, and the definition is
     /// unchanged.
     pub fn named_attr(
         &mut self,
@@ -213,20 +210,15 @@ impl<'s> Definition<'s> {
 
 impl<'s> ErrorType<'s> {
     ghost use Rattle.std.specs.Prelude.{◌≡◌, OnOk, OnErr, true};
-    ghost use Rattle.logos_attribute.specs.Slices.{ident_slice};
-    ghost use Rattle.logos_attribute.specs.Reports.{IsReport};
-    ghost use Rattle.logos_attribute.specs.Nested.{value_of};
-    ghost use Rattle.logos_definition.specs.ErrorTypes.{error_named_report};
-    ghost use Rattle.logos_definition.specs.ErrorTypeViews.{error_view};
-    ghost use Rattle.logos_definition.specs.ParserViews.{parser_view, HasNotFailed};
+    ghost use Rattle.logos_definition.specs.Words.{ident_slice, IsReport, value_of, error_named_report};
+    ghost use Rattle.logos_definition.specs.Views.{error_view, parser_view, HasNotFailed};
 
     /// Adds a named argument, and reports its faults in `parser`, of which nothing else changes.
     /// Memory is taken from the allocator of `parser`.
     ///
     /// # Errors
     ///
-    /// `Memory` if there is not enough memory. The parser has then failed, and the type is
-    /// unchanged.
+    /// Returns `Memory` if memory runs out. The parser has then failed, and the type is unchanged.
     pub fn named_attr(
         &mut self,
         _alloc: Global,
@@ -249,11 +241,8 @@ impl<'s> ErrorType<'s> {
 
 impl IgnoreFlags {
     ghost use Rattle.std.specs.Prelude.{◌≡◌, OnOk, OnErr, true, false};
-    ghost use Rattle.logos_token.specs.Views.{tokens_of};
-    ghost use Rattle.logos_attribute.specs.Slices.{ident_slice};
-    ghost use Rattle.logos_attribute.specs.Reports.{IsReport};
-    ghost use Rattle.logos_attribute.specs.Flags.{flags_report};
-    ghost use Rattle.logos_definition.specs.ParserViews.{parser_view, HasNotFailed};
+    ghost use Rattle.logos_definition.specs.Words.{tokens_of, ident_slice, IsReport, flags_report};
+    ghost use Rattle.logos_definition.specs.Views.{parser_view, HasNotFailed};
 
     /// Sets the flags in the group after `ignore`, and reports the first fault among them in
     /// `parser`, of which nothing else changes. `name` is the word `ignore`. Memory is taken from
@@ -261,7 +250,7 @@ impl IgnoreFlags {
     ///
     /// # Errors
     ///
-    /// `Memory` if there is not enough memory. The parser has then failed, and the flags are
+    /// Returns `Memory` if memory runs out. The parser has then failed, and the flags are
     /// unchanged.
     pub fn parse_group<'s>(
         &mut self,

@@ -9,7 +9,7 @@ use Rattle.std.proofs.Math.Seq.{take-add}
 use Rattle.logos_hir.specs.Text.{StandsAt}
 use Rattle.logos_hir.specs.Tree.{Tree, empty, literal, byte_class, char_class, look, repetition, capture, concat, alternation, Trees, none, also}
 use Rattle.logos_hir.specs.Matches.{Matches, Pieces, MatchesInOrder, SomeMatches}
-use Rattle.logos_measures.specs.Measure.{is_text, all_text}
+use Rattle.logos_hir.specs.Measure.{is_text, all_text}
 use Rattle.logos_automaton.specs.Munch.{Use, Rule, RuleMatches}
 use Rattle.logos_code.specs.declared.action.Action.{Action}
 use Rattle.logos_code.specs.declared.action.Action.TheVariants.{Emit, Skip, Error}

@@ -12,3 +12,5 @@ pub mod MadeLemmas
 pub mod LeafLemmas
 pub mod CutLemmas
 pub mod NumberLemmas
+pub mod Once
+pub mod InputLemmas

@@ -1,7 +1,7 @@
 -- The statements of the laws.
-use Rattle.std.specs.Prelude.{◌≡◌, ℕ, ◌↔◌, Bool, true, IsCharBoundary, List, map}
+use Rattle.std.specs.Prelude.{◌≡◌, ℕ, ◌↔◌, ◌≤◌, Bool, true, IsCharBoundary, List, length, map}
 use Rattle.std.specs.List.{All}
-use Rattle.logos_measures.specs.Measure.{is_text}
+use Rattle.logos_hir.specs.Measure.{is_text}
 use Rattle.logos_automaton.specs.Munch.{Rule, IsInput}
 use Rattle.logos_graph.specs.Found.{FindsTheLongest}
 use Rattle.logos_graph.specs.View.{GraphValue, rule_of, rules_of}
@@ -10,6 +10,8 @@ use Rattle.logos_code.specs.Headline.{IsCut, IsLexer}
 use Rattle.logos_generator.specs.Runs.{RunsAs}
 use Rattle.logos_code.specs.Items.{Callback, Item, Items, IsNext}
 use Rattle.logos_code.specs.Runs.{Runs, RunsOn}
+use Rattle.logos_code.specs.declared.action.Action.{Action}
+use Rattle.logos_machine.specs.Loops.{AnswersAmong}
 
 -- A code is a lexer of a graph's rules if it runs as the graph does, in its mode and with the uses of its leaves, and the graph
 -- finds what maximal munch finds.
@@ -43,3 +45,17 @@ RunsAreCut callback = (rules : List Rule) (code : CodeValue) (bytes : List ℕ) 
     IsLexer rules true code → All (λ rule. is_text rule.tree ≡ true) rules →
     IsInput true bytes → IsCharBoundary bytes from →
     Runs code callback bytes from items → All (IsCut bytes) items
+
+-- A callback gives at most one answer to each leaf and slice.
+abbrev pub AnswersOnce : Callback → Type 0
+AnswersOnce callback = (leaf : ℕ) (slice : List ℕ) (one other : Action) → callback leaf slice one → callback leaf slice other → one ≡ other
+
+-- By a callback that gives at most one answer, an input has at most one list of items from each of its points on.
+abbrev pub ItemsAreOnce : Callback → Type 0
+ItemsAreOnce callback = AnswersOnce callback → (rules : List Rule) (utf8 : Bool) (bytes : List ℕ) (from : ℕ) (items others : List Item) →
+    from ≤ length bytes → Items rules callback utf8 bytes from items → Items rules callback utf8 bytes from others → items ≡ others
+
+-- The items by the one callback are items by the other one, if each of its answers is an answer of that one.
+abbrev pub ItemsGoOver : Callback → Callback → Type 0
+ItemsGoOver callback other = AnswersAmong callback other → (rules : List Rule) (utf8 : Bool) (bytes : List ℕ) (from : ℕ) (items : List Item) →
+    Items rules callback utf8 bytes from items → Items rules other utf8 bytes from items

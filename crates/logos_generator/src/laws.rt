@@ -1,12 +1,7 @@
-//! Laws of the definitions. Nothing calls these functions: the contract of each is a law, and it is proved.
+//! Laws of the definitions. The contract of each function is a law. To use one in a proof, call its function: the call does nothing.
 
-ghost use Rattle.std.specs.Prelude.{ℕ, ◌≤◌, Bool, List, length};
-ghost use Rattle.logos_automaton.specs.Munch.{Rule};
-ghost use Rattle.logos_code.specs.Items.{Item, Items};
-ghost use Rattle.logos_code.specs.Order.{AreInOrder, Parts, IsLeftOut};
-ghost use Rattle.logos_machine.specs.LexerValue.{answers_of};
-ghost use Rattle.logos_generator.specs.Laws.{GraphsGiveLexers, RunsAreItems, NextIsTheNext};
-ghost use Rattle.logos_generator.specs.Laws.{LexersAgree, RunsAreCut};
+ghost use Rattle.std.specs.Prelude.{ℕ, ◌≤◌, Bool, false, List, length};
+ghost use Rattle.logos_generator.specs.Words.{IsInput, Rule, Item, Items, AreInOrder, Parts, IsLeftOut, answers_of, GraphsGiveLexers, RunsAreItems, NextIsTheNext, ItemsAreOnce, ItemsGoOver, LexersAgree, RunsAreCut};
 
 use logos_code::action::Action;
 use logos_hir::leaf::LeafId;
@@ -53,3 +48,32 @@ pub fn codes_of_the_same_rules_agree<C: Fn(LeafId, &[u8]) -> Action>(callback: &
 pub fn items_are_cut_between_characters<C: Fn(LeafId, &[u8]) -> Action>(callback: &C)
     ensures { RunsAreCut (answers_of C.Fn callback.now) }
 {}
+
+/// By a callback that gives at most one answer to each match, an input has at most one list of items.
+pub fn an_input_has_one_list_of_items<C: Fn(LeafId, &[u8]) -> Action>(callback: &C)
+    ensures { ItemsAreOnce (answers_of C.Fn callback.now) }
+{}
+
+/// The items by a callback are items by each callback that may answer as much or more.
+pub fn items_go_over<C: Fn(LeafId, &[u8]) -> Action, D: Fn(LeafId, &[u8]) -> Action>(
+    callback: &C,
+    other: &D,
+)
+    ensures { ItemsGoOver (answers_of C.Fn callback.now) (answers_of D.Fn other.now) }
+{}
+
+/// A text is an input of lexers in both modes.
+pub fn a_text_is_an_input(text: &str)
+    ensures { (utf8 : Bool) → IsInput utf8 text.now }
+{
+    // A read of the text brings what its type says into the proof.
+    let _ = text.as_bytes();
+}
+
+/// Bytes are an input of lexers that are not in UTF-8 mode.
+pub fn bytes_are_an_input(bytes: &[u8])
+    ensures { IsInput false bytes.now }
+{
+    // A read of the slice brings what its type says into the proof.
+    let _ = bytes.len();
+}

@@ -21,3 +21,4 @@ pub mod EvidenceLemmas
 pub mod RawLemmas
 pub mod GraphMade
 pub mod ChartLemmas
+pub mod MarkLaws

@@ -1,8 +1,7 @@
-//! Laws of the definitions, proved and called by nobody: each function's contract is a law.
+//! Laws of the definitions. The contract of each function is a law. To use one in a proof, call its function: the call does nothing.
 
-ghost use Rattle.std.specs.Prelude.{◌≡◌, ℕ, ◌≤◌, Bool, List, length};
-ghost use Rattle.logos_automaton.specs.Munch.{Rule, Found, Finds};
-ghost use Rattle.logos_automaton.specs.Faults.{Fault, AreFaults};
+ghost use Rattle.std.specs.Prelude.{◌≡◌, ℕ, ◌<◌, ◌≤◌, Bool, false, List, Some, length};
+ghost use Rattle.logos_graph.specs.Words.{IsBytes, Rule, Found, Finds, matched, Fault, AreFaults, GraphState, walk, HasType, IsReduced};
 
 /// At a place of an input, maximal munch finds one thing.
 pub fn one_is_found()
@@ -15,4 +14,14 @@ pub fn one_is_found()
 pub fn one_list_of_faults()
     ensures { (rules : List Rule) (faults others : List Fault) → AreFaults rules faults →
         AreFaults rules others → faults ≡ others }
+{}
+
+/// Where a state of a reduced graph that bytes lead to marks a leaf early, maximal munch finds the
+/// leaf in these bytes. A late mark promises no such input: another match may end after it, whatever
+/// follows.
+pub fn early_marks_are_found()
+    ensures { (rules : List Rule) (utf8 : Bool) (graph : List GraphState) (bytes : List ℕ)
+        (s leaf : ℕ) → IsReduced rules graph → IsBytes bytes → 0 < length bytes →
+        walk graph 0 bytes false ≡ Some s → HasType graph s (λ type. type.early ≡ Some leaf) →
+        Finds rules utf8 bytes 0 (matched leaf (length bytes)) }
 {}

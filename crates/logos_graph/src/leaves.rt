@@ -1,8 +1,7 @@
 //! Leaves as rules of an automaton.
 ghost use Rattle.std.specs.Prelude.{◌≡◌, ◌^◌, ◌≤◌, ◌↔◌, IsTrue, IfOk};
-ghost use Rattle.logos_automaton.specs.Measures.{size_of};
+ghost use Rattle.logos_graph.specs.Words.{size_of, rule_of, rules_of};
 ghost use Rattle.logos_automaton.specs.View as views;
-ghost use Rattle.logos_graph.specs.View.{rule_of, rules_of};
 
 use logos_automaton::measures::{limited_size, plus};
 use logos_automaton::rule::RuleView;

@@ -1,20 +1,6 @@
 //! Makes the table of an automaton, with late marks alone.
-ghost use Rattle.std.specs.Prelude.{◌≡◌, ℕ, ◌+◌, ◌<◌, ◌^◌, Some, IfOk, IfSome, List};
-ghost use Rattle.std.specs.Prelude.{[], length, vec_len, slice_index, slice_get};
-ghost use Rattle.std.specs.List.{All};
-ghost use Rattle.logos_automaton.specs.DfaView.{dfa_of};
-ghost use Rattle.logos_automaton.specs.Faults.{AreFaults};
-ghost use Rattle.logos_graph.specs.FinishedGraph.{NamesLeaves};
-ghost use Rattle.logos_automaton.specs.Munch.{priority_of};
-ghost use Rattle.logos_graph.specs.inside.First.{first_of};
-ghost use Rattle.logos_graph.specs.inside.RawTable.{best_with, IsRawMark, IsMarkOf, AreRawRows};
-ghost use Rattle.logos_graph.specs.View.{rules_of};
-ghost use Rattle.logos_automaton.specs.Automaton.{IsTotal, ReadsOneByteLate};
-ghost use Rattle.logos_graph.specs.inside.Walk.{MarksOneByteLate};
-ghost use Rattle.logos_reduce.specs.Table.{size, mark, type_of, edges, mark_in};
-ghost use Rattle.logos_reduce.specs.Raw.{IsRaw};
-ghost use Rattle.logos_reduce.specs.Rows.{target_by, IsClosed};
-ghost use Rattle.logos_reduce.specs.RowsView.{rows_of};
+ghost use Rattle.std.specs.Prelude.{◌≡◌, ℕ, ◌+◌, ◌<◌, ◌^◌, Some, IfOk, IfSome, List, [], length, vec_len, slice_index, slice_get};
+ghost use Rattle.logos_graph.specs.Words.{All, dfa_of, AreFaults, NamesLeaves, priority_of, first_of, best_with, IsRawMark, IsMarkOf, AreRawRows, rules_of, IsTotal, ReadsOneByteLate, MarksOneByteLate, size, mark, type_of, edges, mark_in, IsRaw, target_by, IsClosed, rows_of};
 
 use logos_automaton::dfa::parts::{end_at, leaves_at, row_at, state_count};
 use logos_automaton::dfa::{Dfa, Row as ByteRow};

@@ -1,2 +1,3 @@
 pub mod tree
 pub mod lemmas
+pub mod MeasureLemmas

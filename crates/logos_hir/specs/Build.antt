@@ -1,4 +1,5 @@
--- Trees in their simplest form: how characters, classes, parts, branches and repetitions are put together.
+-- Trees in their simplest form: how characters, classes, parts, branches and repetitions are put
+-- together.
 use Rattle.std.specs.Prelude.{ℕ, min, Bool, true, false, ◌&&◌, ◌==◌, List, [], ◌∷◌, ◌++◌, Option, Some, None, unwrap_or, option_map, option_and_then, flat_map, if◌then◌else◌, encode_utf8, chars}
 use Rattle.std.specs.Str.{is_utf8}
 use Rattle.logos_hir.specs.Sets.{Set, members, char_ranges, byte_ranges}
@@ -8,39 +9,39 @@ abbrev pub list_of : Trees → List Tree
 list_of none = []
 list_of (also t rest) = t ∷ list_of rest
 
--- ---- literals and classes
+-- ---- literals and classes.
 
--- these bytes; none of them is `Empty`
+-- These bytes; none of them is `Empty`.
 abbrev pub literal_of : List ℕ → Tree
 literal_of [] = empty
 literal_of (b ∷ rest) = literal (b ∷ rest)
 
--- the member of the ranges, if there is just one
+-- The member of the ranges, if there is exactly one.
 abbrev pub sole_member : List (ℕ × ℕ) → Option ℕ
 sole_member [] = None
 sole_member (r ∷ []) = if r.0 == r.1 then Some r.0 else None
 sole_member (r ∷ s ∷ rest) = None
 
--- a class of characters by its ranges; of one member, a literal
+-- A class of characters by its ranges; of one member, a literal.
 abbrev pub char_tree : List (ℕ × ℕ) → Tree
 char_tree ranges = unwrap_or (option_map (λ c. literal (encode_utf8 c)) (sole_member ranges)) (char_class ranges)
 
--- a class of bytes by its ranges; of one member, a literal
+-- A class of bytes by its ranges; of one member, a literal.
 abbrev pub byte_tree : List (ℕ × ℕ) → Tree
 byte_tree ranges = unwrap_or (option_map (λ b. literal (b ∷ [])) (sole_member ranges)) (byte_class ranges)
 
--- one character of the set
+-- One character of the set.
 abbrev pub one_char_of : Set → Tree
 one_char_of set = char_tree (char_ranges set)
 
--- one byte of the set
+-- One byte of the set.
 abbrev pub one_byte_of : Set → Tree
 one_byte_of set = byte_tree (byte_ranges set)
 
--- ---- repetitions
+-- ---- repetitions.
 
 abbrev mutual
-  -- the tree matches no byte, whatever it stands in
+  -- The tree matches no byte, whatever it stands in.
   pub is_byteless : Tree → Bool
   is_byteless empty = true
   is_byteless (literal text) = false
@@ -56,17 +57,17 @@ abbrev mutual
   all_byteless none = true
   all_byteless (also t rest) = is_byteless t && all_byteless rest
 
--- the greatest count is this one
+-- The greatest count is this one.
 abbrev pub is_most : ℕ → Option ℕ → Bool
 is_most n None = false
 is_most n (Some most) = most == n
 
--- a greatest count cut to at most 1
+-- A greatest count cut to at most 1.
 abbrev pub cut : Option ℕ → Option ℕ
 cut None = Some 1
 cut (Some most) = Some (min most 1)
 
--- once is the body itself
+-- Once is the body itself.
 abbrev pub times : ℕ → Option ℕ → Bool → Tree → Tree
 times least most greedy body = if least == 1 && is_most 1 most then body else repetition least most greedy body
 
@@ -77,90 +78,90 @@ repetition_of least most greedy body =
     else if is_byteless body then times (min least 1) (cut most) greedy body
     else times least most greedy body
 
--- ---- concatenations
+-- ---- concatenations.
 
--- the parts that a tree brings into a concatenation
+-- The parts that a tree brings into a concatenation.
 abbrev pub parts_of : Tree → List Tree
 parts_of empty = []
 parts_of (concat parts) = list_of parts
 parts_of t = t ∷ []
 
--- bytes in front of parts: a literal that stands first takes them in
+-- Bytes in front of parts: a literal that stands first takes them in.
 abbrev pub with_text : List ℕ → List Tree → List Tree
 with_text text (literal more ∷ rest) = literal (text ++ more) ∷ rest
 with_text text rest = literal text ∷ rest
 
--- a part in front of others
+-- A part in front of others.
 abbrev pub join : Tree → List Tree → List Tree
 join (literal text) rest = with_text text rest
 join t rest = t ∷ rest
 
--- the parts with neighbouring literals joined
+-- The parts with neighbouring literals joined.
 abbrev pub junction : List Tree → List Tree
 junction [] = []
 junction (t ∷ rest) = join t (junction rest)
 
--- one part is itself, none is `Empty`
+-- One part is itself, none is `Empty`.
 abbrev pub in_a_row : List Tree → Tree
 in_a_row [] = empty
 in_a_row (t ∷ []) = t
 in_a_row (t ∷ u ∷ rest) = concat (trees (t ∷ u ∷ rest))
 
--- a concatenation: flattened, without `Empty`, neighbouring literals joined
+-- A concatenation: flattened, without `Empty`, neighbouring literals joined.
 abbrev pub concat_of : List Tree → Tree
 concat_of parts = in_a_row (junction (flat_map parts_of parts))
 
--- ---- alternations
+-- ---- alternations.
 
--- the element, if there is just one
+-- The element, if there is exactly one.
 abbrev pub sole_item : List ℕ → Option ℕ
 sole_item [] = None
 sole_item (c ∷ []) = Some c
 sole_item (c ∷ d ∷ rest) = None
 
--- the character that is the whole text, if there is just one
+-- The character that is the whole text, if there is exactly one.
 abbrev pub sole_char : List ℕ → Option ℕ
 sole_char text = if is_utf8 text then sole_item (chars text) else None
 
--- the ranges of a class of characters, or of a literal of one character
+-- The ranges of a class of characters, or of a literal of one character.
 abbrev pub char_ranges_of : Tree → Option (List (ℕ × ℕ))
 char_ranges_of (char_class ranges) = Some ranges
 char_ranges_of (literal text) = option_map (λ c. (c, c) ∷ []) (sole_char text)
 char_ranges_of t = None
 
--- the ranges of a class of bytes, or of a literal of one byte
+-- The ranges of a class of bytes, or of a literal of one byte.
 abbrev pub byte_ranges_of : Tree → Option (List (ℕ × ℕ))
 byte_ranges_of (byte_class ranges) = Some ranges
 byte_ranges_of (literal text) = option_map (λ b. (b, b) ∷ []) (sole_item text)
 byte_ranges_of t = None
 
--- the ranges of all trees, if each has some
+-- The ranges of all trees, if each has some.
 abbrev pub all_ranges : (Tree → Option (List (ℕ × ℕ))) → List Tree → Option (List (ℕ × ℕ))
 all_ranges ranges_of [] = Some []
 all_ranges ranges_of (t ∷ rest) =
     option_and_then (λ first. option_map (λ more. first ++ more) (all_ranges ranges_of rest)) (ranges_of t)
 
--- the branches that a tree brings into an alternation
+-- The branches that a tree brings into an alternation.
 abbrev pub branches_of : Tree → List Tree
 branches_of (alternation branches) = list_of branches
 branches_of t = t ∷ []
 
--- one byte of these ranges if there are some, else one of the branches
+-- One byte of these ranges if there are some, else one of the branches.
 abbrev pub bytes_or : List Tree → Option (List (ℕ × ℕ)) → Tree
 bytes_or branches (Some ranges) = one_byte_of (members ranges)
 bytes_or branches None = alternation (trees branches)
 
--- one character of these ranges if there are some, else bytes or branches
+-- One character of these ranges if there are some, else bytes or branches.
 abbrev pub chars_or : List Tree → Option (List (ℕ × ℕ)) → Tree
 chars_or branches (Some ranges) = one_char_of (members ranges)
 chars_or branches None = bytes_or branches (all_ranges byte_ranges_of branches)
 
--- one branch is itself, characters alone make a class, bytes alone make a class
+-- One branch is itself, characters alone make a class, bytes alone make a class.
 abbrev pub choice_of : List Tree → Tree
 choice_of [] = chars_or [] (all_ranges char_ranges_of [])
 choice_of (t ∷ []) = t
 choice_of (t ∷ u ∷ rest) = chars_or (t ∷ u ∷ rest) (all_ranges char_ranges_of (t ∷ u ∷ rest))
 
--- an alternation, flattened
+-- An alternation, flattened.
 abbrev pub alternation_of : List Tree → Tree
 alternation_of branches = choice_of (flat_map branches_of branches)

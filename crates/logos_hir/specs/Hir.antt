@@ -8,7 +8,7 @@ use Rattle.logos_hir.specs.declared.hir.Hir.TheOpen.{Hir-F}
 use Rattle.logos_hir.specs.declared.hir.Hir.TheFolds.{fold-Hir}
 use Rattle.logos_hir.specs.Tree.{Tree, empty, literal, byte_class, char_class, look, repetition, capture, concat, alternation, trees}
 
--- the first and the last member of each range
+-- The first and the last member of each range.
 abbrev pub pairs : List Range → List (ℕ × ℕ)
 pairs = map (λ r. (r.first, r.last))
 
@@ -16,7 +16,7 @@ abbrev pub class_tree : Class → Tree
 class_tree (Bytes ranges) = byte_class (pairs ranges.items)
 class_tree (Characters ranges) = char_class (pairs ranges.items)
 
--- one node, with the tree of each child in its place
+-- One node, with the tree of each child in its place.
 abbrev pub node_tree : Hir-F Tree → Tree
 node_tree Hir-F.Empty = empty
 node_tree (Hir-F.Literal bytes) = literal bytes.items
@@ -30,7 +30,7 @@ node_tree (Hir-F.Alternation branches) = alternation (trees branches.items)
 abbrev pub tree_of : Hir → Tree
 tree_of = fold-Hir Tree node_tree
 
--- the tree that matches these bytes
+-- The tree that matches these bytes.
 abbrev pub literal_tree : List ℕ → Tree
 literal_tree [] = empty
 literal_tree (b ∷ bytes) = literal (b ∷ bytes)

@@ -13,3 +13,7 @@ pub mod Fold
 pub mod Property
 pub mod Operands
 pub mod Simplest
+pub mod Priority
+pub mod Measure
+pub mod Words
+pub mod Views

@@ -1,21 +1,21 @@
--- What a pattern matches: the span from one place of the bytes to another.
+-- What a pattern matches: the span from one point of the bytes to another.
 use Rattle.std.specs.Prelude.{◌≡◌, ℕ, zero, suc, ◌≤◌, ◌⊎◌, List, [], ◌∷◌, Option, IfSome, encode_utf8}
 use Rattle.std.specs.Char.{IsScalar}
 use Rattle.logos_hir.specs.Text.{StandsAt, InRanges}
 use Rattle.logos_hir.specs.Tree.{Tree, empty, literal, byte_class, char_class, look, repetition, capture, concat, alternation, Trees, none, also}
 use Rattle.logos_hir.specs.Looks.{Holds}
 
--- n pieces in a row lead from one place to another
+-- N pieces in a row lead from one point to another.
 abbrev pub Pieces : (ℕ → ℕ → Type 0) → ℕ → ℕ → ℕ → Type 0
 Pieces piece zero from to = from ≡ to
 Pieces piece (suc n) from to = (cut : ℕ) × piece from cut × Pieces piece n cut to
 
--- the count is at least the least one, and at most the greatest one if there is one
+-- The count is at least the least one, and at most the greatest one if there is one.
 abbrev pub IsCount : ℕ → Option ℕ → ℕ → Type 0
 IsCount least most n = (least ≤ n) × IfSome most (λ m. n ≤ m)
 
 abbrev mutual
-  -- the tree matches the bytes from `from` to `to`
+  -- The tree matches the bytes from `from` to `to`.
   pub Matches : Tree → List ℕ → ℕ → ℕ → Type 0
   Matches empty bytes from to = from ≡ to
   Matches (literal text) bytes from to = StandsAt text bytes from to
@@ -29,13 +29,13 @@ abbrev mutual
   Matches (concat parts) bytes from to = MatchesInOrder parts bytes from to
   Matches (alternation branches) bytes from to = SomeMatches branches bytes from to
 
-  -- the parts match one after another
+  -- The parts match one after another.
   pub MatchesInOrder : Trees → List ℕ → ℕ → ℕ → Type 0
   MatchesInOrder none bytes from to = from ≡ to
   MatchesInOrder (also part parts) bytes from to =
       (cut : ℕ) × Matches part bytes from cut × MatchesInOrder parts bytes cut to
 
-  -- some branch matches
+  -- Some branch matches.
   pub SomeMatches : Trees → List ℕ → ℕ → ℕ → Type 0
   SomeMatches none bytes from to = ⊥
   SomeMatches (also branch branches) bytes from to =

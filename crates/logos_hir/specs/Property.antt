@@ -14,7 +14,7 @@ use Rattle.logos_hir.specs.declared.property.PerlKind.{PerlKind}
 use Rattle.logos_hir.specs.declared.property.PerlKind.TheVariants as perl
 use Rattle.logos_hir.specs.Sets.{Set, difference}
 
--- the set of `[:alnum:]` and the like
+-- The set of `[:alnum:]` and the like.
 abbrev pub ascii_set : AsciiKind → Set
 ascii_set Alnum = is_ascii_alphanumeric
 ascii_set Alpha = is_ascii_alphabetic
@@ -31,7 +31,7 @@ ascii_set Upper = is_ascii_uppercase
 ascii_set Word = λ c. is_ascii_alphanumeric c || (c == 95)
 ascii_set Xdigit = is_ascii_hexdigit
 
--- what the name in `[:name:]` stands for
+-- What the name in `[:name:]` stands for.
 abbrev pub ascii_named : List ℕ → Option AsciiKind
 ascii_named name =
     if bytes_eq name (codes "alnum") then Some Alnum
@@ -50,13 +50,13 @@ ascii_named name =
     else if bytes_eq name (codes "xdigit") then Some Xdigit
     else None
 
--- the set of `\d`, `\s` and `\w`, of characters or of bytes
+-- The set of `\d`, `\s` and `\w`, of characters or of bytes.
 abbrev pub perl_set : PerlKind → Bool → Set
 perl_set perl.Digit unicode = if unicode then is_digit_char else ascii_set Digit
 perl_set perl.Space unicode = if unicode then is_space_char else ascii_set Space
 perl_set perl.Word unicode = if unicode then is_word_char else ascii_set Word
 
--- what a name in its loose form stands for in `\p{name}`
+-- What a name in its loose form stands for in `\p{name}`.
 abbrev pub property_normalized : List ℕ → Option PropertySet
 property_normalized name =
     if bytes_eq name (codes "any") then Some Any
@@ -64,6 +64,6 @@ property_normalized name =
     else if bytes_eq name (codes "assigned") then Some Assigned
     else by_name name
 
--- what the name in `\p{name}` stands for
+-- What the name in `\p{name}` stands for.
 abbrev pub property_named : List ℕ → Option PropertySet
 property_named name = property_normalized (normalize name)

@@ -2,11 +2,11 @@
 use Rattle.std.specs.Prelude.{◌≡◌, ℕ, zero, suc, ◌+◌, Bool, true, false, not, ◌&&◌, ◌||◌, ◌==◌, nat_le, List, [], ◌∷◌, if◌then◌else◌}
 use lib.Utf8.{scalar}
 
--- a set of characters or of bytes, as the test of its members
+-- A set of characters or of bytes, as the test of its members.
 abbrev pub Set : Type 0
 Set = ℕ → Bool
 
--- ---- operations
+-- ---- operations.
 
 abbrev pub union : Set → Set → Set
 union a b c = a c || b c
@@ -14,23 +14,23 @@ union a b c = a c || b c
 abbrev pub intersection : Set → Set → Set
 intersection a b c = a c && b c
 
--- in the first, and not in the second
+-- In the first, and not in the second.
 abbrev pub difference : Set → Set → Set
 difference a b c = a c && not (b c)
 
--- in just one of the two
+-- In exactly one of the two.
 abbrev pub symmetric_difference : Set → Set → Set
 symmetric_difference a b c = if a c then not (b c) else b c
 
--- the characters among the members
+-- The characters among the members.
 abbrev pub only_chars : Set → Set
 only_chars set c = scalar c && set c
 
--- the characters up to the last one that are no members
+-- The characters up to the last one that are no members.
 abbrev pub complement : ℕ → Set → Set
 complement last set c = scalar c && (nat_le c last && not (set c))
 
--- ---- ranges, each with its first and its last number
+-- ---- ranges, each with its first and its last number.
 
 abbrev pub in_range : ℕ × ℕ → Set
 in_range r c = nat_le r.0 c && nat_le c r.1
@@ -39,44 +39,45 @@ abbrev pub in_ranges : List (ℕ × ℕ) → Set
 in_ranges [] c = false
 in_ranges (r ∷ rest) c = in_range r c || in_ranges rest c
 
--- the characters in the ranges
+-- The characters in the ranges.
 abbrev pub members : List (ℕ × ℕ) → Set
 members ranges = only_chars (in_ranges ranges)
 
--- the character after a character: none stands between U+D7FF and U+E000
+-- The character after a character: none stands between U+D7FF and U+E000.
 abbrev pub next : ℕ → ℕ
 next c = if c == 0xD7FF then 0xE000 else c + 1
 
--- both ends are characters, in order
+-- Both ends are characters, in order.
 abbrev pub is_range : ℕ × ℕ → Bool
 is_range r = (scalar r.0 && scalar r.1) && nat_le r.0 r.1
 
--- each is a range, the first from n on, and each other after the character after the one before
+-- Each is a range, the first from n on, and each other after the character after the one before.
 abbrev pub rises_from : ℕ → List (ℕ × ℕ) → Bool
 rises_from n [] = true
 rises_from n (r ∷ rest) = (nat_le n r.0 && is_range r) && rises_from (next r.1 + 1) rest
 
--- ranges of characters, in ascending order, with a character between any two
+-- Ranges of characters, in ascending order, with a character between any two.
 abbrev pub AreCanonical : List (ℕ × ℕ) → Type 0
 AreCanonical ranges = rises_from 0 ranges ≡ true
 
--- ---- the ranges of a set, as few as can be
+-- ---- the ranges of a set, as few as can be.
 
--- a number in front of ranges that start after it: it lengthens the first range, or is one of its own
+-- A number in front of ranges that start after it: it lengthens the first range, or is one of its
+-- own.
 abbrev pub with_number : ℕ → List (ℕ × ℕ) → List (ℕ × ℕ)
 with_number c [] = (c, c) ∷ []
 with_number c (r ∷ rest) = if next c == r.0 then (c, r.1) ∷ rest else (c, c) ∷ r ∷ rest
 
--- the members among n numbers from c on
+-- The members among n numbers from c on.
 unfoldable pub ranges_from : ℕ → ℕ → Set → List (ℕ × ℕ)
 ranges_from c zero set = []
 ranges_from c (suc n) set =
     if set c then with_number c (ranges_from (c + 1) n set) else ranges_from (c + 1) n set
 
--- the characters of a set
+-- The characters of a set.
 unfoldable pub char_ranges : Set → List (ℕ × ℕ)
 char_ranges set = ranges_from 0 0x11_0000 (only_chars set)
 
--- the bytes of a set
+-- The bytes of a set.
 unfoldable pub byte_ranges : Set → List (ℕ × ℕ)
 byte_ranges set = ranges_from 0 256 (only_chars set)

@@ -6,7 +6,7 @@ use Rattle.logos_hir.specs.Tree.{Tree, empty, literal, byte_class, char_class, l
 use Rattle.logos_hir.specs.Build.{repetition_of, concat_of, alternation_of}
 
 abbrev mutual
-  -- each repetition, concatenation and alternation, from the innermost on, as its builder makes it
+  -- Each repetition, concatenation and alternation, from the innermost on, as its builder makes it.
   pub simplest : Tree → Tree
   simplest empty = empty
   simplest (literal text) = literal text
@@ -22,10 +22,10 @@ abbrev mutual
   all_simplest none = []
   all_simplest (also t rest) = simplest t ∷ all_simplest rest
 
--- the tree that the builders make of what a `Hir` holds
+-- The tree that the builders make of what a `Hir` holds.
 abbrev pub simplest_tree : Hir → Tree
 simplest_tree hir = simplest (tree_of hir)
 
--- the tree is one that the builders make
+-- The tree is one that the builders make.
 abbrev pub IsSimplest : Tree → Type 0
 IsSimplest t = (u : Tree) × (simplest u ≡ t)

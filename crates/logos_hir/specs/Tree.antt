@@ -4,29 +4,29 @@ use Rattle.logos_hir.specs.declared.hir.Look.{Look}
 
 mutual
   pub data Tree : Type 0 where
-    -- the empty text
+    -- The empty text.
     empty : Tree
-    -- these bytes
+    -- These bytes.
     literal : List ℕ → Tree
-    -- one byte of these ranges
+    -- One byte of these ranges.
     byte_class : List (ℕ × ℕ) → Tree
-    -- one character of these ranges
+    -- One character of these ranges.
     char_class : List (ℕ × ℕ) → Tree
-    -- a condition on the place
+    -- A condition on the point.
     look : Look → Tree
-    -- the least count, the greatest one if there is one, and whether it is greedy
+    -- The least count, the greatest one if there is one, and whether it is greedy.
     repetition : ℕ → Option ℕ → Bool → Tree → Tree
     capture : Tree → Tree
-    -- all parts, one after another
+    -- All parts, one after another.
     concat : Trees → Tree
-    -- one of the branches
+    -- One of the branches.
     alternation : Trees → Tree
 
   pub data Trees : Type 0 where
     none : Trees
     also : Tree → Trees → Trees
 
--- a list of trees
+-- A list of trees.
 abbrev pub trees : List Tree → Trees
 trees [] = none
 trees (t ∷ rest) = also t (trees rest)

@@ -3,3 +3,4 @@ pub mod BuildSteps
 pub mod Fits
 pub mod FoldSteps
 pub mod Effects
+pub mod MeasureSteps

@@ -1,13 +1,8 @@
-//! Builders of trees, which simplify as they build.
+//! Builders of trees, which simplify as they build. The simplifier calls them node by node, and so
+//! does `logos_syntax`.
 
 ghost use Rattle.std.specs.Prelude.{◌≡◌, false, map, ◌++◌, Option, Some, IfOk, OnOk};
-ghost use Rattle.logos_hir.specs.Tree.{look, capture};
-ghost use Rattle.logos_hir.specs.Hir.{tree_of};
-ghost use Rattle.logos_hir.specs.RangeSets.{set_of};
-ghost use Rattle.logos_hir.specs.Build.{literal_of, one_char_of, one_byte_of, is_byteless, is_most};
-ghost use Rattle.logos_hir.specs.Build.{cut, times, repetition_of, parts_of, in_a_row};
-ghost use Rattle.logos_hir.specs.inside.BuildSteps.{part_text, add_text, add_part, add_parts};
-ghost use Rattle.logos_hir.specs.inside.BuildSteps.{is_literal_tree, are_apart};
+ghost use Rattle.logos_hir.specs.Views.{look, capture, tree_of, set_of, literal_of, one_char_of, one_byte_of, is_byteless, is_most, cut, times, repetition_of, parts_of, in_a_row, part_text, add_text, add_part, add_parts, is_literal_tree, are_apart};
 
 pub(crate) mod branches;
 
@@ -36,7 +31,8 @@ pub fn look(kind: Look) -> Hir
 /// Makes a capture group.
 ///
 /// # Errors
-/// Returns `AllocError` when memory runs out.
+///
+/// Returns `AllocError` if memory runs out.
 pub fn capture(alloc: Global, body: Hir) -> Result<Hir, AllocError>
     ensures { IfOk result (λ hir. tree_of hir ≡ capture (tree_of body)) }
 {
@@ -46,7 +42,8 @@ pub fn capture(alloc: Global, body: Hir) -> Result<Hir, AllocError>
 /// Makes the class of the characters of the set. A set of one character makes a literal.
 ///
 /// # Errors
-/// Returns `AllocError` when memory runs out.
+///
+/// Returns `AllocError` if memory runs out.
 pub fn char_class(alloc: Global, set: RangeSet) -> Result<Hir, AllocError>
     ensures { IfOk result (λ hir. tree_of hir ≡ one_char_of (set_of set)) }
 {
@@ -60,10 +57,12 @@ pub fn char_class(alloc: Global, set: RangeSet) -> Result<Hir, AllocError>
     }
 }
 
-/// Makes the class of the bytes of the set, which leaves out members above U+00FF. A set of one byte makes a literal.
+/// Makes the class of the bytes of the set, which leaves out members above U+00FF. A set of one
+/// byte makes a literal.
 ///
 /// # Errors
-/// Returns `AllocError` when memory runs out.
+///
+/// Returns `AllocError` if memory runs out.
 pub fn byte_class(alloc: Global, set: RangeSet) -> Result<Hir, AllocError>
     ensures { IfOk result (λ hir. tree_of hir ≡ one_byte_of (set_of set)) }
 {
@@ -131,11 +130,12 @@ fn times(
     })
 }
 
-/// Makes a repetition in its simplest form. Never is `Empty`. Both counts of a tree that matches no byte
-/// are cut to at most 1, and exactly once is the body itself.
+/// Makes a repetition in its simplest form. Never is `Empty`. Both counts of a tree that matches no
+/// byte are cut to at most 1, and exactly once is the body itself.
 ///
 /// # Errors
-/// Returns `AllocError` when memory runs out.
+///
+/// Returns `AllocError` if memory runs out.
 pub fn repetition(
     alloc: Global,
     min: u32,
@@ -226,8 +226,8 @@ fn are_apart(parts: &[Hir]) -> bool
     true
 }
 
-/// Adds parts after the others. Where there are no others yet and no two literals stand side by side, the vector of the parts is
-/// taken over as it is.
+/// Adds parts after the others. Where there are no others yet and no two literals stand side by
+/// side, the vector of the parts is taken over as it is.
 fn push_all(parts: &mut Vec<Hir>, inner: Vec<Hir>) -> Result<(), AllocError>
     ensures { OnOk result (map tree_of parts.new.items ≡
         add_parts (map tree_of parts.old.items) (map tree_of inner.items)) }

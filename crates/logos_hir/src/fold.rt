@@ -1,21 +1,15 @@
-//! Sets closed under a change of case.
+//! Sets closed under a change of case. `logos_syntax` calls it where letters match in either case.
 
 ghost use Rattle.std.specs.Prelude.{◌≡◌, ℕ, ◌+◌, ◌<◌, ◌≤◌, ◌^◌, ◌||◌, length, IfOk, OnOk};
-ghost use Rattle.std.specs.List.Sorted.{IsNonDecreasingBy};
-ghost use Rattle.unicode.specs.CaseFolding.{fold_pairs};
-ghost use Rattle.logos_hir.specs.Hir.{pairs};
-ghost use Rattle.logos_hir.specs.Sets.{in_range, in_ranges};
-ghost use Rattle.logos_hir.specs.RangeSets.{set_of};
-ghost use Rattle.logos_hir.specs.Fold.{fold_case, fold_ascii};
-ghost use Rattle.logos_hir.specs.inside.SetSteps.{Adds};
-ghost use Rattle.logos_hir.specs.inside.FoldSteps.{in_values, in_image, shift};
+ghost use Rattle.logos_hir.specs.Words.{IsNonDecreasingBy, fold_pairs, in_range, in_ranges, fold_case, fold_ascii, Adds, in_values, in_image, shift};
+ghost use Rattle.logos_hir.specs.Views.{pairs, set_of};
 
 use crate::hir::Range;
 use crate::sets::RangeSet;
 use std::alloc::{AllocError, Global};
 use unicode::case;
 
-/// The pairs that begin with a number of the range, of pairs that ascend.
+/// Returns the pairs of a sorted table whose first number is in the range.
 fn within(table: &[(u32, u32)], range: Range) -> &[(u32, u32)]
     requires { IsNonDecreasingBy (λ p. p.0) table.now }
     ensures { (c : ℕ) → in_values result.now c ≡
@@ -50,7 +44,7 @@ fn push_folds(out: &mut Vec<Range>, ranges: &[Range]) -> Result<(), AllocError>
     Ok(())
 }
 
-/// The characters that share a simple folding with a member.
+/// Returns the closure of a set under simple case folding.
 pub fn fold_case(alloc: Global, set: &RangeSet) -> Result<RangeSet, AllocError>
     ensures { IfOk result (λ folded. set_of folded ≡ fold_case (set_of set.now)) }
 {
@@ -98,7 +92,7 @@ fn push_cases(out: &mut Vec<Range>, ranges: &[Range]) -> Result<(), AllocError>
     Ok(())
 }
 
-/// The set with both cases of each ASCII letter in it.
+/// Returns the set with both cases of each ASCII letter in it.
 pub fn fold_ascii(alloc: Global, set: &RangeSet) -> Result<RangeSet, AllocError>
     ensures { IfOk result (λ folded. set_of folded ≡ fold_ascii (set_of set.now)) }
 {

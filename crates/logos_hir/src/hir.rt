@@ -2,7 +2,7 @@
 
 ghost use Rattle.std.specs.Prelude.{◌≡◌};
 
-/// A condition on the bytes on both sides of a place.
+/// A condition on the bytes on both sides of a point.
 #[derive(Clone, Copy, Debug, PartialEq, Eq)]
 pub enum Look {
     /// The start of the input.
@@ -31,7 +31,7 @@ pub struct Range {
 }
 
 impl Range {
-    /// The range with these ends.
+    /// Returns the range with these ends.
     pub fn new(first: u32, last: u32) -> Range
         ensures { result ≡ record { first = first; last = last } }
     {
@@ -57,7 +57,7 @@ pub enum Hir {
     Literal(Vec<u8>),
     /// One member of the class.
     Class(Class),
-    /// A condition on the place.
+    /// A condition on the point.
     Look(Look),
     /// At least `min` times the body, and at most `max` times if there is such a count.
     Repetition {

@@ -1,12 +1,35 @@
-//! Laws of looks.
+//! Laws of looks, and of trees and their default priority. No code calls these functions: the
+//! contract of each is a proved law.
 
-ghost use Rattle.std.specs.Prelude.{◌≡◌, ◌≢◌, ℕ, ◌++◌, ◌∷◌, false, List, Some, length};
-ghost use Rattle.logos_hir.specs.Looks.{is_word, Holds};
-ghost use Rattle.logos_hir.specs.declared.hir.Look.{Look};
+ghost use Rattle.std.specs.Prelude.{
+  ◌≡◌,
+  ◌≢◌,
+  ℕ,
+  ◌++◌,
+  ◌∷◌,
+  false,
+  Bool,
+  List,
+  Option,
+  Some,
+  length,
+};
+ghost use Rattle.logos_hir.specs.Views.{is_word, Holds, Matches, value, Tree, repetition, Look};
 
-/// A look that holds in front of a byte that is neither a word byte nor CR nor LF also holds where the bytes end there.
+/// A look that holds in front of a byte that is neither a word byte nor CR nor LF also holds where
+/// the bytes end there.
 pub fn looks_hold_at_the_end()
     ensures { (look : Look) (bytes rest : List ℕ) (b : ℕ) →
         is_word (Some b) ≡ false → b ≢ 10 → b ≢ 13 →
         Holds look (bytes ++ b ∷ rest) (length bytes) → Holds look bytes (length bytes) }
+{}
+
+/// A lazy and a greedy repetition have the same matches, and the same priority.
+pub fn lazy_and_greedy()
+    ensures matches { (least : ℕ) (most : Option ℕ) (lazy greedy : Bool) (body : Tree)
+        (bytes : List ℕ) (from to : ℕ) →
+        Matches (repetition least most lazy body) bytes from to →
+        Matches (repetition least most greedy body) bytes from to }
+    ensures priority { (least : ℕ) (most : Option ℕ) (lazy greedy : Bool) (body : Tree) →
+        value (repetition least most lazy body) ≡ value (repetition least most greedy body) }
 {}

@@ -1,12 +1,9 @@
-//! Sets that a pattern names.
+//! Sets that a pattern names. `logos_pattern_tokens` and `logos_syntax` look up `\p{..}`,
+//! `[:name:]` and `\d` here.
 
 ghost use Rattle.std.specs.Prelude.{◌≡◌, ℕ, Bool, IfOk, bytes_eq};
-ghost use Rattle.logos_hir.specs.Hir.{pairs};
-ghost use Rattle.logos_hir.specs.Sets.{only_chars, in_ranges};
-ghost use Rattle.logos_hir.specs.RangeSets.{set_of};
-ghost use Rattle.logos_hir.specs.Property.{ascii_set, ascii_named, perl_set, property_named, property_normalized};
-ghost use Rattle.unicode.specs.Rows.{HasExactly};
-ghost use Rattle.unicode.specs.Sets.{in_set};
+ghost use Rattle.logos_hir.specs.Words.{only_chars, in_ranges, HasExactly, in_set};
+ghost use Rattle.logos_hir.specs.Views.{pairs, set_of, ascii_set, ascii_named, perl_set, property_named, property_normalized};
 
 use crate::hir::Range;
 use crate::sets::RangeSet;
@@ -41,7 +38,7 @@ pub enum PerlKind {
     Word,
 }
 
-/// The first and the last member of each run of an ASCII class.
+/// Returns the first and the last member of each run of an ASCII class.
 #[tactic(auto, using(std::proofs::lemmas::Bool::Decides::nat_tests))]
 fn ascii_runs(kind: AsciiKind) -> &'static [(u32, u32)]
     ensures { (c : ℕ) → in_ranges result.now c ≡ ascii_set kind c }
@@ -64,7 +61,7 @@ fn ascii_runs(kind: AsciiKind) -> &'static [(u32, u32)]
     }
 }
 
-/// Whether the characters are those of the ASCII word.
+/// Returns whether the characters are those of the ASCII word.
 fn spells(name: &[char], word: &[u8]) -> bool
     ensures { result ≡ bytes_eq name.now word.now }
 {
@@ -80,7 +77,7 @@ fn spells(name: &[char], word: &[u8]) -> bool
 }
 
 impl AsciiKind {
-    /// The class with the name in `[:name:]`.
+    /// Returns the class with the name in `[:name:]`.
     pub fn from_name(name: &[char]) -> Option<AsciiKind>
         ensures { result ≡ ascii_named name.now }
     {
@@ -116,14 +113,14 @@ impl AsciiKind {
     }
 }
 
-/// The members of an ASCII class.
+/// Returns the members of an ASCII class.
 pub fn ascii_set(alloc: Global, kind: AsciiKind) -> Result<RangeSet, AllocError>
     ensures { IfOk result (λ set. set_of set ≡ only_chars (ascii_set kind)) }
 {
     RangeSet::from_ranges(alloc, &ranges_of(alloc, ascii_runs(kind))?)
 }
 
-/// The runs as ranges.
+/// Returns the runs as ranges.
 fn ranges_of(alloc: Global, runs: &[(u32, u32)]) -> Result<Vec<Range>, AllocError>
     ensures { IfOk result (λ v. pairs v.items ≡ runs.now) }
 {
@@ -134,7 +131,7 @@ fn ranges_of(alloc: Global, runs: &[(u32, u32)]) -> Result<Vec<Range>, AllocErro
     Ok(ranges)
 }
 
-/// The characters of the runs, which may hold surrogates.
+/// Returns the characters of the runs, which may hold surrogates.
 fn from_runs(alloc: Global, runs: &[(u32, u32)]) -> Result<RangeSet, AllocError>
     ensures { (p : ℕ → Bool) → HasExactly runs.now p →
         IfOk result (λ set. set_of set ≡ only_chars p) }
@@ -142,7 +139,8 @@ fn from_runs(alloc: Global, runs: &[(u32, u32)]) -> Result<RangeSet, AllocError>
     RangeSet::from_ranges(alloc, &ranges_of(alloc, runs)?)
 }
 
-/// The members of `\d`, `\s` or `\w`: of characters as Unicode has them, of bytes ASCII alone.
+/// Returns the members of `\d`, `\s` or `\w`: of characters as Unicode has them, of bytes ASCII
+/// alone.
 pub fn perl_set(alloc: Global, kind: PerlKind, unicode: bool) -> Result<RangeSet, AllocError>
     ensures { IfOk result (λ set. set_of set ≡ only_chars (perl_set kind unicode)) }
 {
@@ -156,7 +154,7 @@ pub fn perl_set(alloc: Global, kind: PerlKind, unicode: bool) -> Result<RangeSet
     }
 }
 
-/// The set of a property by its name, which is compared loosely.
+/// Returns the set of a property by its name, which is compared loosely.
 pub fn property_named(alloc: Global, name: &[char]) -> Result<Option<Set>, AllocError>
     ensures { IfOk result (λ set. set ≡ property_named name.now) }
 {
@@ -164,7 +162,7 @@ pub fn property_named(alloc: Global, name: &[char]) -> Result<Option<Set>, Alloc
     Ok(property_normalized(&name))
 }
 
-/// The set of a property by its normalized name.
+/// Returns the set of a property by its normalized name.
 fn property_normalized(name: &[u8]) -> Option<Set>
     ensures { result ≡ property_normalized name.now }
 {
@@ -180,7 +178,7 @@ fn property_normalized(name: &[u8]) -> Option<Set>
     sets::by_name(name).ok()
 }
 
-/// The characters of a property's set.
+/// Returns the characters of a property's set.
 pub fn property_set(alloc: Global, set: Set) -> Result<RangeSet, AllocError>
     ensures { IfOk result (λ chars. set_of chars ≡ only_chars (in_set set)) }
 {

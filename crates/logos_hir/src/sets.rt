@@ -1,11 +1,8 @@
 //! Sets of characters and of bytes, as ranges.
 
 ghost use Rattle.std.specs.Prelude.{◌≡◌, ℕ, ◌+◌, ◌<◌, ◌≤◌, true, ◌||◌, ◌&&◌, not, nat_le, [], IfOk, OnOk, MatchOption};
-ghost use Rattle.std.specs.List.Sorted.{IsNonDecreasingBy};
-ghost use lib.Utf8.{scalar};
+ghost use Rattle.logos_hir.specs.Words.{IsNonDecreasingBy, scalar, AreCanonical, in_range, in_ranges, is_range, next, IsPlace, AreRanges, free_from, in_gap, AddsCharacters, HasCharacters};
 ghost use Rattle.logos_hir.specs.Hir.{pairs};
-ghost use Rattle.logos_hir.specs.Sets.{AreCanonical, in_range, in_ranges, is_range, next};
-ghost use Rattle.logos_hir.specs.inside.SetSteps.{IsPlace, AreRanges, free_from, in_gap, AddsCharacters, HasCharacters};
 
 use crate::hir::Range;
 use std::alloc::{AllocError, Global};
@@ -22,7 +19,7 @@ pub struct RangeSet {
     ghost canonical: { AreCanonical (pairs ranges.items) },
 }
 
-/// The character after a character.
+/// Returns the character after a character.
 fn after(c: u32) -> u32
     requires { c ≤ 0x10_FFFF }
     ensures { result ≡ next c }
@@ -30,7 +27,7 @@ fn after(c: u32) -> u32
     if c == 0xD7FF { 0xE000 } else { c + 1 }
 }
 
-/// The character before a place that is not the first.
+/// Returns the character before a scalar value that is not the first.
 fn before(place: u32) -> u32
     requires place { IsPlace place }
     requires some { 0 < place }
@@ -64,7 +61,7 @@ fn push_gap(out: &mut Vec<Range>, first: u32, end: u32, last: u32) -> Result<(),
     Ok(())
 }
 
-/// The characters up to `last` in none of the ranges, whose starts do not descend.
+/// Returns the characters up to `last` in none of the ranges, whose starts do not descend.
 fn gaps(alloc: Global, ranges: &[Range], last: u32) -> Result<Vec<Range>, AllocError>
     requires ranges { AreRanges (pairs ranges.now) }
     requires sorted { IsNonDecreasingBy (λ r. r.first) ranges.now }
@@ -124,7 +121,7 @@ fn push_chars(out: &mut Vec<Range>, range: Range) -> Result<(), AllocError>
     Ok(())
 }
 
-/// The ranges cut to characters, where they have some.
+/// Returns the ranges cut to characters, where they have some.
 fn chars_of(alloc: Global, ranges: &[Range]) -> Result<Vec<Range>, AllocError>
     ensures ranges { IfOk result (λ out. AreRanges (pairs out.items)) }
     ensures members { IfOk result (λ out. HasCharacters (pairs out.items)
@@ -139,14 +136,11 @@ fn chars_of(alloc: Global, ranges: &[Range]) -> Result<Vec<Range>, AllocError>
 
 impl RangeSet {
     ghost use Rattle.std.specs.Prelude.{◌≡◌, ℕ, ◌≤◌, true, IfOk, MatchBool};
-    ghost use lib.Utf8.{scalar};
-    ghost use Rattle.logos_hir.specs.Hir.{pairs};
-    ghost use Rattle.logos_hir.specs.Sets.{Set, members, union, intersection, difference, symmetric_difference, complement, in_range};
-    ghost use Rattle.logos_hir.specs.Build.{sole_member};
-    ghost use Rattle.logos_hir.specs.RangeSets.{set_of};
+    ghost use Rattle.logos_hir.specs.Words.{scalar, Set, members, union, intersection, difference, symmetric_difference, complement, in_range};
+    ghost use Rattle.logos_hir.specs.Views.{pairs, sole_member, set_of};
 
-    /// The characters in the ranges. These may come in any order, overlap, and hold numbers that are
-    /// no characters; a range whose first number is above its last is empty.
+    /// Returns the characters in the ranges. These may come in any order, overlap, and hold numbers
+    /// that are no characters; a range whose first number is above its last is empty.
     pub fn from_ranges(alloc: Global, ranges: &[Range]) -> Result<RangeSet, AllocError>
         ensures { IfOk result (λ set. set_of set ≡ members (pairs ranges.now)) }
     {
@@ -157,7 +151,7 @@ impl RangeSet {
         Ok(RangeSet { ranges })
     }
 
-    /// The characters up to `last` that are no members.
+    /// Returns the characters up to `last` that are no members.
     pub fn complement(&self, last: char) -> Result<RangeSet, AllocError>
         ensures { IfOk result (λ set. set_of set ≡ complement last (set_of self.now)) }
     {
@@ -165,7 +159,7 @@ impl RangeSet {
         Ok(RangeSet { ranges })
     }
 
-    /// The members up to U+00FF, which are bytes.
+    /// Returns the members up to U+00FF, which are bytes.
     pub fn bytes(&self) -> Result<RangeSet, AllocError>
         ensures { IfOk result (λ set. set_of set ≡
             intersection (set_of self.now) (in_range (0, 255))) }
@@ -173,7 +167,7 @@ impl RangeSet {
         self.complement(char::MAX)?.complement('\u{FF}')
     }
 
-    /// The only member, if there is just one.
+    /// Returns the only member, if there is exactly one.
     pub fn sole_member(&self) -> Option<char>
         ensures { result ≡ sole_member (pairs self.now.ranges.items) }
     {
@@ -183,14 +177,14 @@ impl RangeSet {
         }
     }
 
-    /// The ranges, in ascending order.
+    /// Returns the ranges, in ascending order.
     pub fn ranges(&self) -> &[Range]
         ensures { result.now ≡ self.now.ranges.items }
     {
         &self.ranges
     }
 
-    /// The ranges, in ascending order.
+    /// Returns the ranges, in ascending order.
     pub fn into_ranges(self) -> Vec<Range>
         ensures { result ≡ self.ranges }
     {
@@ -198,7 +192,7 @@ impl RangeSet {
         ranges
     }
 
-    /// The members of either set.
+    /// Returns the members of either set.
     pub fn union(&self, other: &RangeSet) -> Result<RangeSet, AllocError>
         ensures { IfOk result (λ set. set_of set ≡ union (set_of self.now) (set_of other.now)) }
     {
@@ -208,7 +202,7 @@ impl RangeSet {
         RangeSet::from_ranges(alloc, &both)
     }
 
-    /// The members of both sets.
+    /// Returns the members of both sets.
     pub fn intersection(&self, other: &RangeSet) -> Result<RangeSet, AllocError>
         ensures { IfOk result (λ set. set_of set ≡
             intersection (set_of self.now) (set_of other.now)) }
@@ -219,7 +213,7 @@ impl RangeSet {
         outside.complement(char::MAX)
     }
 
-    /// The members of this set that the other one lacks.
+    /// Returns the members of this set that the other one lacks.
     pub fn difference(&self, other: &RangeSet) -> Result<RangeSet, AllocError>
         ensures { IfOk result (λ set. set_of set ≡
             difference (set_of self.now) (set_of other.now)) }
@@ -227,7 +221,7 @@ impl RangeSet {
         self.intersection(&other.complement(char::MAX)?)
     }
 
-    /// The members of just one of the sets.
+    /// Returns the members of exactly one of the sets.
     pub fn symmetric_difference(&self, other: &RangeSet) -> Result<RangeSet, AllocError>
         ensures { IfOk result (λ set. set_of set ≡
             symmetric_difference (set_of self.now) (set_of other.now)) }

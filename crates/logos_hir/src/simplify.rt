@@ -1,14 +1,9 @@
-//! Trees that are first put together as they stand and simplified at the end, so that each node is moved
-//! and looked at once, however many groups are around it.
+//! Trees that are first put together as they stand and simplified at the end, so that each node is
+//! moved and looked at once, however many groups are around it. `logos_syntax` calls it once, at
+//! the end of a pattern.
 
 ghost use Rattle.std.specs.Prelude.{◌≡◌, ◌++◌, map, flat_map, IfOk, OnOk};
-ghost use Rattle.logos_hir.specs.Tree.{trees, capture as capture_of};
-ghost use Rattle.logos_hir.specs.Hir.{tree_of};
-ghost use Rattle.logos_hir.specs.Build.{parts_of, branches_of, concat_of, alternation_of};
-ghost use Rattle.logos_hir.specs.Build.{repetition_of};
-ghost use Rattle.logos_hir.specs.Simplest.{simplest, all_simplest, simplest_tree};
-ghost use Rattle.logos_hir.specs.inside.BuildSteps.{add_parts};
-ghost use Rattle.logos_hir.specs.inside.Fits.{fits_of};
+ghost use Rattle.logos_hir.specs.Views.{trees, capture as capture_of, tree_of, parts_of, branches_of, concat_of, alternation_of, repetition_of, simplest, all_simplest, simplest_tree, add_parts, fits_of};
 
 use crate::build::branches::{Fits, choice, join_class, push_fitting};
 use crate::build::{capture, in_a_row, push_flat, repetition};
@@ -38,7 +33,8 @@ pub fn either(mut branches: Vec<Hir>) -> Hir
 /// Makes a repetition, as it stands.
 ///
 /// # Errors
-/// Returns `AllocError` when memory runs out.
+///
+/// Returns `AllocError` if memory runs out.
 pub fn repeated(
     alloc: Global,
     min: u32,
@@ -60,7 +56,8 @@ pub fn repeated(
 /// Makes a capture group, as it stands.
 ///
 /// # Errors
-/// Returns `AllocError` when memory runs out.
+///
+/// Returns `AllocError` if memory runs out.
 pub fn captured(alloc: Global, body: Hir) -> Result<Hir, AllocError>
     ensures { IfOk result (λ hir. simplest_tree hir ≡ capture_of (simplest_tree body)) }
 {
@@ -96,7 +93,8 @@ fn push_all_simplified(
     Ok(())
 }
 
-/// Simplifies a tree and adds the branches that it brings into an alternation. Returns which classes these fit.
+/// Simplifies a tree and adds the branches that it brings into an alternation. Returns which
+/// classes these fit.
 #[cycle(simplify)]
 fn push_simplified_branch(
     alloc: Global,
@@ -118,7 +116,8 @@ fn push_simplified_branch(
     }
 }
 
-/// Simplifies trees and adds the branches that they bring into an alternation. Returns which classes these fit.
+/// Simplifies trees and adds the branches that they bring into an alternation. Returns which
+/// classes these fit.
 #[cycle(simplify)]
 fn push_all_branches(
     alloc: Global,
@@ -141,7 +140,8 @@ fn push_all_branches(
 /// Simplifies a tree: makes it again with the builders, from the innermost part on.
 ///
 /// # Errors
-/// Returns `AllocError` when memory runs out.
+///
+/// Returns `AllocError` if memory runs out.
 #[cycle(simplify)]
 pub fn simplify(alloc: Global, tree: Hir) -> Result<Hir, AllocError>
     ensures { IfOk result (λ hir. tree_of hir ≡ simplest (tree_of tree)) }

@@ -9,8 +9,8 @@ use Rattle.logos_type_params.specs.Substitution.{ParamValue, param_value, Params
 use Rattle.logos_type_params.specs.TypeParams.{given_of}
 use Rattle.logos_type_params.specs.WrittenTypes.{params_with}
 use Rattle.logos_type_params.specs.declared.substitution.TypeParam.{TypeParam}
-use Rattle.logos_item.specs.EnumValues.{field_value, in_parenthesis}
-use Rattle.logos_item.specs.declared.fields.Field.{Field}
+use Rattle.logos_enum.specs.EnumValues.{field_value, in_parenthesis}
+use Rattle.logos_enum.specs.declared.fields.Field.{Field}
 use Rattle.logos_pattern.specs.Leaf.{KindValue}
 use Rattle.logos_definition.specs.Options.{OptionsView}
 use Rattle.logos_definition.specs.ParserViews.{parser_view}

@@ -8,8 +8,8 @@ use Rattle.logos_token.specs.Held.{Held, of_text, of_bytes}
 use Rattle.logos_pattern.specs.Leaf.{KindValue}
 use Rattle.logos_pattern.specs.Escaping.{escaped_text, escaped_bytes}
 use Rattle.logos_hir.specs.Hir.{literal_tree}
-use Rattle.logos_measures.specs.Measure.{fitted, has_greedy_dot}
-use Rattle.logos_measures.specs.Priority.{value}
+use Rattle.logos_hir.specs.Measure.{fitted, has_greedy_dot}
+use Rattle.logos_hir.specs.Priority.{value}
 use Rattle.logos_hir.specs.Tree.{Tree}
 use Rattle.logos_attribute.specs.Callbacks.{CallbackView}
 use Rattle.logos_attribute.specs.Reports.{Report, with_faults, without_faults, and_then, fault, only, IsReport}
@@ -18,7 +18,8 @@ use Rattle.logos_subpattern.specs.PatternFaults.{Reading, spelled, broken, too_d
 use Rattle.logos_subpattern.specs.Substitution.{Stored, subst_report}
 use Rattle.logos_subpattern.specs.Subpatterns.{pattern_text}
 
--- A leaf as contracts see it: the tree and the source of its pattern, its span, its priority, its kind and its callback.
+-- A leaf as contracts see it: the tree and the source of its pattern, its span, its priority, its
+-- kind and its callback.
 pub record LeafView : Type 0 where
   pub is_token : Bool
   pub tree : Tree
@@ -55,7 +56,7 @@ leaf_with is_token d kind tree priority = record {
   callback = d.callback;
 }
 
--- ---- `token`
+-- ---- `token`.
 
 -- The priority of a `token`: the given one, or twice the number of bytes that its literal holds.
 abbrev pub token_priority : DefinitionView → ℕ
@@ -82,7 +83,7 @@ pub record IsTokenLeaf (d : DefinitionView) (kind : KindValue) (leaf : Option Le
   pub reads : d.ignore_case ≡ true → Reads (is_string d.literal.held) true (chars (escaped_of d.literal.held)) reading
   pub reports : IsReport (token_report d kind reading) leaf old new
 
--- ---- `regex` and `skip`
+-- ---- `regex` and `skip`.
 
 abbrev pub greedy_text : List ℕ
 greedy_text = codes "This pattern contains an unbounded greedy dot repetition, i.e. `.*` or `.+` (or a character class that is equivalent to a dot, i.e., `[^\\n]*`). This will cause the entirety of the input to be read for every token. Consider making your repetition non-greedy or changing it to a more specific character class. If this is the intended behavior, add #[regex(..., allow_greedy = true)] or#[logos(skip(..., allow_greedy = true))]"
@@ -133,8 +134,8 @@ whole_report d names = subst_report names d.literal.token.span (chars (pattern_t
 abbrev pub regex_report : DefinitionView → KindValue → List Stored → Reading → Report (Option LeafView)
 regex_report d kind names reading = and_then (whole_report d names) (text_report d kind reading)
 
--- This is the leaf of a `regex` or `skip`, if it has one, and its faults are added to the list. `reading` is what reading its text gives, if all subpatterns are
--- found.
+-- This is the leaf of a `regex` or `skip`, if it has one, and its faults are added to the list.
+-- `reading` is what reading its text gives, if all subpatterns are found.
 pub record IsRegexLeaf (d : DefinitionView) (kind : KindValue) (names : List Stored) (leaf : Option LeafView) (old new : List Fault) : Type 0 where
   pub reading : Reading
   pub reads : (text : List ℕ) → (whole_report d names).value ≡ Some text → Reads (is_string d.literal.held) d.ignore_case (chars text) reading

@@ -4,3 +4,4 @@ pub mod Sources
 pub mod VariantFaults
 pub mod Variants
 pub mod inside
+pub mod Words

@@ -9,9 +9,9 @@ use Rattle.logos_token.specs.declared.token.Ident.{Ident}
 use Rattle.logos_type.specs.Parts.{Tree as TypeTree}
 use Rattle.logos_type_params.specs.Substitution.{Params}
 use Rattle.logos_type_params.specs.WrittenTypes.{GetsType}
-use Rattle.logos_item.specs.AttributeValues.{AttributeValue, SplitAttribute, attribute_in}
-use Rattle.logos_item.specs.EnumValues.{FieldValue, FieldsValue, no_fields, in_parenthesis, in_braces, VariantValue}
-use Rattle.logos_item.specs.Values.{ident_slice}
+use Rattle.logos_enum.specs.AttributeValues.{AttributeValue, SplitAttribute, attribute_in}
+use Rattle.logos_enum.specs.EnumValues.{FieldValue, FieldsValue, no_fields, in_parenthesis, in_braces, VariantValue}
+use Rattle.logos_enum.specs.Values.{ident_slice}
 use Rattle.logos_pattern.specs.Leaf.{KindValue, plain, holding, skipped}
 use Rattle.logos_attribute.specs.Reports.{IsReport, AddsFault}
 use Rattle.logos_definition.specs.Definitions.{DefinitionView}
@@ -25,8 +25,9 @@ use Rattle.logos_leaf.specs.VariantFaults.{variant_fields, count_faults, named_f
 pub data HoldsType (params : Params) (name : Ident) (field : FieldValue) (old new : List Fault) : KindValue → Type 0 where
   holds : {type : TypeTree} → GetsType params field.type (run_span field.run) old new type → HoldsType params name field old new (holding name type)
 
--- The kind of a variant. One without a field in its parentheses, and one with named fields, is reported and then read as a skip. Of two or more fields, which are
--- reported, the first one's type is taken.
+-- The kind of a variant. One without a field in its parentheses, and one with named fields, is
+-- reported and then read as a skip. Of two or more fields, which are reported, the first one's type
+-- is taken.
 pub data KindIs (params : Params) (name : Ident) (old new : List Fault) : FieldsValue → KindValue → Type 0 where
   no_field : new ≡ old → KindIs params name old new no_fields (plain name)
   empty : {span : Span} → AddsFault (variant_fields 0 span) old new → KindIs params name old new (in_parenthesis span []) skipped
@@ -39,7 +40,8 @@ abbrev pub is_named : Option Meta → List ℕ → Bool
 is_named None text = false
 is_named (Some meta) text = bytes_eq meta.name.text text
 
--- The leaf of a `token` attribute, if it has one. One without a definition is reported at the attribute, after the faults of the definition.
+-- The leaf of a `token` attribute, if it has one. One without a definition is reported at the
+-- attribute, after the faults of the definition.
 pub data TokenGives (kind : KindValue) (attribute : AttributeValue) (old new : List Fault) : Option LeafView → Type 0 where
   no_token : {mid : List Fault} → IsReport (meta_report (meta_of attribute)) None old mid → AddsFault (token_form attribute.span) mid new → TokenGives kind attribute old new None
   a_token : {mid : List Fault} {definition : DefinitionView} {leaf : Option LeafView} → IsReport (meta_report (meta_of attribute)) (Some definition) old mid →

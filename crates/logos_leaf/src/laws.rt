@@ -1,26 +1,20 @@
-//! Laws of reading enums.
-ghost use Rattle.std.specs.Prelude.{◌≡◌, List, [], map, Option, Some, None};
-ghost use Rattle.logos_token.specs.Faults.{Fault};
-ghost use Rattle.logos_type.specs.Parts.{Tree};
-ghost use Rattle.logos_item.specs.EnumValues.{EnumValue};
-ghost use Rattle.logos_item.specs.Values.{Slice, ident_slice};
-ghost use Rattle.logos_pattern.specs.Leaf.{plain, holding, skipped};
-ghost use Rattle.logos_definition.specs.Options.{OptionsView};
-ghost use Rattle.logos_leaf.specs.Leaves.{LeafView};
-ghost use Rattle.logos_leaf.specs.Sources.{SourceSays};
+//! Laws of reading enums. No code calls these functions: the contract of each is a proved law.
 
-/// An enum without faults is read in one way. Whatever else it is read as has no fault, the same options, and the same leaves, where the name
-/// of a variant is known by its text and its span.
+ghost use Rattle.std.specs.Prelude.{◌≡◌, List, [], map, Option, Some, None};
+ghost use Rattle.logos_leaf.specs.Words.{Fault, Tree, EnumValue, Slice, ident_slice, plain, holding, skipped, OptionsView, LeafView, ReadsSource};
+
+/// An enum without faults is read in one way. Whatever else it is read as has no fault, the same
+/// options, and the same leaves, where the name of a variant is known by its text and its span.
 pub fn one_source()
     ensures no_fault { (item : EnumValue) (o p : OptionsView) (leaves others : List LeafView)
-        (faults : List Fault) → SourceSays item o leaves [] → SourceSays item p others faults →
+        (faults : List Fault) → ReadsSource item o leaves [] → ReadsSource item p others faults →
         faults ≡ [] }
     ensures one_set_of_options { (item : EnumValue) (o p : OptionsView) (leaves others : List LeafView)
-        (faults : List Fault) → SourceSays item o leaves [] → SourceSays item p others faults →
+        (faults : List Fault) → ReadsSource item o leaves [] → ReadsSource item p others faults →
         o ≡ p }
     // The leaves without their kinds, and with the names and types of these.
     ensures one_list { (item : EnumValue) (o p : OptionsView) (leaves others : List LeafView)
-        (faults : List Fault) → SourceSays item o leaves [] → SourceSays item p others faults →
+        (faults : List Fault) → ReadsSource item o leaves [] → ReadsSource item p others faults →
         let shown : LeafView → LeafView × Option (Slice × Option Tree)
         = λ l. (
           record l { kind = skipped },

@@ -1,23 +1,7 @@
-//! Leaves of definitions.
-ghost use Rattle.std.specs.Prelude.{◌≡◌, ◌++◌, IfOk, IfSome, OnOk, OnErr, true, false, option_map};
-ghost use Rattle.std.specs.Prelude.{chars, string_bytes};
-ghost use Rattle.logos_hir.specs.Hir.{literal_tree};
-ghost use Rattle.logos_pattern.specs.Leaf.{KindValue};
-ghost use Rattle.logos_pattern.specs.Leaf.{pattern_tree, source_of, is_token, kind_value};
-ghost use Rattle.logos_pattern.specs.Literals.{token_of};
-ghost use Rattle.logos_attribute.specs.LiteralViews.{literal_view};
-ghost use Rattle.logos_attribute.specs.Reports.{IsReport};
-ghost use Rattle.logos_definition.specs.DefinitionViews.{definition_view};
-ghost use Rattle.logos_subpattern.specs.PatternFaults.{IsRead};
-ghost use Rattle.logos_subpattern.specs.Subpatterns.{pattern_text};
-ghost use Rattle.logos_subpattern.specs.Substitution.{subst_report};
-ghost use Rattle.logos_subpattern.specs.SubpatternViews.{names_of};
-ghost use Rattle.logos_leaf.specs.Leaves.{bytes_of, is_string, escaped_of, leaf_with};
-ghost use Rattle.logos_leaf.specs.Leaves.{token_priority, token_leaf, regex_priority, given_or};
-ghost use Rattle.logos_leaf.specs.Leaves.{greedy_faults, tree_report};
-ghost use Rattle.logos_leaf.specs.Leaves.{IsTokenLeaf, IsRegexLeaf};
-ghost use Rattle.logos_leaf.specs.LeafViews.{leaf_view};
-ghost use Rattle.logos_leaf.specs.inside.Readings.{leaf_by, IsFoldedLeaf, IsWholeLeaf};
+//! Leaves of definitions. Skips and attributes of variants call it, once for each leaf.
+
+ghost use Rattle.std.specs.Prelude.{◌≡◌, ◌++◌, IfOk, IfSome, OnOk, OnErr, true, false, option_map, chars, string_bytes};
+ghost use Rattle.logos_leaf.specs.Words.{literal_tree, KindValue, pattern_tree, source_of, is_token, kind_value, token_of, literal_view, IsReport, definition_view, IsRead, pattern_text, subst_report, names_of, bytes_of, is_string, escaped_of, leaf_with, token_priority, token_leaf, regex_priority, given_or, greedy_faults, tree_report, IsTokenLeaf, IsRegexLeaf, leaf_view, leaf_by, IsFoldedLeaf, IsWholeLeaf};
 
 use crate::fault::{report_greedy_dot, report_overflow};
 use logos_definition::definition::Definition;
@@ -47,7 +31,8 @@ fn leaf_with<'s>(
         .callback(definition.callback)
 }
 
-/// Returns the priority of a `token`: the given one, or twice the number of bytes that its literal holds.
+/// Returns the priority of a `token`: the given one, or twice the number of bytes that its literal
+/// holds.
 fn priority_of(definition: &Definition<'_>) -> usize
     ensures { result ≡ token_priority (definition_view definition.now) }
 {
@@ -69,14 +54,15 @@ fn is_string(literal: &Literal<'_>) -> bool
 fn escaped_of(alloc: Global, literal: &Literal<'_>) -> Result<String, Memory>
     ensures { IfOk result (λ text. string_bytes text ≡ escaped_of (literal_view literal.now).held) }
 {
+    // Both arms are the same call: in each the prover knows the form of the literal.
     match literal {
         Literal::Utf8(_) => literal.escape(alloc, true),
         Literal::Bytes(_) => literal.escape(alloc, true),
     }
 }
 
-/// Returns the pattern of a `token` whose letters match in either case. Returns `None` when its text is
-/// not a pattern, which is reported.
+/// Returns the pattern of a `token` whose letters match in either case. Returns `None` when its
+/// text is not a pattern, which is reported.
 fn folded_pattern<'s>(
     literal: &Literal<'s>,
     errors: &mut Errors,
@@ -99,8 +85,8 @@ fn folded_pattern<'s>(
     read_pattern(text.as_str(), literal, mode, errors)
 }
 
-/// Returns the leaf of a `token` whose letters match in either case. Returns `None` when its text is not
-/// a pattern, which is reported.
+/// Returns the leaf of a `token` whose letters match in either case. Returns `None` when its text
+/// is not a pattern, which is reported.
 fn folded_leaf<'s>(
     definition: Definition<'s>,
     kind: VariantKind<'s>,
@@ -138,7 +124,7 @@ fn plain_leaf<'s>(
 ///
 /// # Errors
 ///
-/// Returns `Memory` when memory runs out. The faults are then as before.
+/// Returns `Memory` if memory runs out. The faults are then as before.
 pub fn token_leaf<'s>(
     definition: Definition<'s>,
     kind: VariantKind<'s>,
@@ -189,9 +175,9 @@ fn regex_priority(definition: &Definition<'_>, pattern: &Pattern<'_>) -> Option<
     given_or(definition.priority, pattern.priority())
 }
 
-/// Returns a pattern with its priority: the given one, or its default. Returns `None` when its default
-/// does not fit `usize`, which is reported. A greedy dot is reported before that, unless the definition
-/// allows it.
+/// Returns a pattern with its priority: the given one, or its default. Returns `None` when its
+/// default does not fit `usize`, which is reported. A greedy dot is reported before that, unless
+/// the definition allows it.
 fn fitted_pattern<'s>(
     definition: &Definition<'s>,
     pattern: Pattern<'s>,
@@ -215,8 +201,8 @@ fn fitted_pattern<'s>(
     Ok(Some((pattern, priority)))
 }
 
-/// Returns the pattern of a text with all subpatterns put in, and its priority. Returns `None` when the
-/// text is not a pattern or the priority does not fit `usize`, which is reported.
+/// Returns the pattern of a text with all subpatterns put in, and its priority. Returns `None` when
+/// the text is not a pattern or the priority does not fit `usize`, which is reported.
 fn whole_pattern<'s>(
     definition: &Definition<'s>,
     text: &str,
@@ -244,8 +230,8 @@ fn whole_pattern<'s>(
     }
 }
 
-/// Returns the pattern text that a literal's value spells, with all subpatterns put in. Returns `None`
-/// when one is missing, which is reported.
+/// Returns the pattern text that a literal's value spells, with all subpatterns put in. Returns
+/// `None` when one is missing, which is reported.
 fn whole_text(
     literal: &Literal<'_>,
     subpatterns: &Subpatterns<'_>,
@@ -261,8 +247,9 @@ fn whole_text(
     subpatterns.subst_subpatterns(alloc, text.as_str(), literal.span(), errors)
 }
 
-/// Returns the pattern of a `regex` or `skip`, and its priority. Returns `None` when a subpattern is
-/// missing, when its text is not a pattern, or when its priority does not fit `usize`, which is reported.
+/// Returns the pattern of a `regex` or `skip`, and its priority. Returns `None` when a subpattern
+/// is missing, when its text is not a pattern, or when its priority does not fit `usize`, which is
+/// reported.
 fn regex_pattern<'s>(
     definition: &Definition<'s>,
     subpatterns: &Subpatterns<'s>,
@@ -282,8 +269,8 @@ fn regex_pattern<'s>(
     }
 }
 
-/// Returns the leaf of a `regex` or `skip`, if it has one, and reports its faults. After an error some of
-/// these may be in the list.
+/// Returns the leaf of a `regex` or `skip`, if it has one, and reports its faults. After an error
+/// some of these may be in the list.
 fn read_leaf<'s>(
     definition: Definition<'s>,
     kind: VariantKind<'s>,
@@ -301,13 +288,13 @@ fn read_leaf<'s>(
     }
 }
 
-/// Returns the leaf of a `regex` or `skip`. Returns `None` when a subpattern is missing, when its text
-/// is not a pattern, or when its priority does not fit `usize`, which is reported. A greedy dot is
-/// reported too, but there is a leaf.
+/// Returns the leaf of a `regex` or `skip`. Returns `None` when a subpattern is missing, when its
+/// text is not a pattern, or when its priority does not fit `usize`, which is reported. A greedy
+/// dot is reported too, but there is a leaf.
 ///
 /// # Errors
 ///
-/// Returns `Memory` when memory runs out. The faults are then as before.
+/// Returns `Memory` if memory runs out. The faults are then as before.
 pub fn regex_leaf<'s>(
     definition: Definition<'s>,
     kind: VariantKind<'s>,

@@ -1,26 +1,14 @@
-//! The leaves of an enum.
+//! The leaves of an enum. `logos_parser` calls `read_leaves` once for each source.
+
 ghost use Rattle.std.specs.Prelude.{◌≡◌, IfOk, OnOk, map, []};
-ghost use Rattle.logos_token.specs.Views.{tokens_of};
-ghost use Rattle.logos_type_params.specs.SelfReference.{texts};
-ghost use Rattle.logos_type_params.specs.WrittenTypes.{params_with};
-ghost use Rattle.logos_item.specs.Values.{parameter_value};
-ghost use Rattle.logos_item.specs.EnumValues.{enum_value, variant_value};
-ghost use Rattle.logos_subpattern.specs.SubpatternViews.{names_of};
-ghost use Rattle.logos_definition.specs.DefinitionViews.{definition_view};
-ghost use Rattle.logos_definition.specs.Options.{no_options};
-ghost use Rattle.logos_definition.specs.ParserViews.{parser_view};
-ghost use Rattle.logos_leaf.specs.LeafViews.{leaf_view};
-ghost use Rattle.logos_leaf.specs.Variants.{SkipsAdd};
-ghost use Rattle.logos_leaf.specs.Sources.{ParametersSay, AttributesSay, LeavesSay};
-ghost use Rattle.logos_leaf.specs.Sources.{IsSourceRead, IsWithoutSkips, utf8_mode};
-ghost use Rattle.logos_leaf.specs.inside.Readings.{AreMadeWith};
+ghost use Rattle.logos_leaf.specs.Words.{tokens_of, texts, params_with, parameter_value, enum_value, variant_value, names_of, definition_view, no_options, parser_view, leaf_view, SkipsAdd, ReadsParameters, ReadsAttributes, GivesLeaves, IsSourceRead, IsWithoutSkips, AreMadeWith};
 
 use crate::leaf::regex_leaf;
 use crate::variant::{add_variants, push_leaf};
 use indexmap::IndexSet;
 use logos_definition::definition::Definition;
 use logos_definition::parser::Parser;
-use logos_item::{ItemEnum, Parameter, Variant, split_attribute};
+use logos_enum::{ItemEnum, Parameter, Variant, split_attribute};
 use logos_pattern::leaf::{Leaf, VariantKind};
 use logos_subpattern::subpattern::Subpatterns;
 use logos_token::error::{Errors, Memory};
@@ -32,7 +20,7 @@ fn read_parameters<'s>(
     parameters: &[Parameter<'_, 's>],
     parser: &mut Parser<'s>,
 ) -> Result<(), Memory>
-    ensures { OnOk result (ParametersSay (parser_view parser.old) (parser_view parser.new)
+    ensures { OnOk result (ReadsParameters (parser_view parser.old) (parser_view parser.new)
         parser.old.errors parser.new.errors (map parameter_value parameters.now)) }
 {
     for parameter in parameters {
@@ -43,7 +31,7 @@ fn read_parameters<'s>(
 
 /// Reads the attributes of an enum into a parser, in order.
 fn read_attributes<'s>(attributes: Tokens<'_, 's>, parser: &mut Parser<'s>) -> Result<(), Memory>
-    ensures { OnOk result (AttributesSay (parser_view parser.old) (parser_view parser.new)
+    ensures { OnOk result (ReadsAttributes (parser_view parser.old) (parser_view parser.new)
         parser.old.errors parser.new.errors (tokens_of attributes.entry)) }
 {
     let mut rest = attributes;
@@ -72,16 +60,6 @@ fn add_skips<'s>(
     Ok(())
 }
 
-/// Returns whether inputs are UTF-8, which they are unless the option `utf8` is `false`.
-pub fn utf8_mode(parser: &Parser<'_>) -> bool
-    ensures { result ≡ utf8_mode (parser_view parser.now) }
-{
-    match parser.utf8_mode {
-        Some(mode) => mode.value,
-        None => true,
-    }
-}
-
 /// Takes the skips out of a parser, and makes their leaves and those of these variants. `held` has
 /// the parameters that hold themselves.
 fn leaves_with<'s>(
@@ -105,13 +83,13 @@ fn leaves_with<'s>(
     Ok(leaves)
 }
 
-/// Reports each parameter that holds itself, reads the subpatterns, and makes the leaves of the skips
-/// and of these variants.
+/// Reports each parameter that holds itself, reads the subpatterns, and makes the leaves of the
+/// skips and of these variants.
 fn make_leaves<'s>(
     variants: &[Variant<'_, 's>],
     parser: &mut Parser<'s>,
 ) -> Result<Vec<Leaf<'s>>, Memory>
-    ensures leaves { IfOk result (λ leaves. LeavesSay (parser_view parser.old)
+    ensures leaves { IfOk result (λ leaves. GivesLeaves (parser_view parser.old)
         (map variant_value variants.now) (map leaf_view leaves.items)
         parser.old.errors parser.new.errors) }
     ensures options { OnOk result (IsWithoutSkips
@@ -119,7 +97,7 @@ fn make_leaves<'s>(
 {
     parser.types.check(&mut parser.errors)?;
     let held = parser.types.held_names()?;
-    let mode = utf8_mode(parser);
+    let mode = parser.is_utf8();
     let alloc = parser.errors.alloc();
     let list = parser.subpatterns.as_slice();
     match Subpatterns::new(alloc, list, mode, &mut parser.errors) {
@@ -135,7 +113,7 @@ fn make_leaves<'s>(
 ///
 /// # Errors
 ///
-/// Returns `Memory` when memory runs out. What is in the parser is then not to be used.
+/// Returns `Memory` if memory runs out. Do not use the parser after this error.
 pub fn read_leaves<'s>(
     item: &ItemEnum<'_, 's>,
     parser: &mut Parser<'s>,

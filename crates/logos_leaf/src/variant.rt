@@ -1,19 +1,7 @@
-//! Leaves of variants, which their attributes define.
+//! Leaves of variants, which their attributes define. `read_leaves` calls it for each variant.
+
 ghost use Rattle.std.specs.Prelude.{◌≡◌, ◌++◌, IfOk, OnOk, map, option_map};
-ghost use Rattle.std.specs.Option.{option_to_list};
-ghost use Rattle.logos_token.specs.Views.{tokens_of};
-ghost use Rattle.logos_type_params.specs.SelfReference.{texts};
-ghost use Rattle.logos_type_params.specs.WrittenTypes.{params_with};
-ghost use Rattle.logos_item.specs.AttributeValues.{attribute_value};
-ghost use Rattle.logos_item.specs.EnumValues.{field_value, fields_value, in_parenthesis};
-ghost use Rattle.logos_item.specs.EnumValues.{variant_value};
-ghost use Rattle.logos_pattern.specs.Leaf.{kind_value};
-ghost use Rattle.logos_subpattern.specs.SubpatternViews.{names_of};
-ghost use Rattle.logos_definition.specs.ParserViews.{parser_view};
-ghost use Rattle.logos_leaf.specs.LeafViews.{leaf_view};
-ghost use Rattle.logos_leaf.specs.Variants.{HoldsType, KindIs, TokenGives, RegexGives};
-ghost use Rattle.logos_leaf.specs.Variants.{AttributeGives, AttributesAdd};
-ghost use Rattle.logos_leaf.specs.Variants.{VariantAdds, VariantsAdd};
+ghost use Rattle.logos_leaf.specs.Words.{option_to_list, tokens_of, texts, params_with, attribute_value, field_value, fields_value, in_parenthesis, variant_value, kind_value, names_of, parser_view, leaf_view, HoldsType, KindIs, TokenGives, RegexGives, AttributeGives, AttributesAdd, VariantAdds, VariantsAdd};
 
 mod fault;
 
@@ -25,7 +13,7 @@ use crate::variant::fault::{
 use indexmap::IndexSet;
 use logos_definition::meta::meta_of;
 use logos_definition::parser::Parser;
-use logos_item::{Attribute, Field, Fields, Variant, split_attribute};
+use logos_enum::{Attribute, Field, Fields, Variant, split_attribute};
 use logos_pattern::leaf::{Leaf, VariantKind};
 use logos_subpattern::subpattern::Subpatterns;
 use logos_token::error::{Errors, Memory};
@@ -58,8 +46,8 @@ fn value_kind<'s>(
     Ok(VariantKind::Value(name, got))
 }
 
-/// Returns the kind of a variant with these fields in parentheses with this span, and reports any number
-/// of fields but one.
+/// Returns the kind of a variant with these fields in parentheses with this span, and reports any
+/// number of fields but one.
 fn tuple_kind<'s>(
     types: Types<'_, 's>,
     name: Ident<'s>,

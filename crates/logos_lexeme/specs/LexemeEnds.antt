@@ -7,83 +7,85 @@ use Rattle.logos_lexeme.specs.LexemeOpenings.{name_at, prefix_of}
 use Rattle.logos_lexeme.specs.declared.lexeme.openings.Opening.{Opening}
 use Rattle.logos_lexeme.specs.declared.lexeme.openings.Opening.TheVariants.{Space, Line, Block, Word, Number, Quotes, Raw, Apostrophes, Character, Single, Nothing}
 
--- A line comment ends at `at`: a line feed or the end of the source is there, or carriage returns come before it.
+-- A line comment ends at `at`: a line feed or the end of the source is there, or carriage returns
+-- come before it.
 pub record IsLineEnd (bytes : List ℕ) (at : ℕ) : Type 0 where
   pub feed : ℕ
   pub begun : at ≤ feed
   pub returns : (i : ℕ) → at ≤ i → i < feed → slice_index bytes i ≡ 13
   pub closes : (feed ≡ length bytes) ⊎ (slice_index bytes feed ≡ 10)
 
--- these two bytes stand next to each other
+-- These two bytes stand next to each other.
 abbrev pub IsPair : List ℕ → ℕ → ℕ → ℕ → Type 0
 IsPair bytes at first second = (slice_index bytes at ≡ first) × (slice_index bytes (at + 1) ≡ second)
 
--- `depth` block comments are open at `at`, and the outermost one ends at `to`
+-- `depth` block comments are open at `at`, and the outermost one ends at `to`.
 pub data Closes (bytes : List ℕ) : (depth at to : ℕ) → Type 0 where
   closed : {at : ℕ} → Closes bytes 0 at at
   opens : {depth at to : ℕ} → 0 < depth → IsPair bytes at 47 42 → Closes bytes (depth + 1) (at + 2) to → Closes bytes depth at to
   closes : {depth at to : ℕ} → 0 < depth → IsPair bytes at 42 47 → Closes bytes (depth - 1) (at + 2) to → Closes bytes depth at to
   inside : {depth at to : ℕ} → 0 < depth → at < length bytes → (IsPair bytes at 47 42 → ⊥) → (IsPair bytes at 42 47 → ⊥) → Closes bytes depth (at + 1) to → Closes bytes depth at to
 
--- the identifier at this byte offset ends at that one
+-- The identifier at this byte offset ends at that one.
 abbrev pub IsName : List ℕ → ℕ → ℕ → Type 0
 IsName bytes at to = MatchOption (name_at bytes at) ⊥ (λ name. Run (Passes is_continuing bytes) (past bytes name) to)
 
--- the suffix of a literal that ends at the first byte offset ends at the second; it can be empty
+-- The suffix of a literal that ends at the first byte offset ends at the second; it can be empty.
 abbrev pub IsSuffix : List ℕ → ℕ → ℕ → Type 0
 IsSuffix bytes at to = MatchOption (name_at bytes at) (to ≡ at) (λ name. Run (Passes is_continuing bytes) (past bytes name) to)
 
--- whether a number starts with `0x`, `0o` or `0b`
+-- Whether a number starts with `0x`, `0o` or `0b`.
 unfoldable pub has_base : List ℕ → ℕ → Bool
 has_base bytes at =
     let letter = slice_index bytes (at + 1) in
     (slice_index bytes at == 48) && ((letter == 120) || (letter == 111) || (letter == 98))
 
--- a number goes on from `at` to `next`; `based` says whether it starts with a base
+-- A number goes on from `at` to `next`; `based` says whether it starts with a base.
 pub data GoesOn (based : Bool) (bytes : List ℕ) (at next : ℕ) : Type 0 where
   letter : Passes is_continuing bytes at next → GoesOn based bytes at next
   point : based ≡ false → slice_index bytes at ≡ 46 → IsTrue (is_ascii_digit (slice_index bytes (at + 1))) → next ≡ at + 1 → GoesOn based bytes at next
   sign : based ≡ false → (slice_index bytes (at - 1) ≡ 101) ⊎ (slice_index bytes (at - 1) ≡ 69) → (slice_index bytes at ≡ 43) ⊎ (slice_index bytes at ≡ 45) → IsTrue (is_ascii_digit (slice_index bytes (at + 1))) → next ≡ at + 1 → GoesOn based bytes at next
 
--- one step inside quotes: over `\` and what it escapes, or over a byte that is neither `\` nor the quote
+-- One step inside quotes: over `\` and what it escapes, or over a byte that is neither `\` nor the
+-- quote.
 pub data InQuotes (quote : ℕ) (bytes : List ℕ) (at next : ℕ) : Type 0 where
   escaped : slice_index bytes at ≡ 92 → next ≡ at + 2 → InQuotes quote bytes at next
   plain : at < length bytes → slice_index bytes at ≢ 92 → slice_index bytes at ≢ quote → next ≡ at + 1 → InQuotes quote bytes at next
 
--- the next quote that is not escaped stands at the second byte offset
+-- The next quote that is not escaped stands at the second byte offset.
 abbrev pub ReachesQuote : ℕ → List ℕ → ℕ → ℕ → Type 0
 ReachesQuote quote bytes from at = Until (InQuotes quote bytes) (λ i. slice_index bytes i ≡ quote) from at
 
--- the contents from `body` reach to the next quote that is not escaped, and `to` comes after it
+-- The contents from `body` reach to the next quote that is not escaped, and `to` comes after it.
 pub record IsQuoted (quote : ℕ) (bytes : List ℕ) (body to : ℕ) : Type 0 where
   pub quote_at : ℕ
   pub until : ReachesQuote quote bytes body quote_at
   pub after : to ≡ quote_at + 1
 
--- a quote followed by `count` `#` stands at `at`
+-- A quote followed by `count` `#` stands at `at`.
 pub record IsRawEnd (count : ℕ) (bytes : List ℕ) (at : ℕ) : Type 0 where
   pub quote : slice_index bytes at ≡ 34
   pub hashes : (i : ℕ) → i < count → slice_index bytes (at + 1 + i) ≡ 35
 
--- the contents from `body` reach to the first such quote, and `to` comes after its `#`
+-- The contents from `body` reach to the first such quote, and `to` comes after its `#`.
 pub record IsRaw (count : ℕ) (bytes : List ℕ) (body to : ℕ) : Type 0 where
   pub quote_at : ℕ
   pub first : IsFirst (IsRawEnd count bytes) body quote_at
   pub after : to ≡ quote_at + 1 + count
 
--- `'`, a character, `'`
+-- `'`, a character, `'`.
 pub record IsCharacter (bytes : List ℕ) (from to : ℕ) : Type 0 where
   pub quote : slice_index bytes (past bytes (from + 1)) ≡ 39
   pub after : to ≡ past bytes (from + 1) + 1
 
--- the byte offset at which the contents of a literal begin
+-- The byte offset at which the contents of a literal begin.
 abbrev pub body_of : Opening → ℕ → ℕ
 body_of (Quotes content) from = from + prefix_of content + 1
 body_of (Raw content count) from = from + prefix_of content + 1 + count + 1
 body_of (Apostrophes content) from = from + prefix_of content + 1
 body_of _ from = from
 
--- what opens at `from` ends at `to`, without the suffix of a literal
+-- What opens at `from` ends at `to`, without the suffix of a literal.
 abbrev pub Ends : List ℕ → ℕ → Opening → ℕ → Type 0
 Ends bytes from Space to = Run (Passes is_space bytes) (past bytes from) to
 Ends bytes from (Line kind) to = IsFirst (IsLineEnd bytes) (from + 2) to

@@ -13,37 +13,37 @@ use Rattle.logos_lexeme.specs.declared.lexeme.openings.Content.TheVariants.{Text
 use Rattle.logos_lexeme.specs.declared.lexeme.openings.Opening.{Opening}
 use Rattle.logos_lexeme.specs.declared.lexeme.openings.Opening.TheVariants.{Space, Line, Block, Word, Number, Quotes, Raw, Apostrophes, Character, Single, Nothing}
 
--- how many `#` stand in a row
+-- How many `#` stand in a row.
 unfoldable pub hashes : List ℕ → ℕ → ℕ
 hashes bytes at = prefix_len (λ c. c == 35) (drop at bytes)
 
--- after `r`: up to 255 `#` and a quote
+-- After `r`: up to 255 `#` and a quote.
 unfoldable pub raw_opening : Content → List ℕ → ℕ → Option Opening
 raw_opening content bytes at =
     let count = hashes bytes at in
     if nat_le count 255 && (slice_index bytes (at + count) == 34) then Some (Raw content count) else None
 
--- a string, after its `b` or `c`
+-- A string, after its `b` or `c`.
 unfoldable pub string_opening : Content → List ℕ → ℕ → Option Opening
 string_opening content bytes at =
     if slice_index bytes at == 34 then Some (Quotes content)
     else (if slice_index bytes at == 114 then raw_opening content bytes (at + 1)
     else None)
 
--- after `'`: the next character is `\`, or the one after it is `'`
+-- After `'`: the next character is `\`, or the one after it is `'`.
 unfoldable pub character_opening : List ℕ → ℕ → Option Opening
 character_opening bytes at =
     if slice_index bytes at == 92 then Some (Apostrophes Text)
     else (if slice_index bytes (past bytes at) == 39 then Some Character
     else None)
 
--- after `b`
+-- After `b`.
 unfoldable pub bytes_opening : List ℕ → ℕ → Option Opening
 bytes_opening bytes at =
     if slice_index bytes at == 39 then Some (Apostrophes Bytes)
     else string_opening Bytes bytes at
 
--- a literal
+-- A literal.
 unfoldable pub literal_opening : List ℕ → ℕ → Option Opening
 literal_opening bytes at =
     if is_ascii_digit (slice_index bytes at) then Some Number
@@ -52,17 +52,18 @@ literal_opening bytes at =
     else (if slice_index bytes at == 99 then string_opening C bytes (at + 1)
     else string_opening Text bytes at)))
 
--- `///` that no `/` follows, and `//!`, are documentation; `at` is the place after `//`
+-- `///` that no `/` follows, and `//!`, are documentation; `at` is the offset after `//`.
 unfoldable pub line_kind : List ℕ → ℕ → Kind
 line_kind bytes at =
     if (slice_index bytes at == 33) || ((slice_index bytes at == 47) && not (slice_index bytes (at + 1) == 47)) then Doc else Gap
 
--- `/**` that neither `*` nor `/` follows, and `/*!`, are documentation; `at` is the place after `/*`
+-- `/**` that neither `*` nor `/` follows, and `/*!`, are documentation; `at` is the offset after
+-- `/*`.
 unfoldable pub block_kind : List ℕ → ℕ → Kind
 block_kind bytes at =
     if (slice_index bytes at == 33) || ((slice_index bytes at == 42) && not ((slice_index bytes (at + 1) == 42) || (slice_index bytes (at + 1) == 47))) then Doc else Gap
 
--- a comment
+-- A comment.
 unfoldable pub comment_opening : List ℕ → ℕ → Option Opening
 comment_opening bytes at =
     if not (slice_index bytes at == 47) then None
@@ -70,19 +71,19 @@ comment_opening bytes at =
     else (if slice_index bytes (at + 1) == 42 then Some (Block (block_kind bytes (at + 2)))
     else None))
 
--- where the name of an identifier begins, if one stands there: after `r#`, or at once
+-- Where the name of an identifier begins, if one stands there: after `r#`, or at once.
 unfoldable pub name_at : List ℕ → ℕ → Option ℕ
 name_at bytes at =
     if ((slice_index bytes at == 114) && (slice_index bytes (at + 1) == 35)) && is_start (character bytes (at + 2)) then Some (at + 2)
     else (if is_start (character bytes at) then Some at
     else None)
 
--- joint before punctuation or `'`, unless a comment begins there
+-- Joint before punctuation or `'`, unless a comment begins there.
 unfoldable pub spacing : List ℕ → ℕ → Spacing
 spacing bytes at =
     if (is_mark (slice_index bytes at) || (slice_index bytes at == 39)) && not (is_some (comment_opening bytes at)) then Joint else Alone
 
--- the delimiters
+-- The delimiters.
 unfoldable pub delimiter_kind : ℕ → Option Kind
 delimiter_kind c =
     if c == 40 then Some (OpeningKind Parenthesis)
@@ -93,7 +94,8 @@ delimiter_kind c =
     else (if c == 125 then Some (Closing Brace)
     else None)))))
 
--- a lexeme of one character: punctuation, the `'` of a lifetime, a delimiter, or the mark U+FEFF that a text may begin with
+-- A lexeme of one character: punctuation, the `'` of a lifetime, a delimiter, or the mark U+FEFF
+-- that a text may begin with.
 unfoldable pub single_kind : List ℕ → ℕ → Option Kind
 single_kind bytes at =
     let c = character bytes at in
@@ -102,38 +104,40 @@ single_kind bytes at =
     else (if (c == 0xFEFF) && (at == 0) then Some Gap
     else delimiter_kind c))
 
--- anything but a literal or a comment
+-- Anything but a literal or a comment.
 unfoldable pub other_opening : List ℕ → ℕ → Opening
 other_opening bytes at =
     if is_space (character bytes at) then Space
     else (if is_some (name_at bytes at) then Word
     else unwrap_or (option_map Single (single_kind bytes at)) Nothing)
 
--- whether a `'` stands directly before a place
+-- Whether a `'` stands directly before a byte offset.
 unfoldable pub follows_apostrophe : List ℕ → ℕ → Bool
 follows_apostrophe bytes at = nat_lt 0 at && (slice_index bytes (at - 1) == 39)
 
--- whether the name of a lifetime begins at a place: what can begin an identifier, directly after `'`.
--- Where a lexeme begins there, that `'` is a lexeme: the `'` that closes a literal takes an identifier after it
--- as its suffix, and a comment ends with `*/`, at a line's end or at the text's end.
+-- Whether the name of a lifetime begins at a byte offset: what can begin an identifier, directly
+-- after `'`. Where a lexeme begins there, that `'` is a lexeme: the `'` that closes a literal takes
+-- an identifier after it as its suffix, and a comment ends with `*/`, at a line's end or at the
+-- text's end.
 unfoldable pub is_lifetime_name : List ℕ → ℕ → Bool
 is_lifetime_name bytes at = follows_apostrophe bytes at && is_start (character bytes at)
 
--- the literal that opens at a place; none opens where the name of a lifetime begins
+-- The literal that opens at a byte offset; none opens where the name of a lifetime begins.
 unfoldable pub literal_at : List ℕ → ℕ → Option Opening
 literal_at bytes at = if is_lifetime_name bytes at then None else literal_opening bytes at
 
--- what opens at a place: a literal wherever one opens, else a comment, else what its character can begin
+-- What opens at a byte offset: a literal wherever one opens, else a comment, else what its
+-- character can begin.
 unfoldable pub opening_at : List ℕ → ℕ → Opening
 opening_at bytes at = unwrap_or (literal_at bytes at) (unwrap_or (comment_opening bytes at) (other_opening bytes at))
 
--- how many bytes stand before a literal's `r`, `'` or quote
+-- How many bytes stand before a literal's `r`, `'` or quote.
 abbrev pub prefix_of : Content → ℕ
 prefix_of Text = 0
 prefix_of Bytes = 1
 prefix_of C = 1
 
--- the kind of a lexeme that opens so
+-- The kind of a lexeme that opens so.
 abbrev pub kind_of : Opening → Kind
 kind_of Space = Gap
 kind_of (Line kind) = kind

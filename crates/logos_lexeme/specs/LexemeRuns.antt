@@ -2,31 +2,31 @@
 use Rattle.std.specs.Prelude.{◌≡◌, ℕ, ◌<◌, ◌≤◌, List, length, IsTrue, Bool}
 use Rattle.logos_lexeme.specs.LexemeCharacters.{character, past}
 
--- steps lead from one byte offset to another
+-- Steps lead from one byte offset to another.
 pub data Steps (Step : ℕ → ℕ → Type 0) : ℕ → ℕ → Type 0 where
   here : {at : ℕ} → Steps Step at at
   step : {at mid to : ℕ} → Step at mid → Steps Step mid to → Steps Step at to
 
--- steps lead to a byte offset where they stop
+-- Steps lead to a byte offset where they stop.
 pub record Until (Step : ℕ → ℕ → Type 0) (Stop : ℕ → Type 0) (from to : ℕ) : Type 0 where
   pub steps : Steps Step from to
   pub stop : Stop to
 
--- no step leads on from a byte offset
+-- No step leads on from a byte offset.
 abbrev pub IsLast : (ℕ → ℕ → Type 0) → ℕ → Type 0
 IsLast Step at = (next : ℕ) → Step at next → ⊥
 
--- steps lead as far as they can
+-- Steps lead as far as they can.
 abbrev pub Run : (ℕ → ℕ → Type 0) → ℕ → ℕ → Type 0
 Run Step from to = Until Step (IsLast Step) from to
 
--- `to` is the first byte offset from `from` on of which this holds
+-- `to` is the first byte offset from `from` on of which this holds.
 pub record IsFirst (P : ℕ → Type 0) (from to : ℕ) : Type 0 where
   pub begun : from ≤ to
   pub holds : P to
   pub first : (at : ℕ) → from ≤ at → at < to → P at → ⊥
 
--- one step over a character that passes a test
+-- One step over a character that passes a test.
 pub record Passes (test : ℕ → Bool) (bytes : List ℕ) (at next : ℕ) : Type 0 where
   pub inside : at < length bytes
   pub passes : IsTrue (test (character bytes at))

@@ -11,7 +11,7 @@ use Rattle.logos_lexeme.specs.declared.lexeme.LexicalKind.{LexicalKind}
 use Rattle.logos_lexeme.specs.declared.lexeme.LexicalKind.TheVariants.{BadCharacter, BadLiteral, Unterminated, Unbalanced}
 use Rattle.logos_lexeme.specs.declared.lexeme.openings.Opening.TheVariants.{Nothing}
 
--- a literal reaches to the end of its suffix; anything else has no suffix
+-- A literal reaches to the end of its suffix; anything else has no suffix.
 abbrev pub IsSuffixed : List ℕ → Kind → ℕ → ℕ → Type 0
 IsSuffixed bytes Literal end to = IsSuffix bytes end to
 IsSuffixed bytes _ end to = to ≡ end
@@ -25,15 +25,15 @@ pub record IsNext (bytes : List ℕ) (from : ℕ) (kind : Kind) (to : ℕ) : Typ
   pub suffixed : IsSuffixed bytes kind end to
   pub within : to ≤ length bytes
 
--- The fault at a byte offset, and the end of its span: a character that opens nothing; a literal that ends but breaks its rules; or a literal or
--- comment without an end.
+-- The fault at a byte offset, and the end of its span: a character that opens nothing; a literal
+-- that ends but breaks its rules; or a literal or comment without an end.
 abbrev pub IsFaulty : List ℕ → ℕ → LexicalKind → ℕ → Type 0
 IsFaulty bytes from BadCharacter to = (opening_at bytes from ≡ Nothing) × (to ≡ past bytes from)
 IsFaulty bytes from BadLiteral to = Ends bytes from (opening_at bytes from) to × (IsSound bytes from (opening_at bytes from) to → ⊥)
 IsFaulty bytes from Unterminated to = (opening_at bytes from ≢ Nothing) × ((end : ℕ) → Ends bytes from (opening_at bytes from) end → ⊥) × (to ≡ length bytes)
 IsFaulty bytes from Unbalanced to = ⊥
 
--- the reason why there is no next lexeme, with its span; that delimiters match is no concern here
+-- The reason why there is no next lexeme, with its span; that delimiters match is no concern here.
 pub record IsStuck (bytes : List ℕ) (from : ℕ) (kind : LexicalKind) (span : Span) : Type 0 where
   pub begins : span.from ≡ from
   pub fault : IsFaulty bytes from kind span.to

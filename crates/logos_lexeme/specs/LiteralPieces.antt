@@ -1,4 +1,5 @@
--- The pieces of strings as functions of a byte offset: the bytes that a piece stands for, and where it ends.
+-- The pieces of strings as functions of a byte offset: the bytes that a piece stands for, and where
+-- it ends.
 use Rattle.std.specs.Prelude.{ℕ, ◌+◌, ◌==◌, ◌&&◌, ◌||◌, not, nat_lt, nat_le, Bool, true, false, if◌then◌else◌, List, [], ◌∷◌, length, drop, slice_index, slice_range, encode_utf8, Option, Some, None}
 use Rattle.std.specs.List.{prefix_len}
 use lib.Utf8.{scalar}
@@ -6,11 +7,11 @@ use Rattle.logos_lexeme.specs.LiteralBodies.{is_simple, simple_value, is_hex, he
 use Rattle.logos_lexeme.specs.declared.lexeme.openings.Content.{Content}
 use Rattle.logos_lexeme.specs.declared.lexeme.openings.Content.TheVariants.{Text, Bytes, C}
 
--- how many bytes in a row pass a test, from a byte offset on
+-- How many bytes in a row pass a test, from a byte offset on.
 abbrev pub run_length : (ℕ → Bool) → List ℕ → ℕ → ℕ
 run_length test bytes at = prefix_len test (drop at bytes)
 
--- whether a byte is a digit of `\u{N}`, or `_`
+-- Whether a byte is a digit of `\u{N}`, or `_`.
 abbrev pub is_hex_or_line : ℕ → Bool
 is_hex_or_line c = is_hex c || (c == 95)
 
@@ -21,13 +22,13 @@ hex_escape content bytes at =
     if is_hex (slice_index bytes (at + 2)) && (is_hex (slice_index bytes (at + 3)) && nat_le value (greatest_of content)) then Some (value ∷ [], at + 4)
     else None
 
--- whether a literal can hold `\u{N}`
+-- Whether a literal can hold `\u{N}`.
 abbrev pub has_unicode : Content → Bool
 has_unicode Text = true
 has_unicode Bytes = false
 has_unicode C = true
 
--- `\u{N}`, whose brace closes after the digits
+-- `\u{N}`, whose brace closes after the digits.
 unfoldable pub unicode_escape : Content → List ℕ → ℕ → Option (List ℕ × ℕ)
 unicode_escape content bytes at =
     let brace = at + 3 + run_length is_hex_or_line bytes (at + 3) in
@@ -36,7 +37,7 @@ unicode_escape content bytes at =
     then Some (encode_utf8 (hex_value digits), brace + 1)
     else None
 
--- the escape that begins with a backslash
+-- The escape that begins with a backslash.
 unfoldable pub escape_at : Content → List ℕ → ℕ → Option (List ℕ × ℕ)
 escape_at content bytes at =
     let letter = slice_index bytes (at + 1) in
@@ -45,28 +46,29 @@ escape_at content bytes at =
     else (if letter == 117 then unicode_escape content bytes at
     else None))
 
--- whether a byte can stand for itself
+-- Whether a byte can stand for itself.
 abbrev pub is_allowed : Content → ℕ → Bool
 is_allowed Text byte = not (byte == 13)
 is_allowed Bytes byte = not (byte == 13) && nat_lt byte 128
 is_allowed C byte = not (byte == 13)
 
--- whether CR LF stands here
+-- Whether CR LF stands here.
 abbrev pub is_return : List ℕ → ℕ → Bool
 is_return bytes at = (slice_index bytes at == 13) && (slice_index bytes (at + 1) == 10)
 
--- a piece that is not an escape: a byte that stands for itself, or CR LF, which stands for LF
+-- A piece that is not an escape: a byte that stands for itself, or CR LF, which stands for LF.
 unfoldable pub plain_at : Content → List ℕ → ℕ → Option (List ℕ × ℕ)
 plain_at content bytes at =
     if is_allowed content (slice_index bytes at) then Some (slice_index bytes at ∷ [], at + 1)
     else (if is_return bytes at then Some (10 ∷ [], at + 2)
     else None)
 
--- whether a line break begins here: LF, or CR LF
+-- Whether a line break begins here: LF, or CR LF.
 abbrev pub breaks_line : List ℕ → ℕ → Bool
 breaks_line bytes at = (slice_index bytes at == 10) || is_return bytes at
 
--- The piece at a byte offset. A backslash before a line break stands for no bytes, and takes all blank bytes that follow.
+-- The piece at a byte offset. A backslash before a line break stands for no bytes, and takes all
+-- blank bytes that follow.
 unfoldable pub piece_at : Bool → Content → List ℕ → ℕ → Option (List ℕ × ℕ)
 piece_at escapes content bytes at =
     if not (escapes && (slice_index bytes at == 92)) then plain_at content bytes at

@@ -3,10 +3,11 @@
 //!
 //! A literal is read wherever one opens, else a comment, else whatever the character there can
 //! begin. Each reader walks forward over what it reads and looks at each byte at most a few times.
+//! `logos_token` asks `lexeme_at` at each offset at which a lexeme or a gap begins.
 
 ghost use Rattle.std.specs.Prelude.{◌<◌, length, IfOk, IfErr};
-ghost use Rattle.std.specs.Str.{IsCharBoundary};
-ghost use Rattle.logos_lexeme.specs.Lexemes.{IsNext, IsStuck};
+ghost use Rattle.logos_lexeme.specs.Words.{IsCharBoundary};
+ghost use Rattle.logos_lexeme.specs.Views.{IsNext, IsStuck};
 
 pub mod bodies;
 pub mod characters;
@@ -86,10 +87,10 @@ pub enum LexicalKind {
 ///
 /// # Errors
 ///
-/// `BadCharacter` with the span of the character if no lexeme begins with it, `Unterminated` with
-/// the span up to the end of the source if a literal or a comment does not end, and `BadLiteral`
-/// with the span of the literal without its suffix if it breaks its rules. Delimiters are not
-/// matched here, so `Unbalanced` is never returned.
+/// Returns `BadCharacter` with the span of the character if no lexeme begins with it,
+/// `Unterminated` with the span up to the end of the source if a literal or a comment does not end,
+/// and `BadLiteral` with the span of the literal without its suffix if it breaks its rules.
+/// Delimiters are not matched here, so `Unbalanced` is never returned.
 pub fn lexeme_at(source: &str, from: usize) -> Result<(Kind, usize), (LexicalKind, Span)>
     requires inside { from < length source.now }
     requires boundary { IsCharBoundary source.now from }

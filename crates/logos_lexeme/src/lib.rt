@@ -1,4 +1,4 @@
-//! Lexemes: what stands at a place of a source text, and how far it reaches.
+//! Lexemes: what stands at a byte offset of a source text, and how far it reaches.
 
 #![tactic(auto)]
 

@@ -2,3 +2,5 @@ pub mod Places
 pub mod Cursors
 pub mod Starts
 pub mod inside
+pub mod Words
+pub mod Views

@@ -2,32 +2,33 @@
 use Rattle.std.specs.Prelude.{ℕ, ◌+◌, ◌==◌, ◌&&◌, ◌||◌, false, nat_le, nat_lt, if◌then◌else◌, Bool, List, [], ◌∷◌, take}
 use Rattle.logos_lines.specs.declared.place.Position.{Position}
 
--- whether a byte continues a character that an earlier byte began
+-- Whether a byte continues a character that an earlier byte began.
 abbrev pub continues : ℕ → Bool
 continues byte = nat_le 128 byte && nat_lt byte 192
 
--- the position after one more byte: LF begins a line, and the first byte of any other character a column
+-- The position after one more byte: LF begins a line, and the first byte of any other character a
+-- column.
 abbrev pub after_byte : Position → ℕ → Position
 after_byte place byte =
     if byte == 10 then record { line = place.line + 1; column = 1 }
     else (if continues byte then place else record { line = place.line; column = place.column + 1 })
 
--- the position after these bytes
+-- The position after these bytes.
 abbrev pub after_bytes : Position → List ℕ → Position
 after_bytes place [] = place
 after_bytes place (byte ∷ rest) = after_bytes (after_byte place byte) rest
 
--- the position of an offset of a text
+-- The position of an offset of a text.
 abbrev pub place_at : List ℕ → ℕ → Position
 place_at text offset = after_bytes (record { line = 1; column = 1 }) (take offset text)
 
--- whether these bytes begin with LF or CR LF
+-- Whether these bytes begin with LF or CR LF.
 abbrev pub ends_line : List ℕ → Bool
 ends_line [] = false
 ends_line (byte ∷ []) = byte == 10
 ends_line (byte ∷ next ∷ rest) = (byte == 10) || ((byte == 13) && (next == 10))
 
--- how many bytes come before the first LF or CR LF, or before the end of the text
+-- How many bytes come before the first LF or CR LF, or before the end of the text.
 abbrev pub line_length : List ℕ → ℕ
 line_length [] = 0
 line_length (byte ∷ rest) = if ends_line (byte ∷ rest) then 0 else 1 + line_length rest

@@ -2,27 +2,27 @@
 use Rattle.std.specs.Prelude.{◌≡◌, ℕ, ◌+◌, ◌<◌, ◌⊎◌, List, length, get_or, take, drop, IsCharBoundary}
 use Rattle.logos_lines.specs.Places.{place_at, line_length}
 
--- a line with this number begins here
+-- A line with this number begins here.
 pub record IsStart (text : List ℕ) (line offset : ℕ) : Type 0 where
   pub boundary : IsCharBoundary text offset
   pub place : place_at text offset ≡ record { line = line; column = 1 }
 
--- these are the offsets up to one at which the lines of a text begin, one for each line, in order
+-- These are the offsets up to one at which the lines of a text begin, one for each line, in order.
 pub record AreStartsTo (text : List ℕ) (starts : List ℕ) (to : ℕ) : Type 0 where
   pub some : 0 < length starts
   pub first : get_or starts 0 0 ≡ 0
   pub every : length starts ≡ (place_at text to).line
   pub each : (k : ℕ) → k < length starts → IsStart text (k + 1) (get_or starts k 0)
 
--- these are the offsets at which the lines of a text begin
+-- These are the offsets at which the lines of a text begin.
 abbrev pub AreStarts : List ℕ → List ℕ → Type 0
 AreStarts text starts = AreStartsTo text starts (length text)
 
--- the text has no line with this number
+-- The text has no line with this number.
 abbrev pub IsNoLine : List ℕ → ℕ → Type 0
 IsNoLine text line = (line ≡ 0) ⊎ ((place_at text (length text)).line < line)
 
--- this is the text of a line, without its end
+-- This is the text of a line, without its end.
 pub record IsLineOf (text : List ℕ) (line : ℕ) (shown : List ℕ) : Type 0 where
   pub from : ℕ
   pub start : IsStart text line from

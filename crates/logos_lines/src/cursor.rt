@@ -1,7 +1,8 @@
-//! A place in a text that moves forward.
+//! A position in a text that moves forward. A table whose rows ascend moves one cursor in place of
+//! a search for each row.
+
 ghost use Rattle.std.specs.Prelude.{◌≡◌, max, min, length};
-ghost use Rattle.logos_lines.specs.Places.{place_at};
-ghost use Rattle.logos_lines.specs.Starts.{IsStart};
+ghost use Rattle.logos_lines.specs.Views.{place_at, IsStart};
 
 use crate::place::Position;
 use std::marker::Model;
@@ -18,8 +19,8 @@ pub struct Cursor<'t> {
 
 impl<'t> Model for Cursor<'t> {
     ghost use Rattle.std.specs.Prelude.{◌≡◌, ◌≤◌, length};
-    ghost use Rattle.logos_lines.specs.Places.{place_at};
-    ghost use Rattle.logos_lines.specs.Cursors.{CursorValue};
+    ghost use Rattle.logos_lines.specs.Words.{CursorValue};
+    ghost use Rattle.logos_lines.specs.Views.{place_at};
 
     ghost Value = { CursorValue };
 

@@ -1,10 +1,7 @@
-//! The lines of a text.
-ghost use Rattle.std.specs.Prelude.{◌≡◌, ◌<◌, ◌≤◌, ◌+◌, ◌^◌, ◌∷◌, [], ℕ, List, Some, None};
-ghost use Rattle.std.specs.Prelude.{IfOk, IfSome, MatchOption, OnOk, IsCharBoundary};
-ghost use Rattle.std.specs.Prelude.{◌++◌, ◌==◌, if◌then◌else◌, length, drop, slice_index};
-ghost use Rattle.logos_lines.specs.Places.{place_at, ends_line, line_length};
-ghost use Rattle.logos_lines.specs.inside.Search.{ends_search, next_column};
-ghost use Rattle.logos_lines.specs.Starts.{AreStarts, IsLineOf, IsNoLine, IsStart};
+//! The lines of a text. Reports and tables make one for each file that they show.
+
+ghost use Rattle.std.specs.Prelude.{◌≡◌, ◌<◌, ◌≤◌, ◌+◌, ◌^◌, ◌∷◌, [], ℕ, List, Some, None, IfOk, IfSome, MatchOption, OnOk, IsCharBoundary, ◌++◌, ◌==◌, if◌then◌else◌, length, drop, slice_index};
+ghost use Rattle.logos_lines.specs.Views.{place_at, ends_line, line_length, ends_search, next_column, AreStarts, IsLineOf, IsNoLine, IsStart};
 
 use crate::cursor::Cursor;
 use crate::place::{Position, continues};
@@ -22,7 +19,7 @@ pub struct LineIndex<'t> {
 
 impl<'t> Model for LineIndex<'t> {
     ghost use Rattle.std.specs.Prelude.{ℕ, List, IsUtf8};
-    ghost use Rattle.logos_lines.specs.Starts.{AreStarts};
+    ghost use Rattle.logos_lines.specs.Views.{AreStarts};
 
     ghost Value = { List ℕ };
 
@@ -112,8 +109,8 @@ fn push_start(starts: &mut Vec<usize>, at: usize, byte: u8) -> Result<(), AllocE
     Ok(())
 }
 
-/// Returns the index of an offset in `starts` that is at most `offset`: of the last one, if they are
-/// in order.
+/// Returns the index of an offset in `starts` that is at most `offset`: of the last one, if they
+/// are in order.
 fn last_start(starts: &[usize], offset: usize) -> usize
     requires some { 0 < length starts.now }
     requires first { slice_index starts.now 0 ≡ 0 }

@@ -1,6 +1,7 @@
 //! Lines and columns.
+
 ghost use Rattle.std.specs.Prelude.{◌≡◌, ◌<◌, ◌+◌, ◌^◌, ℕ, List, IsCharBoundary};
-ghost use Rattle.logos_lines.specs.Places.{after_byte, continues, place_at};
+ghost use Rattle.logos_lines.specs.Views.{after_byte, continues, place_at};
 
 /// A line and a column of a text. Both count from 1, and a column counts characters.
 #[derive(Clone, Copy, Debug, PartialEq, Eq)]

@@ -6,7 +6,11 @@ use Rattle.logos_code.specs.Items.{Callback, Search, Item, asks, MayAnswer, Lexe
 use Rattle.logos_code.specs.Runs.{CodeFinds, Runs}
 use Rattle.logos_code.specs.declared.action.Action.{Action}
 use Rattle.logos_code.specs.declared.action.Action.TheVariants.{Emit, Skip, Error}
-use Rattle.logos_machine.specs.LexerValue.{LexerValue, Gives, Ends}
+use denote.Param.Members.{Shared}
+use denote.Ref.{Bor}
+use Rattle.logos_hir.specs.declared.leaf.LeafId.{LeafId}
+use Rattle.logos_machine.specs.LexerValue.{LexerValue, Gives, Ends, answers_of}
+use Rattle.logos_machine.specs.Loops.{EndIsRun, NextAddsItem}
 
 -- the same items by a callback that answers no less
 pub may_by : (uses : List Use) (bytes : List ℕ) (callback other : Callback) → ((leaf : ℕ) (slice : List ℕ) (answer : Action) → callback leaf slice answer → other leaf slice answer) →
@@ -43,3 +47,15 @@ pub no_items : {C : Type 0} (callback other : Callback) (code : CodeValue) (inpu
 no_items callback other code input old new from items g c i back h =
     let here : Runs code callback input old.to [] = rw (c, i) at g.over in
     rw append-nil at (h [] (lexes_by code.leaves input (CodeFinds code input) callback other back here))
+
+-- ---- what a loop knows
+
+module _ {C : Type 0} (calls : Shared C (LeafId × (Bor (List ℕ) × Unit {0})) Action) where
+  pub next_added : NextAddsItem calls
+  next_added old new items item k g h rest r =
+      let before : Runs old.code (answers_of calls old.callback) old.input old.to (item ∷ rest) = g.next rest (rw k.callback at r) in
+      let whole = h (item ∷ rest) before in
+      rw (k.code, k.input, k.callback, append_assoc) whole
+
+  pub run_given : EndIsRun calls
+  run_given old new items g h = rw append-nil at (h [] g.over)

@@ -1,3 +1,4 @@
+pub mod BlockLemmas
 pub mod StandLemmas
 pub mod StopLemmas
 pub mod LookLemmas

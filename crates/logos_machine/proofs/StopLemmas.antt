@@ -1,5 +1,5 @@
 -- Where a fast loop stops, by blocks of bytes.
-use Rattle.std.proofs.Common.{◌≡◌, ℕ, ◌+◌, ◌-◌, ◌*◌, ◌^◌, ◌<◌, ◌≤◌, Bool, true, false, not, ◌==◌, cond, List, [], ◌∷◌, length, map, take, drop, get_or, Some, refl, sym, ap, ◌∙◌, arith, length-drop, length-take, drop-drop}
+use Rattle.std.proofs.Common.{◌≡◌, ℕ, ◌+◌, ◌-◌, ◌*◌, ◌<◌, ◌≤◌, Bool, true, false, not, ◌==◌, cond, List, [], ◌∷◌, length, map, take, drop, Some, refl, sym, ap, ◌∙◌, arith, length-drop, length-take, drop-drop}
 use Rattle.std.proofs.lemmas.Bool.{ne_eqb, eq-eqb}
 use Rattle.std.proofs.lemmas.List.{take-append-drop, take_all}
 use Rattle.std.proofs.lemmas.List.Folds.{prefix_len-append}
@@ -11,7 +11,6 @@ use Rattle.std.specs.List.{prefix_len}
 use lib.Lanes.{mask_l}
 use Rattle.logos_code.specs.Bytes.{passes_test}
 use Rattle.logos_code.specs.Code.{CodeValue}
-use Rattle.logos_code.specs.Masks.{mask_bit}
 use Rattle.logos_code.specs.Runs.{looped}
 use Rattle.logos_machine.specs.inside.Looks.{StopsAt}
 
@@ -19,33 +18,7 @@ not_not : (b : Bool) → not (not b) ≡ b
 not_not true = refl
 not_not false = refl
 
--- the bit of a byte as a digit
-digit : (passes : Bool) (k : ℕ) → mask_bit passes k ≡ 2 ^ k * cond (not passes) 1 0
-digit true k = omega arith
-digit false k = omega arith
-
-digits : (a b c d e f g h : Bool) →
-    mask_bit a 0 + mask_bit b 1 + mask_bit c 2 + mask_bit d 3 + mask_bit e 4 + mask_bit f 5 + mask_bit g 6 + mask_bit h 7
-    ≡ mask_l (not a ∷ not b ∷ not c ∷ not d ∷ not e ∷ not f ∷ not g ∷ not h ∷ [])
-digits a b c d e f g h = omega (arith, digit a 0, digit b 1, digit c 2, digit d 3, digit e 4, digit f 5, digit g 6, digit h 7)
-
 module _ (p : ℕ → Bool) where
-  -- the bits of eight bytes
-  pub bits_of_block : (block : List ℕ) → length block ≡ 8 →
-      mask_bit (p (get_or block 0 0)) 0 + mask_bit (p (get_or block 1 0)) 1 + mask_bit (p (get_or block 2 0)) 2 + mask_bit (p (get_or block 3 0)) 3
-      + mask_bit (p (get_or block 4 0)) 4 + mask_bit (p (get_or block 5 0)) 5 + mask_bit (p (get_or block 6 0)) 6 + mask_bit (p (get_or block 7 0)) 7
-      ≡ mask_l (map (λ b. not (p b)) block)
-  bits_of_block [] long = absurd (omega (arith, long))
-  bits_of_block (a ∷ []) long = absurd (omega (arith, long))
-  bits_of_block (a ∷ b ∷ []) long = absurd (omega (arith, long))
-  bits_of_block (a ∷ b ∷ c ∷ []) long = absurd (omega (arith, long))
-  bits_of_block (a ∷ b ∷ c ∷ d ∷ []) long = absurd (omega (arith, long))
-  bits_of_block (a ∷ b ∷ c ∷ d ∷ e ∷ []) long = absurd (omega (arith, long))
-  bits_of_block (a ∷ b ∷ c ∷ d ∷ e ∷ f ∷ []) long = absurd (omega (arith, long))
-  bits_of_block (a ∷ b ∷ c ∷ d ∷ e ∷ f ∷ g ∷ []) long = absurd (omega (arith, long))
-  bits_of_block (a ∷ b ∷ c ∷ d ∷ e ∷ f ∷ g ∷ h ∷ []) long = digits (p a) (p b) (p c) (p d) (p e) (p f) (p g) (p h)
-  bits_of_block (a ∷ b ∷ c ∷ d ∷ e ∷ f ∷ g ∷ h ∷ i ∷ rest) long = absurd (omega (arith, long))
-
   stops_before : (ys : List ℕ) → 0 < mask_l (map (λ b. not (p b)) ys) → prefix_len p ys < length ys
   stops_before [] h = absurd (omega (arith, h))
   stops_before (y ∷ ys) h = by (p y) (prefix_len p ys) (mask_l (map (λ b. not (p b)) ys)) (stops_before ys) h
@@ -69,44 +42,44 @@ module _ (p : ℕ → Bool) where
         omega (arith, f, l, fits)
 
     -- one of them does not
-    pub block_stops : n ≤ length xs → n ≤ 8 → 0 < mask_l (map (λ b. not (p b)) (take n xs)) →
-        (prefix_len p xs ≡ count_trailing_zeros 8 (mask_l (map (λ b. not (p b)) (take n xs)))) × (prefix_len p xs < n)
+    pub block_stops : n ≤ length xs → n ≤ 64 → 0 < mask_l (map (λ b. not (p b)) (take n xs)) →
+        (prefix_len p xs ≡ count_trailing_zeros 64 (mask_l (map (λ b. not (p b)) (take n xs)))) × (prefix_len p xs < n)
     block_stops fits small some =
         let l = length-take n xs in
-        let first : count_trailing_zeros 8 (mask_l (map (λ b. not (p b)) (take n xs))) ≡ prefix_len (λ b. not (not (p b))) (take n xs) =
-        trailing_mask_l (λ b. not (p b)) 8 (take n xs) (omega (arith, l, fits, small)) some in
+        let first : count_trailing_zeros 64 (mask_l (map (λ b. not (p b)) (take n xs))) ≡ prefix_len (λ b. not (not (p b))) (take n xs) =
+        trailing_mask_l (λ b. not (p b)) 64 (take n xs) (omega (arith, l, fits, small)) some in
         let same : prefix_len (λ b. not (not (p b))) (take n xs) ≡ prefix_len p (take n xs) = λ i. prefix_len (λ b. not_not (p b) i) (take n xs) in
         let before : prefix_len p (take n xs) < length (take n xs) = stops_before (take n xs) some in
         let s = split in
         let f = rw (ne_eqb (prefix_len p (take n xs)) (length (take n xs)) (λ e. omega (arith, e, before))) at s in
         (f ∙ sym same ∙ sym first, omega (arith, f, before, l, fits))
 
--- a block of eight bytes, and its bits
+-- a block of sixteen bytes, and its bits
 module _ (code : CodeValue) (test : ℕ) (bytes : List ℕ) (at : ℕ) (block : List ℕ) (bits : ℕ) (within : at ≤ length bytes)
-    (long : 8 ≤ length (take (length bytes - at) (drop at bytes))) (same : block ≡ take 8 (take (length bytes - at) (drop at bytes))) (sum : bits ≡ mask_l (map (λ b. not (passes_test code.bit_tables test b)) block)) where
+    (long : 16 ≤ length (take (length bytes - at) (drop at bytes))) (same : block ≡ take 16 (take (length bytes - at) (drop at bytes))) (sum : bits ≡ mask_l (map (λ b. not (passes_test code.bit_tables test b)) block)) where
   abbrev p : ℕ → Bool
   p = passes_test code.bit_tables test
 
   rest : take (length bytes - at) (drop at bytes) ≡ drop at bytes
   rest = take_all (length bytes - at) (drop at bytes) (omega (arith, length-drop at bytes))
 
-  here : bits ≡ mask_l (map (λ b. not (p b)) (take 8 (drop at bytes)))
-  here = sum ∙ ap (λ l. mask_l (map (λ b. not (p b)) l)) (same ∙ ap (take 8) rest)
+  here : bits ≡ mask_l (map (λ b. not (p b)) (take 16 (drop at bytes)))
+  here = sum ∙ ap (λ l. mask_l (map (λ b. not (p b)) l)) (same ∙ ap (take 16) rest)
 
-  enough : 8 ≤ length (drop at bytes)
+  enough : 16 ≤ length (drop at bytes)
   enough = rw rest at long
 
   -- the first bit is that of the first byte that does not pass
-  pub stop_found : 0 < bits → at + count_trailing_zeros 8 bits ≡ at + prefix_len p (drop at bytes)
+  pub stop_found : 0 < bits → at + count_trailing_zeros 64 bits ≡ at + prefix_len p (drop at bytes)
   stop_found some =
-      let f = block_stops p (drop at bytes) 8 enough (omega arith) (rw here at some) in
-      ap (λ n. at + n) (ap (count_trailing_zeros 8) here ∙ sym f.0)
+      let f = block_stops p (drop at bytes) 16 enough (omega arith) (rw here at some) in
+      ap (λ n. at + n) (ap (count_trailing_zeros 64) here ∙ sym f.0)
 
   -- where no bit is set, the stop is not in the block
-  pub stop_after : bits ≡ 0 → (at + prefix_len p (drop at bytes) ≡ at + 8 + prefix_len p (drop (at + 8) bytes)) × (at + 8 ≤ length bytes)
+  pub stop_after : bits ≡ 0 → (at + prefix_len p (drop at bytes) ≡ at + 16 + prefix_len p (drop (at + 16) bytes)) × (at + 16 ≤ length bytes)
   stop_after none =
-      let f = block_passes p (drop at bytes) 8 enough (sym here ∙ none) in
-      let d : prefix_len p (drop 8 (drop at bytes)) ≡ prefix_len p (drop (at + 8) bytes) = ap (prefix_len p) (drop-drop 8 at bytes) in
+      let f = block_passes p (drop at bytes) 16 enough (sym here ∙ none) in
+      let d : prefix_len p (drop 16 (drop at bytes)) ≡ prefix_len p (drop (at + 16) bytes) = ap (prefix_len p) (drop-drop 16 at bytes) in
       let e = enough in
       (omega (arith, f, d), omega (arith, e, length-drop at bytes, within))
 

@@ -1,7 +1,6 @@
 -- What contracts see of a lexer.
 use Rattle.std.specs.Prelude.{◌≡◌, ℕ, ◌+◌, ◌-◌, ◌<◌, ◌≤◌, List, [], ◌∷◌, length, slice_range, Option, option_map}
 use Rattle.std.specs.Option.{option_to_list}
-use Rattle.std.specs.Fn.{FnReturns}
 use denote.Param.Members.{Shared}
 use denote.Ref.{Bor}
 use Rattle.logos_code.specs.Code.{CodeValue}
@@ -27,7 +26,11 @@ begun code input callback = record { code = code; input = input; callback = call
 
 -- what the closure may answer to a leaf and a slice
 abbrev pub answers_of : {C : Type 0} → Shared C (LeafId × (Bor (List ℕ) × Unit {0})) Action → C → Callback
-answers_of g f leaf slice answer = (shown : Bor (List ℕ)) × (shown.now ≡ slice) × FnReturns g f (record { 0 = leaf }, (shown, tt)) answer
+answers_of g f leaf slice answer = (shown : Bor (List ℕ)) × (shown.now ≡ slice) × g.post f (record { 0 = leaf }, (shown, tt)) answer
+
+-- the closure may be called on a leaf and a slice
+abbrev pub Takes : {C : Type 0} → Shared C (LeafId × (Bor (List ℕ) × Unit {0})) Action → C → LeafId → List ℕ → Type 0
+Takes g f leaf slice = (shown : Bor (List ℕ)) → shown.now ≡ slice → g.pre f (leaf, (shown, tt))
 
 -- A span of the input.
 abbrev pub HasSpan : {C : Type 0} → LexerValue C → Item → Type 0

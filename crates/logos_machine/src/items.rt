@@ -1,8 +1,8 @@
 //! All items of an input at once.
 
 ghost use Rattle.std.specs.Prelude.{map, IfOk};
-ghost use Rattle.logos_code.specs.Runs.{Runs};
-ghost use Rattle.logos_machine.specs.LexerValue.{answers_of, item_of};
+ghost use Rattle.logos_machine.specs.Words.{Runs};
+ghost use Rattle.logos_machine.specs.Views.{answers_of, item_of};
 
 use crate::machine::{Action, Item, Lexer};
 use logos_hir::leaf::LeafId;

@@ -3,4 +3,5 @@
 #![tactic(auto)]
 
 pub mod items;
+pub mod laws;
 pub mod machine;

@@ -1,12 +1,8 @@
 //! Lexers: runs of a code value on an input.
 
-ghost use Rattle.std.specs.Prelude.{◌≡◌, ◌<◌, ◌≤◌, length, option_map, slice_range, MatchBool};
-ghost use Rattle.std.specs.Prelude.{MatchOption, IfOk, IfErr, IsTrue, IsUtf8, drop, None};
-ghost use Rattle.std.specs.Str.{IsValidUpTo};
-ghost use Rattle.logos_code.specs.CodeView.{asks_for};
-ghost use Rattle.logos_code.specs.Items.{token, error};
-ghost use Rattle.logos_machine.specs.LexerValue.{answers_of, begun, item_of};
-ghost use Rattle.logos_machine.specs.LexerValue.{Gives, Ends, Keeps, MatchGives};
+ghost use Rattle.std.specs.Prelude.{◌≡◌, ◌<◌, ◌≤◌, length, option_map, slice_range, MatchBool, MatchOption, IfOk, IfErr, IsTrue, IsUtf8, drop, None};
+ghost use Rattle.logos_machine.specs.Words.{IsValidUpTo, asks_for, token, error};
+ghost use Rattle.logos_machine.specs.Views.{answers_of, begun, item_of, Gives, Ends, Keeps, MatchGives, Takes};
 
 mod attempt;
 mod fast_loop;
@@ -55,11 +51,10 @@ pub struct Lexer<'c, 's, 'i, C> {
 }
 
 impl<'c, 's, 'i, C> Model for Lexer<'c, 's, 'i, C> {
-    ghost use Rattle.std.specs.Coded.{codes};
-    ghost use Rattle.logos_type.specs.contracts.type_expr.Part as p;
-    ghost use mir.Syntax.{named};
     ghost use Rattle.std.specs.Prelude.{◌≤◌, [], length};
-    ghost use Rattle.logos_machine.specs.LexerValue.{LexerValue};
+    ghost use Rattle.logos_machine.specs.Words.{codes, named};
+    ghost use Rattle.logos_machine.specs.Views.{LexerValue};
+    ghost use Rattle.logos_type.specs.contracts.type_expr.Part as p;
 
     ghost Value = { LexerValue C };
 
@@ -266,7 +261,8 @@ fn matched_item<'i, C: Fn(LeafId, &[u8]) -> Action>(
     leaf: LeafId,
     span: Span,
 ) -> Option<Item<'i>>
-    requires callable { C.IsAlwaysCallable callback.now }
+    requires callable { IsTrue (asks_for code.now leaf.0) → Takes C.Fn callback.now leaf
+        (slice_range input.now span.from span.to) }
     requires leaf { leaf.0 < length code.now.leaves }
     requires order { span.from ≤ span.to }
     requires within { span.to ≤ length input.now }
@@ -285,7 +281,8 @@ fn matched_item<'i, C: Fn(LeafId, &[u8]) -> Action>(
     }
 }
 
-/// Returns the answer to a match. A leaf without a callback answers `Emit`.
+/// Returns the answer to a match. A leaf without a callback answers `Emit`, and the callback is not
+/// called: it may be called for a leaf that has one, and for no other.
 #[inline(always)]
 fn answer<C: Fn(LeafId, &[u8]) -> Action>(
     code: &Code,
@@ -293,7 +290,7 @@ fn answer<C: Fn(LeafId, &[u8]) -> Action>(
     leaf: LeafId,
     slice: &[u8],
 ) -> Action
-    requires callable { C.IsAlwaysCallable callback.now }
+    requires callable { IsTrue (asks_for code.now leaf.0) → Takes C.Fn callback.now leaf slice.now }
     requires leaf { leaf.0 < length code.now.leaves }
     ensures { MatchBool (asks_for code.now leaf.0)
         (answers_of C.Fn callback.now leaf.0 slice.now result) (result ≡ Action.Emit) }

@@ -1,6 +1,7 @@
-//! Enums as they are written: attributes as runs of tokens, generic parameters, and variants with their fields and types.
+//! Enums as they are written: attributes as runs of tokens, generic parameters, and variants with
+//! their fields and types.
 
-pub use logos_item::{
+pub use logos_enum::{
     Attribute, Field, Fields, ItemEnum, Parameter, ParameterKind, ReadError, Variant, read_enum,
     reads_once, split_attribute,
 };

@@ -1,8 +1,14 @@
-//! Reading of enums, and of the attributes on them and on their variants. The modules are those of the
-//! crates below.
+//! Reading of enums, and of the attributes on them and on their variants: the modules of the crates
+//! below, and the analysis of a source: its leaves, its options, and all its faults but those of
+//! its graph.
 
 #![tactic(auto)]
 
+pub mod analysis;
+pub mod enum_type;
 pub mod item;
+mod mode;
 pub mod nested;
 pub mod parser;
+pub mod reading;
+pub mod refusal;

@@ -1,5 +1,5 @@
 -- The fields of a leaf, as values.
-use Rattle.std.specs.Prelude.{ℕ, Bool, true, false, List, ◌++◌, codes, is_some, if◌then◌else◌}
+use Rattle.std.specs.Prelude.{ℕ, Bool, true, false, List, ◌++◌, Option, Some, None, codes, is_some, if◌then◌else◌}
 use Rattle.logos_hir.specs.Tree.{Tree}
 use Rattle.logos_hir.specs.Hir.{tree_of}
 use Rattle.logos_pattern.specs.declared.pattern.Pattern.{Pattern}
@@ -16,11 +16,11 @@ use Rattle.logos_pattern.specs.declared.leaf.VariantKind.TheVariants.{Unit as Un
 use Rattle.logos_type.specs.Parts.{Tree as TypeTree}
 use Rattle.logos_type.specs.TypeTrees.{type_tree}
 
--- the tree of a pattern
+-- The tree of a pattern.
 abbrev pub pattern_tree : Pattern → Tree
 pattern_tree pattern = tree_of pattern.hir
 
--- the text that a pattern was read from
+-- The text that a pattern was read from.
 abbrev pub source_of : Pattern → List ℕ
 source_of pattern = pattern.source.now
 
@@ -34,7 +34,8 @@ is_skip (UnitVariant name) = false
 is_skip (Value name type) = false
 is_skip Skip = true
 
--- what the lexer returns for a match: a variant without a field, one with a field of this type, or nothing
+-- What the lexer returns for a match: a variant without a field, one with a field of this type, or
+-- nothing.
 pub data KindValue : Type 0 where
   plain : (name : Ident) → KindValue
   holding : (name : Ident) (type : TypeTree) → KindValue
@@ -45,12 +46,18 @@ kind_value (UnitVariant name) = plain name
 kind_value (Value name type) = holding name (type_tree type)
 kind_value Skip = skipped
 
--- the span of a callback: from its first token to its last
+-- The name of the variant of this kind; a skip has none.
+abbrev pub variant_name : KindValue → Option Ident
+variant_name (plain name) = Some name
+variant_name (holding name type) = Some name
+variant_name skipped = None
+
+-- The span of a callback: from its first token to its last.
 abbrev pub callback_span : Callback → Span
 callback_span (Label tokens) = run_span (stream_tokens tokens)
 callback_span (Inline inline) = inline.span
 
--- a callback by its tokens: those of a function's name, or a parameter and those of a body
+-- A callback by its tokens: those of a function's name, or a parameter and those of a body.
 pub data CallbackValue : Type 0 where
   named : (tokens : TokenList) → CallbackValue
   written : (arg : Ident) (body : TokenList) (span : Span) → CallbackValue
@@ -66,16 +73,16 @@ callback_value (Inline inline) = inline_value inline
 abbrev pub asks : Leaf → Bool
 asks leaf = is_some leaf.callback
 
--- how a pattern prints
+-- How a pattern prints.
 abbrev pub pattern_text : Pattern → List ℕ
 pattern_text pattern = codes "#[" ++ (if is_token pattern then codes "token" else codes "regex") ++ codes "(" ++ source_of pattern ++ codes ")]"
 
--- how the kind of a leaf prints
+-- How the kind of a leaf prints.
 abbrev pub kind_text : VariantKind → List ℕ
 kind_text (UnitVariant name) = codes "::" ++ name.text.now
 kind_text (Value name type) = codes "::" ++ name.text.now ++ codes "(_)"
 kind_text Skip = codes "::<skip>"
 
--- how a leaf prints
+-- How a leaf prints.
 abbrev pub leaf_text : Leaf → List ℕ
 leaf_text leaf = pattern_text leaf.pattern ++ codes " " ++ kind_text leaf.kind

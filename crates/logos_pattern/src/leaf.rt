@@ -1,7 +1,8 @@
 //! The leaves of a lexer: each is a pattern with its priority, its kind and its callback.
+//! `logos_leaf` makes leaves; graphs and codes keep them.
 
 ghost use Rattle.std.specs.Prelude.{◌≡◌, Some};
-ghost use Rattle.logos_pattern.specs.Leaf.{kind_text, leaf_text, kind_value, callback_span, callback_value, inline_value};
+ghost use Rattle.logos_pattern.specs.Views.{kind_text, leaf_text, kind_value, callback_span, callback_value, inline_value};
 ghost use Rattle.logos_pattern.specs.declared.leaf.Callback.TheVariants as callbacks;
 
 use crate::pattern::Pattern;
@@ -41,9 +42,25 @@ pub struct InlineCallback<'s> {
     pub span: Span,
 }
 
+impl<'s> VariantKind<'s> {
+    ghost use Rattle.std.specs.Prelude.{◌≡◌};
+    ghost use Rattle.logos_pattern.specs.Views.{kind_value, variant_name};
+
+    /// Returns the name of the variant; `None` for a skip.
+    pub fn name(&self) -> Option<Ident<'s>>
+        ensures { result ≡ variant_name (kind_value self.now) }
+    {
+        match self {
+            VariantKind::Unit(name) => Some(*name),
+            VariantKind::Value(name, _) => Some(*name),
+            VariantKind::Skip => None,
+        }
+    }
+}
+
 impl<'s> Callback<'s> {
-    /// Returns the callback's span in the source, in bytes: that of a label reaches from its first token to its
-    /// last, and is 0..0 if it has no token.
+    /// Returns the callback's span in the source, in bytes: that of a label reaches from its first
+    /// token to its last, and is 0..0 if it has no token.
     pub fn span(&self) -> Span
         ensures { result ≡ callback_span self.now }
     {

@@ -1,14 +1,10 @@
-//! Patterns, which are read from the text of a literal.
+//! Patterns, which are read from the text of a literal. `logos_leaf` makes one for each leaf, and
+//! `logos_subpattern` one for each subpattern.
 
 ghost use Rattle.std.specs.Prelude.{◌≡◌, ◌≤◌, ◌++◌, ℕ, chars, IfOk, IfErr, IsTrue, Some};
-ghost use Rattle.logos_hir.specs.Hir.{tree_of, literal_tree};
-ghost use Rattle.logos_measures.specs.Priority.{value};
-ghost use Rattle.logos_measures.specs.Measure.{fitted, is_text, has_greedy_dot};
+ghost use Rattle.logos_pattern.specs.Words.{tree_of, literal_tree, value, fitted, is_text, has_greedy_dot, IsTooDeep, IsSpelled, IsFound, Refuses, first_flags};
+ghost use Rattle.logos_pattern.specs.Views.{pattern_tree, source_of, is_token, pattern_text, token_of, held_bytes, literal_value};
 ghost use Rattle.logos_pattern_tokens.specs.declared.error.PatternError.TheVariants as errors;
-ghost use Rattle.logos_syntax.specs.Nesting.{IsTooDeep};
-ghost use Rattle.logos_syntax.specs.Grammar.{IsSpelled, IsFound, Refuses, first_flags};
-ghost use Rattle.logos_pattern.specs.Leaf.{pattern_tree, source_of, is_token, pattern_text};
-ghost use Rattle.logos_pattern.specs.Literals.{token_of, held_bytes, literal_value};
 
 pub mod error;
 pub mod hir;
@@ -17,9 +13,8 @@ pub mod literal;
 pub use error::{Kind, PatternError};
 pub use hir::{Class, Hir, Look, Range};
 pub use literal::Literal;
-pub use logos_hir::laws::looks_hold_at_the_end;
-pub use logos_measures::laws::lazy_and_greedy;
-use logos_measures::measure;
+pub use logos_hir::laws::{lazy_and_greedy, looks_hold_at_the_end};
+use logos_hir::measure;
 use logos_pattern_tokens::token::Flags;
 pub use logos_syntax::parser::one_tree;
 use logos_syntax::parser::parse;
@@ -36,14 +31,15 @@ pub struct Pattern<'s> {
 }
 
 impl<'s> Pattern<'s> {
-    /// Reads the pattern that `regex` spells. At its start the flag `u` is on if `unicode` holds, the flag `i` is on if
-    /// `ignore_case` holds, and all others are off. `source` is the literal that the pattern was written as, and
-    /// `is_literal` whether that is the literal of a `token`.
+    /// Reads the pattern that `regex` spells. At its start the flag `u` is on if `unicode` holds,
+    /// the flag `i` is on if `ignore_case` holds, and all others are off. `source` is the literal
+    /// that the pattern was written as, and `is_literal` whether that is the literal of a `token`.
     ///
     /// # Errors
-    /// Returns `Syntax` if the text breaks the grammar, with the kind and the byte offset of the fault;
-    /// `LimitPatternNesting` if groups, brackets and operators nest more than 250 deep; and `Memory` when memory runs
-    /// out.
+    ///
+    /// Returns `Syntax` if the text breaks the grammar, with the kind and the byte offset of the
+    /// fault; `LimitPatternNesting` if groups, brackets and operators nest more than 250 deep; and
+    /// `Memory` if memory runs out.
     pub fn compile(
         alloc: Global,
         is_literal: bool,
@@ -55,11 +51,12 @@ impl<'s> Pattern<'s> {
         // The tree that is returned is the one that the text spells.
         ensures found { IfOk result (λ p. IsFound (first_flags unicode ignore_case)
             (chars regex.now) (tree_of p.hir)) }
-        // A text that is refused has no tree, or only one that is nested too deeply, or memory ran out.
+        // A text that is refused has no tree, or only one that is nested too deeply, or memory ran
+        // out.
         ensures refused { IfErr result (Refuses (first_flags unicode ignore_case)
             (chars regex.now)) }
-        // After some beginning of a text that is refused as too deep, more than 250 groups, brackets and
-        // operators are around one place.
+        // After some beginning of a text that is refused as too deep, more than 250 groups,
+        // brackets and operators are around one point.
         ensures deep { IfErr result (λ e. e ≡ errors.LimitPatternNesting →
             IsTooDeep (first_flags unicode ignore_case) (chars regex.now)) }
         // A text that has a tree within the limit is read.
@@ -88,10 +85,12 @@ impl<'s> Pattern<'s> {
         })
     }
 
-    /// Returns the pattern of a `token`, which matches the bytes of the literal's value and nothing else.
+    /// Returns the pattern of a `token`, which matches the bytes of the literal's value and nothing
+    /// else.
     ///
     /// # Errors
-    /// Returns `Memory` when memory runs out.
+    ///
+    /// Returns `Memory` if memory runs out.
     pub fn compile_lit(alloc: Global, literal: &Literal<'s>) -> Result<Pattern<'s>, Memory>
         ensures tree { IfOk result (λ pattern. pattern_tree pattern ≡
             literal_tree (held_bytes literal.now)) }
@@ -107,17 +106,17 @@ impl<'s> Pattern<'s> {
         })
     }
 
-    /// Returns the default priority of a `regex` or `skip`, which its tree decides, or `None` if it does not fit
-    /// `usize`. A `token` has `token_priority` instead.
+    /// Returns the default priority of a `regex` or `skip`, which its tree decides, or `None` if it
+    /// does not fit `usize`. A `token` has `token_priority` instead.
     pub fn priority(&self) -> Option<usize>
         ensures { result ≡ fitted (value (pattern_tree self.now)) }
     {
         measure::priority(&self.hir)
     }
 
-    /// Returns whether a greedy repetition without an upper bound repeats a dot: a class of all characters
-    /// or of all bytes, of all but LF, or of all but CR and LF. Looks through captures, concatenations and
-    /// alternations, and not into the body of a repetition.
+    /// Returns whether a greedy repetition without an upper bound repeats a dot: a class of all
+    /// characters or of all bytes, of all but LF, or of all but CR and LF. Looks through captures,
+    /// concatenations and alternations, and not into the body of a repetition.
     pub fn check_for_greedy_all(&self) -> bool
         ensures { result ≡ has_greedy_dot (pattern_tree self.now) }
     {

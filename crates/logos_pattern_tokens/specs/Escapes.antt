@@ -8,11 +8,12 @@ use Rattle.logos_pattern_tokens.specs.declared.token.Atom.{Atom}
 use Rattle.logos_pattern_tokens.specs.declared.token.Atom.TheVariants.{Character, Byte, TextStart, TextEnd, Boundary, Perl as PerlClass, Property}
 use Rattle.logos_pattern_tokens.specs.Token.{Text, ◌>>=◌, is_among, hex_from, scalar_of, cut_at}
 
--- an ASCII character other than `[0-9A-Za-z<>]`: an escape of it is the character itself
+-- An ASCII character other than `[0-9A-Za-z<>]`: an escape of it is the character itself.
 abbrev pub is_escapable : ℕ → Bool
 is_escapable c = nat_lt c 128 && not (is_ascii_alphanumeric c || is_among c (60 ∷ 62 ∷ []))
 
--- The escapes of one character: it is itself, or one of `\a \f \t \n \r \v`, `\d \s \w \D \S \W`, `\A \z \B`.
+-- The escapes of one character: it is itself, or one of `\a \f \t \n \r \v`, `\d \s \w \D \S \W`,
+-- `\A \z \B`.
 abbrev pub single_of : ℕ → Option Atom
 single_of c =
     if is_escapable c then Some (Character c)
@@ -33,7 +34,7 @@ single_of c =
     else if c == 66 then Some (Boundary true)
     else None
 
--- the text begins with the character
+-- The text begins with the character.
 abbrev pub begins : ℕ → Text → Bool
 begins d [] = false
 begins d (c ∷ rest) = c == d
@@ -42,34 +43,34 @@ begins d (c ∷ rest) = c == d
 abbrev pub is_form : Text → Bool
 is_form name = is_among 61 name || is_among 58 name || begins 94 name
 
--- the set of a property's name
+-- The set of a property's name.
 unfoldable pub plain_property : Text → Option Set
 plain_property name = if is_form name then None else property_named name
 
 unfoldable pub property_of : Bool → Text → Text → Option (Atom × Text)
 property_of negated name rest = option_map (λ set. (Property set negated, rest)) (plain_property name)
 
--- `{name}`, or one character
+-- `{name}`, or one character.
 unfoldable pub property_at : Bool → Text → Option (Atom × Text)
 property_at negated [] = None
 property_at negated (c ∷ rest) =
     if c == 123 then cut_at 125 rest >>= (λ x. property_of negated x.0 x.1)
     else property_of negated (c ∷ []) rest
 
--- hexadecimal digits up to `}`
+-- Hexadecimal digits up to `}`.
 unfoldable pub braces_at : Text → Option (Atom × Text)
 braces_at text = cut_at 125 text >>= λ x. if length x.0 == 0 then None else option_map (λ n. (Character n, x.1)) (scalar_of x.0)
 
--- a number of hexadecimal digits
+-- A number of hexadecimal digits.
 unfoldable pub fixed_at : ℕ → Text → Option (Atom × Text)
 fixed_at width text =
     if nat_le width (length text) then option_map (λ n. (Character n, drop width text)) (scalar_of (take width text)) else None
 
--- two hexadecimal digits
+-- Two hexadecimal digits.
 unfoldable pub byte_at : Text → Option (Atom × Text)
 byte_at text = if nat_le 2 (length text) then option_map (λ n. (Byte n, drop 2 text)) (hex_from 0 (take 2 text)) else None
 
--- after `\x`, `\u` or `\U`
+-- After `\x`, `\u` or `\U`.
 unfoldable pub hex_at : ℕ → Text → Option (Atom × Text)
 hex_at letter [] = None
 hex_at letter (c ∷ rest) =
@@ -78,15 +79,15 @@ hex_at letter (c ∷ rest) =
     else if letter == 117 then fixed_at 4 (c ∷ rest)
     else fixed_at 8 (c ∷ rest)
 
--- a word boundary; a fault if a brace follows
+-- A word boundary; a fault if a brace follows.
 unfoldable pub boundary_at : Text → Option (Atom × Text)
 boundary_at text = if begins 123 text then None else Some (Boundary false, text)
 
--- an escape by one character
+-- An escape by one character.
 unfoldable pub single_at : ℕ → Text → Option (Atom × Text)
 single_at c rest = option_map (λ a. (a, rest)) (single_of c)
 
--- after a backslash
+-- After a backslash.
 unfoldable pub escape_at : Text → Option (Atom × Text)
 escape_at [] = None
 escape_at (c ∷ rest) =

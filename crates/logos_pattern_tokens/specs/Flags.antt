@@ -3,16 +3,16 @@ use Rattle.std.specs.Prelude.{◌≡◌, ℕ, ◌<◌, Bool, true, false, ◌==�
 use Rattle.logos_pattern_tokens.specs.declared.token.Flags.{Flags}
 use Rattle.logos_pattern_tokens.specs.declared.token.Change.{Change}
 
--- a setting without letters
+-- A setting without letters.
 abbrev pub no_change : Change
 no_change = record { unicode = None; ignore_case = None; multi_line = None; dot_all = None; swap_greed = None; crlf = None }
 
--- a flag is set once
+-- A flag is set once.
 abbrev pub set_once : Option Bool → Bool → Option (Option Bool)
 set_once None on = Some (Some on)
 set_once (Some was) on = None
 
--- the setting with one more letter; a fault if it is not one of `i m s U u R`, or came before
+-- The setting with one more letter; a fault if it is not one of `i m s U u R`, or came before.
 abbrev pub with_letter : Change → Bool → ℕ → Option Change
 with_letter change on letter =
     if letter == 105 then option_map (λ f. record change { ignore_case = f }) (set_once change.ignore_case on)
@@ -29,13 +29,13 @@ pub data Letters : Change → Bool → List ℕ → Change → Type 0 where
   a_letter : (change next last : Change) (on : Bool) (letter : ℕ) (letters : List ℕ) →
       with_letter change on letter ≡ Some next → Letters next on letters last → Letters change on (letter ∷ letters) last
 
--- `letters`, or `letters-letters`
+-- `letters`, or `letters-letters`.
 pub data Settings : List ℕ → Change → Type 0 where
   only_on : (on : List ℕ) (change : Change) → 0 < length on → Letters no_change true on change → Settings on change
   some_off : (on off : List ℕ) (half change : Change) → 0 < length off → Letters no_change true on half →
       Letters half false off change → Settings (on ++ 45 ∷ off) change
 
--- the flags after a setting
+-- The flags after a setting.
 abbrev pub flags_after : Change → Flags → Flags
 flags_after change flags = record {
   unicode = unwrap_or change.unicode flags.unicode;

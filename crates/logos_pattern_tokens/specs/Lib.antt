@@ -5,3 +5,4 @@ pub mod Escapes
 pub mod Openings
 pub mod Spelling
 pub mod Reader
+pub mod Views

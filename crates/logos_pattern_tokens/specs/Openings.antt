@@ -9,32 +9,32 @@ use Rattle.logos_pattern_tokens.specs.declared.openings.Letters.{Letters}
 use Rattle.logos_pattern_tokens.specs.Flags.{no_change, with_letter}
 use Rattle.logos_pattern_tokens.specs.Token.{Text, Token, opens, sets, capturing, named, plain, ◌>>=◌, is_among, cut_at}
 
--- `_`, or an alphabetic character
+-- `_`, or an alphabetic character.
 abbrev pub is_name_start : ℕ → Bool
 is_name_start c = c == 95 || is_alphabetic c
 
--- these, numbers, and `.`, `[`, `]`
+-- These, numbers, and `.`, `[`, `]`.
 abbrev pub is_name_part : ℕ → Bool
 is_name_part c = is_name_start c || in_group Number (general_category c) || is_among c (46 ∷ 91 ∷ 93 ∷ [])
 
 abbrev pub are_name_parts : Text → Bool
 are_name_parts = list_all is_name_part
 
--- the name of a group
+-- The name of a group.
 abbrev pub is_name : Text → Bool
 is_name [] = false
 is_name (c ∷ rest) = is_name_start c && are_name_parts rest
 
--- after `(?<`
+-- After `(?<`.
 unfoldable pub name_at : Text → Option (Token × Text)
 name_at text = cut_at 62 text >>= λ x. if is_name x.0 then Some (opens (named x.0), x.1) else None
 
--- after `(?P`
+-- After `(?P`.
 unfoldable pub python_at : Text → Option (Token × Text)
 python_at [] = None
 python_at (c ∷ rest) = if c == 60 then name_at rest else None
 
--- a dash, which turns off the flags of the letters after it
+-- A dash, which turns off the flags of the letters after it.
 unfoldable pub dash : Letters → Option Letters
 dash s = if s.on then Some (record s { on = false; pending = true }) else None
 
@@ -43,11 +43,11 @@ next_letter s c =
     if c == 45 then dash s
     else option_map (λ change. record s { change = change; pending = false }) (with_letter s.change s.on c)
 
--- the token at the end of the letters, if no letter is missing
+-- The token at the end of the letters, if no letter is missing.
 unfoldable pub setting_end : Letters → Token → Text → Option (Token × Text)
 setting_end s token rest = if s.pending then None else Some (token, rest)
 
--- letters up to `)` or `:`
+-- Letters up to `)` or `:`.
 abbrev pub letters_from : Letters → Text → Option (Token × Text)
 letters_from s [] = None
 letters_from s (c ∷ rest) =
@@ -55,11 +55,11 @@ letters_from s (c ∷ rest) =
     else if c == 58 then setting_end s (opens (plain s.change)) rest
     else next_letter s c >>= λ t. letters_from t rest
 
--- before the first letter
+-- Before the first letter.
 abbrev pub no_letters : Letters
 no_letters = record { change = no_change; on = true; pending = true }
 
--- after `(?`
+-- After `(?`.
 unfoldable pub option_at : Text → Option (Token × Text)
 option_at [] = None
 option_at (c ∷ rest) =
@@ -68,7 +68,7 @@ option_at (c ∷ rest) =
     else if c == 80 then python_at rest
     else letters_from no_letters (c ∷ rest)
 
--- after `(`
+-- After `(`.
 unfoldable pub group_at : Text → Option (Token × Text)
 group_at [] = Some (opens capturing, [])
 group_at (c ∷ rest) = if c == 63 then option_at rest else Some (opens capturing, c ∷ rest)

@@ -19,13 +19,13 @@ abbrev pub Lacks : ℕ → Text → Type 0
 Lacks d [] = Unit {0}
 Lacks d (c ∷ rest) = (c ≢ d) × Lacks d rest
 
--- ---- counts
+-- ---- counts.
 
 abbrev pub AreDigits : Text → Type 0
 AreDigits [] = Unit {0}
 AreDigits (c ∷ rest) = (is_digit c ≡ true) × AreDigits rest
 
--- the number that the digits write, as a continuation of the number before them
+-- The number that the digits write, as a continuation of the number before them.
 abbrev pub value_from : ℕ → Text → ℕ
 value_from n [] = n
 value_from n (c ∷ rest) = value_from (n * 10 + (c - 48)) rest
@@ -37,7 +37,7 @@ pub record Writes (digits : Text) (n : ℕ) : Type 0 where
   pub value : value_from 0 digits ≡ n
   pub fits : n < 2 ^ 32
 
--- `*`, `+`, `?`, `{n}`, `{n,}`, `{n,m}`
+-- `*`, `+`, `?`, `{n}`, `{n,}`, `{n,m}`.
 pub data Counts : Text → ℕ → Option ℕ → Type 0 where
   star : Counts (42 ∷ []) 0 None
   plus : Counts (43 ∷ []) 1 None
@@ -46,33 +46,35 @@ pub data Counts : Text → ℕ → Option ℕ → Type 0 where
   at_least : (digits : Text) (n : ℕ) → Writes digits n → Counts (123 ∷ digits ++ 44 ∷ 125 ∷ []) n None
   between : (digits others : Text) (n m : ℕ) → Writes digits n → Writes others m → n ≤ m → Counts (123 ∷ digits ++ 44 ∷ others ++ 125 ∷ []) n (Some m)
 
--- ---- escapes
+-- ---- escapes.
 
--- `p`, or `P` for the complement
+-- `p`, or `P` for the complement.
 abbrev pub property_letter : Bool → ℕ
 property_letter negated = if negated then 80 else 112
 
--- The text, which comes after a backslash, begins with the rest of an escape, and `rest` follows it.
+-- The text, which comes after a backslash, begins with the rest of an escape, and `rest` follows
+-- it.
 pub data Escapes : Atom → Text → Text → Type 0 where
   single : (c : ℕ) (a : Atom) (rest : Text) → single_of c ≡ Some a → Escapes a (c ∷ rest) rest
-  -- `\xHH`, `\uHHHH`, `\UHHHHHHHH`
+  -- `\xHH`, `\uHHHH`, `\UHHHHHHHH`.
   two_digits : (digits rest : Text) (n : ℕ) → length digits ≡ 2 → hex_from 0 digits ≡ Some n → Escapes (Byte n) (120 ∷ digits ++ rest) rest
   four_digits : (digits rest : Text) (n : ℕ) → length digits ≡ 4 → scalar_of digits ≡ Some n → Escapes (Character n) (117 ∷ digits ++ rest) rest
   eight_digits : (digits rest : Text) (n : ℕ) → length digits ≡ 8 → scalar_of digits ≡ Some n → Escapes (Character n) (85 ∷ digits ++ rest) rest
-  -- `\x{H..}`, `\u{H..}`, `\U{H..}`
+  -- `\x{H..}`, `\u{H..}`, `\U{H..}`.
   any_digits : (letter : ℕ) (digits rest : Text) (n : ℕ) → is_among letter (120 ∷ 117 ∷ 85 ∷ []) ≡ true → 0 < length digits → scalar_of digits ≡ Some n →
       Escapes (Character n) (letter ∷ 123 ∷ digits ++ 125 ∷ rest) rest
-  -- `\b`, with no brace after it
+  -- `\b`, with no brace after it.
   boundary : (rest : Text) → NotBegins 123 rest → Escapes (Boundary false) (98 ∷ rest) rest
-  -- `\pX`, `\p{name}`
+  -- `\pX`, `\p{name}`.
   property : (negated : Bool) (c : ℕ) (rest : Text) (set : Set) → c ≢ 123 → plain_property (c ∷ []) ≡ Some set →
       Escapes (Property set negated) (property_letter negated ∷ c ∷ rest) rest
   named_property : (negated : Bool) (name rest : Text) (set : Set) → Lacks 125 name → plain_property name ≡ Some set →
       Escapes (Property set negated) (property_letter negated ∷ 123 ∷ name ++ 125 ∷ rest) rest
 
--- ---- tokens
+-- ---- tokens.
 
--- The text begins with the token, and the rest follows it. A `?` right after an operator belongs to the operator.
+-- The text begins with the token, and the rest follows it. A `?` right after an operator belongs to
+-- the operator.
 pub data Takes : Token → Text → Text → Type 0 where
   bare : (c : ℕ) (rest : Text) → is_meta c ≡ false → Takes (atom (Character c)) (c ∷ rest) rest
   escaped : (a : Atom) (text rest : Text) → Escapes a text rest → Takes (atom a) (92 ∷ text) rest
@@ -80,11 +82,11 @@ pub data Takes : Token → Text → Text → Type 0 where
   caret : (rest : Text) → Takes (atom Caret) (94 ∷ rest) rest
   dollar : (rest : Text) → Takes (atom Dollar) (36 ∷ rest) rest
   branch : (rest : Text) → Takes bar (124 ∷ rest) rest
-  -- `(`, `(?<name>`, `(?P<name>`
+  -- `(`, `(?<name>`, `(?P<name>`.
   open_capture : (rest : Text) → NotBegins 63 rest → Takes (opens capturing) (40 ∷ rest) rest
   open_named : (name rest : Text) → Lacks 62 name → is_name name ≡ true → Takes (opens (named name)) (40 ∷ 63 ∷ 60 ∷ name ++ 62 ∷ rest) rest
   open_python : (name rest : Text) → Lacks 62 name → is_name name ≡ true → Takes (opens (named name)) (40 ∷ 63 ∷ 80 ∷ 60 ∷ name ++ 62 ∷ rest) rest
-  -- `(?:`, `(?flags:`, `(?flags)`
+  -- `(?:`, `(?flags:`, `(?flags)`.
   open_plain : (rest : Text) → Takes (opens (plain no_change)) (40 ∷ 63 ∷ 58 ∷ rest) rest
   open_flags : (letters rest : Text) (change : Change) → Settings letters change → Takes (opens (plain change)) (40 ∷ 63 ∷ letters ++ 58 ∷ rest) rest
   setting : (letters rest : Text) (change : Change) → Settings letters change → Takes (sets change) (40 ∷ 63 ∷ letters ++ 41 ∷ rest) rest

@@ -14,17 +14,17 @@ use Rattle.logos_pattern_tokens.specs.declared.token.Token.{Token as TokenValue}
 use Rattle.logos_pattern_tokens.specs.declared.token.Token.TheVariants as values
 use Rattle.logos_pattern_tokens.specs.bracket.Form.{Bracket}
 
--- the characters that are still to read
+-- The characters that are still to read.
 abbrev pub Text : Type 0
 Text = List ℕ
 
--- how a group opens
+-- How a group opens.
 pub data Opening : Type 0 where
   -- `(`
   capturing : Opening
-  -- `(?P<name>` or `(?<name>`
+  -- `(?P<name>` or `(?<name>`.
   named : Text → Opening
-  -- `(?:` or `(?flags:`
+  -- `(?:` or `(?flags:`.
   plain : Change → Opening
 
 pub data Token : Type 0 where
@@ -61,26 +61,26 @@ infixl 10 ◌>>=◌
 abbrev pub ◌>>=◌ : {A B : Type 0} → Option A → (A → Option B) → Option B
 o >>= f = option_and_then f o
 
--- ---- characters
+-- ---- characters.
 
--- the character is one of these
+-- The character is one of these.
 abbrev pub is_among : ℕ → List ℕ → Bool
 is_among c = list_any (λ d. d == c)
 
--- one of `\ . + * ? ( ) | [ { ^ $`, which mean something other than themselves
+-- One of `\ . + * ? ( ) | [ { ^ $`, which mean something other than themselves.
 abbrev pub is_meta : ℕ → Bool
 is_meta c = is_among c (92 ∷ 46 ∷ 43 ∷ 42 ∷ 63 ∷ 40 ∷ 41 ∷ 124 ∷ 91 ∷ 123 ∷ 94 ∷ 36 ∷ [])
 
 abbrev pub is_digit : ℕ → Bool
 is_digit c = nat_le 48 c && nat_le c 57
 
--- ---- numbers
+-- ---- numbers.
 
--- the value of a hexadecimal digit
+-- The value of a hexadecimal digit.
 abbrev pub hex_digit : ℕ → Option ℕ
 hex_digit c = if nat_lt (digit_value c) 16 then Some (digit_value c) else None
 
--- the number that the hexadecimal digits write, as a continuation of the number before them
+-- The number that the hexadecimal digits write, as a continuation of the number before them.
 abbrev pub hex_from : ℕ → Text → Option ℕ
 hex_from n [] = Some n
 hex_from n (c ∷ rest) = hex_digit c >>= λ d. hex_from (n * 16 + d) rest
@@ -88,11 +88,12 @@ hex_from n (c ∷ rest) = hex_digit c >>= λ d. hex_from (n * 16 + d) rest
 abbrev pub only_scalar : ℕ → Option ℕ
 only_scalar n = if scalar n then Some n else None
 
--- the Unicode scalar value whose number the hexadecimal digits write
+-- The Unicode scalar value whose number the hexadecimal digits write.
 unfoldable pub scalar_of : Text → Option ℕ
 scalar_of digits = hex_from 0 digits >>= only_scalar
 
--- the number that the digits at the front write, as a continuation of the number before them, and the rest
+-- The number that the digits at the front write, as a continuation of the number before them, and
+-- the rest.
 abbrev pub number_from : ℕ → Text → ℕ × Text
 number_from n [] = (n, [])
 number_from n (c ∷ rest) = if is_digit c then number_from (n * 10 + (c - 48)) rest else (n, c ∷ rest)
@@ -100,26 +101,26 @@ number_from n (c ∷ rest) = if is_digit c then number_from (n * 10 + (c - 48)) 
 abbrev pub fits : ℕ × Text → Option (ℕ × Text)
 fits x = if nat_lt x.0 (2 ^ 32) then Some x else None
 
--- at least one digit, and a number below 2 ^ 32
+-- At least one digit, and a number below 2 ^ 32.
 unfoldable pub number_at : Text → Option (ℕ × Text)
 number_at [] = None
 number_at (c ∷ rest) = if is_digit c then fits (number_from 0 (c ∷ rest)) else None
 
--- what comes before the first such character, and what comes after it
+-- What comes before the first such character, and what comes after it.
 abbrev pub cut_at : ℕ → Text → Option (Text × Text)
 cut_at end [] = None
 cut_at end (c ∷ rest) = if c == end then Some ([], rest) else option_map (λ x. (c ∷ x.0, x.1)) (cut_at end rest)
 
--- ---- operators
+-- ---- operators.
 
--- an operator with these counts, which a `?` makes lazy
+-- An operator with these counts, which a `?` makes lazy.
 unfoldable pub lazy_at : ℕ → Option ℕ → Text → Token × Text
 lazy_at least most [] = (repeats (record { least = least; most = most; lazy = false }), [])
 lazy_at least most (c ∷ rest) =
     if c == 63 then (repeats (record { least = least; most = most; lazy = true }), rest)
     else (repeats (record { least = least; most = most; lazy = false }), c ∷ rest)
 
--- `}` after the counts
+-- `}` after the counts.
 unfoldable pub count_end : ℕ → Option ℕ → Text → Option (Token × Text)
 count_end least most [] = None
 count_end least most (c ∷ rest) = if c == 125 then Some (lazy_at least most rest) else None
@@ -127,18 +128,18 @@ count_end least most (c ∷ rest) = if c == 125 then Some (lazy_at least most re
 unfoldable pub order_at : ℕ → ℕ × Text → Option (Token × Text)
 order_at least x = if nat_le least x.0 then count_end least (Some x.0) x.1 else None
 
--- after `{n,`
+-- After `{n,`.
 unfoldable pub most_at : ℕ → Text → Option (Token × Text)
 most_at least [] = None
 most_at least (c ∷ rest) =
     if c == 125 then Some (lazy_at least None rest)
     else number_at (c ∷ rest) >>= order_at least
 
--- after `{n`
+-- After `{n`.
 unfoldable pub bounds_at : ℕ → Text → Option (Token × Text)
 bounds_at least [] = None
 bounds_at least (c ∷ rest) = if c == 44 then most_at least rest else count_end least (Some least) (c ∷ rest)
 
--- after `{`
+-- After `{`.
 unfoldable pub count_at : Text → Option (Token × Text)
 count_at text = number_at text >>= λ x. bounds_at x.0 x.1

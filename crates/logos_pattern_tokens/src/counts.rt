@@ -1,7 +1,8 @@
-//! Reads the numbers of a pattern, and operators with counts.
+//! Reads the numbers of a pattern, and operators with counts. The readers of tokens call it after
+//! an item and in escapes.
 
 ghost use Rattle.std.specs.Prelude.{◌≡◌, ◌==◌, option_map, position};
-ghost use Rattle.logos_pattern_tokens.specs.Token.{Gives, token_view, is_digit, hex_digit, hex_from, scalar_of, cut_at, number_from, fits, number_at, lazy_at, count_end, order_at, most_at, bounds_at, count_at};
+ghost use Rattle.logos_pattern_tokens.specs.Views.{Gives, token_view, is_digit, hex_digit, hex_from, scalar_of, cut_at, number_from, fits, number_at, lazy_at, count_end, order_at, most_at, bounds_at, count_at};
 
 use crate::error::{Fault, Kind};
 use crate::token::{Operator, Token};
@@ -16,8 +17,9 @@ pub fn hex_digit(c: char) -> Option<u32>
 /// Returns the Unicode scalar value whose number the hexadecimal digits write.
 ///
 /// # Errors
-/// From the left, `HexSyntax` at a character that is not a hexadecimal digit, and `HexNotScalar` where
-/// the number passes 10FFFF. `HexNotScalar` also if the number is that of a surrogate.
+///
+/// From the left, `HexSyntax` at a character that is not a hexadecimal digit, and `HexNotScalar`
+/// where the number passes 10FFFF. `HexNotScalar` also if the number is that of a surrogate.
 pub fn scalar_of(digits: &[char]) -> Result<char, Fault>
     ensures { Gives (λ n. n) result (scalar_of digits.now) }
 {
@@ -37,8 +39,8 @@ pub fn scalar_of(digits: &[char]) -> Result<char, Fault>
     }
 }
 
-/// Splits the text at the first `end`: returns what is before it and what is after it, or `None` if the
-/// text has no `end`.
+/// Splits the text at the first `end`: returns what is before it and what is after it, or `None` if
+/// the text has no `end`.
 pub fn cut_at(end: char, text: &[char]) -> Option<(&[char], &[char])>
     ensures { option_map (λ x. (x.0.now, x.1.now)) result ≡ cut_at end text.now }
 {
@@ -62,8 +64,8 @@ fn is_digit(c: char) -> bool
     '0' <= c && c <= '9'
 }
 
-/// Reads the digits at the front as a continuation of the number `start`, and returns the number and the
-/// rest of the text; `None` if the number is 2^32 or more.
+/// Reads the digits at the front as a continuation of the number `start`, and returns the number
+/// and the rest of the text; `None` if the number is 2^32 or more.
 fn number_from(start: u32, text: &[char]) -> Option<(u32, &[char])>
     ensures { option_map (λ x. (x.0, x.1.now)) result ≡ fits (number_from start text.now) }
 {
@@ -90,8 +92,9 @@ fn number_from(start: u32, text: &[char]) -> Option<(u32, &[char])>
 /// Reads the number at the front, and returns it with the rest of the text.
 ///
 /// # Errors
-/// `Unclosed` if the text is empty, `CountSyntax` if it does not begin with a digit, and `CountTooLarge` if the
-/// number is 2^32 or more.
+///
+/// Returns `Unclosed` if the text is empty, `CountSyntax` if it does not begin with a digit, and
+/// `CountTooLarge` if the number is 2^32 or more.
 #[tactic(auto, unfolding(crate::specs::Token::number_at))]
 fn number_at(text: &[char]) -> Result<(u32, &[char]), Fault>
     ensures { Gives (λ x. (x.0, x.1.now)) result (number_at text.now) }
@@ -105,7 +108,8 @@ fn number_at(text: &[char]) -> Result<(u32, &[char]), Fault>
     }
 }
 
-/// Returns the operator with these counts, which is lazy if a `?` comes next, and the rest of the text.
+/// Returns the operator with these counts, which is lazy if a `?` comes next, and the rest of the
+/// text.
 #[tactic(auto, unfolding(crate::specs::Token::lazy_at))]
 pub fn lazy_at<'t>(least: u32, most: Option<u32>, text: &'t [char]) -> (Token<'t>, &'t [char])
     ensures token { token_view result.0 ≡ (lazy_at least most text.now).0 }
@@ -134,7 +138,8 @@ pub fn lazy_at<'t>(least: u32, most: Option<u32>, text: &'t [char]) -> (Token<'t
 /// Reads the brace after the counts, and the `?` that may follow it.
 ///
 /// # Errors
-/// `Unclosed` if the text is empty, and `CountSyntax` if it begins with another character.
+///
+/// Returns `Unclosed` if the text is empty, and `CountSyntax` if it begins with another character.
 #[tactic(auto, unfolding(crate::specs::Token::count_end))]
 fn count_end<'t>(
     least: u32,
@@ -153,7 +158,9 @@ fn count_end<'t>(
 /// Reads what comes after `{n,`.
 ///
 /// # Errors
-/// Those of `number_at` and `count_end`, and `CountOrder` if the second count is less than the first.
+///
+/// Those of `number_at` and `count_end`, and `CountOrder` if the second count is less than the
+/// first.
 #[tactic(auto, unfolding(crate::specs::Token::most_at, crate::specs::Token::order_at))]
 fn most_at(least: u32, text: &[char]) -> Result<(Token<'_>, &[char]), Fault>
     ensures { Gives (λ x. (token_view x.0, x.1.now)) result (most_at least text.now) }
@@ -174,7 +181,8 @@ fn most_at(least: u32, text: &[char]) -> Result<(Token<'_>, &[char]), Fault>
 /// Reads what comes after `{n`.
 ///
 /// # Errors
-/// `Unclosed` if the text is empty, and else those of `most_at` or `count_end`.
+///
+/// Returns `Unclosed` if the text is empty, and else those of `most_at` or `count_end`.
 #[tactic(auto, unfolding(crate::specs::Token::bounds_at))]
 fn bounds_at(least: u32, text: &[char]) -> Result<(Token<'_>, &[char]), Fault>
     ensures { Gives (λ x. (token_view x.0, x.1.now)) result (bounds_at least text.now) }
@@ -189,8 +197,10 @@ fn bounds_at(least: u32, text: &[char]) -> Result<(Token<'_>, &[char]), Fault>
 /// Reads an operator with counts, from after its `{`: returns its token and the rest of the text.
 ///
 /// # Errors
-/// `Unclosed` if the text ends before `}`, `CountSyntax` if no counts come next, `CountTooLarge` if a
-/// count is 2^32 or more, and `CountOrder` if the second one is less than the first.
+///
+/// Returns `Unclosed` if the text ends before `}`, `CountSyntax` if no counts come next,
+/// `CountTooLarge` if a count is 2^32 or more, and `CountOrder` if the second one is less than the
+/// first.
 #[tactic(auto, unfolding(crate::specs::Token::count_at))]
 pub fn count_at(text: &[char]) -> Result<(Token<'_>, &[char]), Fault>
     ensures { Gives (λ x. (token_view x.0, x.1.now)) result (count_at text.now) }

@@ -1,8 +1,7 @@
-//! Reads what comes after a backslash.
+//! Reads what comes after a backslash. Both readers of tokens call it at a backslash.
 
 ghost use Rattle.std.specs.Prelude.{◌≡◌, MatchResult};
-ghost use Rattle.logos_pattern_tokens.specs.Token.{Gives, is_among};
-ghost use Rattle.logos_pattern_tokens.specs.Escapes.{is_escapable, single_of, begins, is_form, plain_property, property_of, property_at, braces_at, fixed_at, byte_at, hex_at, boundary_at, single_at, escape_at};
+ghost use Rattle.logos_pattern_tokens.specs.Views.{Gives, is_among, is_escapable, single_of, begins, is_form, plain_property, property_of, property_at, braces_at, fixed_at, byte_at, hex_at, boundary_at, single_at, escape_at};
 
 use crate::counts::{cut_at, hex_digit, scalar_of};
 use crate::error::{Fault, Kind};
@@ -11,8 +10,8 @@ use logos_hir::property::{PerlKind, property_named};
 use std::alloc::Global;
 use unicode::sets::Set;
 
-/// Returns whether an escape of the character is the character itself: an ASCII character that is not a
-/// letter, a digit, `<` or `>`.
+/// Returns whether an escape of the character is the character itself: an ASCII character that is
+/// not a letter, a digit, `<` or `>`.
 fn is_escapable(c: char) -> bool
     ensures { result ≡ is_escapable c }
 {
@@ -64,8 +63,9 @@ fn is_form(name: &[char]) -> bool
 /// Returns the set of characters of the property with this name.
 ///
 /// # Errors
-/// `PropertyForm` if the name has a value or is negated, `UnknownProperty` if no property has it, and
-/// `Memory`.
+///
+/// Returns `PropertyForm` if the name has a value or is negated, `UnknownProperty` if no property
+/// has it, and `Memory`.
 #[tactic(auto, unfolding(crate::specs::Escapes::plain_property))]
 fn plain_property(alloc: Global, name: &[char]) -> Result<Set, Fault>
     ensures { Gives (λ set. set) result (plain_property name.now) }
@@ -82,6 +82,7 @@ fn plain_property(alloc: Global, name: &[char]) -> Result<Set, Fault>
 /// Returns the atom of the property with this name, and the rest of the text.
 ///
 /// # Errors
+///
 /// Those of `plain_property`.
 #[tactic(auto, unfolding(crate::specs::Escapes::property_of))]
 fn property_of<'t>(
@@ -99,8 +100,9 @@ fn property_of<'t>(
 /// Reads the name of a property, in braces or of one character.
 ///
 /// # Errors
-/// `Unclosed` if a brace is not closed; of a name of one character, and without one, `UnknownProperty`;
-/// else those of `plain_property`.
+///
+/// Returns `Unclosed` if a brace is not closed; of a name of one character, and without one,
+/// `UnknownProperty`; else those of `plain_property`.
 #[tactic(auto, unfolding(crate::specs::Escapes::property_at))]
 fn property_at(alloc: Global, negated: bool, text: &[char]) -> Result<(Atom, &[char]), Fault>
     ensures { Gives (λ x. (x.0, x.1.now)) result (property_at negated text.now) }
@@ -124,8 +126,9 @@ fn property_at(alloc: Global, negated: bool, text: &[char]) -> Result<(Atom, &[c
 /// Reads hexadecimal digits up to a closing brace.
 ///
 /// # Errors
-/// `Unclosed` if no brace closes and only digits come, `HexSyntax` if there is no digit or another
-/// character, and `HexNotScalar`.
+///
+/// Returns `Unclosed` if no brace closes and only digits come, `HexSyntax` if there is no digit or
+/// another character, and `HexNotScalar`.
 #[tactic(auto, unfolding(crate::specs::Escapes::braces_at))]
 fn braces_at(text: &[char]) -> Result<(Atom, &[char]), Fault>
     ensures { Gives (λ x. (x.0, x.1.now)) result (braces_at text.now) }
@@ -152,7 +155,8 @@ fn digits_fault(digits: &[char]) -> Kind {
 /// Reads `width` hexadecimal digits.
 ///
 /// # Errors
-/// `HexSyntax` if there are fewer digits, and `HexNotScalar`.
+///
+/// Returns `HexSyntax` if there are fewer digits, and `HexNotScalar`.
 #[tactic(auto, unfolding(crate::specs::Escapes::fixed_at))]
 fn fixed_at(width: usize, text: &[char]) -> Result<(Atom, &[char]), Fault>
     ensures { Gives (λ x. (x.0, x.1.now)) result (fixed_at width text.now) }
@@ -168,7 +172,8 @@ fn fixed_at(width: usize, text: &[char]) -> Result<(Atom, &[char]), Fault>
 /// Reads two hexadecimal digits, which give a byte.
 ///
 /// # Errors
-/// `HexSyntax` if there are fewer digits.
+///
+/// Returns `HexSyntax` if there are fewer digits.
 #[tactic(auto, unfolding(crate::specs::Escapes::byte_at))]
 fn byte_at(text: &[char]) -> Result<(Atom, &[char]), Fault>
     ensures { Gives (λ x. (x.0, x.1.now)) result (byte_at text.now) }
@@ -185,7 +190,8 @@ fn byte_at(text: &[char]) -> Result<(Atom, &[char]), Fault>
 /// Reads what comes after `\x`, `\u` or `\U`; `letter` is which of them.
 ///
 /// # Errors
-/// `HexSyntax` if the text is empty; else those of `braces_at`, `byte_at` or `fixed_at`.
+///
+/// Returns `HexSyntax` if the text is empty; else those of `braces_at`, `byte_at` or `fixed_at`.
 #[tactic(auto, unfolding(crate::specs::Escapes::hex_at))]
 fn hex_at(letter: char, text: &[char]) -> Result<(Atom, &[char]), Fault>
     ensures { Gives (λ x. (x.0, x.1.now)) result (hex_at letter text.now) }
@@ -204,7 +210,8 @@ fn hex_at(letter: char, text: &[char]) -> Result<(Atom, &[char]), Fault>
 /// Reads what comes after `\b`: nothing, as this is a word boundary.
 ///
 /// # Errors
-/// `WordBoundaryForm` if a brace follows.
+///
+/// Returns `WordBoundaryForm` if a brace follows.
 #[tactic(auto, unfolding(crate::specs::Escapes::boundary_at))]
 fn boundary_at(text: &[char]) -> Result<(Atom, &[char]), Fault>
     ensures { Gives (λ x. (x.0, x.1.now)) result (boundary_at text.now) }
@@ -226,7 +233,8 @@ fn no_escape(c: char) -> Kind {
 /// Returns what the escape by the character `c` is, and the rest of the text.
 ///
 /// # Errors
-/// `WordBoundaryForm` for `<` and `>`, and `EscapeUnknown` if there is no such escape.
+///
+/// Returns `WordBoundaryForm` for `<` and `>`, and `EscapeUnknown` if there is no such escape.
 #[tactic(auto, unfolding(crate::specs::Escapes::single_at))]
 fn single_at(c: char, rest: &[char]) -> Result<(Atom, &[char]), Fault>
     ensures { Gives (λ x. (x.0, x.1.now)) result (single_at c rest.now) }
@@ -240,8 +248,9 @@ fn single_at(c: char, rest: &[char]) -> Result<(Atom, &[char]), Fault>
 /// Reads an escape, from after its backslash: returns the atom and the rest of the text.
 ///
 /// # Errors
-/// `EscapeUnknown` if the text is empty or begins with a character that cannot be escaped; else the
-/// fault of the escape; and `Memory`.
+///
+/// Returns `EscapeUnknown` if the text is empty or begins with a character that cannot be escaped;
+/// else the fault of the escape; and `Memory`.
 #[tactic(auto, unfolding(crate::specs::Escapes::escape_at))]
 pub fn escape_at(alloc: Global, text: &[char]) -> Result<(Atom, &[char]), Fault>
     ensures { Gives (λ x. (x.0, x.1.now)) result (escape_at text.now) }

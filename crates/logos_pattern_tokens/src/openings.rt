@@ -1,9 +1,7 @@
-//! Reads what comes after an opening parenthesis.
+//! Reads what comes after an opening parenthesis. The reader of tokens calls it at `(`.
 
 ghost use Rattle.std.specs.Prelude.{◌≡◌};
-ghost use Rattle.logos_pattern_tokens.specs.Flags.{no_change, set_once, with_letter};
-ghost use Rattle.logos_pattern_tokens.specs.Token.{Gives, token_view, sets, opens, plain};
-ghost use Rattle.logos_pattern_tokens.specs.Openings.{is_name_start, is_name_part, are_name_parts, is_name, name_at, python_at, dash, next_letter, setting_end, letters_from, no_letters, option_at, group_at};
+ghost use Rattle.logos_pattern_tokens.specs.Views.{no_change, set_once, with_letter, Gives, token_view, sets, opens, plain, is_name_start, is_name_part, are_name_parts, is_name, name_at, python_at, dash, next_letter, setting_end, letters_from, no_letters, option_at, group_at};
 
 use crate::counts::cut_at;
 use crate::error::{Fault, Kind};
@@ -55,8 +53,9 @@ fn name_fault(text: &[char]) -> Kind {
 /// Reads what comes after `(?<` or `(?P<`.
 ///
 /// # Errors
-/// `Unclosed` if the text is a name, or empty, and has no `>`; else `GroupSyntax` if no name comes before
-/// the `>`.
+///
+/// Returns `Unclosed` if the text is a name, or empty, and has no `>`; else `GroupSyntax` if no
+/// name comes before the `>`.
 #[tactic(auto, unfolding(crate::specs::Openings::name_at))]
 fn name_at(text: &[char]) -> Result<(Token<'_>, &[char]), Fault>
     ensures { Gives (λ x. (token_view x.0, x.1.now)) result (name_at text.now) }
@@ -73,8 +72,9 @@ fn name_at(text: &[char]) -> Result<(Token<'_>, &[char]), Fault>
 /// Reads what comes after `(?P`.
 ///
 /// # Errors
-/// `Unclosed` if the text is empty, `FlagSyntax` if it does not begin with `<`, and else those of
-/// `name_at`.
+///
+/// Returns `Unclosed` if the text is empty, `FlagSyntax` if it does not begin with `<`, and else
+/// those of `name_at`.
 #[tactic(auto, unfolding(crate::specs::Openings::python_at))]
 fn python_at(text: &[char]) -> Result<(Token<'_>, &[char]), Fault>
     ensures { Gives (λ x. (token_view x.0, x.1.now)) result (python_at text.now) }
@@ -113,7 +113,8 @@ fn no_change() -> Change
 /// Returns the new setting of a flag that is turned on or off.
 ///
 /// # Errors
-/// `FlagSyntax` if it was set before.
+///
+/// Returns `FlagSyntax` if it was set before.
 fn set_once(flag: Option<bool>, on: bool) -> Result<Option<bool>, Fault>
     ensures { Gives (λ x. x) result (set_once flag on) }
 {
@@ -126,7 +127,9 @@ fn set_once(flag: Option<bool>, on: bool) -> Result<Option<bool>, Fault>
 /// Returns the flag setting with one more letter, which turns its flag on or off.
 ///
 /// # Errors
-/// `FlagUnsupported` for `x`, and `FlagSyntax` if the letter is that of no flag or came before.
+///
+/// Returns `FlagUnsupported` for `x`, and `FlagSyntax` if the letter is that of no flag or came
+/// before.
 fn with_letter(change: Change, on: bool, letter: char) -> Result<Change, Fault>
     ensures { Gives (λ x. x) result (with_letter change on letter) }
 {
@@ -144,10 +147,12 @@ fn with_letter(change: Change, on: bool, letter: char) -> Result<Change, Fault>
     Ok(next)
 }
 
-/// Returns the letters with a dash after them: it turns off the flags of the letters that come next.
+/// Returns the letters with a dash after them: it turns off the flags of the letters that come
+/// next.
 ///
 /// # Errors
-/// `FlagSyntax` if there was a dash before.
+///
+/// Returns `FlagSyntax` if there was a dash before.
 #[tactic(auto, unfolding(crate::specs::Openings::dash))]
 fn dash(letters: Letters) -> Result<Letters, Fault>
     ensures { Gives (λ x. x) result (dash letters) }
@@ -166,6 +171,7 @@ fn dash(letters: Letters) -> Result<Letters, Fault>
 /// Returns the letters with one more letter, or with a dash.
 ///
 /// # Errors
+///
 /// Those of `dash` and `with_letter`.
 #[tactic(auto, unfolding(crate::specs::Openings::next_letter))]
 fn next_letter(letters: Letters, c: char) -> Result<Letters, Fault>
@@ -185,7 +191,8 @@ fn next_letter(letters: Letters, c: char) -> Result<Letters, Fault>
 /// Returns the token that a flag setting ends with, and the rest of the text.
 ///
 /// # Errors
-/// `FlagSyntax` if a letter has to come next.
+///
+/// Returns `FlagSyntax` if a letter has to come next.
 #[tactic(auto, unfolding(crate::specs::Openings::setting_end))]
 fn setting_end<'t>(
     letters: Letters,
@@ -205,7 +212,9 @@ fn setting_end<'t>(
 /// Reads the letters of a flag setting up to `)` or `:`.
 ///
 /// # Errors
-/// `Unclosed` if the text ends before; else those of `next_letter` and `setting_end`, from the left.
+///
+/// Returns `Unclosed` if the text ends before; else those of `next_letter` and `setting_end`, from
+/// the left.
 fn letters_from(start: Letters, text: &[char]) -> Result<(Token<'_>, &[char]), Fault>
     ensures { Gives (λ x. (token_view x.0, x.1.now)) result (letters_from start text.now) }
 {
@@ -227,7 +236,8 @@ fn letters_from(start: Letters, text: &[char]) -> Result<(Token<'_>, &[char]), F
 /// Reads what comes after `(?`.
 ///
 /// # Errors
-/// `Unclosed` if the text is empty; else those of `name_at`, `python_at` or `letters_from`.
+///
+/// Returns `Unclosed` if the text is empty; else those of `name_at`, `python_at` or `letters_from`.
 #[tactic(auto, unfolding(crate::specs::Openings::option_at))]
 fn option_at(text: &[char]) -> Result<(Token<'_>, &[char]), Fault>
     ensures { Gives (λ x. (token_view x.0, x.1.now)) result (option_at text.now) }
@@ -252,11 +262,13 @@ fn no_letters() -> Letters
     }
 }
 
-/// Reads what comes after an opening parenthesis: returns the token of the group or of the flag setting,
-/// and the rest of the text.
+/// Reads what comes after an opening parenthesis: returns the token of the group or of the flag
+/// setting, and the rest of the text.
 ///
 /// # Errors
-/// `Unclosed`, `GroupSyntax`, `FlagSyntax` or `FlagUnsupported`: the first fault from the left.
+///
+/// Returns `Unclosed`, `GroupSyntax`, `FlagSyntax` or `FlagUnsupported`: the first fault from the
+/// left.
 #[tactic(auto, unfolding(crate::specs::Openings::group_at))]
 pub fn group_at(text: &[char]) -> Result<(Token<'_>, &[char]), Fault>
     ensures { Gives (λ x. (token_view x.0, x.1.now)) result (group_at text.now) }

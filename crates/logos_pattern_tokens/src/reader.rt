@@ -1,8 +1,8 @@
-//! Reads one token from the front of a text, outside brackets.
+//! Reads one token from the front of a text, outside brackets. `logos_syntax` calls it in its loop,
+//! once for each token.
 
 ghost use Rattle.std.specs.Prelude.{◌≡◌};
-ghost use Rattle.logos_pattern_tokens.specs.Token.{Gives, token_view};
-ghost use Rattle.logos_pattern_tokens.specs.Reader.{escape_token_at, token_at};
+ghost use Rattle.logos_pattern_tokens.specs.Views.{Gives, token_view, escape_token_at, token_at};
 
 use crate::counts::{count_at, lazy_at};
 use crate::error::{Fault, Kind};
@@ -14,6 +14,7 @@ use std::alloc::Global;
 /// Reads an escape, from after its backslash, as a token.
 ///
 /// # Errors
+///
 /// Those of `escape_at`.
 #[tactic(auto, unfolding(crate::specs::Reader::escape_token_at))]
 fn escape_token_at(alloc: Global, text: &[char]) -> Result<(Token<'_>, &[char]), Fault>
@@ -23,11 +24,12 @@ fn escape_token_at(alloc: Global, text: &[char]) -> Result<(Token<'_>, &[char]),
     Ok((Token::Atom(atom), rest))
 }
 
-/// Reads the token at the front of the text, and returns it with the rest of the text. The text must not
-/// begin with `[`: brackets have a reader of their own, and here a `[` is `Unclosed`.
+/// Reads the token at the front of the text, and returns it with the rest of the text. The text
+/// must not begin with `[`: brackets have a reader of their own, and here a `[` is `Unclosed`.
 ///
 /// # Errors
-/// `Unclosed` if the text is empty; else the fault of the token, and `Memory`.
+///
+/// Returns `Unclosed` if the text is empty; else the fault of the token, and `Memory`.
 #[tactic(auto, unfolding(crate::specs::Reader::token_at))]
 pub fn token_at(alloc: Global, text: &[char]) -> Result<(Token<'_>, &[char]), Fault>
     ensures { Gives (λ x. (token_view x.0, x.1.now)) result (token_at text.now) }

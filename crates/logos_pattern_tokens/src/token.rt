@@ -3,7 +3,7 @@
 use logos_hir::property::PerlKind;
 use unicode::sets::Set;
 
-/// The flags that are on at a place of a pattern.
+/// The flags that are on at a point of a pattern.
 #[derive(Clone, Copy)]
 pub struct Flags {
     /// `u`: the pattern matches characters; else it matches bytes.
@@ -31,8 +31,8 @@ pub struct Change {
     pub crlf: Option<bool>,
 }
 
-/// An operator that repeats: the least and the greatest count, where `most` is `None` if there is no upper
-/// bound, and whether a `?` makes it lazy.
+/// An operator that repeats: the least and the greatest count, where `most` is `None` if there is
+/// no upper bound, and whether a `?` makes it lazy.
 #[derive(Clone, Copy)]
 pub struct Operator {
     pub least: u32,
@@ -40,7 +40,8 @@ pub struct Operator {
     pub lazy: bool,
 }
 
-/// A part of a pattern that can be repeated and has no parts itself. A `bool` is whether it is negated.
+/// A part of a pattern that can be repeated and has no parts itself. A `bool` is whether it is
+/// negated.
 #[derive(Clone, Copy)]
 pub enum Atom {
     /// A character, or an escape of one other than `\xNN`.

@@ -2,11 +2,8 @@
 
 #![tactic(auto)]
 
-mod disk;
-
-use disk::Disk;
 use logos_commands::{refuse_words, run};
-use logos_disk::words;
+use logos_host::{Disk, words};
 use std::io;
 use std::process::ExitCode;
 

@@ -1,5 +1,5 @@
 -- The faults of a file, one after another.
-use Rattle.std.proofs.Common.{◌≡◌, ◌≤◌, ◌<◌, ◌+◌, ℕ, suc, List, ◌∷◌, length, get_or, drop, sym, ap, ◌∙◌, arith, subst}
+use Rattle.std.proofs.Common.{◌≡◌, Bool, ◌≤◌, ◌<◌, ◌+◌, ℕ, suc, List, ◌∷◌, length, get_or, drop, sym, ap, ◌∙◌, arith, subst}
 use Rattle.std.proofs.Math.Seq.{drop-cons}
 use Rattle.std.proofs.Math.ListN.{drop_of_length-le}
 use Rattle.logos_token.specs.declared.error.SpannedError.{SpannedError}
@@ -15,11 +15,11 @@ next_left faults i d l =
     drop-cons faults i d l ∙ ap (λ n. get_or faults i d ∷ drop n faults) k
 
 -- the next fault, and those after it
-pub next_shown : (source : SourceValue) (begin : ℕ) (faults : List SpannedError) (i : ℕ) (d : SpannedError) (old middle new : PageValue) → i < length faults →
-    Shows (fault_texts source begin (fault_of (get_or faults i d))) old middle → Shows (faults_texts source begin (faults_of (drop (i + 1) faults))) middle new → Shows (faults_texts source begin (faults_of (drop i faults))) old new
-next_shown source begin faults i d old middle new l s t =
-    subst (λ list. Shows (faults_texts source begin (faults_of list)) old new) (sym (next_left faults i d l)) (shows_then s t)
+pub next_shown : (is_colored : Bool) (source : SourceValue) (begin : ℕ) (faults : List SpannedError) (i : ℕ) (d : SpannedError) (old middle new : PageValue) → i < length faults →
+    Shows (fault_texts is_colored source begin (fault_of (get_or faults i d))) old middle → Shows (faults_texts is_colored source begin (faults_of (drop (i + 1) faults))) middle new → Shows (faults_texts is_colored source begin (faults_of (drop i faults))) old new
+next_shown is_colored source begin faults i d old middle new l s t =
+    subst (λ list. Shows (faults_texts is_colored source begin (faults_of list)) old new) (sym (next_left faults i d l)) (shows_then s t)
 
 -- no fault is left
-pub none_shown : (source : SourceValue) (begin : ℕ) (faults : List SpannedError) (i : ℕ) (page : PageValue) → length faults ≤ i → Shows (faults_texts source begin (faults_of (drop i faults))) page page
-none_shown source begin faults i page l = subst (λ list. Shows (faults_texts source begin (faults_of list)) page page) (sym (drop_of_length-le faults l)) (shows_nothing page)
+pub none_shown : (is_colored : Bool) (source : SourceValue) (begin : ℕ) (faults : List SpannedError) (i : ℕ) (page : PageValue) → length faults ≤ i → Shows (faults_texts is_colored source begin (faults_of (drop i faults))) page page
+none_shown is_colored source begin faults i page l = subst (λ list. Shows (faults_texts is_colored source begin (faults_of list)) page page) (sym (drop_of_length-le faults l)) (shows_nothing page)

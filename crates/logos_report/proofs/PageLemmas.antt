@@ -1,7 +1,8 @@
 -- What stands in a page that grows step by step.
-use Rattle.std.proofs.Common.{◌≡◌, ◌≤◌, ℕ, suc, ◌+◌, List, [], ◌∷◌, ◌++◌, append_assoc, sym, ap, ◌∙◌, refl, arith, subst}
+use Rattle.std.proofs.Common.{◌≡◌, ◌≤◌, ℕ, suc, ◌+◌, List, [], ◌∷◌, ◌++◌, append_assoc, sym, ap, ◌∙◌, refl, arith, subst, Bool}
 use Rattle.std.proofs.lemmas.List.{append-nil}
-use Rattle.logos_report.specs.Pages.{PageValue, StandInOrder, Gains, Adds, Shows, times}
+use Rattle.logos_report.specs.Pages.{PageValue, StandInOrder, Gains, Adds, Shows, begun, ended, painted, times}
+use Rattle.logos_report.specs.declared.page.Style.{Style}
 
 -- texts that stand in a front and in what follows it stand in both
 stand_both : (one other : List (List ℕ)) (front back : List ℕ) → StandInOrder one front → StandInOrder other back → StandInOrder (one ++ other) (front ++ back)
@@ -72,3 +73,18 @@ times_gained text count old middle new a b = subst (λ bytes. Gains bytes old ne
 
 pub times_all : (text : List ℕ) (count wanted : ℕ) (old new : PageValue) → count ≤ wanted → wanted ≤ count → Gains (times count text) old new → Gains (times wanted text) old new
 times_all text count wanted old new l h g = let e : count ≡ wanted = omega (arith, l, h) in subst (λ k. Gains (times k text) old new) e g
+
+-- a text in a style
+pub painted_gained : (style : Style) (text : List ℕ) (old begins middle new : PageValue) → Gains (begun old.is_colored style) old begins → Gains text begins middle → Gains (ended middle.is_colored) middle new →
+    Gains (painted old.is_colored style text) old new
+painted_gained style text old begins middle new b t e =
+    let same : middle.is_colored ≡ old.is_colored = t.colored ∙ b.colored in
+    gains_then b (gains_then t (subst (λ c. Gains (ended c) middle new) same e))
+
+-- a text that was gained with the colors that a page had before
+pub gains_as : (text : Bool → List ℕ) {is_colored : Bool} {middle new : PageValue} → middle.is_colored ≡ is_colored → Gains (text middle.is_colored) middle new → Gains (text is_colored) middle new
+gains_as text {is_colored} {middle} {new} e g = subst (λ c. Gains (text c) middle new) e g
+
+-- the same of what is shown
+pub shows_as : (texts : Bool → List (List ℕ)) {is_colored : Bool} {middle new : PageValue} → middle.is_colored ≡ is_colored → Shows (texts middle.is_colored) middle new → Shows (texts is_colored) middle new
+shows_as texts {is_colored} {middle} {new} e s = subst (λ c. Shows (texts c) middle new) e s

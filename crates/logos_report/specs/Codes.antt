@@ -1,25 +1,9 @@
--- Which codes are errors, and when a text has colors.
-use Rattle.std.specs.Prelude.{ℕ, List, Bool, true, false, Option, Some, None, if◌then◌else◌, bytes_eq, codes}
+-- Which codes are errors.
+use Rattle.std.specs.Prelude.{Bool, true, false}
 use Rattle.logos_token.specs.declared.error.fault_code.FaultCode.{FaultCode}
 use Rattle.logos_token.specs.declared.error.fault_code.FaultCode.TheVariants.{Previous}
-use Rattle.logos_report.specs.declared.color.Color.{Color}
-use Rattle.logos_report.specs.declared.color.Color.TheVariants.{Always, Never, Auto}
 
 -- whether a fault is an error: `Previous` is the place of an earlier definition, which an error speaks of
 abbrev pub is_error : FaultCode → Bool
 is_error Previous = false
 is_error code = true
-
--- whether there are colors, on a terminal or not
-abbrev pub has_colors : Color → Bool → Bool
-has_colors Always is_terminal = true
-has_colors Never is_terminal = false
-has_colors Auto is_terminal = is_terminal
-
--- what a value of `--color` stands for
-abbrev pub color_named : List ℕ → Option Color
-color_named name =
-    if bytes_eq name (codes "always") then Some Always
-    else (if bytes_eq name (codes "never") then Some Never
-    else (if bytes_eq name (codes "auto") then Some Auto
-    else None))

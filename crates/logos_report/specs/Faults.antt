@@ -1,26 +1,43 @@
 -- What is shown of faults.
-use Rattle.std.specs.Prelude.{ℕ, ◌==◌, Bool, List, [], ◌∷◌, ◌++◌, if◌then◌else◌}
+use Rattle.std.specs.Prelude.{ℕ, ◌==◌, Bool, List, [], ◌∷◌, ◌++◌, if◌then◌else◌, codes, decimal}
 use Rattle.std.specs.List.{before_first, flat_map}
 use Rattle.logos_token.specs.Faults.{Fault}
 use Rattle.logos_token.specs.FaultNames.{name_of}
 use Rattle.logos_report.specs.Codes.{is_error}
-use Rattle.logos_report.specs.Places.{SourceValue, shown_place}
+use Rattle.logos_token.specs.declared.error.fault_code.FaultCode.{FaultCode}
+use Rattle.logos_report.specs.declared.page.Style.TheVariants.{Error, Frame, Strong}
+use Rattle.logos_report.specs.Pages.{painted}
+use Rattle.logos_report.specs.Places.{SourceValue, place_line}
 
 -- a text up to its first LF
 abbrev pub first_line : List ℕ → List ℕ
 first_line text = before_first (λ byte. byte == 10) text
 
--- the name of the code of a fault if it is an error, and the first line of its message
-abbrev pub head_texts : Fault → List (List ℕ)
-head_texts fault = (if is_error fault.code then name_of fault.code ∷ [] else []) ++ first_line fault.message ∷ []
+-- how the line of a fault begins: with the name of its code, if it is an error
+abbrev pub code_text : Bool → FaultCode → List ℕ
+code_text is_colored code =
+    if is_error code then painted is_colored Error (codes "error[" ++ (name_of code ++ codes "]"))
+    else painted is_colored Frame (codes "note")
 
--- the same, and its place in the file
-abbrev pub fault_texts : SourceValue → ℕ → Fault → List (List ℕ)
-fault_texts source begin fault = head_texts fault ++ shown_place source begin fault.span.from ∷ []
+-- the line of a fault: its code, and the first line of its message
+abbrev pub head_line : Bool → Fault → List ℕ
+head_line is_colored fault =
+    code_text is_colored fault.code ++ (painted is_colored Strong (codes ": " ++ first_line fault.message) ++ codes "\n")
+
+-- the line of a fault, and the one that names its place in the file
+abbrev pub fault_texts : Bool → SourceValue → ℕ → Fault → List (List ℕ)
+fault_texts is_colored source begin fault = head_line is_colored fault ∷ place_line is_colored source begin fault.span.from ∷ []
 
 -- the same for all faults of a part of a file, in order
-abbrev pub faults_texts : SourceValue → ℕ → List Fault → List (List ℕ)
-faults_texts source begin faults = flat_map (fault_texts source begin) faults
+abbrev pub faults_texts : Bool → SourceValue → ℕ → List Fault → List (List ℕ)
+faults_texts is_colored source begin faults = flat_map (fault_texts is_colored source begin) faults
+
+-- the line that says how many errors there are
+abbrev pub count_text : ℕ → List ℕ
+count_text count = codes ": aborting due to " ++ (decimal count ++ (if count == 1 then codes " previous error" else codes " previous errors"))
+
+abbrev pub summary_line : Bool → ℕ → List ℕ
+summary_line is_colored count = painted is_colored Error (codes "error") ++ (painted is_colored Strong (count_text count) ++ codes "\n")
 
 -- whether a fault is an error
 abbrev pub is_fault_error : Fault → Bool

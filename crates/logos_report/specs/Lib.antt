@@ -2,4 +2,3 @@ pub mod Codes
 pub mod Pages
 pub mod Places
 pub mod Faults
-pub mod Stops

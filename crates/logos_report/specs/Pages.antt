@@ -1,5 +1,7 @@
 -- A text that grows, and what stands in it.
-use Rattle.std.specs.Prelude.{◌≡◌, ℕ, zero, suc, List, [], ◌∷◌, ◌++◌, Bool, IsTrue}
+use Rattle.std.specs.Prelude.{◌≡◌, ℕ, zero, suc, List, [], ◌∷◌, ◌++◌, Bool, true, false, IsTrue, codes}
+use Rattle.logos_report.specs.declared.page.Style.{Style}
+use Rattle.logos_report.specs.declared.page.Style.TheVariants.{Error, Warning, Frame, Strong}
 
 -- a page as a value: its text, whether it has colors, and whether it has all that was pushed
 pub record PageValue : Type 0 where
@@ -32,3 +34,23 @@ pub record Shows (texts : List (List ℕ)) (old new : PageValue) : Type 0 where
 abbrev pub times : ℕ → List ℕ → List ℕ
 times zero text = []
 times (suc count) text = times count text ++ text
+
+-- what begins a part of a style on a terminal
+abbrev pub style_text : Style → List ℕ
+style_text Error = 27 ∷ codes "[1;31m"
+style_text Warning = 27 ∷ codes "[1;33m"
+style_text Frame = 27 ∷ codes "[1;34m"
+style_text Strong = 27 ∷ codes "[1m"
+
+-- what begins and what ends a part of a style, with or without colors
+abbrev pub begun : Bool → Style → List ℕ
+begun true style = style_text style
+begun false style = []
+
+abbrev pub ended : Bool → List ℕ
+ended true = 27 ∷ codes "[0m"
+ended false = []
+
+-- a text in a style, with or without colors
+abbrev pub painted : Bool → Style → List ℕ → List ℕ
+painted is_colored style text = begun is_colored style ++ (text ++ ended is_colored)

@@ -1,7 +1,10 @@
 -- Places of a file, as they are shown.
-use Rattle.std.specs.Prelude.{ℕ, ◌+◌, ◌-◌, ◌^◌, min, List, ◌++◌, decimal, codes}
+use Rattle.std.specs.Prelude.{◌≡◌, ◌⊎◌, ℕ, ◌+◌, ◌-◌, ◌^◌, min, Bool, List, [], ◌++◌, decimal, codes}
 use Rattle.logos_lines.specs.declared.place.Position.{Position}
 use Rattle.logos_lines.specs.Places.{place_at}
+use Rattle.logos_lines.specs.Starts.{IsLineOf, IsNoLine}
+use Rattle.logos_report.specs.declared.page.Style.TheVariants.{Frame}
+use Rattle.logos_report.specs.Pages.{painted}
 
 -- a file as a value: its path and its text
 pub record SourceValue : Type 0 where
@@ -19,3 +22,14 @@ in_file begin offset = min (offset + begin) (2 ^ 64 - 1)
 -- the place of an offset of the part of a file that begins at another offset
 abbrev pub shown_place : SourceValue → ℕ → ℕ → List ℕ
 shown_place source begin offset = shown_position source.path (place_at source.text (in_file begin offset))
+
+-- the line that names the place of a fault, after the blanks of its margin
+abbrev pub arrow_line : Bool → List ℕ → Position → List ℕ
+arrow_line is_colored path place = painted is_colored Frame (codes "-->") ++ (codes " " ++ (shown_position path place ++ codes "\n"))
+
+abbrev pub place_line : Bool → SourceValue → ℕ → ℕ → List ℕ
+place_line is_colored source begin offset = arrow_line is_colored source.path (place_at source.text (in_file begin offset))
+
+-- this is the text of a line of a file, or nothing where the file has no such line
+abbrev pub IsShownLine : List ℕ → ℕ → List ℕ → Type 0
+IsShownLine text line shown = IsLineOf text line shown ⊎ (IsNoLine text line × (shown ≡ []))

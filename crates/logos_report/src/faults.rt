@@ -1,12 +1,13 @@
 //! The faults of a file.
-ghost use Rattle.std.specs.Prelude.{◌≡◌, ◌∷◌, ◌++◌, [], decimal, if◌then◌else◌, string_bytes};
-ghost use Rattle.std.specs.List.{count_by, flat_map};
+
+ghost use Rattle.std.specs.Prelude.{◌≡◌, ◌++◌, ◌==◌, [], codes, if◌then◌else◌};
+ghost use Rattle.std.specs.List.{count_by};
 ghost use Rattle.logos_token.specs.FaultNames.{name_of};
 ghost use Rattle.logos_token.specs.FaultView.{fault_of, faults_of};
 ghost use Rattle.logos_report.specs.Codes.{is_error};
-ghost use Rattle.logos_report.specs.Faults.{fault_texts, faults_texts, first_line, head_texts};
-ghost use Rattle.logos_report.specs.Faults.{is_fault_error};
-ghost use Rattle.logos_report.specs.Pages.{Shows};
+ghost use Rattle.logos_report.specs.Faults.{code_text, count_text, fault_texts, faults_texts};
+ghost use Rattle.logos_report.specs.Faults.{first_line, head_line, is_fault_error, summary_line};
+ghost use Rattle.logos_report.specs.Pages.{Gains, Shows, painted};
 
 use crate::frame::{push_frame, push_place};
 use crate::help::help_for;
@@ -14,18 +15,19 @@ use crate::page::{Page, Style};
 use crate::source::Part;
 use logos_token::error::{Errors, FaultCode, SpannedError};
 
-/// Pushes the faults of a part of a file, in order. For each, the name of its code, the first line
-/// of its message and its place in the file stand in what is pushed.
+/// Pushes the faults of a part of a file, in order. For each, a line with the name of its code and the
+/// first line of its message, and one with its place in the file stand in what is pushed.
 pub fn push_faults(page: &mut Page, part: Part<'_, '_>, errors: &Errors)
-    ensures { Shows (faults_texts part.entry.source.now part.entry.offset errors.now) page.old page.new }
+    ensures { Shows (faults_texts page.old.is_colored part.entry.source.now part.entry.offset
+        errors.now) page.old page.new }
 {
     push_all(page, part, errors.list());
 }
 
 /// Pushes these faults.
 fn push_all(page: &mut Page, part: Part<'_, '_>, faults: &[SpannedError])
-    ensures { Shows (faults_texts part.entry.source.now part.entry.offset (faults_of faults.now))
-        page.old page.new }
+    ensures { Shows (faults_texts page.old.is_colored part.entry.source.now part.entry.offset
+        (faults_of faults.now)) page.old page.new }
 {
     for fault in faults {
         push_fault(page, part, faults, fault);
@@ -60,7 +62,7 @@ fn is_error(code: FaultCode) -> bool
 
 /// Pushes the line that says how many errors there are.
 pub fn push_summary(page: &mut Page, count: usize)
-    ensures { Shows (decimal count ∷ []) page.old page.new }
+    ensures { Gains (summary_line page.old.is_colored count) page.old page.new }
 {
     page.paint(Style::Error, "error");
     page.begin(Style::Strong);
@@ -71,21 +73,28 @@ pub fn push_summary(page: &mut Page, count: usize)
 
 /// Pushes how many errors there are.
 fn push_count(page: &mut Page, count: usize)
-    ensures { Shows (decimal count ∷ []) page.old page.new }
+    ensures { Gains (count_text count) page.old page.new }
 {
     page.push(": aborting due to ");
     page.push_number(count);
-    page.push(if count == 1 {
+    page.push(errors_text(count));
+}
+
+/// Returns the word for so many errors.
+fn errors_text(count: usize) -> &'static str
+    ensures { result.now ≡ (if count == 1 then codes " previous error" else codes " previous errors") }
+{
+    if count == 1 {
         " previous error"
     } else {
         " previous errors"
-    });
+    }
 }
 
 /// Pushes a fault, which is one of `faults`.
 fn push_fault(page: &mut Page, part: Part<'_, '_>, faults: &[SpannedError], fault: &SpannedError)
-    ensures { Shows (fault_texts part.entry.source.now part.entry.offset (fault_of fault.now))
-        page.old page.new }
+    ensures { Shows (fault_texts page.old.is_colored part.entry.source.now part.entry.offset
+        (fault_of fault.now)) page.old page.new }
 {
     push_head(page, fault);
     let width = push_frame(page, part, fault.span, style_of(fault.code));
@@ -102,29 +111,45 @@ fn push_fault(page: &mut Page, part: Part<'_, '_>, faults: &[SpannedError], faul
 
 /// Pushes the code of a fault and the first line of its message.
 fn push_head(page: &mut Page, fault: &SpannedError)
-    ensures { Shows (head_texts (fault_of fault.now)) page.old page.new }
+    ensures { Gains (head_line page.old.is_colored (fault_of fault.now)) page.old page.new }
 {
     push_code(page, fault.code);
+    push_message(page, first_line(fault.message.as_str()));
+    page.push("\n");
+}
+
+/// Pushes the first line of a message, and what parts it from the code.
+fn push_message(page: &mut Page, line: &str)
+    ensures { Gains (painted page.old.is_colored Style.Strong (codes ": " ++ line.now)) page.old
+        page.new }
+{
     page.begin(Style::Strong);
     page.push(": ");
-    page.push(first_line(fault.message.as_str()));
+    page.push(line);
     page.end();
-    page.push("\n");
 }
 
 /// Pushes the code of a fault.
 fn push_code(page: &mut Page, code: FaultCode)
-    ensures { Shows (if is_error code then name_of code ∷ [] else []) page.old page.new }
+    ensures { Gains (code_text page.old.is_colored code) page.old page.new }
 {
     if is_error(code) {
-        page.begin(Style::Error);
-        page.push("error[");
-        page.push(code.name());
-        page.push("]");
-        page.end();
+        push_error_code(page, code);
     } else {
         page.paint(Style::Frame, "note");
     }
+}
+
+/// Pushes the code of a fault that is an error.
+fn push_error_code(page: &mut Page, code: FaultCode)
+    ensures { Gains (painted page.old.is_colored Style.Error
+        (codes "error[" ++ (name_of code ++ codes "]"))) page.old page.new }
+{
+    page.begin(Style::Error);
+    page.push("error[");
+    page.push(code.name());
+    page.push("]");
+    page.end();
 }
 
 /// Returns the style of the carets of a fault.

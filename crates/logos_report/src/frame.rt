@@ -1,7 +1,8 @@
 //! A place of a file: its line, and carets under it.
+
 ghost use Rattle.std.specs.Prelude.{◌≡◌, ◌∷◌, [], decimal, length};
 ghost use Rattle.logos_report.specs.Pages.{Gains, Shows};
-ghost use Rattle.logos_report.specs.Places.{shown_place, shown_position};
+ghost use Rattle.logos_report.specs.Places.{arrow_line, place_line, shown_place, shown_position};
 
 use crate::page::{Page, Style};
 use crate::source::{Part, Source};
@@ -25,7 +26,8 @@ struct Frame<'p, 't> {
 /// Pushes where a span begins, the lines at which it begins and ends, and carets of this style under
 /// it. Returns how many digits the number of the last line has.
 pub fn push_frame(page: &mut Page, part: Part<'_, '_>, span: Span, style: Style) -> usize
-    ensures { Shows (shown_place part.entry.source.now part.entry.offset span.from ∷ []) page.old page.new }
+    ensures { Shows (place_line page.old.is_colored part.entry.source.now part.entry.offset span.from
+        ∷ []) page.old page.new }
 {
     let first = part.position(span.from);
     let last = part.position(span.to);
@@ -37,7 +39,8 @@ pub fn push_frame(page: &mut Page, part: Part<'_, '_>, span: Span, style: Style)
         width,
         style,
     };
-    push_arrow(page, frame);
+    page.push_times(" ", width);
+    push_arrow(page, part.source, first);
     push_lines(page, frame);
     width
 }
@@ -60,14 +63,13 @@ fn push_position(page: &mut Page, source: &Source<'_>, place: Position)
     page.push_number(place.column);
 }
 
-/// Pushes the line that says where a span begins.
-fn push_arrow(page: &mut Page, frame: Frame<'_, '_>)
-    ensures { Shows (shown_position frame.entry.source.now.path frame.entry.first ∷ []) page.old page.new }
+/// Pushes the line that says where a span begins, without its blanks in front.
+fn push_arrow(page: &mut Page, source: &Source<'_>, place: Position)
+    ensures { Gains (arrow_line page.old.is_colored source.now.path place) page.old page.new }
 {
-    page.push_times(" ", frame.width);
     page.paint(Style::Frame, "-->");
     page.push(" ");
-    push_position(page, frame.source, frame.first);
+    push_position(page, source, place);
     page.push("\n");
 }
 

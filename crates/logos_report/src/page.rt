@@ -1,7 +1,8 @@
 //! A text that grows.
-ghost use Rattle.std.specs.Prelude.{◌≡◌, ◌↔◌, [], ◌∷◌, true, false, IfOk, IsOk, IsTrue};
+
+ghost use Rattle.std.specs.Prelude.{◌≡◌, ◌↔◌, [], true, IfOk, IsOk, IsTrue};
 ghost use Rattle.std.specs.Prelude.{decimal, encode_utf8, string_bytes};
-ghost use Rattle.logos_report.specs.Pages.{Gains, Shows, times};
+ghost use Rattle.logos_report.specs.Pages.{Gains, begun, ended, painted, style_text, times};
 
 use std::alloc::{AllocError, Global};
 use std::marker::Model;
@@ -92,8 +93,7 @@ impl Page {
 
     /// Begins a part of this style.
     pub fn begin(&mut self, style: Style)
-        ensures shows { Shows [] self.old self.new }
-        ensures plain { self.old.is_colored ≡ false → self.new ≡ self.old }
+        ensures { Gains (begun self.old.is_colored style) self.old self.new }
     {
         if self.is_colored {
             self.push(style_text(style));
@@ -102,8 +102,7 @@ impl Page {
 
     /// Ends a part that has a style.
     pub fn end(&mut self)
-        ensures shows { Shows [] self.old self.new }
-        ensures plain { self.old.is_colored ≡ false → self.new ≡ self.old }
+        ensures { Gains (ended self.old.is_colored) self.old self.new }
     {
         if self.is_colored {
             self.push("\u{1b}[0m");
@@ -112,7 +111,7 @@ impl Page {
 
     /// Pushes a text of this style.
     pub fn paint(&mut self, style: Style, text: &str)
-        ensures { Shows (text.now ∷ []) self.old self.new }
+        ensures { Gains (painted self.old.is_colored style text.now) self.old self.new }
     {
         self.begin(style);
         self.push(text);
@@ -137,7 +136,9 @@ impl Page {
 }
 
 /// Returns what begins a part of this style on a terminal.
-fn style_text(style: Style) -> &'static str {
+fn style_text(style: Style) -> &'static str
+    ensures { result.now ≡ style_text style }
+{
     match style {
         Style::Error => "\u{1b}[1;31m",
         Style::Warning => "\u{1b}[1;33m",

@@ -1,6 +1,8 @@
 //! Files whose places are shown.
+
 ghost use Rattle.std.specs.Prelude.{◌≡◌, IfOk};
 ghost use Rattle.logos_lines.specs.Places.{place_at};
+ghost use Rattle.logos_report.specs.Places.{IsShownLine};
 
 use logos_lines::{LineIndex, Position};
 use std::alloc::{AllocError, Global};
@@ -84,7 +86,9 @@ impl<'t> Source<'t> {
     }
 
     /// Returns the text of a line, or an empty one if the file has no such line.
-    pub fn line(&self, line: usize) -> &'t str {
+    pub fn line(&self, line: usize) -> &'t str
+        ensures { IsShownLine self.now.text line result.now }
+    {
         match self.index.line_text(line) {
             Some(text) => text,
             None => "",

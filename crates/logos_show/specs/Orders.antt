@@ -1,16 +1,18 @@
 -- What the words of a command line ask for.
-use Rattle.std.specs.Prelude.{◌≡◌, ◌⊎◌, ℕ, ◌==◌, List, [], ◌∷◌, Bool, true, false, Option, Some, None, if◌then◌else◌, option_map, bytes_eq, codes, is_some}
-use Rattle.logos_report.specs.declared.color.Color.{Color}
-use Rattle.logos_report.specs.declared.color.Color.TheVariants.{Auto}
-use Rattle.logos_report.specs.Codes.{color_named}
-use Rattle.logos_report.specs.Stops.{status_of}
-use Rattle.logos_report.specs.declared.stop.Stop.{Stop}
+use Rattle.std.specs.Prelude.{◌≡◌, ◌⊎◌, ℕ, List, [], ◌∷◌, false, Option, Some, None, if◌then◌else◌, option_map, bytes_eq, codes, is_some}
+use Rattle.logos_host.specs.declared.color.Color.{Color}
+use Rattle.logos_host.specs.declared.color.Color.TheVariants.{Auto}
+use Rattle.logos_host.specs.declared.options.OptionName.{OptionName}
+use Rattle.logos_host.specs.declared.options.OptionName.TheVariants as options
+use Rattle.logos_host.specs.declared.word_steps.Progress.{Progress}
+use Rattle.logos_host.specs.Colors.{color_named}
+use Rattle.logos_host.specs.declared.failure.Failure.{Failure}
+use Rattle.logos_host.specs.Failures.{status_of}
+use Rattle.logos_host.specs.WordSteps.{StepValue, UseValue, path, flag, value, step}
 use Rattle.logos_show.specs.declared.options.Order.{Order}
 use Rattle.logos_show.specs.declared.options.Request.{Request}
 use Rattle.logos_show.specs.declared.options.Request.TheVariants.{Help, Version, Show}
 use Rattle.logos_show.specs.declared.options.Given.{Given}
-use Rattle.logos_show.specs.declared.options.Valued.{Valued}
-use Rattle.logos_show.specs.declared.options.Valued.TheVariants.{Name, Color as ColorOption}
 use Rattle.logos_show.specs.declared.options.Answer.{Answer}
 use Rattle.logos_show.specs.declared.options.Answer.TheVariants as answers
 
@@ -27,76 +29,74 @@ pub data Asked : Type 0 where
   asks_version : Asked
   asks_showing : (order : OrderValue) → Asked
 
--- the options that take a value, by their words
-abbrev pub valued_named : List ℕ → Option Valued
-valued_named word =
-    if bytes_eq word (codes "--enum") then Some Name
-    else (if bytes_eq word (codes "--color") then Some ColorOption
-    else None)
-
--- the options that ask for a text, by their words
-abbrev pub answer_named : List ℕ → Option Answer
-answer_named word =
-    if bytes_eq word (codes "--help") then Some answers.Help
-    else (if bytes_eq word (codes "--version") then Some answers.Version
-    else None)
-
--- What the words so far give. An option that takes a value is pending until the next word. Of several values of an option the last one counts, and of `--help` and `--version` the first.
+-- What the words so far give. After an option that asks for a text no word is read.
 pub record GivenValue : Type 0 where
   pub file : Option (List ℕ)
   pub input : Option (List ℕ)
   pub name : Option (List ℕ)
-  pub color : Color
+  pub color : Option Color
   pub answer : Option Answer
-  pub pending : Option Valued
+  pub progress : Progress
 
 -- what no words give
 abbrev pub given_nothing : GivenValue
-given_nothing = record { file = None; input = None; name = None; color = Auto; answer = None; pending = None }
+given_nothing = record { file = None; input = None; name = None; color = None; answer = None; progress = record { pending = None; is_over = false } }
 
--- the value of an option
-abbrev pub with_value : GivenValue → Valued → List ℕ → Option GivenValue
-with_value given Name value = Some (record given { name = Some value; pending = None })
-with_value given ColorOption value = option_map (λ color. record given { color = color; pending = None }) (color_named value)
+-- what is given, or this
+abbrev pub given_or : {A : Type 0} → A → Option A → A
+given_or other None = other
+given_or other (Some given) = given
 
--- the first of two answers
-abbrev pub first_answer : Option Answer → Answer → Option Answer
-first_answer None answer = Some answer
-first_answer (Some first) answer = Some first
-
--- whether a word begins with `-`
-abbrev pub begins_option : List ℕ → Bool
-begins_option [] = false
-begins_option (byte ∷ rest) = byte == 45
+-- the path that a word is: `-` is standard input
+abbrev pub path_named : List ℕ → List ℕ
+path_named word = if bytes_eq word (codes "-") then codes "/dev/stdin" else word
 
 -- the path of the input, of which there is one
 abbrev pub with_input : GivenValue → List ℕ → Option GivenValue
-with_input given word = if is_some given.input then None else Some (record given { input = Some word })
+with_input given word = if is_some given.input then None else Some (record given { input = Some (path_named word) })
 
 -- the path of the file, or of the input after it
 abbrev pub with_path : GivenValue → List ℕ → Option GivenValue
-with_path given word =
-    if begins_option word then None
-    else (if is_some given.file then with_input given word
-    else Some (record given { file = Some word }))
+with_path given word = if is_some given.file then with_input given word else Some (record given { file = Some (path_named word) })
 
--- a word that is not an option with a value
-abbrev pub with_answer : GivenValue → Option Answer → List ℕ → Option GivenValue
-with_answer given (Some answer) word = Some (record given { answer = first_answer given.answer answer })
-with_answer given None word = with_path given word
+-- an option without a value
+abbrev pub with_flag : GivenValue → OptionName → Option GivenValue
+with_flag given options.Help = Some (record given { answer = Some answers.Help })
+with_flag given options.Version = Some (record given { answer = Some answers.Version })
+with_flag given option = None
 
--- a word that is not the value of an option
-abbrev pub with_option : GivenValue → Option Valued → List ℕ → Option GivenValue
-with_option given (Some option) word = Some (record given { pending = Some option })
-with_option given None word = with_answer given (answer_named word) word
+-- the name of an enum, of which there is one
+abbrev pub with_name : GivenValue → List ℕ → Option GivenValue
+with_name given word = if is_some given.name then None else Some (record given { name = Some word })
+
+-- when messages have colors, which is given once
+abbrev pub with_color : GivenValue → Option Color → Option Color → Option GivenValue
+with_color given (Some color) named = None
+with_color given None None = None
+with_color given None (Some color) = Some (record given { color = Some color })
+
+-- an option with its value
+abbrev pub with_value : GivenValue → OptionName → List ℕ → Option GivenValue
+with_value given options.Enum word = with_name given word
+with_value given options.Color word = with_color given given.color (color_named word)
+with_value given option word = None
+
+abbrev pub with_use : GivenValue → UseValue → Option GivenValue
+with_use given (path word) = with_path given word
+with_use given (flag option) = with_flag given option
+with_use given (value option word) = with_value given option word
+
+abbrev pub with_found : GivenValue → Option UseValue → Option GivenValue
+with_found given None = Some given
+with_found given (Some found) = with_use given found
+
+abbrev pub with_step : GivenValue → Option StepValue → Option GivenValue
+with_step given None = None
+with_step given (Some next) = with_found (record given { progress = next.progress }) next.found
 
 -- one more word
-abbrev pub with_pending : GivenValue → Option Valued → List ℕ → Option GivenValue
-with_pending given (Some option) word = with_value given option word
-with_pending given None word = with_option given (valued_named word) word
-
 abbrev pub with_word : GivenValue → List ℕ → Option GivenValue
-with_word given word = with_pending given given.pending word
+with_word given word = if is_some given.answer then Some given else with_step given (step given.progress word)
 
 -- all these words, one after another
 abbrev pub with_words : Option GivenValue → List (List ℕ) → Option GivenValue
@@ -107,17 +107,22 @@ with_words (Some given) (word ∷ rest) = with_words (with_word given word) rest
 -- a file to show, if there is one
 abbrev pub order_given : GivenValue → Option (List ℕ) → Option Asked
 order_given given None = None
-order_given given (Some file) = Some (asks_showing (record { file = file; input = given.input; name = given.name; color = given.color }))
+order_given given (Some file) = Some (asks_showing (record { file = file; input = given.input; name = given.name; color = given_or Auto given.color }))
+
+-- no option waits for a value
+abbrev pub settled_given : GivenValue → Option OptionName → Option Asked
+settled_given given (Some option) = None
+settled_given given None = order_given given given.file
 
 abbrev pub answer_given : GivenValue → Option Answer → Option Asked
 answer_given given (Some answers.Help) = Some asks_help
 answer_given given (Some answers.Version) = Some asks_version
-answer_given given None = order_given given given.file
+answer_given given None = settled_given given given.progress.pending
 
--- what the words ask for, where no option waits for a value
+-- what the words ask for
 abbrev pub asked_given : Option GivenValue → Option Asked
 asked_given None = None
-asked_given (Some given) = if is_some given.pending then None else answer_given given given.answer
+asked_given (Some given) = answer_given given given.answer
 
 abbrev pub asked : List (List ℕ) → Option Asked
 asked words = asked_given (with_words (Some given_nothing) words)
@@ -130,7 +135,7 @@ given_value given = record {
   name = option_map (λ path. path.now) given.name;
   color = given.color;
   answer = given.answer;
-  pending = given.pending;
+  progress = given.progress;
 }
 
 abbrev pub order_value : Order → OrderValue
@@ -147,5 +152,5 @@ request_value Version = asks_version
 request_value (Show order) = asks_showing (order_value order)
 
 -- what was asked for is refused, or a file, an output or memory fails
-abbrev pub IsNoMisuse : Stop → Type 0
-IsNoMisuse stop = (status_of stop ≡ 1) ⊎ (status_of stop ≡ 3)
+abbrev pub IsNoMisuse : Failure → Type 0
+IsNoMisuse failure = (status_of failure ≡ 1) ⊎ (status_of failure ≡ 3)

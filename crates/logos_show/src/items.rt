@@ -5,11 +5,12 @@ ghost use Rattle.logos_show.specs.Orders.{IsNoMisuse};
 
 use crate::counts::{Counts, name_at, push_count};
 use crate::lines::{LINE, push_item};
+use crate::reading::print_bytes;
 use logos_codegen::code::{Code, CodeLeaf};
 use logos_codegen::leaf::LeafId;
 use logos_codegen::machine::{Action, Item, Lexer};
+use logos_host::{Failure, write_full};
 use logos_lines::Cursor;
-use logos_report::Stop;
 use std::alloc::{AllocError, Global};
 use std::io::Write;
 use std::time::{Clock, Duration};
@@ -44,7 +45,7 @@ pub(crate) fn write_items<O: Write, C: Clock>(
     input: &[u8],
     clock: &C,
     out: &mut O,
-) -> Result<(), Stop<'static>>
+) -> Result<(), Failure<'static>>
     ensures { IfErr result IsNoMisuse }
 {
     let mut lines = Lines {
@@ -61,8 +62,7 @@ pub(crate) fn write_items<O: Write, C: Clock>(
     if let Some(passed) = passed {
         push_count(&mut lines.block, "milliseconds", passed)?;
     }
-    write_block(&mut lines.block, out)?;
-    flush(out)
+    print_bytes(&lines.block, out)
 }
 
 /// Returns the heads of the lines of these leaves.
@@ -108,7 +108,7 @@ fn write_all<O: Write>(
     input: &[u8],
     lines: &mut Lines,
     out: &mut O,
-) -> Result<(), Stop<'static>>
+) -> Result<(), Failure<'static>>
     ensures { IfErr result IsNoMisuse }
 {
     let emit = |_leaf: LeafId, _slice: &[u8]| Action::Emit;
@@ -117,7 +117,7 @@ fn write_all<O: Write>(
             let mut lexer = lexer;
             write_lexed(&mut lexer, input, lines, out)
         }
-        Err(error) => Err(Stop::NotUtf8 {
+        Err(error) => Err(Failure::NotUtf8 {
             valid_up_to: error.valid_up_to,
         }),
     }
@@ -129,14 +129,14 @@ fn write_lexed<C: Fn(LeafId, &[u8]) -> Action, O: Write>(
     input: &[u8],
     lines: &mut Lines,
     out: &mut O,
-) -> Result<(), Stop<'static>>
+) -> Result<(), Failure<'static>>
     requires { C.IsAlwaysCallable lexer.old.callback }
     ensures { IfErr result IsNoMisuse }
 {
     let mut cursor = Cursor::new(input);
     while let Some(item) = lexer.next() {
         add_item(lines, &mut cursor, item)?;
-        write_full(&mut lines.block, out)?;
+        write_if_full(&mut lines.block, out)?;
     }
     Ok(())
 }
@@ -182,33 +182,11 @@ fn head_at(heads: &[Vec<u8>], leaf: usize) -> &[u8] {
 
 /// Writes a block that is full, and empties it.
 #[inline(always)]
-fn write_full<O: Write>(block: &mut Vec<u8>, out: &mut O) -> Result<(), Stop<'static>>
+fn write_if_full<O: Write>(block: &mut Vec<u8>, out: &mut O) -> Result<(), Failure<'static>>
     ensures { IfErr result IsNoMisuse }
 {
-    if block.len() < BLOCK {
-        return Ok(());
-    }
-    write_block(block, out)
-}
-
-/// Writes a block, and empties it.
-fn write_block<O: Write>(block: &mut Vec<u8>, out: &mut O) -> Result<(), Stop<'static>>
-    ensures { IfErr result IsNoMisuse }
-{
-    let written = out.write_all(block.as_slice());
-    block.clear();
-    match written {
+    match write_full(block, BLOCK, out) {
         Ok(()) => Ok(()),
-        Err(_) => Err(Stop::Output),
-    }
-}
-
-/// Flushes a writer, which may hold back what it is given until then.
-fn flush<O: Write>(out: &mut O) -> Result<(), Stop<'static>>
-    ensures { IfErr result IsNoMisuse }
-{
-    match out.flush() {
-        Ok(()) => Ok(()),
-        Err(_) => Err(Stop::Output),
+        Err(error) => Err(Failure::of_output(&error)),
     }
 }

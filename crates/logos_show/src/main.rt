@@ -12,8 +12,8 @@ mod showing;
 mod table;
 mod warnings;
 
-use logos_disk::{Disk, words};
-use running::{Host, refuse_words, run};
+use logos_host::{Disk, refuse_words, words};
+use running::{Host, USAGE, run};
 use std::io;
 use std::process::ExitCode;
 
@@ -26,7 +26,7 @@ fn main(rt: HostRuntime) -> io::Result<ExitCode> {
     };
     let status = match words(&rt) {
         Ok(words) => run(rt.alloc(), words.as_slice(), &mut host),
-        Err(error) => refuse_words(error.kind(), host.err),
+        Err(error) => refuse_words(error.kind(), USAGE, host.err),
     };
     Ok(ExitCode::from(status))
 }

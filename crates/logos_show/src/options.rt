@@ -1,12 +1,15 @@
 //! What the words of a command line ask for.
-ghost use Rattle.std.specs.Prelude.{◌≡◌, IfErr, IfOk, None, Some, is_some, map, option_map, string_bytes};
-ghost use Rattle.logos_report.specs.Stops.{status_of};
-ghost use Rattle.logos_show.specs.Orders.{answer_named, asked, asked_given, begins_option, first_answer};
-ghost use Rattle.logos_show.specs.Orders.{given_nothing, given_value, order_given, request_value};
-ghost use Rattle.logos_show.specs.Orders.{valued_named, with_answer, with_input, with_option, with_path, with_value};
-ghost use Rattle.logos_show.specs.Orders.{with_word, with_words};
 
-use logos_report::{Color, Stop, color_by_name};
+ghost use Rattle.std.specs.Prelude.{◌≡◌, IfErr, IfOk, None, Some, is_some, map, option_map, string_bytes};
+ghost use Rattle.logos_host.specs.Failures.{status_of};
+ghost use Rattle.logos_host.specs.WordSteps.{use_value};
+ghost use Rattle.logos_show.specs.Orders.{asked, asked_given, given_nothing, given_value, order_given};
+ghost use Rattle.logos_show.specs.Orders.{given_or, path_named, request_value, with_flag};
+ghost use Rattle.logos_show.specs.Orders.{with_color, with_found, with_input, with_name, with_path};
+ghost use Rattle.logos_show.specs.Orders.{with_value, with_word, with_words};
+ghost use Rattle.logos_host.specs.Colors.{color_named};
+
+use logos_host::{Color, Failure, OptionName, Progress, Use, color_by_name, next_step};
 
 /// What is asked for.
 #[derive(Clone, Copy)]
@@ -23,17 +26,10 @@ pub(crate) struct Order<'w> {
     pub(crate) file: &'w str,
     /// The path of the file to lex, if one is given.
     pub(crate) input: Option<&'w str>,
-    /// The name of the enum to lex by; the first one if none is given.
+    /// The name of the enum to show or to lex by. If none is given all are shown, and the first one lexes.
     pub(crate) name: Option<&'w str>,
     /// When messages have colors.
     pub(crate) color: Color,
-}
-
-/// Options that take a value.
-#[derive(Clone, Copy)]
-enum Valued {
-    Name,
-    Color,
 }
 
 /// Options that ask for a text.
@@ -49,76 +45,90 @@ struct Given<'w> {
     file: Option<&'w str>,
     input: Option<&'w str>,
     name: Option<&'w str>,
-    color: Color,
+    color: Option<Color>,
     answer: Option<Answer>,
-    /// The option whose value the next word is.
-    pending: Option<Valued>,
+    progress: Progress,
 }
+
+/// The options that the program takes.
+pub(crate) const TAKEN: [OptionName; 4] = [
+    OptionName::Color,
+    OptionName::Enum,
+    OptionName::Help,
+    OptionName::Version,
+];
+
+/// The path of standard input.
+const STANDARD_INPUT: &str = "/dev/stdin";
 
 /// Returns what the words ask for.
 ///
 /// # Errors
-/// Returns `Misuse` if they are not a command.
-pub(crate) fn request_of(words: &[String]) -> Result<Request<'_>, Stop<'_>>
+///
+/// Returns `Misuse` or `UnknownOption` if they are not a command.
+pub(crate) fn request_of(words: &[String]) -> Result<Request<'_>, Failure<'_>>
     ensures asked { IfOk result (λ request.
         asked (map string_bytes words.now) ≡ Some (request_value request)) }
-    ensures misuse { IfErr result (λ stop.
-        (asked (map string_bytes words.now) ≡ None) × (status_of stop ≡ 2)) }
+    ensures misuse { IfErr result (λ failure.
+        (asked (map string_bytes words.now) ≡ None) × (status_of failure ≡ 2)) }
 {
     match read_words(words) {
         Ok(given) => request_given(given),
-        Err(stop) => Err(stop),
+        Err(failure) => Err(failure),
     }
 }
 
 /// Reads all words.
-fn read_words(words: &[String]) -> Result<Given<'_>, Stop<'_>>
+fn read_words(words: &[String]) -> Result<Given<'_>, Failure<'_>>
     ensures given { IfOk result (λ given.
         with_words (Some given_nothing) (map string_bytes words.now) ≡ Some (given_value given)) }
-    ensures misuse { IfErr result (λ stop.
+    ensures misuse { IfErr result (λ failure.
         (with_words (Some given_nothing) (map string_bytes words.now) ≡ None)
-        × (status_of stop ≡ 2)) }
+        × (status_of failure ≡ 2)) }
 {
     let mut given = Given {
         file: None,
         input: None,
         name: None,
-        color: Color::Auto,
+        color: None,
         answer: None,
-        pending: None,
+        progress: Progress {
+            pending: None,
+            is_over: false,
+        },
     };
     for word in words {
         given = match read_word(given, word.as_str()) {
             Ok(next) => next,
-            Err(stop) => return Err(stop),
+            Err(failure) => return Err(failure),
         };
     }
     Ok(given)
 }
 
 /// Returns what the words ask for, by what they give.
-fn request_given(given: Given<'_>) -> Result<Request<'_>, Stop<'_>>
+fn request_given(given: Given<'_>) -> Result<Request<'_>, Failure<'_>>
     ensures asked { IfOk result (λ request.
         asked_given (Some (given_value given.entry)) ≡ Some (request_value request)) }
-    ensures misuse { IfErr result (λ stop.
-        (asked_given (Some (given_value given.entry)) ≡ None) × (status_of stop ≡ 2)) }
+    ensures misuse { IfErr result (λ failure.
+        (asked_given (Some (given_value given.entry)) ≡ None) × (status_of failure ≡ 2)) }
 {
-    if let Some(option) = given.pending {
-        return Err(misuse("a value is missing after", word_of(option)));
-    }
     match given.answer {
         Some(Answer::Help) => Ok(Request::Help),
         Some(Answer::Version) => Ok(Request::Version),
-        None => order_given(given),
+        None => match given.progress.pending {
+            Some(option) => Err(misuse("a value is missing after", option.word())),
+            None => order_given(given),
+        },
     }
 }
 
 /// Returns the file to show.
-fn order_given(given: Given<'_>) -> Result<Request<'_>, Stop<'_>>
+fn order_given(given: Given<'_>) -> Result<Request<'_>, Failure<'_>>
     ensures asked { IfOk result (λ request. order_given (given_value given.entry)
         (given_value given.entry).file ≡ Some (request_value request)) }
-    ensures misuse { IfErr result (λ stop. (order_given (given_value given.entry)
-        (given_value given.entry).file ≡ None) × (status_of stop ≡ 2)) }
+    ensures misuse { IfErr result (λ failure. (order_given (given_value given.entry)
+        (given_value given.entry).file ≡ None) × (status_of failure ≡ 2)) }
 {
     let Some(file) = given.file else {
         return Err(misuse("no file", ""));
@@ -127,128 +137,131 @@ fn order_given(given: Given<'_>) -> Result<Request<'_>, Stop<'_>>
         file,
         input: given.input,
         name: given.name,
-        color: given.color,
+        color: color_or_auto(given.color),
     }))
 }
 
+/// Returns when messages have colors: as is given, or on a terminal.
+fn color_or_auto(color: Option<Color>) -> Color
+    ensures { result ≡ given_or Color.Auto color }
+{
+    match color {
+        Some(color) => color,
+        None => Color::Auto,
+    }
+}
+
 /// Returns the error of words that are not a command.
-fn misuse<'w>(what: &'static str, word: &'w str) -> Stop<'w>
+fn misuse<'w>(what: &'static str, word: &'w str) -> Failure<'w>
     ensures { status_of result ≡ 2 }
 {
-    Stop::Misuse { what, word }
+    Failure::Misuse { what, word }
 }
 
-/// Reads one more word.
-fn read_word<'w>(given: Given<'w>, word: &'w str) -> Result<Given<'w>, Stop<'w>>
+/// Returns the error of an option that is given twice.
+fn twice<'w>(option: OptionName) -> Failure<'w>
+    ensures { status_of result ≡ 2 }
+{
+    misuse("given twice:", option.word())
+}
+
+/// Returns the error of an option that the program does not take.
+fn unknown<'w>(option: OptionName) -> Failure<'w>
+    ensures { status_of result ≡ 2 }
+{
+    Failure::UnknownOption {
+        word: option.word(),
+        nearest: "",
+    }
+}
+
+/// Reads one more word. After `--help` and `--version` no word is read.
+fn read_word<'w>(given: Given<'w>, word: &'w str) -> Result<Given<'w>, Failure<'w>>
     ensures given { IfOk result (λ next.
         with_word (given_value given.entry) word.now ≡ Some (given_value next)) }
-    ensures misuse { IfErr result (λ stop.
-        (with_word (given_value given.entry) word.now ≡ None) × (status_of stop ≡ 2)) }
+    ensures misuse { IfErr result (λ failure.
+        (with_word (given_value given.entry) word.now ≡ None) × (status_of failure ≡ 2)) }
 {
-    match given.pending {
-        Some(option) => read_value(given, option, word),
-        None => read_option(given, word),
+    if is_answered(given.answer) {
+        return Ok(given);
+    }
+    match next_step(given.progress, word) {
+        Ok(next) => read_found(
+            Given {
+                progress: next.progress,
+                ..given
+            },
+            next.found,
+        ),
+        Err(failure) => Err(failure),
     }
 }
 
-/// Reads the value of an option.
-fn read_value<'w>(given: Given<'w>, option: Valued, value: &'w str) -> Result<Given<'w>, Stop<'w>>
+/// Returns whether a text is asked for.
+fn is_answered(answer: Option<Answer>) -> bool
+    ensures { result ≡ is_some answer }
+{
+    match answer {
+        Some(_) => true,
+        None => false,
+    }
+}
+
+/// Reads what a word gives.
+fn read_found<'w>(given: Given<'w>, found: Option<Use<'w>>) -> Result<Given<'w>, Failure<'w>>
+    ensures given { IfOk result (λ next. with_found (given_value given.entry)
+        (option_map use_value found.entry) ≡ Some (given_value next)) }
+    ensures misuse { IfErr result (λ failure. (with_found (given_value given.entry)
+        (option_map use_value found.entry) ≡ None) × (status_of failure ≡ 2)) }
+{
+    match found {
+        None => Ok(given),
+        Some(Use::Path(path)) => read_path(given, path),
+        Some(Use::Flag(option)) => read_flag(given, option),
+        Some(Use::Value(option, value)) => read_value(given, option, value),
+    }
+}
+
+/// Reads the path of the file, or of the input after it.
+fn read_path<'w>(given: Given<'w>, path: &'w str) -> Result<Given<'w>, Failure<'w>>
     ensures given { IfOk result (λ next.
-        with_value (given_value given.entry) option value.now ≡ Some (given_value next)) }
-    ensures misuse { IfErr result (λ stop.
-        (with_value (given_value given.entry) option value.now ≡ None) × (status_of stop ≡ 2)) }
+        with_path (given_value given.entry) path.now ≡ Some (given_value next)) }
+    ensures misuse { IfErr result (λ failure.
+        (with_path (given_value given.entry) path.now ≡ None) × (status_of failure ≡ 2)) }
 {
-    let given = Given {
-        pending: None,
-        ..given
-    };
-    match option {
-        Valued::Name => Ok(Given {
-            name: Some(value),
-            ..given
-        }),
-        Valued::Color => match color_by_name(value) {
-            Some(color) => Ok(Given { color, ..given }),
-            None => Err(misuse("`--color` is `always`, `never` or `auto`, not", value)),
-        },
-    }
-}
-
-/// Reads a word that is not the value of an option.
-fn read_option<'w>(given: Given<'w>, word: &'w str) -> Result<Given<'w>, Stop<'w>>
-    ensures given { IfOk result (λ next. with_option (given_value given.entry)
-        (valued_named word.now) word.now ≡ Some (given_value next)) }
-    ensures misuse { IfErr result (λ stop. (with_option (given_value given.entry)
-        (valued_named word.now) word.now ≡ None) × (status_of stop ≡ 2)) }
-{
-    match valued_by_word(word) {
-        Some(option) => Ok(Given {
-            pending: Some(option),
-            ..given
-        }),
-        None => read_answer(given, word),
-    }
-}
-
-/// Reads a word that is not an option with a value.
-fn read_answer<'w>(given: Given<'w>, word: &'w str) -> Result<Given<'w>, Stop<'w>>
-    ensures given { IfOk result (λ next. with_answer (given_value given.entry)
-        (answer_named word.now) word.now ≡ Some (given_value next)) }
-    ensures misuse { IfErr result (λ stop. (with_answer (given_value given.entry)
-        (answer_named word.now) word.now ≡ None) × (status_of stop ≡ 2)) }
-{
-    match answer_by_word(word) {
-        Some(answer) => Ok(Given {
-            answer: first_answer(given.answer, answer),
-            ..given
-        }),
-        None => read_path(given, word),
-    }
-}
-
-/// Returns the first of two answers.
-fn first_answer(first: Option<Answer>, answer: Answer) -> Option<Answer>
-    ensures { result ≡ first_answer first answer }
-{
-    match first {
-        Some(first) => Some(first),
-        None => Some(answer),
-    }
-}
-
-/// Reads the path of the file or of the input.
-fn read_path<'w>(given: Given<'w>, word: &'w str) -> Result<Given<'w>, Stop<'w>>
-    ensures given { IfOk result (λ next.
-        with_path (given_value given.entry) word.now ≡ Some (given_value next)) }
-    ensures misuse { IfErr result (λ stop.
-        (with_path (given_value given.entry) word.now ≡ None) × (status_of stop ≡ 2)) }
-{
-    if is_option(word) {
-        return Err(misuse("unknown option", word));
-    }
     if is_given(given.file) {
-        return read_input(given, word);
+        return read_input(given, path);
     }
     Ok(Given {
-        file: Some(word),
+        file: Some(path_by_word(path)),
         ..given
     })
 }
 
 /// Reads the path of the input.
-fn read_input<'w>(given: Given<'w>, word: &'w str) -> Result<Given<'w>, Stop<'w>>
+fn read_input<'w>(given: Given<'w>, path: &'w str) -> Result<Given<'w>, Failure<'w>>
     ensures given { IfOk result (λ next.
-        with_input (given_value given.entry) word.now ≡ Some (given_value next)) }
-    ensures misuse { IfErr result (λ stop.
-        (with_input (given_value given.entry) word.now ≡ None) × (status_of stop ≡ 2)) }
+        with_input (given_value given.entry) path.now ≡ Some (given_value next)) }
+    ensures misuse { IfErr result (λ failure.
+        (with_input (given_value given.entry) path.now ≡ None) × (status_of failure ≡ 2)) }
 {
     if is_given(given.input) {
-        return Err(misuse("a third file", word));
+        return Err(misuse("a second input file", path));
     }
     Ok(Given {
-        input: Some(word),
+        input: Some(path_by_word(path)),
         ..given
     })
+}
+
+/// Returns the path that a word is: `-` is standard input.
+fn path_by_word(word: &str) -> &str
+    ensures { result.now ≡ path_named word.now }
+{
+    if word == "-" {
+        return STANDARD_INPUT;
+    }
+    word
 }
 
 /// Returns whether there is a path.
@@ -261,48 +274,76 @@ fn is_given(path: Option<&str>) -> bool
     }
 }
 
-/// Returns whether a word begins with `-`.
-fn is_option(word: &str) -> bool
-    ensures { result ≡ begins_option word.now }
-{
-    match word.as_bytes() {
-        [first, ..] => *first == b'-',
-        [] => false,
-    }
-}
-
-/// Returns the option with a value that has this word.
-fn valued_by_word(word: &str) -> Option<Valued>
-    ensures { result ≡ valued_named word.now }
-{
-    if word == "--enum" {
-        return Some(Valued::Name);
-    }
-    if word == "--color" {
-        return Some(Valued::Color);
-    }
-    None
-}
-
-/// Returns the word of an option with a value.
-fn word_of(option: Valued) -> &'static str
-    ensures { valued_named result.now ≡ Some option }
+/// Reads an option without a value.
+fn read_flag<'w>(given: Given<'w>, option: OptionName) -> Result<Given<'w>, Failure<'w>>
+    ensures given { IfOk result (λ next.
+        with_flag (given_value given.entry) option ≡ Some (given_value next)) }
+    ensures misuse { IfErr result (λ failure.
+        (with_flag (given_value given.entry) option ≡ None) × (status_of failure ≡ 2)) }
 {
     match option {
-        Valued::Name => "--enum",
-        Valued::Color => "--color",
+        OptionName::Help => Ok(Given {
+            answer: Some(Answer::Help),
+            ..given
+        }),
+        OptionName::Version => Ok(Given {
+            answer: Some(Answer::Version),
+            ..given
+        }),
+        _ => Err(unknown(option)),
     }
 }
 
-/// Returns the option that asks for a text and has this word.
-fn answer_by_word(word: &str) -> Option<Answer>
-    ensures { result ≡ answer_named word.now }
+/// Reads an option with its value.
+fn read_value<'w>(
+    given: Given<'w>,
+    option: OptionName,
+    value: &'w str,
+) -> Result<Given<'w>, Failure<'w>>
+    ensures given { IfOk result (λ next.
+        with_value (given_value given.entry) option value.now ≡ Some (given_value next)) }
+    ensures misuse { IfErr result (λ failure.
+        (with_value (given_value given.entry) option value.now ≡ None)
+        × (status_of failure ≡ 2)) }
 {
-    if word == "--help" {
-        return Some(Answer::Help);
+    match option {
+        OptionName::Enum => read_name(given, value),
+        OptionName::Color => read_color(given, value),
+        _ => Err(unknown(option)),
     }
-    if word == "--version" {
-        return Some(Answer::Version);
+}
+
+/// Reads the name of an enum.
+fn read_name<'w>(given: Given<'w>, name: &'w str) -> Result<Given<'w>, Failure<'w>>
+    ensures given { IfOk result (λ next.
+        with_name (given_value given.entry) name.now ≡ Some (given_value next)) }
+    ensures misuse { IfErr result (λ failure.
+        (with_name (given_value given.entry) name.now ≡ None) × (status_of failure ≡ 2)) }
+{
+    if is_given(given.name) {
+        return Err(twice(OptionName::Enum));
     }
-    None
+    Ok(Given {
+        name: Some(name),
+        ..given
+    })
+}
+
+/// Reads when messages have colors.
+fn read_color<'w>(given: Given<'w>, name: &'w str) -> Result<Given<'w>, Failure<'w>>
+    ensures given { IfOk result (λ next.
+        with_color (given_value given.entry) given.entry.color (color_named name.now)
+        ≡ Some (given_value next)) }
+    ensures misuse { IfErr result (λ failure.
+        (with_color (given_value given.entry) given.entry.color (color_named name.now) ≡ None)
+        × (status_of failure ≡ 2)) }
+{
+    match (given.color, color_by_name(name)) {
+        (Some(_), _) => Err(twice(OptionName::Color)),
+        (None, Some(color)) => Ok(Given {
+            color: Some(color),
+            ..given
+        }),
+        (None, None) => Err(misuse("`--color` is `always`, `never` or `auto`, not", name)),
+    }
 }

@@ -1,4 +1,5 @@
 //! Files and their enums.
+
 ghost use Rattle.std.specs.Prelude.{IfErr};
 ghost use Rattle.logos_show.specs.Orders.{IsNoMisuse};
 
@@ -6,29 +7,29 @@ use logos_codegen::Refusal;
 use logos_codegen::error::Memory;
 use logos_codegen::item::{ReadError, read_enum};
 use logos_codegen::token::{Span, TokenError, tokenize};
-use logos_disk::{FileError, Files};
-use logos_files::FoundEnum;
-use logos_report::{Page, Part, Source, Stop, count_errors, push_faults, push_summary};
+use logos_host::{Failure, Files, read_text, write_through};
+use logos_report::{Page, Part, Source, count_errors, push_faults, push_summary};
+use logos_rust_file::FoundEnum;
 use std::alloc::{AllocError, Global};
+use std::io::Write;
 
 /// Returns all bytes of a file.
-pub(crate) fn read_bytes<'w, F: Files>(path: &'w str, files: &mut F) -> Result<Vec<u8>, Stop<'w>>
+pub(crate) fn read_bytes<'w, F: Files>(path: &'w str, files: &mut F) -> Result<Vec<u8>, Failure<'w>>
     ensures { IfErr result IsNoMisuse }
 {
     match files.read(path) {
         Ok(bytes) => Ok(bytes),
-        Err(FileError::Failed) => Err(Stop::Read(path)),
-        Err(FileError::Memory) => Err(Stop::Memory),
+        Err(error) => Err(Failure::of_reading(path, error)),
     }
 }
 
 /// Returns the text of a file.
-pub(crate) fn read_text<'w, F: Files>(path: &'w str, files: &mut F) -> Result<String, Stop<'w>>
+pub(crate) fn text_at<'w, F: Files>(path: &'w str, files: &mut F) -> Result<String, Failure<'w>>
     ensures { IfErr result IsNoMisuse }
 {
-    match String::from_utf8(read_bytes(path, files)?) {
+    match read_text(path, files) {
         Ok(text) => Ok(text),
-        Err(_) => Err(Stop::Read(path)),
+        Err(error) => Err(Failure::of_reading(path, error)),
     }
 }
 
@@ -51,18 +52,18 @@ pub(crate) fn refused(
     part: Part<'_, '_>,
     is_colored: bool,
     refusal: Refusal,
-) -> Stop<'static>
+) -> Failure<'static>
     ensures { IsNoMisuse result }
 {
     let Refusal::Errors(errors) = refusal else {
-        return Stop::Memory;
+        return Failure::Memory;
     };
     let mut page = Page::new(alloc, is_colored);
     push_faults(&mut page, part, &errors);
     push_summary(&mut page, count_errors(&errors));
     match page.finish() {
-        Ok(text) => Stop::Refused(text),
-        Err(AllocError) => Stop::Memory,
+        Ok(text) => Failure::Refused(text),
+        Err(AllocError) => Failure::Memory,
     }
 }
 
@@ -82,7 +83,7 @@ pub(crate) fn chosen(
 }
 
 /// Returns whether an enum has the name, if one is given.
-fn has_name(alloc: Global, text: &str, name: Option<&str>) -> Result<bool, Memory> {
+pub(crate) fn has_name(alloc: Global, text: &str, name: Option<&str>) -> Result<bool, Memory> {
     match name {
         Some(name) => is_named(alloc, text, name),
         None => Ok(true),
@@ -100,5 +101,15 @@ fn is_named(alloc: Global, text: &str, name: &str) -> Result<bool, Memory> {
         Ok(item) => Ok(item.name.text == name),
         Err(ReadError::Memory) => Err(Memory),
         Err(_) => Ok(false),
+    }
+}
+
+/// Prints bytes.
+pub(crate) fn print_bytes<O: Write>(bytes: &[u8], out: &mut O) -> Result<(), Failure<'static>>
+    ensures { IfErr result IsNoMisuse }
+{
+    match write_through(bytes, out) {
+        Ok(()) => Ok(()),
+        Err(error) => Err(Failure::of_output(&error)),
     }
 }

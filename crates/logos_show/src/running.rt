@@ -1,21 +1,23 @@
 //! From words to a status.
 
-ghost use Rattle.std.specs.Prelude.{◌≡◌, ◌≤◌, ◌⊎◌, ◌↔◌, None, IfErr, map, string_bytes};
+ghost use Rattle.std.specs.Prelude.{◌≡◌, ◌≤◌, ◌↔◌, None, IfErr, map, string_bytes};
+ghost use Rattle.logos_host.specs.Failures.{status_of};
 ghost use Rattle.logos_show.specs.Orders.{IsNoMisuse, asked};
 
 use crate::items::write_items;
-use crate::options::{Order, Request, request_of};
-use crate::reading::{chosen, read_bytes, read_text, refused, text_of};
+use crate::options::{Order, Request, TAKEN, request_of};
+use crate::reading::{chosen, print_bytes, read_bytes, refused, text_at, text_of};
 use crate::showing::{SHAPE, Shown, shown_of};
 use logos_codegen::generate;
-use logos_disk::Files;
-use logos_files::{FoundEnum, enums_in};
-use logos_report::{Part, Source, Stop, report};
+use logos_host::{Failure, Files, report, with_nearest};
+use logos_report::{Part, Source};
+use logos_rust_file::{FoundEnum, enums_in};
 use std::alloc::Global;
-use std::io::{ErrorKind, IsTerminal, Write};
+use std::io::{IsTerminal, Write};
 use std::time::Clock;
 
-const USAGE: &str = "usage: logos_show FILE [INPUT] [--enum NAME] [--color always|never|auto]\n";
+pub(crate) const USAGE: &str =
+    "usage: logos_show FILE [INPUT] [--enum NAME] [--color always|never|auto]\n";
 
 const HELP: &str = "\
 logos_show: the lexers of a Rust file, and the items of an input
@@ -24,16 +26,18 @@ usage: logos_show FILE [INPUT] [OPTIONS]
 
 Without INPUT, prints the leaves of each enum in FILE that derives `Logos`, and
 what its lexer costs, and warns about probable mistakes. With INPUT, prints a
-line for each item of INPUT, and at the end how many items there were.
+line for each item of INPUT, and at the end how many items there were. Either
+may be `-`, which is standard input.
 
 options:
-  --enum NAME     lex by the enum NAME, not by the first one
-  --color WHEN    always, never or auto (on a terminal; the default)
-  --help          print this text
-  --version       print the version
+      --enum NAME   show, or lex by, the enum NAME alone
+      --color WHEN  always, never or auto (on a terminal; the default)
+  -h, --help        print this text
+  -V, --version     print the version
+      --            what follows are FILE and INPUT, even if they begin with `-`
 ";
 
-const VERSION: &str = "logos_show 0.16.1\n";
+const VERSION: &str = "logos_show 0.1.0 (for logos 0.16)\n";
 
 /// What the program reads and writes: files, a clock, standard output and standard error.
 #[derive(Drop)]
@@ -44,7 +48,7 @@ pub(crate) struct Host<'h, F, C, O, E> {
     pub(crate) err: &'h mut E,
 }
 
-/// Carries out what the words ask for, and returns the exit status: 0 done, 1 refused, 2 for words
+/// Runs the program, and returns the exit status: 0 done, 1 refused, 2 for words
 /// that are not a command, 3 for files, outputs and memory. With a status above 0 a message goes to
 /// standard error, and so do warnings.
 pub(crate) fn run<F: Files, C: Clock, O: Write, E: Write + IsTerminal>(
@@ -57,31 +61,21 @@ pub(crate) fn run<F: Files, C: Clock, O: Write, E: Write + IsTerminal>(
 {
     let request = match request_of(words) {
         Ok(request) => request,
-        Err(stop) => return report(&stop, USAGE, host.err),
+        Err(failure) => return failed(&with_nearest(failure, &TAKEN), host.err),
     };
     match carry_out(alloc, request, host) {
         Ok(()) => 0,
-        Err(stop) => report(&stop, USAGE, host.err),
+        Err(failure) => failed(&failure, host.err),
     }
 }
 
-/// Writes why the words cannot be read, and returns the exit status: 3 if memory ran out, else 2,
-/// since a word is not UTF-8.
-pub(crate) fn refuse_words<E: Write>(why: ErrorKind, err: &mut E) -> u8
-    ensures memory { (result ≡ 3) ↔ (why ≡ ErrorKind.OutOfMemory) }
-    ensures known { (result ≡ 2) ⊎ (result ≡ 3) }
+/// Writes why a run failed, and returns the exit status.
+fn failed<E: Write>(failure: &Failure<'_>, err: &mut E) -> u8
+    ensures { result ≡ status_of failure.now }
 {
-    match why {
-        ErrorKind::OutOfMemory => report(&Stop::Memory, USAGE, err),
-        _ => report(&NOT_TEXT, USAGE, err),
-    }
+    let _ = report(failure, USAGE, err);
+    failure.status()
 }
-
-/// The error of a word that is not UTF-8.
-const NOT_TEXT: Stop<'static> = Stop::Misuse {
-    what: "a word is not UTF-8",
-    word: "",
-};
 
 /// An order that is carried out.
 #[derive(Clone, Copy)]
@@ -96,12 +90,12 @@ fn carry_out<'w, F: Files, C: Clock, O: Write, E: Write + IsTerminal>(
     alloc: Global,
     request: Request<'w>,
     host: &mut Host<'_, F, C, O, E>,
-) -> Result<(), Stop<'w>>
+) -> Result<(), Failure<'w>>
     ensures { IfErr result IsNoMisuse }
 {
     let order = match request {
-        Request::Help => return write_out(HELP, host.out),
-        Request::Version => return write_out(VERSION, host.out),
+        Request::Help => return print_bytes(HELP.as_bytes(), host.out),
+        Request::Version => return print_bytes(VERSION.as_bytes(), host.out),
         Request::Show(order) => order,
     };
     let task = Task {
@@ -119,16 +113,19 @@ fn show<'w, F: Files, C: Clock, O: Write, E: Write + IsTerminal>(
     alloc: Global,
     task: Task<'w>,
     host: &mut Host<'_, F, C, O, E>,
-) -> Result<(), Stop<'w>>
+) -> Result<(), Failure<'w>>
     ensures { IfErr result IsNoMisuse }
 {
     let path = task.order.file;
-    let text = read_text(path, host.files)?;
+    let text = text_at(path, host.files)?;
     let source = Source::new(alloc, path, text.as_str())?;
-    let Shown { tables, warnings } = shown_of(alloc, &source, task.is_colored)?;
+    if task.order.name.is_some() {
+        let _ = lexer_in(alloc, task, &source)?;
+    }
+    let Shown { tables, warnings } = shown_of(alloc, &source, task.is_colored, task.order.name)?;
     let _ = host.err.write_all(warnings.as_bytes());
     let _ = host.err.flush();
-    write_out(tables.as_str(), host.out)
+    print_bytes(tables.as_str().as_bytes(), host.out)
 }
 
 /// Writes the items of an input.
@@ -137,11 +134,11 @@ fn lex<'w, F: Files, C: Clock, O: Write, E: Write + IsTerminal>(
     task: Task<'w>,
     input: &'w str,
     host: &mut Host<'_, F, C, O, E>,
-) -> Result<(), Stop<'w>>
+) -> Result<(), Failure<'w>>
     ensures { IfErr result IsNoMisuse }
 {
     let path = task.order.file;
-    let text = read_text(path, host.files)?;
+    let text = text_at(path, host.files)?;
     let bytes = read_bytes(input, host.files)?;
     let source = Source::new(alloc, path, text.as_str())?;
     lex_by_file(alloc, task, &source, bytes.as_slice(), host)
@@ -154,7 +151,7 @@ fn lex_by_file<'w, F: Files, C: Clock, O: Write, E: Write + IsTerminal>(
     source: &Source<'_>,
     input: &[u8],
     host: &mut Host<'_, F, C, O, E>,
-) -> Result<(), Stop<'w>>
+) -> Result<(), Failure<'w>>
     ensures { IfErr result IsNoMisuse }
 {
     let one = lexer_in(alloc, task, source)?;
@@ -169,7 +166,11 @@ fn lex_by_file<'w, F: Files, C: Clock, O: Write, E: Write + IsTerminal>(
 }
 
 /// Returns the enum of a file whose lexer is asked for.
-fn lexer_in<'w>(alloc: Global, task: Task<'w>, source: &Source<'_>) -> Result<FoundEnum, Stop<'w>>
+fn lexer_in<'w>(
+    alloc: Global,
+    task: Task<'w>,
+    source: &Source<'_>,
+) -> Result<FoundEnum, Failure<'w>>
     ensures { IfErr result IsNoMisuse }
 {
     let found = match enums_in(alloc, source.text()) {
@@ -186,7 +187,7 @@ fn lexer_in<'w>(alloc: Global, task: Task<'w>, source: &Source<'_>) -> Result<Fo
 }
 
 /// Returns the refusal of a file that has no such lexer.
-fn no_lexer<'w>(alloc: Global, order: Order<'w>) -> Stop<'w>
+fn no_lexer<'w>(alloc: Global, order: Order<'w>) -> Failure<'w>
     ensures { IsNoMisuse result }
 {
     let file = order.file;
@@ -195,20 +196,7 @@ fn no_lexer<'w>(alloc: Global, order: Order<'w>) -> Stop<'w>
         None => format!(in alloc; "error: no enum in {file} derives `Logos`\n"),
     };
     match made {
-        Ok(text) => Stop::Refused(text),
-        Err(_) => Stop::Memory,
-    }
-}
-
-/// Writes a text to standard output, and flushes that.
-fn write_out<'w, O: Write>(text: &str, out: &mut O) -> Result<(), Stop<'w>>
-    ensures { IfErr result IsNoMisuse }
-{
-    if out.write_all(text.as_bytes()).is_err() {
-        return Err(Stop::Output);
-    }
-    match out.flush() {
-        Ok(()) => Ok(()),
-        Err(_) => Err(Stop::Output),
+        Ok(text) => Failure::Refused(text),
+        Err(_) => Failure::Memory,
     }
 }

@@ -2,14 +2,15 @@
 ghost use Rattle.std.specs.Prelude.{IfErr};
 ghost use Rattle.logos_show.specs.Orders.{IsNoMisuse};
 
-use crate::reading::{refused, text_of};
+use crate::reading::{has_name, refused, text_of};
 use crate::table::push_table;
 use crate::warnings::{push_unmarked, push_warnings};
 use logos_codegen::generator::Config;
 use logos_codegen::{Generated, generate};
-use logos_files::{FoundEnum, enums_in};
+use logos_host::Failure;
 use logos_lines::LineIndex;
-use logos_report::{Page, Part, Source, Stop};
+use logos_report::{Page, Part, Source};
+use logos_rust_file::{FoundEnum, enums_in};
 use std::alloc::Global;
 
 /// The shape of the code whose tables are counted. The other one has as many.
@@ -43,16 +44,18 @@ pub(crate) struct EnumInFile<'f, 's> {
     pub(crate) derives: bool,
 }
 
-/// Returns what is shown of a file.
+/// Returns what is shown of a file, or of the enums in it that have a name.
 ///
 /// # Errors
+///
 /// Returns `Refused` with the faults of the file, or of the first enum that has some. Returns
-/// `Memory` when memory runs out.
+/// `Memory` if memory runs out.
 pub(crate) fn shown_of(
     alloc: Global,
     source: &Source<'_>,
     is_colored: bool,
-) -> Result<Shown, Stop<'static>>
+    name: Option<&str>,
+) -> Result<Shown, Failure<'static>>
     ensures { IfErr result IsNoMisuse }
 {
     let whole = Part { source, offset: 0 };
@@ -67,7 +70,7 @@ pub(crate) fn shown_of(
         is_colored,
     };
     for one in &found {
-        push_enum(alloc, &mut pages, enum_in(source, &lines, *one))?;
+        push_named(alloc, &mut pages, enum_in(source, &lines, *one), name)?;
     }
     Ok(Shown {
         tables: pages.tables.finish()?,
@@ -92,8 +95,27 @@ fn enum_in<'f, 's>(
     }
 }
 
+/// Adds what is shown of an enum, if it has the name, or none is given.
+fn push_named(
+    alloc: Global,
+    pages: &mut Pages,
+    one: EnumInFile<'_, '_>,
+    name: Option<&str>,
+) -> Result<(), Failure<'static>>
+    ensures { IfErr result IsNoMisuse }
+{
+    if has_name(alloc, one.text, name)? {
+        push_enum(alloc, pages, one)?;
+    }
+    Ok(())
+}
+
 /// Adds what is shown of an enum.
-fn push_enum(alloc: Global, pages: &mut Pages, one: EnumInFile<'_, '_>) -> Result<(), Stop<'static>>
+fn push_enum(
+    alloc: Global,
+    pages: &mut Pages,
+    one: EnumInFile<'_, '_>,
+) -> Result<(), Failure<'static>>
     ensures { IfErr result IsNoMisuse }
 {
     push_warnings(alloc, &mut pages.warnings, one)?;
@@ -108,7 +130,7 @@ fn push_lexer(
     alloc: Global,
     pages: &mut Pages,
     one: EnumInFile<'_, '_>,
-) -> Result<(), Stop<'static>>
+) -> Result<(), Failure<'static>>
     ensures { IfErr result IsNoMisuse }
 {
     match generate(alloc, one.text, SHAPE) {
@@ -123,7 +145,7 @@ fn push_made(
     pages: &mut Pages,
     one: EnumInFile<'_, '_>,
     made: &Generated<'_>,
-) -> Result<(), Stop<'static>>
+) -> Result<(), Failure<'static>>
     ensures { IfErr result IsNoMisuse }
 {
     push_table(alloc, &mut pages.tables, one, made)?;

@@ -4,8 +4,8 @@ use crate::showing::EnumInFile;
 use logos_codegen::Generated;
 use logos_codegen::error::Memory;
 use logos_codegen::leaf::Leaf;
+use logos_inspect::{Costs, LeafRow, costs_of, row_of};
 use logos_report::{Page, Part, digits};
-use logos_survey::{Costs, LeafRow, costs_of, row_of};
 use std::alloc::Global;
 use std::cmp::max;
 

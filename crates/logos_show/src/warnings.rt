@@ -6,8 +6,8 @@ use logos_codegen::graph::Graph;
 use logos_codegen::item::{ItemEnum, ReadError, read_enum};
 use logos_codegen::leaf::{Leaf, VariantKind};
 use logos_codegen::token::{Span, TokenError, tokenize};
+use logos_inspect::{Helper, Warning, marked_leaves, warnings_of};
 use logos_report::{Page, Part, Style, push_frame};
-use logos_survey::{Helper, Warning, marked_leaves, warnings_of};
 use std::alloc::{AllocError, Global};
 
 /// Adds the warnings of an enum that its text alone gives.

@@ -3,14 +3,14 @@ use Rattle.std.proofs.Common.{◌≡◌, ℕ, List, Result, Ok, Err, IfErr, arit
 use Rattle.logos_token.specs.Faults.{Fault}
 use Rattle.logos_token.specs.Tokens.{TokenList}
 use Rattle.logos_token.proofs.reading.SpellingLaws.{spells-one, unreadable-excludes, deep-excludes}
-use Rattle.logos_item.specs.Enum.{Reads}
-use Rattle.logos_item.specs.EnumValues.{EnumValue}
-use Rattle.logos_item.proofs.EnumOnce.{once-reads}
-use Rattle.logos_source.specs.Endings.{EndsTokens, EndsReading, source_limit, nesting_limit, unreadable, misread}
-use Rattle.logos_source.specs.Refusals.{Refuses, IsMemory}
-use Rattle.logos_source.specs.declared.refusal.Refusal.{Refusal}
-use Rattle.logos_source.specs.declared.refusal.Refusal.TheVariants.{Errors, Memory}
-use Rattle.logos_source.proofs.RefusalLemmas.{OneEnds}
+use Rattle.logos_enum.specs.Enum.{Reads}
+use Rattle.logos_enum.specs.EnumValues.{EnumValue}
+use Rattle.logos_enum.proofs.EnumOnce.{once-reads}
+use Rattle.logos_parser.specs.Endings.{EndsTokens, EndsReading, source_limit, nesting_limit, unreadable, misread}
+use Rattle.logos_parser.specs.Refusals.{Refuses, IsMemory}
+use Rattle.logos_parser.specs.declared.refusal.Refusal.{Refusal}
+use Rattle.logos_parser.specs.declared.refusal.Refusal.TheVariants.{Errors, Memory}
+use Rattle.logos_parser.proofs.RefusalLemmas.{OneEnds}
 use Rattle.logos_strip.specs.Results.{SpellsEnum}
 
 -- tokens of an enum do not end the reading

@@ -1,5 +1,8 @@
 pub mod Helpers
-pub mod Places
+pub mod Spots
 pub mod Stripping
+pub mod Entries
 pub mod Results
 pub mod inside
+pub mod Words
+pub mod Views

@@ -2,8 +2,8 @@
 use Rattle.std.specs.Prelude.{◌≡◌, ◌≤◌, ℕ, List, length, Ok}
 use Rattle.logos_token.specs.Tokens.{TokenList, depth_of}
 use Rattle.logos_token.specs.Spelling.{Spells}
-use Rattle.logos_item.specs.Enum.{Reads}
-use Rattle.logos_item.specs.EnumValues.{EnumValue}
+use Rattle.logos_enum.specs.Enum.{Reads}
+use Rattle.logos_enum.specs.EnumValues.{EnumValue}
 use Rattle.logos_strip.specs.Stripping.{stripped}
 
 -- The tokens are an enum, of which these are left.
@@ -18,7 +18,8 @@ pub record IsStripped (source : List ℕ) (left : TokenList) : Type 0 where
   pub spelled : Spells source tokens
   pub stripped : AreStripped tokens left
 
--- The source spells an enum, and is within the limits on its length and on the nesting of its delimiters.
+-- The source spells an enum, and is within the limits on its length and on the nesting of its
+-- delimiters.
 pub record SpellsEnum (source : List ℕ) : Type 0 where
   pub tokens : TokenList
   pub enum : EnumValue

@@ -2,11 +2,11 @@
 use Rattle.std.specs.Prelude.{List, [], ◌∷◌, Option, Some, None, if◌then◌else◌}
 use Rattle.logos_lexeme.specs.declared.lexeme.Spacing.TheVariants.{Alone}
 use Rattle.logos_token.specs.Tokens.{Token, punctuation, group, TokenList, none, also}
-use Rattle.logos_strip.specs.declared.places.Scope.{Scope}
-use Rattle.logos_strip.specs.declared.places.Scope.TheVariants.{Enum}
-use Rattle.logos_strip.specs.declared.places.Place.{Place}
-use Rattle.logos_strip.specs.declared.places.Place.TheVariants.{Open}
-use Rattle.logos_strip.specs.Places.{goes, place_after, scope_inside}
+use Rattle.logos_strip.specs.declared.spots.Scope.{Scope}
+use Rattle.logos_strip.specs.declared.spots.Scope.TheVariants.{Enum}
+use Rattle.logos_strip.specs.declared.spots.TokenSpot.{TokenSpot}
+use Rattle.logos_strip.specs.declared.spots.TokenSpot.TheVariants.{Open}
+use Rattle.logos_strip.specs.Spots.{goes, spot_after, scope_inside}
 
 -- A token without joint spacing.
 abbrev pub alone : Token → Token
@@ -18,7 +18,8 @@ abbrev pub in_front : List (Option Token) → Token → Token
 in_front (None ∷ rest) token = alone token
 in_front rest token = token
 
--- The tokens of a run that stay, perhaps with fewer tokens in them. `None` stands for one that goes.
+-- The tokens of a run that stay, perhaps with fewer tokens in them. `None` stands for one that
+-- goes.
 abbrev pub left : List (Option Token) → TokenList
 left [] = none
 left (None ∷ rest) = left rest
@@ -30,12 +31,12 @@ abbrev mutual
   thinned (Some scope) (group delimiter span inside) = group delimiter span (left (sorted scope Open inside))
   thinned scope token = token
 
-  -- For each token of a run, from a place on, the token that stays of it, or `None`.
-  pub sorted : Scope → Place → TokenList → List (Option Token)
-  sorted scope place none = []
-  sorted scope place (also token rest) =
-      let gone = goes scope place (also token rest) in
-      (if gone then None else Some (thinned (scope_inside scope place token rest) token)) ∷ sorted scope (place_after scope place gone token) rest
+  -- For each token of a run, from a spot on, the token that stays of it, or `None`.
+  pub sorted : Scope → TokenSpot → TokenList → List (Option Token)
+  sorted scope spot none = []
+  sorted scope spot (also token rest) =
+      let gone = goes scope spot (also token rest) in
+      (if gone then None else Some (thinned (scope_inside scope spot token rest) token)) ∷ sorted scope (spot_after scope spot gone token) rest
 
 -- The tokens of an enum that stay.
 abbrev pub stripped : TokenList → TokenList

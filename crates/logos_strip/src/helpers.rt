@@ -1,14 +1,14 @@
-//! The parts of an enum that belong to the derive macro: its helper attributes, and the entries of `derive` that name it.
-ghost use Rattle.std.specs.Prelude.{◌≡◌, Some, None, MatchOption};
-ghost use Rattle.logos_token.specs.Views.{tokens_of, tree_of};
-ghost use Rattle.logos_item.specs.Marks.{colon, begins_with};
-ghost use Rattle.logos_item.specs.Attributes.{is_path_mark};
-ghost use Rattle.logos_strip.specs.Helpers.{is_comma, is_helper_name, is_helper_path, holds_helper, begins_helper, after_word, after_colon, after_colons, ends_entry, is_macro_name, is_macro_segment, is_macro_path, is_global_path, is_macro_entry};
+//! The parts of an enum that belong to the derive macro: its helper attributes, and the entries of
+//! `derive` that name it.
 
-use logos_token::token::{Delimiter, Punct, Spacing, TokenTree, Tokens};
+ghost use Rattle.std.specs.Prelude.{◌≡◌};
+ghost use Rattle.logos_strip.specs.Words.{tokens_of, tree_of, is_comma, is_helper_name, is_helper_path, holds_helper, begins_helper, ends_entry, is_macro_name, is_macro_segment, is_macro_path, is_global_path, is_macro_entry};
+
+use logos_token::token::{Delimiter, TokenTree, Tokens};
+use logos_token::util::{after_path_mark, after_word, begins_with};
 
 /// Returns whether a token is a comma.
-pub(crate) fn is_comma(tree: TokenTree<'_, '_>) -> bool
+pub fn is_comma(tree: TokenTree<'_, '_>) -> bool
     ensures { result ≡ is_comma (tree_of tree.entry) }
 {
     match tree {
@@ -24,23 +24,14 @@ fn is_helper_name(text: &str) -> bool
     (text == "logos") | ((text == "token") | (text == "regex"))
 }
 
-/// Returns whether a run begins with `:`.
-fn begins_with_colon(tokens: Tokens<'_, '_>) -> bool
-    ensures { result ≡ begins_with colon (tokens_of tokens.entry) }
-{
-    match tokens.first() {
-        Some(TokenTree::Punct(punct)) => punct.character == ':',
-        _ => false,
-    }
-}
-
-/// Returns whether the path of an attribute, with which a run begins, is just the name of a helper attribute.
+/// Returns whether the path of an attribute, with which a run begins, is exactly a helper
+/// attribute's name.
 fn is_helper_path(tokens: Tokens<'_, '_>) -> bool
     ensures { result ≡ is_helper_path (tokens_of tokens.entry) }
 {
     match tokens.first() {
         Some(TokenTree::Ident(name)) => is_helper_name(name.text)
-            & !begins_with_colon(tokens.rest()),
+            & !begins_with(':', tokens.rest()),
         _ => false,
     }
 }
@@ -64,49 +55,6 @@ pub(crate) fn begins_helper(tokens: Tokens<'_, '_>) -> bool
     match tokens.first() {
         Some(TokenTree::Punct(punct)) => (punct.character == '#') & holds_helper(tokens.rest()),
         _ => false,
-    }
-}
-
-/// Returns the tokens after a word, if the run begins with it.
-fn after_word<'t, 's>(word: &str, tokens: Tokens<'t, 's>) -> Option<Tokens<'t, 's>>
-    ensures { MatchOption result (after_word word.now (tokens_of tokens.entry) ≡ None)
-        (λ rest. after_word word.now (tokens_of tokens.entry) ≡ Some (tokens_of rest)) }
-{
-    match tokens.first() {
-        Some(TokenTree::Ident(ident)) if ident.text == word => Some(tokens.rest()),
-        _ => None,
-    }
-}
-
-/// Returns the tokens after the second `:` of `::`, if the run begins with it.
-fn after_colon<'t, 's>(tokens: Tokens<'t, 's>) -> Option<Tokens<'t, 's>>
-    ensures { MatchOption result (after_colon (tokens_of tokens.entry) ≡ None)
-        (λ rest. after_colon (tokens_of tokens.entry) ≡ Some (tokens_of rest)) }
-{
-    match tokens.first() {
-        Some(TokenTree::Punct(punct)) if punct.character == ':' => Some(tokens.rest()),
-        _ => None,
-    }
-}
-
-/// Returns whether a punctuation is the first `:` of `::`, by its spacing.
-fn is_path_mark(punct: Punct) -> bool
-    ensures { result ≡ is_path_mark punct.character punct.spacing }
-{
-    match punct.spacing {
-        Spacing::Joint => punct.character == ':',
-        Spacing::Alone => false,
-    }
-}
-
-/// Returns the tokens after `::`, if the run begins with it.
-fn after_colons<'t, 's>(tokens: Tokens<'t, 's>) -> Option<Tokens<'t, 's>>
-    ensures { MatchOption result (after_colons (tokens_of tokens.entry) ≡ None)
-        (λ rest. after_colons (tokens_of tokens.entry) ≡ Some (tokens_of rest)) }
-{
-    match tokens.first() {
-        Some(TokenTree::Punct(punct)) if is_path_mark(punct) => after_colon(tokens.rest()),
-        _ => None,
     }
 }
 
@@ -134,7 +82,7 @@ fn is_macro_name(tokens: Tokens<'_, '_>) -> bool
 fn is_macro_segment(tokens: Tokens<'_, '_>) -> bool
     ensures { result ≡ is_macro_segment (tokens_of tokens.entry) }
 {
-    match after_colons(tokens) {
+    match after_path_mark(tokens) {
         Some(rest) => is_macro_name(rest),
         None => false,
     }
@@ -154,14 +102,14 @@ fn is_macro_path(tokens: Tokens<'_, '_>) -> bool
 fn is_global_path(tokens: Tokens<'_, '_>) -> bool
     ensures { result ≡ is_global_path (tokens_of tokens.entry) }
 {
-    match after_colons(tokens) {
+    match after_path_mark(tokens) {
         Some(rest) => is_macro_path(rest),
         None => false,
     }
 }
 
 /// Returns whether the run begins with an entry that names the derive macro.
-pub(crate) fn is_macro_entry(tokens: Tokens<'_, '_>) -> bool
+pub fn is_macro_entry(tokens: Tokens<'_, '_>) -> bool
     ensures { result ≡ is_macro_entry (tokens_of tokens.entry) }
 {
     is_macro_name(tokens) | (is_macro_path(tokens) | is_global_path(tokens))

@@ -1,15 +1,14 @@
-//! Laws of stripping.
+//! Laws of stripping. No code calls these functions: the contract of each is a proved law.
+
 ghost use Rattle.std.specs.Prelude.{◌≡◌, List, ℕ, IsUtf8};
-ghost use Rattle.logos_token.specs.Tokens.{TokenList};
-ghost use Rattle.logos_token.specs.Spelling.{Spells};
-ghost use Rattle.logos_token.specs.Printing.{printed};
-ghost use Rattle.logos_token.specs.PrintedAgain.{SpellsAgain, bare};
-ghost use Rattle.logos_strip.specs.Stripping.{stripped};
+ghost use Rattle.logos_strip.specs.Words.{TokenList, Spells, printed, SpellsAgain, bare};
+ghost use Rattle.logos_strip.specs.Views.{stripped};
 
 /// Stripping a second time removes nothing.
 pub fn strips_once()
     ensures same { (tokens : TokenList) → stripped (stripped tokens) ≡ stripped tokens }
-    // Nor does it of tokens that differ in their spans alone, as those that the printed text spells.
+    // Nor does it of tokens that differ in their spans alone, as those that the printed text
+    // spells.
     ensures again { (tokens again : TokenList) → bare again ≡ bare (stripped tokens) →
         bare (stripped again) ≡ bare again }
 {}

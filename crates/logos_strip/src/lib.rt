@@ -1,10 +1,11 @@
-//! Stripping: removes from an enum what belongs to the derive macro, which is its helper attributes and its name in `derive`.
+//! Stripping: removes from an enum what belongs to the derive macro, which is its helper attributes
+//! and its name in `derive`.
 
 #![tactic(auto)]
 
-mod helpers;
+pub mod helpers;
 pub mod laws;
-pub mod places;
+pub mod spots;
 pub mod stripping;
 mod walk;
 pub mod writer;

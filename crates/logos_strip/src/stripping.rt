@@ -1,18 +1,14 @@
-//! Stripping of a source.
-ghost use Rattle.std.specs.Prelude.{◌≡◌, ◌<◌, [], ◌∷◌, length, IfOk, IfErr, IsErrAnd};
-ghost use Rattle.logos_token.specs.Faults.{Fault};
-ghost use Rattle.logos_token.specs.Views.{stream_tokens};
-ghost use Rattle.logos_item.specs.EnumValues.{EnumValue};
-ghost use Rattle.logos_source.specs.Endings.{too_long, EndsReading, EndsTokens};
-ghost use Rattle.logos_source.specs.Refusals.{Refuses, IsMemory};
-ghost use Rattle.logos_strip.specs.Stripping.{stripped};
-ghost use Rattle.logos_strip.specs.Results.{AreStripped, IsStripped, SpellsEnum};
+//! Stripping of a source. `logos strip` and the expansion of files call it.
 
-use crate::places::Scope;
+ghost use Rattle.std.specs.Prelude.{◌≡◌, ◌<◌, [], ◌∷◌, length, IfOk, IfErr, IsErrAnd};
+ghost use Rattle.logos_strip.specs.Words.{source_limit, Fault, stream_tokens, EnumValue, too_long, EndsReading, EndsTokens, Refuses, IsMemory};
+ghost use Rattle.logos_strip.specs.Views.{stripped, AreStripped, IsStripped, SpellsEnum};
+
+use crate::spots::Scope;
 use crate::walk::strip_run;
-use logos_item::read_enum;
-use logos_source::reading::{misread, unreadable};
-use logos_source::refusal::Refusal;
+use logos_enum::read_enum;
+use logos_parser::reading::{misread, unreadable};
+use logos_parser::refusal::Refusal;
 use logos_token::token::{TokenStream, tokenize};
 use std::alloc::Global;
 
@@ -35,20 +31,20 @@ fn strip_tokens<'s>(alloc: Global, stream: &TokenStream<'s>) -> Result<TokenStre
 ///
 /// The helper attributes `logos`, `token` and `regex` go from the enum, its variants and its
 /// fields, whatever their arguments. From each `derive` of the enum the entries `Logos`,
-/// `logos::Logos` and `::logos::Logos` go, each with the comma after it. Punctuation directly before
-/// what goes is alone from then on. All else stays as it is, with its span in the source.
+/// `logos::Logos` and `::logos::Logos` go, each with the comma after it. Punctuation directly
+/// before what goes is alone from then on. All else stays as it is, with its span in the source.
 ///
 /// # Errors
 ///
-/// Returns `Errors` with the one fault that ends the reading: `LimitSource` when the source is longer
-/// than 16 MiB; `Lexical` or `LimitTokenNesting` when it has no tokens; `NotAnEnum`, `Grammar`,
-/// `TypeUnsupported` or `LimitTypeNesting` when its tokens are not an enum. Returns `Memory` when
-/// memory runs out.
+/// Returns `Errors` with the one fault that ends the reading: `LimitSource` when the source is
+/// longer than 16 MiB; `Lexical` or `LimitTokenNesting` when it has no tokens; `NotAnEnum`,
+/// `Grammar`, `TypeUnsupported` or `LimitTypeNesting` when its tokens are not an enum. Returns
+/// `Memory` if memory runs out.
 pub fn strip_attributes<'s>(alloc: Global, src: &'s str) -> Result<TokenStream<'s>, Refusal>
     ensures ok { IfOk result (λ left. IsStripped src.now (stream_tokens left)) }
     ensures err { IfErr result (Refuses (λ faults. (ending : Fault) × EndsReading src.now ending
         × (faults ≡ ending ∷ []))) }
-    ensures long { 16777216 < length src.now →
+    ensures long { source_limit < length src.now →
         IsErrAnd result (Refuses (λ faults. faults ≡ too_long src.now ∷ [])) }
     // A source that spells an enum, within the limits, is not refused.
     ensures complete { SpellsEnum src.now → IfErr result IsMemory }

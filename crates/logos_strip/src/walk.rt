@@ -1,13 +1,10 @@
 //! Stripping of runs, group by group.
-ghost use Rattle.std.specs.Prelude.{◌≡◌, ◌<◌, ◌≤◌, ◌∷◌, List, Option, Some, None, IfOk};
-ghost use Rattle.logos_token.specs.Tokens.{Token};
-ghost use Rattle.logos_token.specs.Views.{tokens_of, tree_of, stream_tokens};
-ghost use Rattle.logos_strip.specs.declared.places.Place.TheVariants.{Open};
-ghost use Rattle.logos_strip.specs.Places.{scope_inside};
-ghost use Rattle.logos_strip.specs.Stripping.{left, thinned, sorted};
-ghost use Rattle.logos_strip.specs.inside.Writing.{completed, group_token};
 
-use crate::places::{Place, Scope, goes, place_after, scope_of};
+ghost use Rattle.std.specs.Prelude.{◌≡◌, ◌<◌, ◌≤◌, ◌∷◌, List, Option, Some, None, IfOk};
+ghost use Rattle.logos_strip.specs.Words.{Token, tokens_of, tree_of, stream_tokens};
+ghost use Rattle.logos_strip.specs.Views.{Open, scope_inside, left, thinned, sorted, completed, group_token};
+
+use crate::spots::{Scope, TokenSpot, goes, scope_of, spot_after};
 use crate::writer::Writer;
 use logos_token::error::Memory;
 use logos_token::token::{Group, TokenStream, TokenTree, Tokens};
@@ -34,19 +31,19 @@ fn keep<'s>(
     alloc: Global,
     writer: Writer<'s>,
     scope: Scope,
-    place: Place,
+    spot: TokenSpot,
     tree: TokenTree<'_, 's>,
     rest: Tokens<'_, 's>,
 ) -> Result<Writer<'s>, Memory>
     ensures { IfOk result (λ next. (pieces : List (Option Token)) → completed next pieces
         ≡ completed writer.entry (Some (thinned
-        (scope_inside scope place (tree_of tree.entry) (tokens_of rest.entry))
+        (scope_inside scope spot (tree_of tree.entry) (tokens_of rest.entry))
         (tree_of tree.entry)) ∷ pieces)) }
 {
     let TokenTree::Group(whole) = tree else {
         return writer.with_tree(tree);
     };
-    match scope_of(scope, place, whole.delimiter, rest) {
+    match scope_of(scope, spot, whole.delimiter, rest) {
         Some(inner) => keep_group(alloc, writer, inner, whole),
         None => writer.with_tree(tree),
     }
@@ -56,7 +53,7 @@ fn keep<'s>(
 ///
 /// # Errors
 ///
-/// Returns `Memory` when memory runs out.
+/// Returns `Memory` if memory runs out.
 #[cycle(walk)]
 pub(crate) fn strip_run<'s>(
     alloc: Global,
@@ -67,17 +64,17 @@ pub(crate) fn strip_run<'s>(
         ≡ left (sorted scope Open (tokens_of run.entry))) }
 {
     let mut writer = Writer::new(alloc);
-    let mut place = Place::Open;
+    let mut spot = TokenSpot::Open;
     let mut tokens = run;
     while let Some(tree) = tokens.first() {
         let rest = tokens.rest();
-        let gone = goes(scope, place, tokens);
+        let gone = goes(scope, spot, tokens);
         writer = if gone {
             writer.without_tree()?
         } else {
-            keep(alloc, writer, scope, place, tree, rest)?
+            keep(alloc, writer, scope, spot, tree, rest)?
         };
-        place = place_after(scope, place, gone, tree);
+        spot = spot_after(scope, spot, gone, tree);
         tokens = rest;
     }
     writer.finish()

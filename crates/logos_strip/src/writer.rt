@@ -1,9 +1,8 @@
 //! A writer of the tokens that stay, tree by tree.
+
 ghost use Rattle.std.specs.Prelude.{◌≡◌, [], ◌∷◌, List, Option, Some, None, IfOk};
-ghost use Rattle.logos_token.specs.Tokens.{Token};
-ghost use Rattle.logos_token.specs.Views.{stream_tokens, tree_of};
-ghost use Rattle.logos_strip.specs.Stripping.{left};
-ghost use Rattle.logos_strip.specs.inside.Writing.{completed};
+ghost use Rattle.logos_strip.specs.Words.{Token, stream_tokens, tree_of};
+ghost use Rattle.logos_strip.specs.Views.{left, completed};
 
 use logos_token::error::Memory;
 use logos_token::token::{Punct, Spacing, TokenStream, TokenTree};

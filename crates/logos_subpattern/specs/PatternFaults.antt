@@ -14,11 +14,11 @@ use Rattle.logos_attribute.specs.Reports.{fault, only}
 
 -- What reading a text as a pattern gives.
 pub data Reading : Type 0 where
-  -- it spells this tree
+  -- It spells this tree.
   spelled : (tree : Tree) → Reading
-  -- it spells none; which fault is reported is left open
+  -- It spells none; which fault is reported is left open.
   broken : (kind : Kind) (at : ℕ) → Reading
-  -- it spells none within the limit, and a beginning of it nests deeper
+  -- It spells none within the limit, and a beginning of it nests deeper.
   too_deep : Reading
 
 -- The text spells no tree within the nesting limit, and a beginning of it nests deeper.

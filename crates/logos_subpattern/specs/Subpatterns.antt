@@ -6,7 +6,7 @@ use Rattle.logos_token.specs.declared.error.fault_code.FaultCode.TheVariants.{Su
 use Rattle.logos_token.specs.Faults.{Fault}
 use Rattle.logos_token.specs.Held.{Held, of_text, of_bytes}
 use Rattle.logos_pattern.specs.Escaping.{escaped_text, escaped_bytes}
-use Rattle.logos_measures.specs.Measure.{is_text}
+use Rattle.logos_hir.specs.Measure.{is_text}
 use Rattle.logos_hir.specs.Tree.{Tree}
 use Rattle.logos_type_params.specs.TypeParams.{previous}
 use Rattle.logos_attribute.specs.Slices.{Slice}
@@ -99,14 +99,15 @@ subpattern_report utf8_mode reading sub names =
 abbrev pub test_text : NamedLiteral → List Stored → Option (List ℕ)
 test_text sub names = if is_name sub.name.text then (test_report sub names).value else None
 
--- Adding a subpattern leads from the subpatterns before to those after, and its faults are added to the list. `reading` is what reading its text gives, if the
--- text is tested.
+-- Adding a subpattern leads from the subpatterns before to those after, and its faults are added to
+-- the list. `reading` is what reading its text gives, if the text is tested.
 pub record IsAdded (utf8_mode : Bool) (sub : NamedLiteral) (before after : List Stored) (old new : List Fault) : Type 0 where
   pub reading : Reading
   pub reads : (text : List ℕ) → test_text sub before ≡ Some text → Reads true false (chars text) reading
   pub reports : IsReport (subpattern_report utf8_mode reading sub before) after old new
 
--- Adding subpatterns one after another leads from the subpatterns before to those after, and their faults are added to the list.
+-- Adding subpatterns one after another leads from the subpatterns before to those after, and their
+-- faults are added to the list.
 pub data AreAdded (utf8_mode : Bool) : List NamedLiteral → (before after : List Stored) → (old new : List Fault) → Type 0 where
   ended : {names : List Stored} {faults : List Fault} → AreAdded utf8_mode [] names names faults faults
   further : {sub : NamedLiteral} {rest : List NamedLiteral} {before middle after : List Stored} {old now new : List Fault} →

@@ -94,6 +94,7 @@ whole_text s = if s.complete then Some s.text else None
 abbrev pub nothing_yet : Substituted
 nothing_yet = record { text = []; complete = true }
 
--- The text of a pattern with each name replaced by the text that is stored for it. `span` is that of the pattern's literal, at which missing names are reported.
+-- The text of a pattern with each name replaced by the text that is stored for it. `span` is that
+-- of the pattern's literal, at which missing names are reported.
 abbrev pub subst_report : List Stored → Span → List ℕ → Report (Option (List ℕ))
 subst_report names span text = map_report whole_text (parts_report names span (parts 0 text) nothing_yet)

@@ -1,11 +1,8 @@
-//! Reading of texts as patterns, and the faults of that.
-ghost use Rattle.std.specs.Prelude.{◌≡◌, ◌++◌, chars, IfOk, IfSome, OnOk, OnErr, option_map};
-ghost use Rattle.std.specs.Prelude.{string_bytes};
-ghost use Rattle.logos_pattern.specs.Leaf.{pattern_tree, source_of, is_token};
-ghost use Rattle.logos_pattern.specs.Literals.{token_of};
-ghost use Rattle.logos_attribute.specs.Reports.{AddsFault, fault, only};
-ghost use Rattle.logos_subpattern.specs.PatternFaults.{kind_name, regex_text, IsRead};
-ghost use Rattle.logos_subpattern.specs.inside.Errors.{ReportsError};
+//! Reading of texts as patterns, and the faults of that. `logos_leaf` reads the text of each leaf
+//! with it.
+
+ghost use Rattle.std.specs.Prelude.{◌≡◌, ◌++◌, chars, IfOk, IfSome, OnOk, OnErr, option_map, string_bytes};
+ghost use Rattle.logos_subpattern.specs.Words.{pattern_tree, source_of, is_token, token_of, AddsFault, fault, only, kind_name, regex_text, IsRead, ReportsError};
 
 use logos_pattern::pattern::{Kind, Literal, Pattern, PatternError};
 use logos_token::error::{Errors, FaultCode, Memory};
@@ -89,7 +86,7 @@ fn report_error(error: PatternError, span: Span, errors: &mut Errors) -> Result<
 ///
 /// # Errors
 ///
-/// Returns `Memory` when memory runs out. The faults are then as before.
+/// Returns `Memory` if memory runs out. The faults are then as before.
 pub fn read_pattern<'s>(
     regex: &str,
     literal: &Literal<'s>,

@@ -1,14 +1,8 @@
-//! The subpatterns of a lexer, with their texts.
+//! The subpatterns of a lexer, with their texts. `logos_leaf` makes them once, after all attributes
+//! of the enum are read.
+
 ghost use Rattle.std.specs.Prelude.{◌≡◌, ◌++◌, ◌∷◌, [], IfOk, OnOk, string_bytes};
-ghost use Rattle.std.specs.List.{list_all};
-ghost use Rattle.logos_type_params.specs.TypeParams.{previous};
-ghost use Rattle.logos_attribute.specs.Slices.{ident_slice};
-ghost use Rattle.logos_attribute.specs.LiteralViews.{literal_view, named_literal_view};
-ghost use Rattle.logos_attribute.specs.Reports.{AddsFault};
-ghost use Rattle.logos_subpattern.specs.Substitution.{is_word};
-ghost use Rattle.logos_subpattern.specs.Subpatterns.{is_name, flags_of, pattern_text, wrapped};
-ghost use Rattle.logos_subpattern.specs.Subpatterns.{subpattern_name, subpattern_twice};
-ghost use Rattle.logos_subpattern.specs.Subpatterns.{utf8_subpattern, utf8_text};
+ghost use Rattle.logos_subpattern.specs.Words.{list_all, previous, ident_slice, literal_view, named_literal_view, AddsFault, is_word, is_name, flags_of, pattern_text, wrapped, subpattern_name, subpattern_twice, utf8_subpattern, utf8_text};
 
 use crate::fault::{ReadingMode, read_pattern};
 use crate::substitution::substituted;
@@ -24,8 +18,8 @@ use std::alloc::Global;
 #[derive(Drop)]
 pub struct Subpattern<'s> {
     name: Ident<'s>,
-    /// The text of the pattern in a group that sets its flags, with each name of an earlier subpattern
-    /// replaced by the text of that.
+    /// The text of the pattern in a group that sets its flags, with each name of an earlier
+    /// subpattern replaced by the text of that.
     pattern: String,
 }
 
@@ -88,7 +82,7 @@ fn flags_of(literal: &Literal<'_>) -> &'static str
 ///
 /// # Errors
 ///
-/// Returns `Memory` when memory runs out.
+/// Returns `Memory` if memory runs out.
 pub fn pattern_text(alloc: Global, literal: &Literal<'_>) -> Result<String, Memory>
     ensures { IfOk result (λ text. string_bytes text ≡ pattern_text (literal_view literal.now).held) }
 {
@@ -169,17 +163,9 @@ fn report_utf8(named: &(Ident<'_>, Literal<'_>), errors: &mut Errors) -> Result<
 }
 
 impl<'s> Subpatterns<'s> {
-    ghost use Rattle.std.specs.Prelude.{◌≡◌, ℕ, List, [], map, option_map, IfOk, OnOk, OnErr};
-    ghost use Rattle.std.specs.Prelude.{string_bytes, chars};
-    ghost use denote.Ref.{Bor};
-    ghost use Rattle.logos_attribute.specs.Slices.{ident_slice};
-    ghost use Rattle.logos_attribute.specs.LiteralViews.{named_literal_view};
-    ghost use Rattle.logos_attribute.specs.Reports.{IsReport};
-    ghost use Rattle.logos_subpattern.specs.Substitution.{text_of, subst_report};
-    ghost use Rattle.logos_subpattern.specs.Subpatterns.{stored_report, tested_report};
-    ghost use Rattle.logos_subpattern.specs.Subpatterns.{IsAdded, AreAdded};
-    ghost use Rattle.logos_subpattern.specs.SubpatternViews.{names_of};
-    ghost use Rattle.logos_subpattern.specs.inside.Tests.{IsTested};
+    ghost use Rattle.std.specs.Prelude.{◌≡◌, ℕ, List, [], map, option_map, IfOk, OnOk, OnErr, string_bytes, chars};
+    ghost use Rattle.logos_subpattern.specs.Words.{Bor, ident_slice, named_literal_view, IsReport, text_of, subst_report, stored_report, tested_report, IsAdded, AreAdded, IsTested};
+    ghost use Rattle.logos_subpattern.specs.Views.{names_of};
 
     /// Returns the text of the subpattern with this name, if there is one.
     pub(crate) fn find(&self, name: &str) -> Option<&str>
@@ -264,8 +250,8 @@ impl<'s> Subpatterns<'s> {
         self.test(utf8_mode, named, whole, errors)
     }
 
-    /// Returns the subpatterns with these names and literals, and reports their faults. After an error
-    /// some of these may be in the list.
+    /// Returns the subpatterns with these names and literals, and reports their faults. After an
+    /// error some of these may be in the list.
     fn add_all(
         list: &[(Ident<'s>, Literal<'s>)],
         utf8_mode: bool,
@@ -284,13 +270,13 @@ impl<'s> Subpatterns<'s> {
         Ok(subpatterns)
     }
 
-    /// Returns the subpatterns with these names and literals, in order. Each may use the ones before it.
-    /// A later one replaces an earlier one of the same name. One with a fault is left out, and the fault
-    /// is reported.
+    /// Returns the subpatterns with these names and literals, in order. Each may use the ones
+    /// before it. A later one replaces an earlier one of the same name. One with a fault is left
+    /// out, and the fault is reported.
     ///
     /// # Errors
     ///
-    /// Returns `Memory` when memory runs out. The faults are then as before.
+    /// Returns `Memory` if memory runs out. The faults are then as before.
     pub fn new(
         alloc: Global,
         list: &[(Ident<'s>, Literal<'s>)],
@@ -308,13 +294,13 @@ impl<'s> Subpatterns<'s> {
         Ok(subpatterns)
     }
 
-    /// Returns the text with each `(?&name)`, from the left, replaced by the text of that subpattern.
-    /// The texts that are put in are not searched for names. Returns `None` when a name has no
-    /// subpattern, and reports that at `span`, once for each use.
+    /// Returns the text with each `(?&name)`, from the left, replaced by the text of that
+    /// subpattern. The texts that are put in are not searched for names. Returns `None` when a name
+    /// has no subpattern, and reports that at `span`, once for each use.
     ///
     /// # Errors
     ///
-    /// Returns `Memory` when memory runs out. The faults are then as before.
+    /// Returns `Memory` if memory runs out. The faults are then as before.
     pub fn subst_subpatterns(
         &self,
         alloc: Global,

@@ -1,12 +1,9 @@
-//! Substitution of subpatterns in the text of a pattern.
-ghost use Rattle.std.specs.Prelude.{◌≡◌, ℕ, List, ◌+◌, ◌<◌, ◌++◌, ◌∷◌, [], length, drop};
-ghost use Rattle.std.specs.Prelude.{option_map, chars, OnOk, IfOk, MatchOption, string_bytes};
-ghost use Rattle.logos_attribute.specs.Reports.{IsReport, AddsFault};
-ghost use Rattle.logos_subpattern.specs.Substitution.{is_word, word_front, word_rest, closed};
-ghost use Rattle.logos_subpattern.specs.Substitution.{reference, parts, encoded};
-ghost use Rattle.logos_subpattern.specs.Substitution.{subpattern_missing, subst_report};
-ghost use Rattle.logos_subpattern.specs.SubpatternViews.{names_of};
-ghost use Rattle.logos_subpattern.specs.inside.Parts.{part_of};
+//! Substitution of subpatterns in the text of a pattern. It runs for each subpattern and for each
+//! leaf.
+
+ghost use Rattle.std.specs.Prelude.{◌≡◌, ℕ, List, ◌+◌, ◌<◌, ◌++◌, ◌∷◌, [], length, drop, option_map, chars, OnOk, IfOk, MatchOption, string_bytes};
+ghost use Rattle.logos_subpattern.specs.Words.{IsReport, AddsFault, is_word, word_front, word_rest, closed, reference, parts, encoded, subpattern_missing, subst_report};
+ghost use Rattle.logos_subpattern.specs.Views.{names_of, part_of};
 
 use crate::subpattern::Subpatterns;
 use logos_attribute::reporting::report_named;
@@ -138,10 +135,8 @@ fn report_missing(name: &str, span: Span, errors: &mut Errors) -> Result<(), Mem
 
 impl Text {
     ghost use Rattle.std.specs.Prelude.{OnOk};
-    ghost use Rattle.logos_attribute.specs.Reports.{IsReport};
-    ghost use Rattle.logos_subpattern.specs.Substitution.{part_report, name_report, text_of};
-    ghost use Rattle.logos_subpattern.specs.SubpatternViews.{names_of};
-    ghost use Rattle.logos_subpattern.specs.inside.Parts.{part_of, text_view};
+    ghost use Rattle.logos_subpattern.specs.Words.{IsReport, part_report, name_report, text_of};
+    ghost use Rattle.logos_subpattern.specs.Views.{names_of, part_of, text_view};
 
     /// Adds the text of the subpattern with this name, or reports that there is none.
     fn add_name(
@@ -222,8 +217,8 @@ fn put_together(
     Ok(None)
 }
 
-/// Returns the text with each subpattern put in. Returns `None` when one is missing, which is reported
-/// at `span`.
+/// Returns the text with each subpattern put in. Returns `None` when one is missing, which is
+/// reported at `span`.
 pub(crate) fn substituted(
     subpatterns: &Subpatterns<'_>,
     text: &str,

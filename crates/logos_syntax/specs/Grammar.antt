@@ -18,13 +18,13 @@ use Rattle.logos_pattern_tokens.specs.bracket.Form.{Bracket}
 use Rattle.logos_syntax.specs.bracket.Meaning.{case_closure, set_or_complement, bracket_set, BracketFits, bracket_depth}
 use Rattle.logos_syntax.specs.Written.{Branches, first, next, Items, nothing, piece, setting, Piece, simple, class, group, repeated, branches_tokens, Cuts, NamesDiffer, items_flags, branches_flags, inner_flags}
 
--- ---- atoms
+-- ---- atoms.
 
--- one character, or one byte, of the set
+-- One character, or one byte, of the set.
 abbrev pub one_of : Flags → Set → Tree
 one_of flags set = if flags.unicode then one_char_of set else one_byte_of set
 
--- the number alone, or under `i` also what differs from it in case alone
+-- The number alone, or under `i` also what differs from it in case alone.
 abbrev pub same_as : Flags → ℕ → Set
 same_as flags c = case_closure flags (only_chars (λ d. d == c))
 
@@ -33,14 +33,14 @@ abbrev pub character_tree : Flags → ℕ → Tree
 character_tree flags c =
     if flags.ignore_case && (flags.unicode || nat_lt c 128) then one_of flags (same_as flags c) else literal (encode_utf8 c)
 
--- a byte, or the character with this number
+-- A byte, or the character with this number.
 abbrev pub byte_tree : Flags → ℕ → Tree
 byte_tree flags b =
     if flags.unicode then character_tree flags b
     else if flags.ignore_case then one_byte_of (same_as flags b)
     else literal (b ∷ [])
 
--- what a dot stands for: LF is 10, CR is 13
+-- What a dot stands for: LF is 10, CR is 13.
 abbrev pub dot_set : Flags → Set
 dot_set flags = only_chars (λ c. flags.dot_all || not ((c == 10) || (flags.crlf && (c == 13))))
 
@@ -84,9 +84,9 @@ TokenFits flags _ = Unit {0}
 abbrev pub class_tree : Flags → Bracket → Tree
 class_tree flags b = one_of flags (bracket_set flags b)
 
--- ---- trees
+-- ---- trees.
 
--- a group that captures
+-- A group that captures.
 abbrev pub captures : Opening → Bool
 captures capturing = true
 captures (named name) = true
@@ -95,7 +95,7 @@ captures (plain change) = false
 abbrev pub group_tree : Bool → Tree → Tree
 group_tree captured tree = if captured then capture tree else tree
 
--- an operator is lazy with `?`, under `U` without it
+-- An operator is lazy with `?`, under `U` without it.
 abbrev pub is_greedy : Flags → Operator → Bool
 is_greedy flags op = if flags.swap_greed then op.lazy else not op.lazy
 
@@ -119,7 +119,7 @@ abbrev mutual
 abbrev pub written_tree : Flags → Branches → Tree
 written_tree flags bs = alternation_of (branch_list flags bs)
 
--- ---- what the flags allow
+-- ---- what the flags allow.
 
 abbrev mutual
   pub BranchesFit : Flags → Branches → Type 0
@@ -137,7 +137,7 @@ abbrev mutual
   PieceFits flags (group opening bs) = BranchesFit (inner_flags opening flags) bs
   PieceFits flags (repeated p op) = PieceFits flags p
 
--- ---- how many groups, brackets and repetitions are around one place, at most
+-- ---- how many groups, brackets and repetitions are around one point, at most.
 
 abbrev mutual
   pub branches_depth : Branches → ℕ
@@ -155,9 +155,10 @@ abbrev mutual
   piece_depth (group opening bs) = branches_depth bs + 1
   piece_depth (repeated p op) = piece_depth p + 1
 
--- ---- the whole text
+-- ---- the whole text.
 
--- The text spells the tree under the flags. The number is the greatest number of groups, brackets and repetitions around one place.
+-- The text spells the tree under the flags. The number is the greatest number of groups, brackets
+-- and repetitions around one point.
 pub record Spells (flags : Flags) (text : Text) (tree : Tree) (depth : ℕ) : Type 0 where
   pub written : Branches
   pub cut : Cuts text (branches_tokens written) []
@@ -174,12 +175,12 @@ IsSpelled flags text depth = (tree : Tree) × Spells flags text tree depth
 abbrev pub IsFound : Flags → Text → Tree → Type 0
 IsFound flags text tree = (depth : ℕ) × (depth ≤ 250) × Spells flags text tree depth
 
--- what an error means for the text
+-- What an error means for the text.
 abbrev pub Refuses : Flags → Text → PatternError → Type 0
 Refuses flags text (errors.Syntax kind at) = (depth : ℕ) → IsSpelled flags text depth → ⊥
 Refuses flags text errors.LimitPatternNesting = (depth : ℕ) → IsSpelled flags text depth → 250 < depth
 Refuses flags text errors.Memory = Unit {0}
 
--- the flags at the start of a pattern
+-- The flags at the start of a pattern.
 abbrev pub first_flags : Bool → Bool → Flags
 first_flags unicode ignore_case = record { unicode = unicode; ignore_case = ignore_case; multi_line = false; dot_all = false; swap_greed = false; crlf = false }

@@ -12,14 +12,15 @@ use Rattle.logos_syntax.specs.bracket.Meaning.{TokensFit}
 use Rattle.logos_syntax.specs.Written.{Branches, branches_tokens, Cuts, NamesDiffer, branches_flags, inner_flags}
 use Rattle.logos_syntax.specs.Grammar.{BranchesFit, branches_depth}
 
--- ---- groups
+-- ---- groups.
 
--- the groups that are open, with the whole pattern as the outermost one: what is written in each, and how the next one opens
+-- The groups that are open, with the whole pattern as the outermost one: what is written in each,
+-- and how the next one opens.
 pub data Around : Type 0 where
   outermost : Around
   within : (around : Around) (inside : Branches) (opening : Opening) → Around
 
--- how many groups are open
+-- How many groups are open.
 abbrev pub groups_open : Around → ℕ
 groups_open outermost = 0
 groups_open (within around inside opening) = suc (groups_open around)
@@ -29,7 +30,7 @@ around_tokens outermost = []
 around_tokens (within around inside opening) =
     (around_tokens around ++ branches_tokens inside) ++ opens opening ∷ []
 
--- the flags at the start of the innermost group
+-- The flags at the start of the innermost group.
 abbrev pub around_flags : Flags → Around → Flags
 around_flags flags outermost = flags
 around_flags flags (within around inside opening) =
@@ -41,7 +42,7 @@ AroundFits flags outermost = Unit {0}
 AroundFits flags (within around inside opening) =
     AroundFits flags around × BranchesFit (around_flags flags around) inside
 
--- the innermost place of what is written in the groups around, or 0
+-- The innermost point of what is written in the groups around, or 0.
 abbrev pub around_depth : Around → ℕ
 around_depth outermost = 0
 around_depth (within around inside opening) =
@@ -50,25 +51,25 @@ around_depth (within around inside opening) =
 -- A beginning of the text is a beginning of a pattern, and the rest follows it.
 pub record Front (flags : Flags) (text rest : Text) : Type 0 where
   pub around : Around
-  -- what is written in the innermost group
+  -- What is written in the innermost group.
   pub inside : Branches
   pub cut : Cuts text (around_tokens around ++ branches_tokens inside) rest
   pub around_fits : AroundFits flags around
   pub inside_fits : BranchesFit (around_flags flags around) inside
   pub names : NamesDiffer [] (around_tokens around ++ branches_tokens inside)
 
--- how many groups, brackets and operators are around one place of it, at most
+-- How many groups, brackets and operators are around one point of it, at most.
 abbrev pub front_depth : {flags : Flags} {text rest : Text} → Front flags text rest → ℕ
 front_depth front = max (groups_open front.around + branches_depth front.inside) (around_depth front.around)
 
--- the flags after it
+-- The flags after it.
 abbrev pub front_flags : {flags : Flags} {text rest : Text} → Front flags text rest → Flags
 front_flags {flags = flags} front = branches_flags (around_flags flags front.around) front.inside
 
--- ---- brackets
+-- ---- brackets.
 
--- After the tokens of a bracket, the last number of brackets is open, if the first number was open before them.
--- The outermost one stays open.
+-- After the tokens of a bracket, the last number of brackets is open, if the first number was open
+-- before them. The outermost one stays open.
 pub data LeavesOpen : ℕ → List BracketToken → ℕ → Type 0 where
   done : (n : ℕ) → LeavesOpen n [] n
   item : (n m : ℕ) (i : ItemValue) (others : List BracketToken) → LeavesOpen n others m → LeavesOpen n (tokens.Item i ∷ others) m
@@ -77,7 +78,8 @@ pub data LeavesOpen : ℕ → List BracketToken → ℕ → Type 0 where
       LeavesOpen n (tokens.Open negated lead ∷ others) m
   closing : (n m : ℕ) (others : List BracketToken) → LeavesOpen (suc n) others m → LeavesOpen (suc (suc n)) (tokens.Close ∷ others) m
 
--- A beginning of the text, which comes after the opening of a bracket, leaves this number of brackets open.
+-- A beginning of the text, which comes after the opening of a bracket, leaves this number of
+-- brackets open.
 pub record InsideFront (flags : Flags) (text : Text) (count : ℕ) : Type 0 where
   pub written : List BracketToken
   pub rest : Text
@@ -85,7 +87,8 @@ pub record InsideFront (flags : Flags) (text : Text) (count : ℕ) : Type 0 wher
   pub fits : TokensFit flags written
   pub leaves : LeavesOpen 1 written count
 
--- A beginning of the text, which comes after `[`, leaves this number of brackets open, with the one of that `[`.
+-- A beginning of the text, which comes after `[`, leaves this number of brackets open, with the one
+-- of that `[`.
 pub record BracketFront (flags : Flags) (text : Text) (count : ℕ) : Type 0 where
   pub negated : Bool
   pub lead : Lead
@@ -93,9 +96,9 @@ pub record BracketFront (flags : Flags) (text : Text) (count : ℕ) : Type 0 whe
   pub opens : Opens negated lead text following
   pub inside : InsideFront flags following count
 
--- ---- the limit
+-- ---- the limit.
 
--- After a beginning of the text, more than 250 groups, brackets and operators are around one place.
+-- After a beginning of the text, more than 250 groups, brackets and operators are around one point.
 pub data IsTooDeep (flags : Flags) (text : Text) : Type 0 where
   by_groups : (rest : Text) (front : Front flags text rest) → 250 < front_depth front → IsTooDeep flags text
   by_brackets : (following : Text) (front : Front flags text (91 ∷ following)) (count : ℕ) →

@@ -1,4 +1,5 @@
--- A pattern as it is written, from the left. Each beginning of a group's inside is itself the inside of a group.
+-- A pattern as it is written, from the left. Each beginning of a group's inside is itself the
+-- inside of a group.
 use Rattle.std.specs.Prelude.{◌≡◌, false, List, [], ◌∷◌, ◌++◌, bytes_eq}
 use Rattle.std.specs.List.{list_any}
 use Rattle.logos_pattern_tokens.specs.declared.token.Flags.{Flags}
@@ -12,26 +13,26 @@ use Rattle.logos_pattern_tokens.specs.bracket.Spelling.{Encloses}
 use Rattle.logos_pattern_tokens.specs.Spelling.{Takes}
 
 mutual
-  -- the inside of a group: branches with `|` between them
+  -- The inside of a group: branches with `|` between them.
   pub data Branches : Type 0 where
     first : Items → Branches
     next : Branches → Items → Branches
 
-  -- one branch
+  -- One branch.
   pub data Items : Type 0 where
     nothing : Items
     piece : Items → Piece → Items
     -- `(?flags)`
     setting : Items → Change → Items
 
-  -- what can be repeated
+  -- What can be repeated.
   pub data Piece : Type 0 where
     simple : Atom → Piece
     class : Bracket → Piece
     group : Opening → Branches → Piece
     repeated : Piece → Operator → Piece
 
--- ---- tokens
+-- ---- tokens.
 
 abbrev mutual
   pub branches_tokens : Branches → List Token
@@ -59,7 +60,7 @@ abbrev pub Cuts : Text → List Token → Text → Type 0
 Cuts text [] rest = text ≡ rest
 Cuts text (token ∷ tokens) rest = (after : Text) × Starts token text after × Cuts after tokens rest
 
--- ---- names
+-- ---- names.
 
 -- The name of a group differs from all names before it.
 abbrev pub IsNew : List Text → Token → Type 0
@@ -75,9 +76,9 @@ abbrev pub NamesDiffer : List Text → List Token → Type 0
 NamesDiffer seen [] = Unit {0}
 NamesDiffer seen (token ∷ tokens) = IsNew seen token × NamesDiffer (with_name seen token) tokens
 
--- ---- flags
+-- ---- flags.
 
--- the flags after a branch, or after the inside of a group so far
+-- The flags after a branch, or after the inside of a group so far.
 abbrev pub items_flags : Flags → Items → Flags
 items_flags flags nothing = flags
 items_flags flags (piece its p) = items_flags flags its
@@ -87,7 +88,7 @@ abbrev pub branches_flags : Flags → Branches → Flags
 branches_flags flags (first its) = items_flags flags its
 branches_flags flags (next bs its) = items_flags (branches_flags flags bs) its
 
--- the flags inside a group
+-- The flags inside a group.
 abbrev pub inner_flags : Opening → Flags → Flags
 inner_flags capturing flags = flags
 inner_flags (named name) flags = flags

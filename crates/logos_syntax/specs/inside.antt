@@ -2,5 +2,5 @@ pub mod BracketStack
 pub mod BracketView
 pub mod Groups
 pub mod GroupsView
-pub mod Names
+pub mod GroupNames
 pub mod Reading

@@ -1,15 +1,8 @@
-//! The stack of the groups that are open while a pattern is read, which makes the tree.
+//! The stack of the groups that are open while a pattern is read, which makes the tree. The parser
+//! pushes each token's part on it.
 
 ghost use Rattle.std.specs.Prelude.{◌≤◌, ◌≡◌, ◌+◌, ◌<◌, length, map, IfOk, OnOk, Some, unwrap_or, vec_len};
-ghost use Rattle.logos_hir.specs.Hir.{tree_of};
-ghost use Rattle.logos_hir.specs.Simplest.{simplest_tree};
-ghost use Rattle.logos_pattern_tokens.specs.Flags.{flags_after};
-ghost use Rattle.logos_pattern_tokens.specs.Token.{opening_view, token_view, closes, opens, repeats, sets, bracketed, atom as token_atom};
-ghost use Rattle.logos_pattern_tokens.specs.bracket.Form.{Bracket};
-ghost use Rattle.logos_hir.specs.RangeSets.{set_of};
-ghost use Rattle.logos_syntax.specs.bracket.Meaning.{bracket_set, bracket_depth};
-ghost use Rattle.logos_syntax.specs.Written.{inner_flags};
-ghost use Rattle.logos_syntax.specs.Grammar.{captures, group_tree, is_greedy};
+ghost use Rattle.logos_syntax.specs.Words.{pattern_nesting, tree_of, simplest_tree, flags_after, opening_view, token_view, closes, opens, repeats, sets, bracketed, atom as token_atom, Bracket, set_of, bracket_set, bracket_depth, inner_flags, captures, group_tree, is_greedy};
 
 use crate::bracket::stack::{BracketValue, MAX_NESTING};
 use crate::translate::{atom_fits, atom_tree, one_of};
@@ -20,40 +13,40 @@ use logos_pattern_tokens::token::{Atom, Change, Flags, Opening, Operator, Token}
 use std::alloc::{AllocError, Global};
 use std::mem;
 
-/// A tree, the depth of its innermost place in the whole pattern, and the number of characters from its start
-/// to the end of the text.
+/// A tree, the depth of its innermost point in the whole pattern, and the number of characters from
+/// its start to the end of the text.
 #[derive(Drop)]
-pub(crate) struct Part {
+pub(crate) struct GroupPart {
     tree: Hir,
     depth: usize,
     left: usize,
-    ghost shallow: { depth ≤ 250 },
+    ghost shallow: { depth ≤ pattern_nesting },
 }
 
 /// The inside of an open group, as far as it was read.
 #[derive(Drop)]
-pub(crate) struct OpenGroup {
+pub(crate) struct OpenedGroup {
     flags: Flags,
     /// Whether the group is a capture.
     captured: bool,
     branches: Vec<Hir>,
     parts: Vec<Hir>,
     /// The part that an operator would repeat, if one may come next.
-    last: Option<Part>,
-    /// The depth of its innermost place in the whole pattern.
+    last: Option<GroupPart>,
+    /// The depth of its innermost point in the whole pattern.
     inner: usize,
     /// The number of characters from its opening to the end of the text.
     left: usize,
-    ghost shallow: { inner ≤ 250 },
+    ghost shallow: { inner ≤ pattern_nesting },
 }
 
 /// The groups that are open, the innermost on top. The outermost one is the whole pattern.
 #[derive(Drop)]
 pub(crate) struct Groups {
-    top: OpenGroup,
+    top: OpenedGroup,
     /// The groups around it, the outermost first.
-    below: Vec<OpenGroup>,
-    ghost shallow: { vec_len below ≤ 250 },
+    below: Vec<OpenedGroup>,
+    ghost shallow: { vec_len below ≤ pattern_nesting },
 }
 
 /// Returns the flag after a setting that turns it on or off, or leaves it.
@@ -114,16 +107,17 @@ fn group_tree(alloc: Global, captured: bool, tree: Hir) -> Result<Hir, AllocErro
     Ok(tree)
 }
 
-impl OpenGroup {
-    ghost use Rattle.logos_syntax.specs.inside.Groups.{Group, fresh, all_parts, put, set, next_branch, all_branches, whole_tree, repeat};
-    ghost use Rattle.logos_syntax.specs.inside.GroupsView.{part_view, group_view, Repeats};
+impl OpenedGroup {
+    ghost use Rattle.logos_syntax.specs.Words.{pattern_nesting, Group, fresh, all_parts, put, set, next_branch, all_branches, whole_tree, repeat};
+    ghost use Rattle.logos_syntax.specs.Views.{part_view, group_view, Repeats};
 
-    /// Returns a group of which only the opening was read. `level` is the number of groups around its inside.
-    fn new(alloc: Global, flags: Flags, captured: bool, level: usize, left: usize) -> OpenGroup
-        requires { level ≤ 250 }
+    /// Returns a group of which only the opening was read. `level` is the number of groups around
+    /// its inside.
+    fn new(alloc: Global, flags: Flags, captured: bool, level: usize, left: usize) -> OpenedGroup
+        requires { level ≤ pattern_nesting }
         ensures { group_view result ≡ fresh flags captured level }
     {
-        OpenGroup {
+        OpenedGroup {
             flags,
             captured,
             branches: Vec::new(alloc),
@@ -145,7 +139,7 @@ impl OpenGroup {
     }
 
     /// Adds a part that an operator could repeat.
-    fn put(&mut self, part: Part) -> Result<(), AllocError>
+    fn put(&mut self, part: GroupPart) -> Result<(), AllocError>
         ensures { OnOk result (group_view self.new ≡ put (group_view self.old) (part_view part)) }
     {
         self.settle()?;
@@ -183,10 +177,12 @@ impl OpenGroup {
         group_tree(alloc, captured, simplify::either(self.branches))
     }
 
-    /// Repeats the last part. `left` is the number of characters from the operator to the end of the text.
+    /// Repeats the last part. `left` is the number of characters from the operator to the end of
+    /// the text.
     ///
     /// # Errors
-    /// `NothingToRepeat` if there is no such part, `LimitPatternNesting`, and `Memory`.
+    ///
+    /// Returns `NothingToRepeat` if there is no such part, `LimitPatternNesting`, and `Memory`.
     fn repeat(&mut self, alloc: Global, op: Operator, left: usize) -> Result<(), Stop>
         ensures { Repeats result (repeat (group_view self.old) op (group_view self.old).last)
             (group_view self.new) }
@@ -205,22 +201,22 @@ impl OpenGroup {
         let greedy = is_greedy(self.flags, op);
         let tree = simplify::repeated(alloc, op.least, op.most, greedy, part.tree)?;
         self.inner = self.inner.max(depth);
-        self.last = Some(Part { tree, depth, left });
+        self.last = Some(GroupPart { tree, depth, left });
         Ok(())
     }
 }
 
 impl Groups {
     ghost use Rattle.std.specs.Prelude.{[]};
-    ghost use Rattle.logos_syntax.specs.inside.Groups.{State, start, whole_tree, step};
-    ghost use Rattle.logos_syntax.specs.inside.GroupsView.{state_view, Steps, Ends};
+    ghost use Rattle.logos_syntax.specs.Words.{pattern_nesting, State, start, whole_tree, step};
+    ghost use Rattle.logos_syntax.specs.Views.{state_view, Steps, Ends};
 
     /// Returns the stack at the start of a pattern of `left` characters.
     pub(crate) fn new(alloc: Global, flags: Flags, left: usize) -> Groups
         ensures { state_view result ≡ start flags }
     {
         Groups {
-            top: OpenGroup::new(alloc, flags, false, 0, left),
+            top: OpenedGroup::new(alloc, flags, false, 0, left),
             below: Vec::new(alloc),
         }
     }
@@ -235,7 +231,7 @@ impl Groups {
     /// Returns the number of groups that are open, without the whole pattern.
     pub(crate) fn depth(&self) -> usize
         ensures depth { result ≡ length (state_view self.now).below }
-        ensures shallow { result ≤ 250 }
+        ensures shallow { result ≤ pattern_nesting }
     {
         self.below.len()
     }
@@ -245,8 +241,8 @@ impl Groups {
         self.top.left
     }
 
-    /// Returns the number of characters from the start of the part that an operator would repeat to the end of the
-    /// text.
+    /// Returns the number of characters from the start of the part that an operator would repeat to
+    /// the end of the text.
     pub(crate) fn repeated(&self) -> Option<usize> {
         match &self.top.last {
             Some(part) => Some(part.left),
@@ -257,7 +253,9 @@ impl Groups {
     /// Adds an atom.
     ///
     /// # Errors
-    /// `UnicodeWordBoundary` or `NotInBytes` if the flags do not allow the atom, and `Memory`.
+    ///
+    /// Returns `UnicodeWordBoundary` or `NotInBytes` if the flags do not allow the atom, and
+    /// `Memory`.
     fn atom(&mut self, alloc: Global, atom: Atom, left: usize) -> Result<(), Stop>
         ensures { Steps (state_view self.old) (token_atom atom) result (state_view self.new) }
     {
@@ -270,7 +268,7 @@ impl Groups {
         }
         let tree = atom_tree(alloc, flags, atom)?;
         let depth = self.below.len();
-        self.top.put(Part { tree, depth, left })?;
+        self.top.put(GroupPart { tree, depth, left })?;
         Ok(())
     }
 
@@ -281,7 +279,7 @@ impl Groups {
         found: BracketValue,
         left: usize,
     ) -> Result<(), AllocError>
-        requires { found.depth ≤ 250 }
+        requires { found.depth ≤ pattern_nesting }
         ensures { (b : Bracket) → set_of found.set ≡
             bracket_set (state_view self.old).top.flags b → found.depth ≡
             length (state_view self.old).below + bracket_depth b
@@ -289,14 +287,15 @@ impl Groups {
     {
         let BracketValue { set, depth } = found;
         let tree = one_of(alloc, self.top.flags, set)?;
-        self.top.put(Part { tree, depth, left })?;
+        self.top.put(GroupPart { tree, depth, left })?;
         Ok(())
     }
 
     /// Opens a group.
     ///
     /// # Errors
-    /// `LimitPatternNesting`, and `Memory`.
+    ///
+    /// Returns `LimitPatternNesting`, and `Memory`.
     fn open(&mut self, alloc: Global, opening: Opening<'_>, left: usize) -> Result<(), Stop>
         ensures { Steps (state_view self.old) (opens (opening_view opening.entry)) result
             (state_view self.new) }
@@ -306,7 +305,7 @@ impl Groups {
         }
         let flags = inner_flags(opening, self.top.flags);
         let level = self.below.len() + 1;
-        let inside = OpenGroup::new(alloc, flags, captures(opening), level, left);
+        let inside = OpenedGroup::new(alloc, flags, captures(opening), level, left);
         let outside = mem::replace(&mut self.top, inside);
         self.below.push(outside)?;
         Ok(())
@@ -315,7 +314,8 @@ impl Groups {
     /// Closes the innermost group.
     ///
     /// # Errors
-    /// `Unopened` if no group is open, and `Memory`.
+    ///
+    /// Returns `Unopened` if no group is open, and `Memory`.
     fn close(&mut self, alloc: Global, left: usize) -> Result<(), Stop>
         ensures { Steps (state_view self.old) closes result (state_view self.new) }
     {
@@ -329,7 +329,7 @@ impl Groups {
         let depth = inside.inner;
         let left = inside.left;
         let tree = inside.finish(alloc)?;
-        self.top.put(Part { tree, depth, left })?;
+        self.top.put(GroupPart { tree, depth, left })?;
         Ok(())
     }
 
@@ -344,17 +344,20 @@ impl Groups {
     /// Repeats the last part of the innermost group.
     ///
     /// # Errors
-    /// Those of `OpenGroup::repeat`.
+    ///
+    /// Those of `OpenedGroup::repeat`.
     fn repeat(&mut self, alloc: Global, op: Operator, left: usize) -> Result<(), Stop>
         ensures { Steps (state_view self.old) (repeats op) result (state_view self.new) }
     {
         self.top.repeat(alloc, op, left)
     }
 
-    /// Takes the next token. `left` is the number of characters from the token to the end of the text.
+    /// Takes the next token. `left` is the number of characters from the token to the end of the
+    /// text.
     ///
     /// # Errors
-    /// The fault of the token here, `LimitPatternNesting`, or `Memory`.
+    ///
+    /// Returns the fault of the token here, `LimitPatternNesting`, or `Memory`.
     pub(crate) fn step(&mut self, alloc: Global, token: Token<'_>, left: usize) -> Result<(), Stop>
         ensures { Steps (state_view self.old) (token_view token.entry) result
             (state_view self.new) }
@@ -372,7 +375,8 @@ impl Groups {
     /// Returns the tree of the whole pattern.
     ///
     /// # Errors
-    /// `Unclosed` if a group is still open, and `Memory`.
+    ///
+    /// Returns `Unclosed` if a group is still open, and `Memory`.
     pub(crate) fn finish(self, alloc: Global) -> Result<Hir, Stop>
         ensures { Ends result (state_view self) }
     {

@@ -1,8 +1,7 @@
-//! The names of groups, no two of which may be equal.
+//! The names of groups, no two of which may be equal. The parser asks it at each named group.
 
 ghost use Rattle.std.specs.Prelude.{◌≡◌, ◌∷◌, [], List, not, bytes_eq, IfOk};
-ghost use Rattle.std.specs.List.{list_any};
-ghost use Rattle.logos_pattern_tokens.specs.Token.{Text, token_view};
+ghost use Rattle.logos_syntax.specs.Words.{list_any, Text, token_view};
 
 use logos_pattern_tokens::token::{Opening, Token};
 use std::alloc::{AllocError, Global};
@@ -10,18 +9,18 @@ use std::collections::BTreeSet;
 
 /// The names of the groups that were read.
 #[derive(Drop)]
-pub(crate) struct Names {
+pub(crate) struct GroupNames {
     seen: BTreeSet<Vec<char>>,
 }
 
-impl Names {
-    ghost use Rattle.logos_syntax.specs.inside.Names.{HasNames, Admits};
+impl GroupNames {
+    ghost use Rattle.logos_syntax.specs.Views.{HasNames, Admits};
 
     /// Returns the empty set of names.
-    pub(crate) fn new(alloc: Global) -> Names
+    pub(crate) fn new(alloc: Global) -> GroupNames
         ensures { HasNames result [] }
     {
-        Names {
+        GroupNames {
             seen: BTreeSet::new(alloc),
         }
     }
@@ -36,8 +35,8 @@ impl Names {
         Ok(self.seen.insert(key)?)
     }
 
-    /// Adds the name of the group that the token opens, if it has one, and returns whether it is new. Returns `true`
-    /// for all other tokens.
+    /// Adds the name of the group that the token opens, if it has one, and returns whether it is
+    /// new. Returns `true` for all other tokens.
     pub(crate) fn admit(&mut self, alloc: Global, token: Token<'_>) -> Result<bool, AllocError>
         ensures { (seen : List Text) → HasNames self.old seen →
             IfOk result (λ admitted. Admits seen (token_view token.entry) admitted self.new) }

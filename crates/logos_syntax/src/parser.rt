@@ -1,19 +1,12 @@
-//! Reads a whole pattern.
+//! Reads a whole pattern. `logos_pattern` calls `parse` once for each pattern.
 
 ghost use Rattle.std.specs.Prelude.{◌≡◌, ℕ, List, ◌∷◌, [], chars, IfOk, IfErr, MatchResult};
-ghost use Rattle.logos_pattern_tokens.specs.declared.token.Flags.{Flags as FlagsValue};
-ghost use Rattle.logos_pattern_tokens.specs.declared.error.Fault.TheVariants as faults;
-ghost use Rattle.logos_pattern_tokens.specs.Token.{Text};
-ghost use Rattle.logos_hir.specs.Tree.{Tree};
-ghost use Rattle.logos_hir.specs.Hir.{tree_of};
-ghost use Rattle.logos_pattern_tokens.specs.declared.error.PatternError.TheVariants as errors;
-ghost use Rattle.logos_syntax.specs.Nesting.{IsTooDeep};
-ghost use Rattle.logos_syntax.specs.Grammar.{Spells, IsFound, Refuses};
-ghost use Rattle.logos_syntax.specs.inside.Reading.{StopsText, IfDeepText};
+ghost use Rattle.logos_syntax.specs.Words.{Flags as FlagsValue, Text, Tree, tree_of, IsTooDeep, Spells, IsFound, Refuses};
+ghost use Rattle.logos_syntax.specs.Views.{StopsText, IfDeepText};
 
 use crate::bracket::parser::{read_bracket, stop_for};
 use crate::groups::Groups;
-use crate::names::Names;
+use crate::names::GroupNames;
 use logos_hir::hir::Hir;
 use logos_pattern_tokens::error::{Fault, Kind, PatternError, Stop};
 use logos_pattern_tokens::reader::token_at;
@@ -22,26 +15,23 @@ use std::alloc::{AllocError, Global};
 
 /// A pattern that is being read.
 #[derive(Drop)]
-pub(crate) struct Parser {
+pub(crate) struct PatternParser {
     groups: Groups,
-    names: Names,
+    names: GroupNames,
 }
 
-impl Parser {
-    ghost use Rattle.logos_syntax.specs.inside.Names.{HasNames};
-    ghost use Rattle.logos_syntax.specs.inside.GroupsView.{state_view};
-    ghost use Rattle.logos_syntax.specs.inside.BracketView.{IsStopOf};
-    ghost use Rattle.logos_syntax.specs.inside.Groups.{start};
-    ghost use Rattle.logos_syntax.specs.inside.Reading.{ReadsToken, ReadsSimple};
+impl PatternParser {
+    ghost use Rattle.logos_syntax.specs.Words.{start};
+    ghost use Rattle.logos_syntax.specs.Views.{HasNames, state_view, IsStopOf, ReadsToken, ReadsSimple};
 
     /// Returns a parser at the front of a text of `left` characters.
-    fn new(alloc: Global, flags: Flags, left: usize) -> Parser
+    fn new(alloc: Global, flags: Flags, left: usize) -> PatternParser
         ensures groups { state_view result.groups ≡ start flags }
         ensures names { HasNames result.names [] }
     {
-        Parser {
+        PatternParser {
             groups: Groups::new(alloc, flags, left),
-            names: Names::new(alloc),
+            names: GroupNames::new(alloc),
         }
     }
 
@@ -59,10 +49,11 @@ impl Parser {
         }
     }
 
-    /// Returns the stop for a fault of counts, which is at the start of the part that they would repeat. A brace
-    /// that is not closed is a fault at the brace, and so are counts with nothing to repeat.
+    /// Returns the stop for a fault of counts, which is at the start of the part that they would
+    /// repeat. A brace that is not closed is a fault at the brace, and so are counts with nothing
+    /// to repeat.
     fn count_stop(&self, kind: Kind, left: usize) -> Stop
-        ensures { IsStopOf (faults.Syntax kind) result }
+        ensures { IsStopOf (Fault.Syntax kind) result }
     {
         match (kind, self.groups.repeated()) {
             (_, None) => Stop::Syntax {
@@ -77,7 +68,8 @@ impl Parser {
     /// Reads a bracket, from after its `[`, and returns the rest of the text.
     ///
     /// # Errors
-    /// The first fault of the bracket, `LimitPatternNesting`, or `Memory`.
+    ///
+    /// Returns the first fault of the bracket, `LimitPatternNesting`, or `Memory`.
     fn bracket<'t>(&mut self, alloc: Global, inside: &'t [char]) -> Result<&'t [char], Stop>
         ensures { (seen : List Text) → HasNames self.old.names seen →
             ReadsToken (state_view self.old.groups) seen (91 ∷ inside.now) result
@@ -96,7 +88,8 @@ impl Parser {
     /// Reads a token that does not begin a bracket, and returns the rest of the text.
     ///
     /// # Errors
-    /// The fault of the token, `LimitPatternNesting`, or `Memory`.
+    ///
+    /// Returns the fault of the token, `LimitPatternNesting`, or `Memory`.
     fn simple<'t>(&mut self, alloc: Global, text: &'t [char]) -> Result<&'t [char], Stop>
         ensures { (seen : List Text) → HasNames self.old.names seen →
             ReadsSimple (state_view self.old.groups) seen text.now result
@@ -121,7 +114,8 @@ impl Parser {
     /// Reads the token or the bracket at the front, and returns the rest of the text.
     ///
     /// # Errors
-    /// Its first fault, `LimitPatternNesting`, or `Memory`.
+    ///
+    /// Returns its first fault, `LimitPatternNesting`, or `Memory`.
     fn token<'t>(&mut self, alloc: Global, text: &'t [char]) -> Result<&'t [char], Stop>
         ensures { (seen : List Text) → HasNames self.old.names seen →
             ReadsToken (state_view self.old.groups) seen text.now result
@@ -148,13 +142,14 @@ fn group_kind(kind: Kind, text: &[char]) -> Kind {
 /// Reads the whole text.
 ///
 /// # Errors
-/// The first fault from the left, `LimitPatternNesting`, or `Memory`.
+///
+/// Returns the first fault from the left, `LimitPatternNesting`, or `Memory`.
 fn run(alloc: Global, flags: Flags, text: &[char]) -> Result<Hir, Stop>
     ensures found { IfOk result (λ hir. IsFound flags text.now (tree_of hir)) }
     ensures stopped { IfErr result (StopsText flags text.now) }
     ensures deep { IfErr result (IfDeepText flags text.now) }
 {
-    let mut parser = Parser::new(alloc, flags, text.len());
+    let mut parser = PatternParser::new(alloc, flags, text.len());
     let mut rest = text;
     while !rest.is_empty() {
         rest = match parser.token(alloc, rest) {
@@ -174,9 +169,9 @@ fn byte_len(text: &[char]) -> usize {
     len
 }
 
-/// Returns the error for a fault at the place from which `left` characters are left.
+/// Returns the error for a fault at the point from which `left` characters are left.
 fn syntax_at(text: &[char], kind: Kind, left: usize) -> PatternError
-    ensures { (at : ℕ) × (result ≡ errors.Syntax kind at) }
+    ensures { (at : ℕ) × (result ≡ PatternError.Syntax kind at) }
 {
     let before = text.len().saturating_sub(left);
     PatternError::Syntax {
@@ -190,7 +185,7 @@ fn error_at(text: &[char], stop: Stop) -> PatternError
     ensures refused { (flags : FlagsValue) (t : Text) → StopsText flags t stop →
         Refuses flags t result }
     ensures deep { (flags : FlagsValue) (t : Text) → IfDeepText flags t stop →
-        result ≡ errors.LimitPatternNesting → IsTooDeep flags t }
+        result ≡ PatternError.LimitPatternNesting → IsTooDeep flags t }
 {
     match stop {
         Stop::Syntax { kind, left } => syntax_at(text, kind, left),
@@ -209,15 +204,17 @@ fn characters(alloc: Global, regex: &str) -> Result<Vec<char>, AllocError>
 /// Reads a pattern under the flags that are on at its start, and returns its tree.
 ///
 /// # Errors
-/// `Syntax` if the text breaks the grammar, with the kind and the byte offset of the fault;
-/// `LimitPatternNesting` if groups, brackets and operators nest more than 250 deep; and `Memory` when memory
-/// runs out.
+///
+/// Returns `Syntax` if the text breaks the grammar, with the kind and the byte offset of the fault;
+/// `LimitPatternNesting` if groups, brackets and operators nest more than 250 deep; and `Memory` if
+/// memory runs out.
 pub fn parse(alloc: Global, flags: Flags, regex: &str) -> Result<Hir, PatternError>
     ensures found { IfOk result (λ hir. IsFound flags (chars regex.now) (tree_of hir)) }
     // A text that is refused has no tree, or only one that is nested too deeply, or memory ran out.
     ensures refused { IfErr result (Refuses flags (chars regex.now)) }
-    // After some beginning of a text that is refused as too deep, more than 250 are around one place.
-    ensures deep { IfErr result (λ e. e ≡ errors.LimitPatternNesting →
+    // After some beginning of a text that is refused as too deep, more than 250 are around one
+    // point.
+    ensures deep { IfErr result (λ e. e ≡ PatternError.LimitPatternNesting →
         IsTooDeep flags (chars regex.now)) }
 {
     let text = characters(alloc, regex)?;

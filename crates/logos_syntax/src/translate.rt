@@ -1,12 +1,7 @@
-//! Turns atoms into trees.
+//! Turns atoms into trees. The stack of groups calls it for each atom.
 
 ghost use Rattle.std.specs.Prelude.{◌≡◌, ◌==◌, IfOk, encode_utf8, if◌then◌else◌};
-ghost use Rattle.logos_hir.specs.Tree.{literal};
-ghost use Rattle.logos_hir.specs.Hir.{tree_of};
-ghost use Rattle.logos_hir.specs.Sets.{only_chars};
-ghost use Rattle.logos_hir.specs.RangeSets.{set_of};
-ghost use Rattle.logos_syntax.specs.bracket.Meaning.{set_or_complement, case_closure};
-ghost use Rattle.logos_syntax.specs.Grammar.{one_of, same_as, character_tree, byte_tree, dot_set, start_look, end_look, atom_tree, atom_fits};
+ghost use Rattle.logos_syntax.specs.Words.{literal, tree_of, only_chars, set_of, set_or_complement, case_closure, one_of, same_as, character_tree, byte_tree, dot_set, start_look, end_look, atom_tree, atom_fits};
 
 use crate::bracket::translate::{case_closure, number_set, set_or_complement};
 use logos_hir::build;
@@ -53,7 +48,8 @@ fn character(alloc: Global, flags: Flags, c: char) -> Result<Hir, AllocError>
     encoding(alloc, c)
 }
 
-/// Returns the tree of a byte, or of the character with its number if the pattern matches characters.
+/// Returns the tree of a byte, or of the character with its number if the pattern matches
+/// characters.
 fn byte(alloc: Global, flags: Flags, b: u8) -> Result<Hir, AllocError>
     ensures { IfOk result (λ hir. tree_of hir ≡ byte_tree flags b) }
 {
@@ -150,8 +146,8 @@ pub(crate) fn atom_tree(alloc: Global, flags: Flags, atom: Atom) -> Result<Hir, 
     }
 }
 
-/// Returns whether the atom is allowed under the flags: a word boundary if the pattern matches bytes, and a
-/// property if it matches characters.
+/// Returns whether the atom is allowed under the flags: a word boundary if the pattern matches
+/// bytes, and a property if it matches characters.
 pub(crate) fn atom_fits(flags: Flags, atom: Atom) -> bool
     ensures { result ≡ atom_fits flags atom }
 {

@@ -1,5 +1,5 @@
 -- How tables hold the steps and the marks of a code.
-use Rattle.std.specs.Prelude.{◌≡◌, ℕ, zero, suc, ◌<◌, List, [], ◌∷◌, map, length, slice_index, slice_index_or}
+use Rattle.std.specs.Prelude.{◌≡◌, ℕ, zero, suc, ◌<◌, List, [], ◌∷◌, map, length, Option, Some, option_and_then, slice_get, slice_index, slice_index_or}
 use Rattle.std.specs.List.{flat_map}
 use Rattle.logos_code.specs.Code.{CodeValue}
 use Rattle.logos_code.specs.CodeView.{state_at}
@@ -27,15 +27,24 @@ pub record Tables : Type 0 where
   -- how many classes there are
   pub width : ℕ
 
--- the step of a symbol in a state, by the tables
-abbrev pub step_in : Tables → ℕ → ℕ → ℕ
-step_in tables state symbol =
-    slice_index (slice_index_or tables.rows (slice_index tables.places state) []) (slice_index tables.classes symbol)
+-- the row of a state, by the tables, if there is one
+abbrev pub row_in : Tables → ℕ → Option (List ℕ)
+row_in tables state = option_and_then (slice_get tables.rows) (slice_get tables.places state)
 
--- the tables hold the step of each symbol in each state of a code
+-- the step of a symbol in a state, by the tables: that of the symbol's class in the state's row, if there is one
+abbrev pub step_in : Tables → ℕ → ℕ → Option ℕ
+step_in tables state symbol =
+    option_and_then (λ row. option_and_then (slice_get row) (slice_get tables.classes symbol)) (row_in tables state)
+
+-- The tables hold the step of each symbol in each state of a code: there are as many classes as symbols and as many places of rows as states, each class
+-- is one of a row, and each place is that of a row.
 pub record Hold (code : CodeValue) (tables : Tables) : Type 0 where
+  pub symbols : length tables.classes ≡ 257
+  pub states : length tables.places ≡ length code.states
+  pub inside : (symbol : ℕ) → symbol < 257 → slice_index tables.classes symbol < tables.width
+  pub there : (state : ℕ) → state < length code.states → slice_index tables.places state < length tables.rows
   pub steps : (state symbol : ℕ) → state < length code.states → symbol < 257 →
-      step_in tables state symbol ≡ step_number code (state_at code state) symbol
+      step_in tables state symbol ≡ Some (step_number code (state_at code state) symbol)
   pub wide : (i : ℕ) → i < length tables.rows → length (slice_index_or tables.rows i []) ≡ tables.width
   pub runs : spread tables.runs ≡ flat_map (λ row. row) tables.rows
 

@@ -3,3 +3,5 @@ pub mod Layout
 pub mod RowsView
 pub mod Texts
 pub mod inside
+pub mod Words
+pub mod Views

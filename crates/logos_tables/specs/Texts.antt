@@ -1,8 +1,9 @@
 -- The printed texts of tables.
-use Rattle.std.specs.Prelude.{◌≡◌, ℕ, ◌&&◌, Bool, true, nat_lt, List, [], ◌∷◌, ◌++◌, length, map, codes, if◌then◌else◌}
+use Rattle.std.specs.Prelude.{◌≡◌, ℕ, ◌*◌, ◌&&◌, Bool, true, nat_le, nat_lt, List, [], ◌∷◌, ◌++◌, length, map, codes, if◌then◌else◌}
 use Rattle.std.specs.Fmt.{decimal}
 use Rattle.std.specs.List.{flat_map}
 use Rattle.logos_code.specs.Code.{CodeValue}
+use Rattle.logos_text.specs.Standing.{numbered}
 use Rattle.logos_tables.specs.Layout.{Tables, Hold}
 use Rattle.logos_tables.specs.Steps.{mark_number, skip_number}
 
@@ -62,11 +63,33 @@ marks_text code = table_text (codes "_MARKS") (map (λ state. mark_number state.
 abbrev pub skips_text : CodeValue → List ℕ
 skips_text code = table_text (codes "_SKIPS") (map skip_number code.leaves)
 
+-- a leaf in the table of leaves
+abbrev pub name_text : ℕ → List ℕ
+name_text leaf = codes "LogosLeaf::Leaf" ++ decimal leaf ++ codes ","
+
+-- the table of so many leaves, each at its number
+abbrev pub names_text : ℕ → List ℕ
+names_text count = codes "const _NAMES: [LogosLeaf; " ++ decimal count ++ codes "] = [" ++ numbered name_text 0 count ++ codes "];\n"
+
+-- the most steps of all states for which entries of 32 bits are taken: their upper three bits are the kind of an entry
+abbrev pub most_steps : ℕ
+most_steps = 268435456
+
+-- the type of entries, for so many states with so many steps each
+abbrev pub entry_type_text : ℕ → ℕ → List ℕ
+entry_type_text states width =
+    if nat_le (states * width) most_steps then codes "type _Entry = u32;\n" else codes "type _Entry = u64;\n"
+
+-- the texts of the tables of all leaves, and of the type of entries
+abbrev pub end_texts : ℕ → ℕ → ℕ → List (List ℕ)
+end_texts leaves states width = names_text leaves ∷ entry_type_text states width ∷ []
+
 -- the texts of all tables of a code
 abbrev pub texts_of : CodeValue → Tables → List (List ℕ)
 texts_of code tables =
     step_texts tables.classes tables.runs tables.places
     ++ (marks_text code ∷ skips_text code ∷ size_texts code.root (length tables.rows) tables.width)
+    ++ end_texts (length code.code_leaves) (length tables.places) tables.width
 
 -- texts, one right after another
 abbrev pub joined : List (List ℕ) → List ℕ

@@ -1,6 +1,6 @@
 //! Classes of bytes: two bytes of a class do the same in each state.
 ghost use Rattle.std.specs.Prelude.{◌≡◌, ◌+◌, ◌<◌, IfOk, IfSome, OnOk, IsTrue, slice_index};
-ghost use Rattle.logos_tables.specs.Layout.{AreClasses, Classify, IsClassOf, HaveSameSteps};
+ghost use Rattle.logos_tables.specs.Words.{AreClasses, Classify, IsClassOf, HaveSameSteps};
 
 use crate::steps::Steps;
 use std::alloc::{AllocError, Global};

@@ -1,8 +1,6 @@
 //! Prints a lexer as tables with a loop over them.
-ghost use Rattle.std.specs.Prelude.{◌∷◌, [], IfOk, OnOk, string_bytes};
-ghost use Rattle.logos_text.specs.Standing.{Grows};
-ghost use Rattle.logos_tables.specs.Texts.{HoldsTables, marks_text, skips_text};
-ghost use Rattle.logos_tables.specs.inside.Adding.{Appends, AppendsSteps, AppendsTables};
+ghost use Rattle.std.specs.Prelude.{ℕ, List, ◌∷◌, [], IfOk, OnOk, string_bytes};
+ghost use Rattle.logos_tables.specs.Words.{BeginsWith, IsFrontOf, HoldsTables, end_texts, marks_text, skips_text, Appends, AppendsSteps, AppendsTables};
 
 use crate::classes::{Classes, classes_of};
 use crate::fixed::LOOP;
@@ -22,7 +20,10 @@ use std::alloc::Global;
 /// # Errors
 /// Returns `Memory` when memory runs out.
 pub fn tables(alloc: Global, made: &Generated<'_>) -> Result<String, Memory>
-    ensures { IfOk result (λ text. HoldsTables made.now.code (string_bytes text)) }
+    ensures holds { IfOk result (λ text. HoldsTables made.now.code (string_bytes text)) }
+    // Before the tables stands the text of `front`.
+    ensures begins { IfOk result (λ text. (front : List ℕ) × IsFrontOf made.now front
+        × BeginsWith front (string_bytes text)) }
 {
     let mut text = made.front(alloc)?;
     push(&mut text, "\n")?;
@@ -43,7 +44,9 @@ fn push_code(alloc: Global, text: &mut String, code: &Code<'_>) -> Result<(), Me
     push_marks(alloc, text, code)?;
     push_skips(alloc, text, code)?;
     push_sizes(text, code.root(), height, width)?;
-    push_end(text, rows.places.len(), width, code.leaves().len())?;
+    let states = rows.places.len();
+    let leaves = code.leaves().len();
+    push_end(text, states, width, leaves)?;
     Ok(())
 }
 
@@ -78,7 +81,8 @@ fn push_skips(alloc: Global, text: &mut String, code: &Code<'_>) -> Result<(), M
 
 /// Appends the names of the leaves, and the type of entries.
 fn push_end(text: &mut String, states: usize, width: usize, leaves: usize) -> Result<(), Memory>
-    ensures { OnOk result (Grows (string_bytes text.old) (string_bytes text.new)) }
+    ensures { OnOk result (Appends (end_texts leaves states width) (string_bytes text.old)
+        (string_bytes text.new)) }
 {
     push_names(text, leaves)?;
     push_entry_type(text, states, width)?;

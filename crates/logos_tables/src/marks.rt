@@ -1,8 +1,6 @@
 //! The marks of states, and which leaves are left out, as numbers.
 ghost use Rattle.std.specs.Prelude.{◌≡◌, ◌<◌, IfOk, IfSome, map, option_map};
-ghost use Rattle.std.specs.List.{All};
-ghost use Rattle.logos_code.specs.CodeView.{mark_of, use_of};
-ghost use Rattle.logos_tables.specs.Steps.{mark_number, skip_number};
+ghost use Rattle.logos_tables.specs.Words.{All, mark_of, use_of, mark_number, skip_number};
 
 use logos_code::code::{CodeLeaf, CodeState, Mark};
 use logos_pattern::leaf::VariantKind;

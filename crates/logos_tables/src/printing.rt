@@ -1,10 +1,6 @@
 //! Prints tables and numbers.
 ghost use Rattle.std.specs.Prelude.{◌≡◌, ◌++◌, ◌∷◌, [], OnOk, string_bytes};
-ghost use Rattle.std.specs.List.{flat_map};
-ghost use Rattle.logos_text.specs.Standing.{Grows};
-ghost use Rattle.logos_tables.specs.inside.Adding.{Appends};
-ghost use Rattle.logos_tables.specs.Texts.{are_below, entry_text, head_text};
-ghost use Rattle.logos_tables.specs.Texts.{number_text, table_text, type_text};
+ghost use Rattle.logos_tables.specs.Words.{flat_map, Grows, Appends, are_below, entry_text, head_text, number_text, table_text, type_text};
 
 use logos_token::error::Memory;
 
@@ -113,7 +109,7 @@ fn push_entry(text: &mut String, entry: usize) -> Result<(), Memory>
 }
 
 /// Appends a part.
-fn push_str(text: &mut String, part: &str) -> Result<(), Memory>
+pub(crate) fn push_str(text: &mut String, part: &str) -> Result<(), Memory>
     ensures { OnOk result (string_bytes text.new ≡ string_bytes text.old ++ part.now) }
 {
     text.push_str(part)?;

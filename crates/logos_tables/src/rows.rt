@@ -1,7 +1,6 @@
 //! The rows of all states, with each row once.
-ghost use Rattle.std.specs.Prelude.{◌≡◌, ℕ, ◌<◌, ◌++◌, ◌∷◌, [], IfOk, OnOk, length, vec_len};
-ghost use Rattle.std.specs.Prelude.{slice_index, slice_index_or};
-ghost use Rattle.logos_tables.specs.Layout.{AreRows, AreWide, rows_at};
+ghost use Rattle.std.specs.Prelude.{◌≡◌, ℕ, ◌<◌, ◌++◌, ◌∷◌, [], IfOk, OnOk, length, vec_len, slice_index, slice_index_or};
+ghost use Rattle.logos_tables.specs.Words.{AreRows, AreWide, rows_at};
 
 use crate::steps::{Steps, steps_of};
 use indexmap::IndexSet;
@@ -20,7 +19,7 @@ pub(crate) struct Rows {
 }
 
 impl Rows {
-    ghost use Rattle.logos_tables.specs.RowsView.{rows_of};
+    ghost use Rattle.logos_tables.specs.Views.{rows_of};
 
     /// Returns no rows.
     fn new(alloc: Global) -> Rows

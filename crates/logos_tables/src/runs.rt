@@ -1,7 +1,6 @@
 //! Runs of equal steps.
 ghost use Rattle.std.specs.Prelude.{◌≡◌, ◌<◌, ◌++◌, ◌∷◌, [], IfOk, OnOk, IsTrue, map};
-ghost use Rattle.std.specs.List.{flat_map};
-ghost use Rattle.logos_tables.specs.Layout.{by_classes, spread};
+ghost use Rattle.logos_tables.specs.Words.{flat_map, by_classes, spread};
 
 use crate::classes::step_at;
 use crate::steps::Steps;

@@ -1,10 +1,6 @@
 //! What each byte, and the end of the input, does in a state, as one number.
 ghost use Rattle.std.specs.Prelude.{◌≡◌, ◌<◌, length, IfSome, IsTrue};
-ghost use Rattle.logos_code.specs.Bytes.{passes_test};
-ghost use Rattle.logos_code.specs.CodeView.{code_of, state_at};
-ghost use Rattle.logos_code.specs.Headline.{NamesState, NamesTest};
-ghost use Rattle.logos_code.specs.Runs.{stays, target};
-ghost use Rattle.logos_tables.specs.Steps.{HasSteps, led_number, step_number};
+ghost use Rattle.logos_tables.specs.Words.{passes_test, code_of, state_at, NamesState, NamesTest, stays, target, HasSteps, led_number, step_number};
 
 use logos_code::code::{Code, CodeParts};
 
@@ -49,17 +45,9 @@ fn stays(code: &Code<'_>, state: usize, byte: u8) -> bool
     ensures { result ≡ stays code.now (state_at code.now state).fast_loop byte }
 {
     match code.fast_loop(state) {
-        Some(test) => passes_test(code, test, byte),
+        Some(test) => code.passes_test(test, byte),
         None => false,
     }
-}
-
-/// Returns whether the byte passes the test with this number.
-fn passes_test(code: &Code<'_>, test: usize, byte: u8) -> bool
-    requires { NamesTest code.now test }
-    ensures { result ≡ passes_test code.now.bit_tables test byte }
-{
-    code.mask(test)[8 * byte as usize] == 0
 }
 
 /// Returns the number of the step to the state that the end of the input leads to.
@@ -83,6 +71,7 @@ fn led_number(parts: &CodeParts<'_>, target: Option<usize>) -> usize
     requires { IfSome target (NamesState (code_of parts.now)) }
     ensures { result ≡ led_number target }
 {
+    // The parts are read for what is known of their states alone: there are not too many.
     let _ = parts;
     match target {
         Some(state) => state + 2,

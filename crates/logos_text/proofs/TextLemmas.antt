@@ -1,9 +1,10 @@
 -- Texts that are printed part by part.
-use Rattle.std.proofs.Common.{◌≡◌, ℕ, ◌+◌, ◌<◌, ◌≤◌, List, [], ◌∷◌, ◌++◌, length, map, drop, get_or, drop-cons, add-one, append-nil, append_assoc, refl, suc, sym, ◌∙◌, ap, subst}
+use Rattle.std.proofs.Common.{◌≡◌, ℕ, ◌+◌, ◌-◌, ◌<◌, ◌≤◌, List, [], ◌∷◌, ◌++◌, length, map, drop, get_or, drop-cons, add-one, append-nil, arith, append_assoc, refl, suc, sym, ◌∙◌, ap, subst}
 use Rattle.std.proofs.Math.ListN.{drop_of_length-le}
 use Rattle.std.specs.List.{flat_map}
 use Rattle.logos_text.specs.Texts.{table_text, table_texts}
-use Rattle.logos_text.specs.Standing.{StandInOrder, Adds, Grows}
+use Rattle.logos_text.specs.Fronts.{BeginsWith, IsFront, leaf_names_text, opening_text, AroundValue}
+use Rattle.logos_text.specs.Standing.{StandInOrder, Adds, AddsLast, Grows, numbered}
 
 -- the part of an element is added
 part_added : (whole old new part rest : List ℕ) → new ≡ old ++ part → old ++ (part ++ rest) ≡ whole → new ++ rest ≡ whole
@@ -51,6 +52,44 @@ adds_text text e = record { added = text; is = e; stand = ([], [], sym (append-n
 
 pub adds_nothing : (a : List ℕ) → Grows a a
 adds_nothing a = record { added = []; is = sym (append-nil a); stand = tt }
+
+-- an exact text is printed, and nothing is promised of it
+pub grows_text : {a b : List ℕ} (text : List ℕ) → b ≡ a ++ text → Grows a b
+grows_text text e = record { added = text; is = e; stand = tt }
+
+-- a last text is printed
+pub last_added : {a b c : List ℕ} (last : List ℕ) → Grows a b → c ≡ b ++ last → AddsLast last a c
+last_added {a} {b} {c} last p e = record { added = p.added; is = e ∙ ap (λ w. w ++ last) p.is ∙ append_assoc a p.added last }
+
+pub last_grows : {last a b : List ℕ} → AddsLast last a b → Grows a b
+last_grows {last} {a} {b} p = record { added = p.added ++ last; is = p.is; stand = tt }
+
+-- what was printed first begins the whole
+pub begins_whole : {xs : List (List ℕ)} {front a b c d : List ℕ} → a ≡ [] → b ≡ a ++ front → Adds xs b c → Grows c d → BeginsWith front d
+begins_whole {xs} {front} {a} {b} {c} {d} none e p q = record {
+  rest = p.added ++ q.added;
+  is = q.is ∙ ap (λ w. w ++ q.added) (p.is ∙ ap (λ w. w ++ p.added) (e ∙ ap (λ w. w ++ front) none)) ∙ append_assoc front p.added q.added;
+}
+
+-- the front of an implementation
+pub is_front : {a b c : List ℕ} (around : AroundValue) (this : List ℕ) (leaves : ℕ) → a ≡ [] → b ≡ a ++ opening_text around this →
+    AddsLast (leaf_names_text leaves) b c → IsFront around this leaves c
+is_front {a} {b} {c} around this leaves none e p = record {
+  functions = p.added;
+  is = p.is ∙ ap (λ w. w ++ (p.added ++ leaf_names_text leaves)) (e ∙ ap (λ w. w ++ opening_text around this) none);
+}
+
+-- a loop that adds the text of each number
+pub number_added : (f : ℕ → List ℕ) (i count : ℕ) (whole old new : List ℕ) → i < count →
+    new ≡ old ++ f i → old ++ numbered f i (count - i) ≡ whole → new ++ numbered f (i + 1) (count - (i + 1)) ≡ whole
+number_added f i count whole old new l e all =
+    let one : count - i ≡ suc (count - (i + 1)) = omega (arith, l) in
+    part_added whole old new (f i) (numbered f (i + 1) (count - (i + 1))) e (ap (λ rest. old ++ rest) (sym (ap (numbered f i) one)) ∙ all)
+
+pub numbers_added : (f : ℕ → List ℕ) (i count : ℕ) (whole text : List ℕ) → count ≤ i → text ++ numbered f i (count - i) ≡ whole → text ≡ whole
+numbers_added f i count whole text l all =
+    let over : count - i ≡ 0 = omega (arith, l) in
+    sym (append-nil text) ∙ ap (λ n. text ++ numbered f i n) (sym over) ∙ all
 
 -- what is added to nothing is the whole
 pub stand_whole : {texts : List (List ℕ)} {old whole : List ℕ} → old ≡ [] → Adds texts old whole → StandInOrder texts whole

@@ -1,8 +1,6 @@
 //! Prints callbacks.
 ghost use Rattle.std.specs.Prelude.{◌≡◌, OnOk, [], string_bytes};
-ghost use Rattle.logos_token.specs.Views.{tokens_of, tree_of};
-ghost use Rattle.logos_text.specs.Gaps.{gap_after, gap_of};
-ghost use Rattle.logos_text.specs.Standing.{Grows};
+ghost use Rattle.logos_text.specs.Words.{tokens_of, tree_of, gap_after, gap_of, Grows};
 
 use crate::pieces::push;
 use logos_pattern::leaf::Callback;

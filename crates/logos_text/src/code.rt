@@ -1,8 +1,7 @@
 //! Prints a whole code.
-ghost use Rattle.std.specs.Prelude.{IfOk, OnOk, string_bytes};
-ghost use Rattle.logos_code.specs.CodeView.{code_of};
-ghost use Rattle.logos_text.specs.Standing.{Adds, Grows, StandInOrder};
-ghost use Rattle.logos_text.specs.Texts.{texts_in, texts_of};
+ghost use Rattle.std.specs.Prelude.{IfOk, OnOk, length, string_bytes};
+ghost use Rattle.logos_text.specs.Words.{printed_type, type_tree, code_of, BeginsWith, IsFront, leaf_names_text, opening_text, Adds, AddsLast, Grows, StandInOrder, texts_in, texts_of};
+ghost use Rattle.logos_text.specs.Views.{around_value};
 
 use crate::errors::push_make_error;
 use crate::implementation::{Around, push_front};
@@ -38,7 +37,9 @@ pub fn text(alloc: Global, code: &Code<'_>) -> Result<String, Memory>
 /// # Errors
 /// Returns `Memory` when memory runs out.
 pub fn text_in(alloc: Global, code: &Code<'_>, around: Around<'_>) -> Result<String, Memory>
-    ensures { IfOk result (λ text. StandInOrder (texts_of code.now) (string_bytes text)) }
+    ensures stand { IfOk result (λ text. StandInOrder (texts_of code.now) (string_bytes text)) }
+    ensures begins { IfOk result (λ text. BeginsWith (opening_text (around_value around.entry)
+        (printed_type (type_tree code.now.header.this))) (string_bytes text)) }
 {
     let parts = code.parts();
     let this = print_type(alloc, &parts.header.this)?;
@@ -55,7 +56,11 @@ pub fn text_in(alloc: Global, code: &Code<'_>, around: Around<'_>) -> Result<Str
 ///
 /// # Errors
 /// Returns `Memory` when memory runs out.
-pub fn front_in(alloc: Global, code: &Code<'_>, around: Around<'_>) -> Result<String, Memory> {
+pub fn front_in(alloc: Global, code: &Code<'_>, around: Around<'_>) -> Result<String, Memory>
+    ensures { IfOk result (λ text. IsFront (around_value around.entry)
+        (printed_type (type_tree code.now.header.this)) (length code.now.code_leaves)
+        (string_bytes text)) }
+{
     let parts = code.parts();
     let this = print_type(alloc, &parts.header.this)?;
     let mut text = String::new(alloc);
@@ -100,19 +105,22 @@ fn push_functions(
     ensures { OnOk result (Grows (string_bytes text.old) (string_bytes text.new)) }
 {
     push_actions(alloc, text, parts, names)?;
-    push_opening(alloc, text, parts, names.shape)
+    push_opening(alloc, text, parts, names.shape)?;
+    Ok(())
 }
 
-/// Appends the functions for matches and errors, and the enum of the leaves.
+/// Appends the functions for matches and errors, and after them the enum of the leaves.
 fn push_actions(
     alloc: Global,
     text: &mut String,
     parts: &CodeParts<'_>,
     names: Names<'_>,
 ) -> Result<(), Memory>
-    ensures { OnOk result (Grows (string_bytes text.old) (string_bytes text.new)) }
+    ensures { OnOk result (AddsLast (leaf_names_text (length parts.now.leaves.items))
+        (string_bytes text.old) (string_bytes text.new)) }
 {
     push_make_error(alloc, text, parts.header.error_callback.as_ref(), names)?;
     push_get_action(alloc, text, &parts.leaves, names)?;
-    push_leaf_names(text, parts.leaves.len())
+    push_leaf_names(text, parts.leaves.len())?;
+    Ok(())
 }

@@ -1,11 +1,6 @@
 //! Prints conditions.
 ghost use Rattle.std.specs.Prelude.{◌≡◌, ◌++◌, ◌∷◌, [], ◌==◌, ◌<◌, OnOk, map, codes, string_bytes};
-ghost use Rattle.std.specs.List.{flat_map, join_by};
-ghost use Rattle.logos_byte_class.specs.Bytes.{comparison_of};
-ghost use Rattle.logos_code.specs.CodeView.{condition_of};
-ghost use Rattle.logos_text.specs.Texts.{is_quoted, end_text, exception_text, single_text};
-ghost use Rattle.logos_text.specs.Texts.{between_text, comparison_text, bit_text};
-ghost use Rattle.logos_text.specs.Texts.{test_text, transition_text, condition_text};
+ghost use Rattle.logos_text.specs.Words.{flat_map, join_by, comparison_of, condition_of, is_quoted, end_text, exception_text, single_text, between_text, comparison_text, bit_text, test_text, transition_text, condition_text};
 
 use crate::pieces::push_str;
 use logos_byte_class::byte_class::Comparisons;

@@ -1,6 +1,6 @@
 //! Prints the function that makes errors.
 ghost use Rattle.std.specs.Prelude.{OnOk, string_bytes};
-ghost use Rattle.logos_text.specs.Standing.{Grows};
+ghost use Rattle.logos_text.specs.Words.{Grows};
 
 use crate::callbacks::push_tokens;
 use crate::names::Names;

@@ -1,8 +1,6 @@
 //! Prints forks.
 ghost use Rattle.std.specs.Prelude.{◌∷◌, [], OnOk, map, string_bytes};
-ghost use Rattle.logos_code.specs.CodeView.{branch_of, fork_of};
-ghost use Rattle.logos_text.specs.Standing.{Adds, Grows};
-ghost use Rattle.logos_text.specs.Texts.{branch_text, fork_texts};
+ghost use Rattle.logos_text.specs.Words.{branch_of, fork_of, Adds, Grows, branch_text, fork_texts};
 
 use crate::conditions::{push_condition, push_transition};
 use crate::pieces::{comma_before, push};

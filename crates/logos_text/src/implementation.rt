@@ -1,6 +1,7 @@
 //! Prints the implementation of `Logos` around the body of a lexer.
-ghost use Rattle.std.specs.Prelude.{OnOk, string_bytes};
-ghost use Rattle.logos_text.specs.Standing.{Grows};
+ghost use Rattle.std.specs.Prelude.{◌≡◌, ◌++◌, OnOk, string_bytes};
+ghost use Rattle.logos_text.specs.Words.{head_text, opening_text, signature_text, types_text, uses_text};
+ghost use Rattle.logos_text.specs.Views.{around_value};
 
 use logos_token::error::Memory;
 
@@ -20,31 +21,44 @@ pub struct Around<'p> {
 
 /// Appends the text before a body.
 pub(crate) fn push_front(text: &mut String, around: Around<'_>, this: &str) -> Result<(), Memory>
-    ensures { OnOk result (Grows (string_bytes text.old) (string_bytes text.new)) }
+    ensures { OnOk result (string_bytes text.new
+        ≡ string_bytes text.old ++ opening_text (around_value around.entry) this.now) }
 {
-    push_head(text, around, this)?;
+    push_head(text, around.logos, this)?;
+    push_types(text, around)?;
     push_signature(text, around.logos)?;
-    push_uses(text, around.logos, this)
+    push_uses(text, around.logos, this)?;
+    Ok(())
 }
 
-/// Appends the head of the implementation, and its associated types.
-fn push_head(text: &mut String, around: Around<'_>, this: &str) -> Result<(), Memory>
-    ensures { OnOk result (Grows (string_bytes text.old) (string_bytes text.new)) }
+/// Appends the head of the implementation.
+fn push_head(text: &mut String, logos: &str, this: &str) -> Result<(), Memory>
+    ensures { OnOk result (string_bytes text.new
+        ≡ string_bytes text.old ++ head_text logos.now this.now) }
 {
-    let logos = around.logos;
+    write!(text, "impl < 's > {logos}:: Logos < 's > for {this} {{ ")?;
+    Ok(())
+}
+
+/// Appends the associated types of the implementation.
+fn push_types(text: &mut String, around: Around<'_>) -> Result<(), Memory>
+    ensures { OnOk result (string_bytes text.new
+        ≡ string_bytes text.old ++ types_text (around_value around.entry)) }
+{
     let error = around.error;
     let extras = around.extras;
     let source = around.source;
     write!(
         text,
-        "impl < 's > {logos}:: Logos < 's > for {this} {{ type Error = {error}; type Extras = {extras}; type Source = {source}; "
+        "type Error = {error}; type Extras = {extras}; type Source = {source}; "
     )?;
     Ok(())
 }
 
 /// Appends the signature of the function that lexes.
 fn push_signature(text: &mut String, logos: &str) -> Result<(), Memory>
-    ensures { OnOk result (Grows (string_bytes text.old) (string_bytes text.new)) }
+    ensures { OnOk result (string_bytes text.new
+        ≡ string_bytes text.old ++ signature_text logos.now) }
 {
     write!(
         text,
@@ -55,7 +69,8 @@ fn push_signature(text: &mut String, logos: &str) -> Result<(), Memory>
 
 /// Appends the imports of the names that the body uses.
 fn push_uses(text: &mut String, logos: &str, this: &str) -> Result<(), Memory>
-    ensures { OnOk result (Grows (string_bytes text.old) (string_bytes text.new)) }
+    ensures { OnOk result (string_bytes text.new
+        ≡ string_bytes text.old ++ uses_text logos.now this.now) }
 {
     write!(
         text,

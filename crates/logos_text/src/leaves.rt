@@ -1,10 +1,10 @@
 //! Prints the leaves, and what the lexer does with their matches.
-ghost use Rattle.std.specs.Prelude.{OnOk, string_bytes};
-ghost use Rattle.logos_text.specs.Standing.{Grows};
+ghost use Rattle.std.specs.Prelude.{◌≡◌, ◌++◌, OnOk, string_bytes};
+ghost use Rattle.logos_text.specs.Words.{leaf_name_text, leaf_names_text, Grows, numbered};
 
 use crate::callbacks::push_call;
 use crate::names::Names;
-use crate::pieces::{comma_before, push};
+use crate::pieces::{comma_before, push, push_str};
 use logos_code::code::CodeLeaf;
 use logos_pattern::leaf::VariantKind;
 use logos_token::error::Memory;
@@ -13,18 +13,29 @@ use std::alloc::Global;
 
 /// Appends the enum of the leaves, each with its number.
 pub(crate) fn push_leaf_names(text: &mut String, count: usize) -> Result<(), Memory>
-    ensures { OnOk result (Grows (string_bytes text.old) (string_bytes text.new)) }
+    ensures { OnOk result (string_bytes text.new
+        ≡ string_bytes text.old ++ leaf_names_text count) }
 {
-    push(text, "# [ derive ( Clone , Copy ) ] enum LogosLeaf { ")?;
+    push_str(text, "# [ derive ( Clone , Copy ) ] enum LogosLeaf { ")?;
+    push_each_leaf_name(text, count)?;
+    push_str(text, "} ")?;
+    Ok(())
+}
+
+/// Appends the variants of so many leaves.
+fn push_each_leaf_name(text: &mut String, count: usize) -> Result<(), Memory>
+    ensures { OnOk result (string_bytes text.new
+        ≡ string_bytes text.old ++ numbered leaf_name_text 0 count) }
+{
     for leaf in 0..count {
         push_leaf_name(text, leaf)?;
     }
-    push(text, "} ")
+    Ok(())
 }
 
 /// Appends the variant of a leaf with its number.
 fn push_leaf_name(text: &mut String, leaf: usize) -> Result<(), Memory>
-    ensures { OnOk result (Grows (string_bytes text.old) (string_bytes text.new)) }
+    ensures { OnOk result (string_bytes text.new ≡ string_bytes text.old ++ leaf_name_text leaf) }
 {
     let comma = comma_before(leaf);
     write!(text, "{comma}Leaf{leaf} = {leaf}isize ")?;

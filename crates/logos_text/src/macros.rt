@@ -1,6 +1,6 @@
 //! Prints the macros of a lexer.
 ghost use Rattle.std.specs.Prelude.{OnOk, string_bytes};
-ghost use Rattle.logos_text.specs.Standing.{Grows};
+ghost use Rattle.logos_text.specs.Words.{Grows};
 
 use crate::names::Names;
 use crate::pieces::push;

@@ -1,6 +1,6 @@
 //! Appends to a text.
-ghost use Rattle.std.specs.Prelude.{◌≡◌, ◌++◌, OnOk, string_bytes};
-ghost use Rattle.logos_text.specs.Standing.{Grows};
+ghost use Rattle.std.specs.Prelude.{◌≡◌, ◌==◌, ◌++◌, OnOk, codes, if◌then◌else◌, string_bytes};
+ghost use Rattle.logos_text.specs.Words.{Grows};
 
 use logos_token::error::Memory;
 
@@ -21,6 +21,8 @@ pub(crate) fn push(text: &mut String, part: &str) -> Result<(), Memory>
 }
 
 /// Returns the text before item number n of a list: a comma, but nothing before the first.
-pub(crate) fn comma_before(n: usize) -> &'static str {
+pub(crate) fn comma_before(n: usize) -> &'static str
+    ensures { result.now ≡ (if n == 0 then codes "" else codes ", ") }
+{
     if n == 0 { "" } else { ", " }
 }

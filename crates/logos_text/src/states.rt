@@ -1,9 +1,6 @@
 //! Prints states.
 ghost use Rattle.std.specs.Prelude.{OnOk, map, string_bytes};
-ghost use Rattle.std.specs.List.{flat_map};
-ghost use Rattle.logos_code.specs.CodeView.{state_of};
-ghost use Rattle.logos_text.specs.Standing.{Adds, Grows};
-ghost use Rattle.logos_text.specs.Texts.{state_texts};
+ghost use Rattle.logos_text.specs.Words.{flat_map, state_of, Adds, Grows, state_texts};
 
 use crate::conditions::{push_bit, push_transition};
 use crate::forks::push_ways;

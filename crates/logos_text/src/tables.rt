@@ -1,8 +1,6 @@
 //! Prints bit tables.
 ghost use Rattle.std.specs.Prelude.{◌≡◌, ◌++◌, ◌∷◌, [], OnOk, codes, string_bytes};
-ghost use Rattle.std.specs.List.{flat_map, join_by};
-ghost use Rattle.logos_text.specs.Texts.{entry_text, table_text, table_texts};
-ghost use Rattle.logos_text.specs.Standing.{Adds};
+ghost use Rattle.logos_text.specs.Words.{flat_map, join_by, entry_text, table_text, table_texts, Adds};
 
 use crate::pieces::{push, push_str};
 use logos_token::error::Memory;

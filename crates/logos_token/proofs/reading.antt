@@ -10,3 +10,4 @@ pub mod RefusalLemmas
 pub mod OrderLemmas
 pub mod LengthLemmas
 pub mod GrowingLemmas
+pub mod SpanLemmas

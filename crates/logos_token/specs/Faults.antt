@@ -7,5 +7,5 @@ pub record Fault : Type 0 where
   pub code : FaultCode
   pub message : List ℕ
   pub span : Span
-  -- a second place that the fault is about
+  -- A second span that the fault is about.
   pub also : Option Span

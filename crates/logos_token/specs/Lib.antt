@@ -1,13 +1,16 @@
 pub mod LiteralValues
+pub mod Limits
 pub mod Held
 pub mod Tokens
 pub mod Flat
 pub mod Views
 pub mod Punctuation
+pub mod First
 pub mod Printing
 pub mod PrinterViews
 pub mod PrintedAgain
 pub mod MaybePrinted
+pub mod Spans
 pub mod Spelling
 pub mod Refusals
 pub mod FaultNames
@@ -16,3 +19,5 @@ pub mod FaultView
 pub mod EscapedTexts
 pub mod Rendering
 pub mod inside
+pub mod Words
+pub mod ViewWords

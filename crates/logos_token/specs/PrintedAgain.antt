@@ -6,12 +6,12 @@ use Rattle.logos_lexeme.specs.declared.lexeme.Delimiter.{Delimiter}
 use Rattle.logos_token.specs.Tokens.{Token, identifier, punctuation, literal, doc, group, TokenList, none, also, append}
 use Rattle.logos_token.specs.Spelling.{Spells}
 
--- the span of a token that stands nowhere
+-- The span of a token that stands nowhere.
 abbrev pub no_span : Span
 no_span = record { from = 0; to = 0 }
 
 abbrev mutual
-  -- a token without its span, and without the spans of the tokens inside it
+  -- A token without its span, and without the spans of the tokens inside it.
   pub bare_token : Token → Token
   bare_token (identifier text span) = identifier text no_span
   bare_token (punctuation character spacing span) = punctuation character spacing no_span
@@ -19,23 +19,23 @@ abbrev mutual
   bare_token (doc text span) = doc text no_span
   bare_token (group delimiter span inside) = group delimiter no_span (bare inside)
 
-  -- a run without its spans
+  -- A run without its spans.
   pub bare : TokenList → TokenList
   bare none = none
   bare (also token rest) = also (bare_token token) (bare rest)
 
--- the bytes spell these tokens, apart from spans
+-- The bytes spell these tokens, apart from spans.
 pub record SpellsAgain (bytes : List ℕ) (tokens : TokenList) : Type 0 where
   pub again : TokenList
   pub spelled : Spells bytes again
   pub same : bare again ≡ bare tokens
 
--- the run is neighbouring tokens of these, or of those inside one of their groups, at any depth
+-- The run is neighbouring tokens of these, or of those inside one of their groups, at any depth.
 pub data IsRunOf (run : TokenList) : TokenList → Type 0 where
   here : {tokens : TokenList} (front back : TokenList) → tokens ≡ append front (append run back) → IsRunOf run tokens
   within : {tokens : TokenList} (front : TokenList) (delimiter : Delimiter) (span : Span) (inside back : TokenList) → tokens ≡ append front (also (group delimiter span inside) back) → IsRunOf run inside → IsRunOf run tokens
 
--- the last token of the run is punctuation that is joint to what follows it
+-- The last token of the run is punctuation that is joint to what follows it.
 pub record EndsJoint (run : TokenList) : Type 0 where
   pub front : TokenList
   pub character : ℕ

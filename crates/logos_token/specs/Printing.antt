@@ -1,4 +1,5 @@
--- The printed text of tokens: their lexemes with a space between each two, no space after joint punctuation, and LF after a line comment.
+-- The printed text of tokens: their lexemes with a space between each two, no space after joint
+-- punctuation, and LF after a line comment.
 use Rattle.std.specs.Prelude.{ℕ, Bool, false, ◌==◌, List, [], ◌∷◌, ◌++◌, codes, fold, if◌then◌else◌}
 use Rattle.std.specs.Char.{encode_utf8}
 use Rattle.logos_lexeme.specs.declared.lexeme.Spacing.{Spacing}
@@ -7,7 +8,7 @@ use Rattle.logos_lexeme.specs.declared.lexeme.Delimiter.{Delimiter}
 use Rattle.logos_lexeme.specs.declared.lexeme.Delimiter.TheVariants.{Parenthesis, Bracket, Brace}
 use Rattle.logos_token.specs.Tokens.{Token, identifier, punctuation, literal, doc, group, TokenList, none, also}
 
--- the text of a lexeme, and the gap before the next one
+-- The text of a lexeme, and the gap before the next one.
 pub record Part : Type 0 where
   pub text : List ℕ
   pub gap : List ℕ
@@ -26,7 +27,7 @@ abbrev pub gap_after : Spacing → List ℕ
 gap_after Alone = codes " "
 gap_after Joint = []
 
--- whether a comment ends with its line: it begins with two slashes
+-- Whether a comment ends with its line: it begins with two slashes.
 abbrev pub is_line_comment : List ℕ → Bool
 is_line_comment [] = false
 is_line_comment (first ∷ []) = false
@@ -36,7 +37,7 @@ abbrev pub spaced : List ℕ → Part
 spaced text = record { text = text; gap = codes " " }
 
 abbrev mutual
-  -- the lexemes of a token, with their gaps
+  -- The lexemes of a token, with their gaps.
   pub token_parts : Token → List Part
   token_parts (identifier text span) = spaced text ∷ []
   token_parts (punctuation character spacing span) = (record { text = encode_utf8 character; gap = gap_after spacing }) ∷ []
@@ -44,12 +45,12 @@ abbrev mutual
   token_parts (doc text span) = (record { text = text; gap = if is_line_comment text then 10 ∷ [] else codes " " }) ∷ []
   token_parts (group delimiter span inside) = spaced (opening_text delimiter) ∷ (run_parts inside ++ spaced (closing_text delimiter) ∷ [])
 
-  -- the lexemes of a run, with their gaps
+  -- The lexemes of a run, with their gaps.
   pub run_parts : TokenList → List Part
   run_parts none = []
   run_parts (also token rest) = token_parts token ++ run_parts rest
 
--- the text printed so far, and the gap before the next lexeme
+-- The text printed so far, and the gap before the next lexeme.
 pub record Printed : Type 0 where
   pub text : List ℕ
   pub gap : List ℕ
@@ -57,6 +58,6 @@ pub record Printed : Type 0 where
 abbrev pub print_part : Printed → Part → Printed
 print_part printed part = record { text = (printed.text ++ printed.gap) ++ part.text; gap = part.gap }
 
--- the text of a run
+-- The text of a run.
 abbrev pub printed : TokenList → List ℕ
 printed tokens = (fold print_part (record { text = []; gap = [] }) (run_parts tokens)).text

@@ -5,21 +5,22 @@ use Rattle.logos_token.specs.declared.token.reader.TokenError.TheVariants.{Lexic
 use Rattle.logos_token.specs.Tokens.{TokenList, depth_of}
 use Rattle.logos_token.specs.Spelling.{Spells, IsUnreadable, IsTooDeep}
 
--- what an error says about the source
+-- What an error says about the source.
 abbrev pub IsRefusal : List ℕ → TokenError → Type 0
 IsRefusal bytes (Lexical kind span) = IsUnreadable bytes kind span
 IsRefusal bytes LimitSource = 16777216 < length bytes
 IsRefusal bytes (LimitTokenNesting span) = IsTooDeep bytes span
 IsRefusal bytes Memory = Unit {0}
 
--- A source with a lexical fault spells no tokens, and one that nests too deep spells only tokens that nest too deep.
+-- A source with a lexical fault spells no tokens, and one that nests too deep spells only tokens
+-- that nest too deep.
 abbrev pub SpellsNothing : List ℕ → TokenError → Type 0
 SpellsNothing bytes (Lexical kind span) = (tokens : TokenList) → Spells bytes tokens → ⊥
 SpellsNothing bytes LimitSource = Unit {0}
 SpellsNothing bytes (LimitTokenNesting span) = (tokens : TokenList) → Spells bytes tokens → 128 < depth_of tokens
 SpellsNothing bytes Memory = Unit {0}
 
--- the result is this error
+-- The result is this error.
 abbrev pub IsErrOf : {T : Type 0} → Result T TokenError → TokenError → Type 0
 IsErrOf (Ok value) error = ⊥
 IsErrOf (Err other) error = other ≡ error

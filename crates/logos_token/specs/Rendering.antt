@@ -1,14 +1,15 @@
--- The rendered text of faults: a function that does not compile and whose compiler errors are their messages.
+-- The rendered text of faults: a function that does not compile and whose compiler errors are their
+-- messages.
 use Rattle.std.specs.Prelude.{ℕ, List, [], ◌∷◌, ◌++◌, codes, Option, Some, None}
 use Rattle.std.specs.List.{flat_map}
 use Rattle.logos_token.specs.EscapedTexts.{escaped}
 use Rattle.logos_token.specs.Faults.{Fault}
 
--- the item that reports the message of a fault
+-- The item that reports the message of a fault.
 abbrev pub rendered_fault : Fault → List ℕ
 rendered_fault fault = (codes "{ compile_error ! ( \"" ++ escaped fault.message) ++ codes "\" ) } "
 
--- the text for all faults, if there are any
+-- The text for all faults, if there are any.
 abbrev pub rendered : List Fault → Option (List ℕ)
 rendered [] = None
 rendered (fault ∷ rest) = Some ((codes "fn _logos_derive_compile_errors ( ) { " ++ flat_map rendered_fault (fault ∷ rest)) ++ codes "} unimplemented ! ( )")

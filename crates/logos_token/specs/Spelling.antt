@@ -1,4 +1,5 @@
--- The tokens that a source spells: the source is a row of pieces, and these are the lexemes of the tokens.
+-- The tokens that a source spells: the source is a row of pieces, and these are the lexemes of the
+-- tokens.
 use Rattle.std.specs.Prelude.{◌≡◌, ℕ, ◌+◌, ◌-◌, ◌<◌, ◌≤◌, max, Bool, true, false, List, [], ◌∷◌, ◌++◌, length, slice_index, slice_range, Option, Some, None, if◌then◌else◌}
 use Rattle.logos_lexeme.specs.declared.lexeme.Span.{Span}
 use Rattle.logos_lexeme.specs.declared.lexeme.Delimiter.{Delimiter}
@@ -10,23 +11,23 @@ use Rattle.logos_lexeme.specs.declared.lexeme.LexicalKind.TheVariants.{Unbalance
 use Rattle.logos_token.specs.Tokens.{Token, identifier, punctuation, literal, doc, group, TokenList, none, also, span_of}
 use Rattle.logos_lexeme.specs.Lexemes.{IsNext, IsStuck}
 
--- a piece of a source
+-- A piece of a source.
 pub record Piece : Type 0 where
   pub kind : Kind
   pub span : Span
 
--- the source has these pieces one after another, from one byte offset to another
+-- The source has these pieces one after another, from one byte offset to another.
 abbrev pub Pieces : List ℕ → ℕ → List Piece → ℕ → Type 0
 Pieces bytes from [] to = from ≡ to
 Pieces bytes from (piece ∷ rest) to = (piece.span.from ≡ from) × IsNext bytes from piece.kind piece.span.to × Pieces bytes piece.span.to rest to
 
--- a token that is not a group, or the beginning or the end of a group
+-- A token that is not a group, or the beginning or the end of a group.
 pub data Lexeme : Type 0 where
   leaf : (token : Token) → Lexeme
   opens : (delimiter : Delimiter) (from : ℕ) → Lexeme
   closes : (delimiter : Delimiter) (to : ℕ) → Lexeme
 
--- the lexeme of a piece of this kind; a gap has none
+-- The lexeme of a piece of this kind; a gap has none.
 abbrev pub lexeme_of : List ℕ → Kind → Span → List Lexeme
 lexeme_of bytes Gap span = []
 lexeme_of bytes Identifier span = leaf (identifier (slice_range bytes span.from span.to) span) ∷ []
@@ -36,13 +37,13 @@ lexeme_of bytes (Punctuation spacing) span = leaf (punctuation (slice_index byte
 lexeme_of bytes (Opening delimiter) span = opens delimiter span.from ∷ []
 lexeme_of bytes (Closing delimiter) span = closes delimiter span.to ∷ []
 
--- the lexemes of pieces
+-- The lexemes of pieces.
 abbrev pub seen : List ℕ → List Piece → List Lexeme
 seen bytes [] = []
 seen bytes (piece ∷ rest) = lexeme_of bytes piece.kind piece.span ++ seen bytes rest
 
 abbrev mutual
-  -- the lexemes of a token
+  -- The lexemes of a token.
   pub token_lexemes : Token → List Lexeme
   token_lexemes (identifier text span) = leaf (identifier text span) ∷ []
   token_lexemes (punctuation character spacing span) = leaf (punctuation character spacing span) ∷ []
@@ -50,20 +51,21 @@ abbrev mutual
   token_lexemes (doc text span) = leaf (doc text span) ∷ []
   token_lexemes (group delimiter span inside) = opens delimiter span.from ∷ (lexemes inside ++ closes delimiter span.to ∷ [])
 
-  -- the lexemes of a run
+  -- The lexemes of a run.
   pub lexemes : TokenList → List Lexeme
   lexemes none = []
   lexemes (also token rest) = token_lexemes token ++ lexemes rest
 
--- The source spells these tokens: it is a row of pieces, and their lexemes are the lexemes of the tokens.
+-- The source spells these tokens: it is a row of pieces, and their lexemes are the lexemes of the
+-- tokens.
 pub record Spells (bytes : List ℕ) (tokens : TokenList) : Type 0 where
   pub pieces : List Piece
   pub filled : Pieces bytes 0 pieces (length bytes)
   pub nested : lexemes tokens ≡ seen bytes pieces
 
 abbrev mutual
-  -- A token stands at or after this byte offset. It is not empty, its text is the source at its span, and the tokens inside a group stand between its
-  -- delimiters.
+  -- A token stands at or after this byte offset. It is not empty, its text is the source at its
+  -- span, and the tokens inside a group stand between its delimiters.
   pub TokenStands : List ℕ → ℕ → Token → Type 0
   TokenStands bytes from (identifier text span) = (from ≤ span.from) × (span.from < span.to) × (text ≡ slice_range bytes span.from span.to)
   TokenStands bytes from (punctuation character spacing span) = (from ≤ span.from) × (span.from < span.to) × (character ≡ slice_index bytes span.from)
@@ -71,12 +73,12 @@ abbrev mutual
   TokenStands bytes from (doc text span) = (from ≤ span.from) × (span.from < span.to) × (text ≡ slice_range bytes span.from span.to)
   TokenStands bytes from (group delimiter span inside) = (from ≤ span.from) × (span.from < span.to) × RunStands bytes (span.from + 1) inside (span.to - 1)
 
-  -- the tokens of a run stand in order between these byte offsets
+  -- The tokens of a run stand in order between these byte offsets.
   pub RunStands : List ℕ → ℕ → TokenList → ℕ → Type 0
   RunStands bytes from none to = from ≤ to
   RunStands bytes from (also token rest) to = TokenStands bytes from token × RunStands bytes (span_of token).to rest to
 
--- whether the second delimiter closes the first
+-- Whether the second delimiter closes the first.
 abbrev pub is_partner : Delimiter → Delimiter → Bool
 is_partner Parenthesis Parenthesis = true
 is_partner Bracket Bracket = true
@@ -88,8 +90,8 @@ is_partner Bracket Brace = false
 is_partner Brace Parenthesis = false
 is_partner Brace Bracket = false
 
--- The delimiters that are open after the lexemes, innermost first, with their byte offsets. The first argument has those that are open before them.
--- `None` if one closes what is not its partner.
+-- The delimiters that are open after the lexemes, innermost first, with their byte offsets. The
+-- first argument has those that are open before them. `None` if one closes what is not its partner.
 abbrev pub opened : List (Delimiter × ℕ) → List Lexeme → Option (List (Delimiter × ℕ))
 opened around [] = Some around
 opened around (leaf token ∷ rest) = opened around rest
@@ -97,21 +99,22 @@ opened around (opens delimiter from ∷ rest) = opened ((delimiter, from) ∷ ar
 opened [] (closes delimiter to ∷ rest) = None
 opened (innermost ∷ around) (closes delimiter to ∷ rest) = if is_partner innermost.0 delimiter then opened around rest else None
 
--- the greatest number of delimiters that are open at once, with `n` open before the lexemes
+-- The greatest number of delimiters that are open at once, with `n` open before the lexemes.
 abbrev pub most_open : ℕ → List Lexeme → ℕ
 most_open n [] = n
 most_open n (leaf token ∷ rest) = most_open n rest
 most_open n (opens delimiter from ∷ rest) = most_open (n + 1) rest
 most_open n (closes delimiter to ∷ rest) = max n (most_open (n - 1) rest)
 
--- The source up to this byte offset is a row of pieces. These delimiters are open there, and no fault and no limit was met before it.
+-- The source up to this byte offset is a row of pieces. These delimiters are open there, and no
+-- fault and no limit was met before it.
 pub record IsFront (bytes : List ℕ) (to : ℕ) (around : List (Delimiter × ℕ)) : Type 0 where
   pub pieces : List Piece
   pub filled : Pieces bytes 0 pieces to
   pub nested : opened [] (seen bytes pieces) ≡ Some around
   pub shallow : most_open 0 (seen bytes pieces) ≤ 128
 
--- after a row of pieces no further piece begins
+-- After a row of pieces no further piece begins.
 pub record IsBroken (bytes : List ℕ) (kind : LexicalKind) (span : Span) : Type 0 where
   pub at : ℕ
   pub around : List (Delimiter × ℕ)
@@ -119,7 +122,7 @@ pub record IsBroken (bytes : List ℕ) (kind : LexicalKind) (span : Span) : Type
   pub inside : at < length bytes
   pub stuck : IsStuck bytes at kind span
 
--- after a row of pieces a delimiter closes nothing, or something that is not its partner
+-- After a row of pieces a delimiter closes nothing, or something that is not its partner.
 pub record IsUnmatched (bytes : List ℕ) (span : Span) : Type 0 where
   pub around : List (Delimiter × ℕ)
   pub delimiter : Delimiter
@@ -127,20 +130,20 @@ pub record IsUnmatched (bytes : List ℕ) (span : Span) : Type 0 where
   pub piece : IsNext bytes span.from (Closing delimiter) span.to
   pub apart : opened around (closes delimiter span.to ∷ []) ≡ None
 
--- at the end of the source this delimiter is open, and it is the innermost one
+-- At the end of the source this delimiter is open, and it is the innermost one.
 pub record IsUnclosed (bytes : List ℕ) (span : Span) : Type 0 where
   pub around : List (Delimiter × ℕ)
   pub delimiter : Delimiter
   pub front : IsFront bytes (length bytes) ((delimiter, span.from) ∷ around)
   pub piece : IsNext bytes span.from (Opening delimiter) span.to
 
--- the first fault of the source, from the left
+-- The first fault of the source, from the left.
 pub data IsUnreadable (bytes : List ℕ) : LexicalKind → Span → Type 0 where
   broken : {kind : LexicalKind} {span : Span} → IsBroken bytes kind span → IsUnreadable bytes kind span
   unmatched : {span : Span} → IsUnmatched bytes span → IsUnreadable bytes Unbalanced span
   unclosed : {span : Span} → IsUnclosed bytes span → IsUnreadable bytes Unbalanced span
 
--- after a row of pieces with as many open delimiters as are allowed, another one opens
+-- After a row of pieces with as many open delimiters as are allowed, another one opens.
 pub record IsTooDeep (bytes : List ℕ) (span : Span) : Type 0 where
   pub around : List (Delimiter × ℕ)
   pub delimiter : Delimiter

@@ -9,19 +9,19 @@ use Rattle.logos_token.specs.declared.token.views.TokenTree.TheVariants.{Ident, 
 use Rattle.logos_token.specs.Tokens.{Token, identifier, punctuation, literal, doc, group, TokenList, none, also}
 use Rattle.logos_token.specs.Flat.{tokens_in}
 
--- all tokens of a buffer
+-- All tokens of a buffer.
 abbrev pub stream_tokens : TokenStream → TokenList
 stream_tokens stream = tokens_in stream.entries.items
 
--- the tokens of a run
+-- The tokens of a run.
 abbrev pub tokens_of : Tokens → TokenList
 tokens_of run = tokens_in run.entries.now
 
--- the tokens inside a group
+-- The tokens inside a group.
 abbrev pub inside_of : GroupView → TokenList
 inside_of g = tokens_of g.inside
 
--- a tree as a token
+-- A tree as a token.
 abbrev pub tree_of : TokenTree → Token
 tree_of (Ident i) = identifier i.text.now i.span
 tree_of (Punct p) = punctuation p.character p.spacing p.span
@@ -29,11 +29,11 @@ tree_of (Literal l) = literal l.text.now l.span
 tree_of (Doc d) = doc d.text.now d.span
 tree_of (Group g) = group g.delimiter g.span (inside_of g)
 
--- the tokens of a run, as a list
+-- The tokens of a run, as a list.
 abbrev pub listed : TokenList → List Token
 listed none = []
 listed (also token rest) = token ∷ listed rest
 
--- the tokens that an iterator has still to give
+-- The tokens that an iterator has still to give.
 abbrev pub iter_rest : TokenIter → List Token
 iter_rest iter = listed (tokens_of iter.rest)

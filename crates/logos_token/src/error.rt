@@ -1,4 +1,5 @@
-//! The faults found in a source, in the order in which they were found.
+//! The faults found in a source, in the order in which they were found. Every crate that reads a
+//! source adds its faults here.
 
 mod fault_code;
 mod rendering;
@@ -34,13 +35,13 @@ impl fmt::Display for Memory {
 
 impl Error for Memory {}
 
-/// A fault with its place in the source.
+/// A fault with its span in the source.
 #[derive(Debug, Drop)]
 pub struct SpannedError {
     pub code: FaultCode,
     pub message: String,
     pub span: Span,
-    /// A second place that the fault is about.
+    /// A second span that the fault is about.
     pub also: Option<Span>,
 }
 
@@ -53,18 +54,18 @@ pub struct Errors {
 
 impl Model for Errors {
     ghost use Rattle.std.specs.Prelude.{List};
-    ghost use Rattle.logos_token.specs.Faults.{Fault};
+    ghost use Rattle.logos_token.specs.ViewWords.{Fault};
 
     ghost Value = { List Fault };
 
-    ghost use Rattle.logos_token.specs.FaultView.{faults_of};
+    ghost use Rattle.logos_token.specs.ViewWords.{faults_of};
 
     ghost view = { λ errors. faults_of errors.collected.items };
 }
 
 impl Errors {
     ghost use Rattle.std.specs.Prelude.{◌≡◌, ◌++◌, ◌∷◌, [], OnOk, OnErr, Some, None};
-    ghost use Rattle.logos_token.specs.FaultView.{faults_of};
+    ghost use Rattle.logos_token.specs.ViewWords.{faults_of};
 
     /// Returns an empty list, which takes its memory from `alloc`.
     pub fn new(alloc: Global) -> Errors
@@ -80,7 +81,7 @@ impl Errors {
     ///
     /// # Errors
     ///
-    /// `Memory` if there is not enough memory. The list is then unchanged.
+    /// Returns `Memory` if memory runs out. The list is then unchanged.
     pub fn err(&mut self, code: FaultCode, message: &str, span: Span) -> Result<(), Memory>
         ensures ok { OnOk result (self.new ≡ self.old ++ (record {
           code = code;
@@ -93,11 +94,11 @@ impl Errors {
         self.add(code, message, span, None)
     }
 
-    /// Adds a fault that is about two places, at the end.
+    /// Adds a fault that is about two spans, at the end.
     ///
     /// # Errors
     ///
-    /// `Memory` if there is not enough memory. The list is then unchanged.
+    /// Returns `Memory` if memory runs out. The list is then unchanged.
     pub fn err_also(
         &mut self,
         code: FaultCode,
@@ -120,7 +121,7 @@ impl Errors {
     ///
     /// # Errors
     ///
-    /// `Memory` if there is not enough memory. The list is then unchanged.
+    /// Returns `Memory` if memory runs out. The list is then unchanged.
     pub fn append(&mut self, mut more: Errors) -> Result<(), Memory>
         ensures ok { OnOk result (self.new ≡ self.old ++ more) }
         ensures err { OnErr result (self.new ≡ self.old) }

@@ -1,13 +1,15 @@
-//! Small helpers for tokens.
+//! Small helpers for tokens. The readers of enums and attributes use them.
+
 ghost use Rattle.std.specs.Prelude.{◌≡◌};
-ghost use Rattle.logos_token.specs.Views.{tree_of};
-ghost use Rattle.logos_token.specs.Punctuation.{is_alone, unless_alone};
+ghost use Rattle.logos_token.specs.ViewWords.{tree_of, is_alone, unless_alone};
 
 mod escaping;
+mod first;
 
 use crate::error::Memory;
 use crate::token::{Ident, Spacing, Span, TokenStream, TokenTree, print};
 pub use escaping::push_escaped;
+pub use first::{after_path_mark, after_word, begins_with, is_path_mark};
 use std::alloc::Global;
 use std::mem;
 
@@ -67,7 +69,7 @@ pub enum MaybeVoid<'s> {
 
 impl<'s> MaybeVoid<'s> {
     ghost use Rattle.std.specs.Prelude.{◌≡◌, IfOk, string_bytes};
-    ghost use Rattle.logos_token.specs.MaybePrinted.{maybe_printed};
+    ghost use Rattle.logos_token.specs.ViewWords.{maybe_printed};
 
     /// Replaces the tokens and returns the former ones.
     pub fn replace(&mut self, stream: TokenStream<'s>) -> MaybeVoid<'s>
@@ -89,7 +91,7 @@ impl<'s> MaybeVoid<'s> {
     ///
     /// # Errors
     ///
-    /// `Memory` if there is not enough memory.
+    /// Returns `Memory` if memory runs out.
     pub fn print(&self, alloc: Global) -> Result<String, Memory>
         ensures { IfOk result (λ text. string_bytes text ≡ maybe_printed self.now) }
     {

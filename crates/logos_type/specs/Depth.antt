@@ -3,7 +3,7 @@ use Rattle.std.specs.Prelude.{ℕ, ◌+◌, ◌-◌, ◌==◌, ◌||◌, max, Bo
 use Rattle.logos_type.specs.Parts.{Tree, sign, name, whole, still, Trees, none, also}
 
 abbrev mutual
-  -- the depth of a type, which counts itself; tokens count nothing
+  -- The depth of a type, which counts itself; tokens count nothing.
   pub depth : Tree → ℕ
   depth (sign s) = 0
   depth (name text) = 1
@@ -15,7 +15,7 @@ abbrev mutual
   depth_of (also part parts) = max (depth part) (depth_of parts)
 
 abbrev mutual
-  -- whether a type is deeper than this many levels
+  -- Whether a type is deeper than this many levels.
   pub exceeds : ℕ → Tree → Bool
   exceeds levels (sign s) = false
   exceeds levels (name text) = levels == 0

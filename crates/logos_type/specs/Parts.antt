@@ -8,7 +8,7 @@ use Rattle.logos_type.specs.declared.type_expr.Part.{Part}
 use Rattle.logos_type.specs.declared.type_expr.Part.TheOpen.{Part-F}
 use Rattle.logos_type.specs.declared.type_expr.Part.TheFolds.{fold-Part}
 
--- a token that is not a type by itself
+-- A token that is not a type by itself.
 pub data Sign : Type 0 where
   word : (text : List ℕ) → Sign
   mark : (character : ℕ) → Sign
@@ -19,19 +19,20 @@ pub data Sign : Type 0 where
   value : (text : List ℕ) → Sign
   opening : (delimiter : Delimiter) → Sign
   closing : (delimiter : Delimiter) → Sign
-  -- `&` with its lifetime, if there is one
+  -- `&` with its lifetime, if there is one.
   reference : (lifetime : Option (List ℕ)) → Sign
-  -- a lifetime among the angle arguments of a path that is a type
+  -- A lifetime among the angle arguments of a path that is a type.
   lifetime : (text : List ℕ) → Sign
-  -- a lifetime anywhere else
+  -- A lifetime anywhere else.
   other_lifetime : (text : List ℕ) → Sign
-  -- punctuation in the length of an array or in braces
+  -- Punctuation in the length of an array or in braces.
   spaced_mark : (character : ℕ) (spacing : Spacing) → Sign
-  -- a documentation comment there
+  -- A documentation comment there.
   comment : (text : List ℕ) → Sign
 
 mutual
-  -- A part of a type: a token, a type that is just a name, a type of several parts, or parts that are never replaced.
+  -- A part of a type: a token, a type that is exactly a name, a type of several parts, or parts
+  -- that are never replaced.
   pub data Tree : Type 0 where
     sign : Sign → Tree
     name : (text : List ℕ) → Tree
@@ -42,7 +43,7 @@ mutual
     none : Trees
     also : Tree → Trees → Trees
 
--- a list of parts
+-- A list of parts.
 abbrev pub trees : List Tree → Trees
 trees [] = none
 trees (t ∷ rest) = also t (trees rest)
@@ -62,7 +63,7 @@ sign_of (OtherLifetime text) = other_lifetime text.now
 sign_of (Punct character spacing) = spaced_mark character spacing
 sign_of (Doc text) = comment text.now
 
--- one part, with each part inside it in its place
+-- One part, with each part inside it in its place.
 abbrev pub node_tree : Part-F Tree → Tree
 node_tree (Part-F.Leaf leaf) = sign (sign_of leaf)
 node_tree (Part-F.Name text) = name text.now

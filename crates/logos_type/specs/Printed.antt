@@ -1,14 +1,15 @@
--- The printed text of a type: its tokens with a space between each two. `<`, `>` and `&` stand alone; `::`, `->` and a lifetime are one lexeme each.
+-- The printed text of a type: its tokens with a space between each two. `<`, `>` and `&` stand
+-- alone; `::`, `->` and a lifetime are one lexeme each.
 use Rattle.std.specs.Prelude.{ℕ, List, [], ◌∷◌, ◌++◌, codes, fold, if◌then◌else◌, Some, None}
 use Rattle.std.specs.Char.{encode_utf8}
 use Rattle.logos_token.specs.Printing.{Part, spaced, opening_text, closing_text, gap_after, is_line_comment, print_part}
 use Rattle.logos_type.specs.Parts.{Sign, word, mark, colons, arrow, value, opening, closing, reference, lifetime, other_lifetime, spaced_mark, comment, Tree, sign, name, whole, still, Trees, none, also}
 
--- `'` and the name after it
+-- `'` and the name after it.
 abbrev pub lifetime_parts : List ℕ → List Part
 lifetime_parts text = (record { text = codes "'"; gap = [] }) ∷ spaced text ∷ []
 
--- the lexemes of a token
+-- The lexemes of a token.
 abbrev pub sign_parts : Sign → List Part
 sign_parts (word text) = spaced text ∷ []
 sign_parts (mark character) = spaced (encode_utf8 character) ∷ []
@@ -25,7 +26,7 @@ sign_parts (spaced_mark character spacing) = (record { text = encode_utf8 charac
 sign_parts (comment text) = (record { text = text; gap = if is_line_comment text then 10 ∷ [] else codes " " }) ∷ []
 
 abbrev mutual
-  -- the lexemes of a type
+  -- The lexemes of a type.
   pub type_parts : Tree → List Part
   type_parts (sign s) = sign_parts s
   type_parts (name text) = spaced text ∷ []
@@ -36,6 +37,6 @@ abbrev mutual
   all_parts none = []
   all_parts (also part parts) = type_parts part ++ all_parts parts
 
--- the text of a type
+-- The text of a type.
 abbrev pub printed_type : Tree → List ℕ
 printed_type tree = (fold print_part (record { text = []; gap = [] }) (type_parts tree)).text

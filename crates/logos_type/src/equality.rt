@@ -1,7 +1,7 @@
 //! Compares types.
+
 ghost use Rattle.std.specs.Prelude.{◌≡◌, ◌↔◌, IsTrue, map};
-ghost use Rattle.logos_type.specs.Parts.{sign_of, tree_of};
-ghost use Rattle.logos_type.specs.TypeTrees.{type_tree};
+ghost use Rattle.logos_type.specs.Views.{sign_of, tree_of, type_tree};
 
 use crate::type_expr::{Leaf, Part, TypeExpr};
 

@@ -1,7 +1,8 @@
-//! Laws of types. Nothing calls these functions: the contract of each is a law.
+//! Laws of types. No code calls these functions: the contract of each is a proved
+//! law.
+
 ghost use Rattle.std.specs.Prelude.{◌<◌, ◌↔◌, ℕ, IsTrue};
-ghost use Rattle.logos_type.specs.Parts.{Tree};
-ghost use Rattle.logos_type.specs.Depth.{depth, exceeds};
+ghost use Rattle.logos_type.specs.Views.{Tree, depth, exceeds};
 
 /// A type exceeds some levels exactly if its depth is greater.
 pub fn exceeds_is_deeper()

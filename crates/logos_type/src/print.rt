@@ -1,10 +1,8 @@
 //! Prints types.
+
 ghost use Rattle.std.specs.Prelude.{◌≡◌, IfOk, OnOk, fold, string_bytes};
-ghost use Rattle.logos_token.specs.Printing.{print_part};
-ghost use Rattle.logos_token.specs.PrinterViews.{printed_of};
-ghost use Rattle.logos_type.specs.Parts.{sign_of, tree_of};
-ghost use Rattle.logos_type.specs.Printed.{lifetime_parts, sign_parts, type_parts, printed_type};
-ghost use Rattle.logos_type.specs.TypeTrees.{type_tree};
+ghost use Rattle.logos_type.specs.Words.{print_part, printed_of};
+ghost use Rattle.logos_type.specs.Views.{sign_of, tree_of, lifetime_parts, sign_parts, type_parts, printed_type, type_tree};
 
 use crate::type_expr::{Leaf, Part, TypeExpr};
 use logos_token::error::Memory;
@@ -77,7 +75,7 @@ fn add_part(printer: &mut Printer, part: &Part<'_>) -> Result<(), Memory>
 ///
 /// # Errors
 ///
-/// `Memory` if there is not enough memory.
+/// Returns `Memory` if memory runs out.
 pub fn print_type(alloc: Global, type_expr: &TypeExpr<'_>) -> Result<String, Memory>
     ensures { IfOk result (λ text. string_bytes text ≡ printed_type (type_tree type_expr.now)) }
 {

@@ -1,4 +1,4 @@
--- Names that are asked one by one whether they hold themselves.
+-- DeclaredNames that are asked one by one whether they hold themselves.
 use Rattle.std.proofs.Common.{◌≡◌, ℕ, ◌+◌, ◌⊎◌, inl, inr, ⊎_elim, List, [], ◌∷◌, map, drop, slice_get, Some, Bor, subst, sym, ap, ◌∙◌}
 use Rattle.std.proofs.lemmas.List.{at_drop_more}
 use Rattle.std.proofs.lemmas.Option.{slice_get_within, get_or_from_slice_get}

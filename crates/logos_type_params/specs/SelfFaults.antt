@@ -6,17 +6,18 @@ use Rattle.logos_type_params.specs.Substitution.{ParamValue}
 use Rattle.logos_type_params.specs.SelfReference.{Leads}
 use Rattle.logos_type_params.specs.TypeParams.{Named, about, is_declared}
 
--- the fault of a parameter that holds itself, at its declaration
+-- The fault of a parameter that holds itself, at its declaration.
 abbrev pub type_holds_itself : Named → Fault
 type_holds_itself named = about TypeHoldsItself (codes "Type parameter ") named (codes " holds itself")
 
--- A declared name adds its fault if a chain leads from it back to it, unless it was declared before as one of `front`.
+-- A declared name adds its fault if a chain leads from it back to it, unless it was declared before
+-- as one of `front`.
 pub data IsChecked (params : List ParamValue) (front : List Named) (named : Named) (old new : List Fault) : Type 0 where
   declared_again : is_declared front named.text ≡ true → new ≡ old → IsChecked params front named old new
   leads_on : (Leads params named.text named.text → ⊥) → new ≡ old → IsChecked params front named old new
   leads_back : is_declared front named.text ≡ false → Leads params named.text named.text → new ≡ old ++ type_holds_itself named ∷ [] → IsChecked params front named old new
 
--- all declared names after those in `front` do so, in order
+-- All declared names after those in `front` do so, in order.
 pub data AreChecked (params : List ParamValue) : (front names : List Named) (old new : List Fault) → Type 0 where
   no_name : {front : List Named} {faults : List Fault} → AreChecked params front [] faults faults
   one_more : {front names : List Named} {named : Named} {old mid new : List Fault} → IsChecked params front named old mid →

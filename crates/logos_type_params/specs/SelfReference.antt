@@ -3,10 +3,11 @@ use Rattle.std.specs.Prelude.{◌≡◌, ℕ, ◌||◌, ◌⊎◌, map, List, []
 use Rattle.std.specs.Str.{bytes_eq}
 use denote.Ref.{Bor}
 use Rattle.logos_type.specs.Parts.{Tree, sign, name, whole, still, Trees, none, also}
+pub use Rattle.logos_type_params.specs.Substitution.{param_value}
 use Rattle.logos_type_params.specs.Substitution.{ParamValue}
 
 abbrev mutual
-  -- whether a type has this name among its parts, or is it
+  -- Whether a type has this name among its parts, or is it.
   pub names : Tree → List ℕ → Bool
   names (sign s) text = false
   names (name other) text = bytes_eq other text
@@ -17,17 +18,17 @@ abbrev mutual
   some_names none text = false
   some_names (also part parts) text = names part text || some_names parts text
 
--- the first type given to the one name has the other name among its parts
+-- The first type given to the one name has the other name among its parts.
 abbrev pub holds : List ParamValue → List ℕ → List ℕ → Bool
 holds [] text other = false
 holds (p ∷ ps) text other = if bytes_eq p.name text then names p.type other else holds ps text other
 
--- a chain of types that name one another leads from the first name to the second one
+-- A chain of types that name one another leads from the first name to the second one.
 pub data Leads (params : List ParamValue) : List ℕ → List ℕ → Type 0 where
   one : {from to : List ℕ} → holds params from to ≡ true → Leads params from to
   on : {from over to : List ℕ} → holds params from over ≡ true → Leads params over to → Leads params from to
 
--- the list has this text
+-- The list has this text.
 abbrev pub Has : List (List ℕ) → List ℕ → Type 0
 Has [] text = ⊥
 Has (t ∷ ts) text = (t ≡ text) ⊎ Has ts text

@@ -15,7 +15,7 @@ use Rattle.logos_type_params.specs.declared.substitution.TypeParam.{TypeParam}
 use Rattle.logos_type_params.specs.declared.type_params.TypeParams.{TypeParams}
 use Rattle.logos_type_params.specs.Substitution.{set_sign}
 
--- a type with its span, and the name to which it is given
+-- A type with its span, and the name to which it is given.
 pub record Given : Type 0 where
   pub name : Named
   pub type : Tree
@@ -24,7 +24,8 @@ pub record Given : Type 0 where
 abbrev pub given_of : Bor (List ℕ) × TypeParam → Given
 given_of entry = record { name = record { text = entry.0.now; at = entry.1.at }; type = tree_of entry.1.part; at = entry.1.span }
 
--- The declared names in order, the types, at most one for each name, and whether a lifetime is declared.
+-- The declared names in order, the types, at most one for each name, and whether a lifetime is
+-- declared.
 pub record Value : Type 0 where
   pub names : List Named
   pub types : List Given
@@ -34,7 +35,8 @@ abbrev pub value_of : TypeParams → Value
 value_of params = record { names = map named_of params.names.list.items; types = map given_of params.types.entries; lifetime = params.lifetime }
 
 abbrev mutual
-  -- a type with the lifetimes of references, and of the angle arguments of paths that are types, set to `'s`
+  -- A type with the lifetimes of references, and of the angle arguments of paths that are types,
+  -- set to `'s`.
   pub with_lifetimes : Tree → Tree
   with_lifetimes (sign s) = sign (set_sign s)
   with_lifetimes (name text) = name text
@@ -45,7 +47,7 @@ abbrev mutual
   all_with_lifetimes no_part = no_part
   all_with_lifetimes (and_part part parts) = and_part (with_lifetimes part) (all_with_lifetimes parts)
 
--- a part with its lifetime set if it is a token; a type stays as it is
+-- A part with its lifetime set if it is a token; a type stays as it is.
 abbrev pub own_lifetime : Tree → Tree
 own_lifetime (sign s) = sign (set_sign s)
 own_lifetime (name text) = name text
@@ -56,7 +58,8 @@ abbrev pub own_lifetimes : Trees → Trees
 own_lifetimes no_part = no_part
 own_lifetimes (and_part part parts) = and_part (own_lifetime part) (own_lifetimes parts)
 
--- a type with its own lifetimes set to `'s`: the one of a reference, or those of the angle arguments of a path; the types inside it keep theirs
+-- A type with its own lifetimes set to `'s`: the one of a reference, or those of the angle
+-- arguments of a path; the types inside it keep theirs.
 abbrev pub with_lifetime : Tree → Tree
 with_lifetime (sign s) = sign (set_sign s)
 with_lifetime (name text) = name text
@@ -66,7 +69,7 @@ with_lifetime (still parts) = still parts
 abbrev pub fault : FaultCode → List ℕ → Span → Fault
 fault code message span = record { code = code; message = message; span = span; also = None }
 
--- a fault of a name, whose message has the name between two texts
+-- A fault of a name, whose message has the name between two texts.
 abbrev pub about : FaultCode → List ℕ → Named → List ℕ → Fault
 about code before named after = fault code ((before ++ named.text) ++ after) named.at
 
@@ -88,29 +91,29 @@ type_syntax at = fault TypeSyntax (codes "not a type") at
 abbrev pub type_nesting_text : List ℕ
 type_nesting_text = codes "limit LimitTypeNesting passed"
 
--- the fault that too many types stand inside one another
+-- The fault that too many types stand inside one another.
 abbrev pub limit_type_nesting : Span → Fault
 limit_type_nesting at = fault LimitTypeNesting type_nesting_text at
 
--- the fault for the reason why a value is not a type
+-- The fault for the reason why a value is not a type.
 abbrev pub value_fault : Mismatch → Span → Fault
 value_fault (unsupported span) at = type_syntax at
 value_fault (mismatch span) at = type_syntax at
 value_fault too_deep at = limit_type_nesting at
 
--- the whole run is a type; or it is not, and that is reported at this span
+-- The whole run is a type; or it is not, and that is reported at this span.
 pub data ReadsValue (run : TokenList) (at : Span) (old new : List Fault) : Option Tree → Type 0 where
   is_type : {tree : Tree} → IsTypeExpr run tree none → new ≡ old → ReadsValue run at old new (Some tree)
   goes_on : {tree : Tree} {token : Token} {rest : TokenList} → IsTypeExpr run tree (also token rest) →
       new ≡ old ++ type_syntax at ∷ [] → ReadsValue run at old new None
   no_type : {why : Mismatch} → NoTypeExpr run why → new ≡ old ++ (value_fault why at) ∷ [] → ReadsValue run at old new None
 
--- the span of the type given to a name
+-- The span of the type given to a name.
 abbrev pub former : List Given → List ℕ → Option Span
 former [] text = None
 former (g ∷ types) text = if bytes_eq g.name.text text then Some g.at else former types text
 
--- one more type: it replaces the one that its name has, or comes after all others
+-- One more type: it replaces the one that its name has, or comes after all others.
 abbrev pub given_more : Given → List Given → List Given
 given_more type [] = type ∷ []
 given_more type (g ∷ types) = if bytes_eq type.name.text g.name.text then type ∷ types else g ∷ given_more type types
@@ -119,7 +122,8 @@ abbrev pub given_faults : Option Span → Named → List Fault
 given_faults None named = []
 given_faults (Some span) named = type_twice named ∷ previous span ∷ []
 
--- A value is given to a name. It is not a type, or the name is not declared, or the name has this type from now on.
+-- A value is given to a name. It is not a type, or the name is not declared, or the name has this
+-- type from now on.
 pub data IsSet (old : Value) (named : Named) (run : TokenList) (before : List Fault) (new : Value) (after : List Fault) : Type 0 where
   no_value : ReadsValue run (run_span run) before after None → new ≡ old → IsSet old named run before new after
   undeclared : {tree : Tree} → ReadsValue run (run_span run) before before (Some tree) → is_declared old.names named.text ≡ false → new ≡ old → after ≡ before ++ not_type_parameter named ∷ [] → IsSet old named run before new after

@@ -9,19 +9,19 @@ use Rattle.logos_type_params.specs.Substitution.{ParamValue, param_value, Params
 use Rattle.logos_type_params.specs.SelfReference.{Leads, Has}
 use Rattle.logos_type_params.specs.TypeParams.{limit_type_nesting}
 
--- the types that are given
+-- The types that are given.
 abbrev pub types_of : TypeParams → List ParamValue
 types_of params = map param_value params.types.entries
 
--- the types that are given, and the names that are left in place
+-- The types that are given, and the names that are left in place.
 abbrev pub params_with : TypeParams → List (List ℕ) → Params
 params_with params held = record { types = types_of params; held = held }
 
--- the names to which a type is given
+-- The names to which a type is given.
 abbrev pub given_names : List ParamValue → List (List ℕ)
 given_names = map (λ (p : ParamValue). p.name)
 
--- a name is added if a chain of types leads from it back to it
+-- A name is added if a chain of types leads from it back to it.
 pub data IsAsked (params : List ParamValue) (text : List ℕ) (held held' : List (List ℕ)) : Type 0 where
   is_held : Leads params text text → ((other : List ℕ) → Has held' other → Has held other ⊎ (text ≡ other)) → ((other : List ℕ) → Has held other → Has held' other) → Has held' text →
       IsAsked params text held held'
@@ -33,8 +33,8 @@ pub record AreHeld (params : List ParamValue) (held : List (List ℕ)) : Type 0 
   pub lead_back : (text : List ℕ) → Has held text → Leads params text text
   pub all : (text : List ℕ) → Has (given_names params) text → Leads params text text → Has held text
 
--- A written type has its declared parameters replaced and its lifetimes set. If that passes the limit, a fault is reported and the type stays as it
--- is written.
+-- A written type has its declared parameters replaced and its lifetimes set. If that passes the
+-- limit, a fault is reported and the type stays as it is written.
 pub data GetsType (params : Params) (written : Tree) (at : Span) (old new : List Fault) (got : Tree) : Type 0 where
   replaced : After params type_nesting written got → new ≡ old → GetsType params written at old new got
   as_written : Passes params type_nesting written → got ≡ written → new ≡ old ++ limit_type_nesting at ∷ [] → GetsType params written at old new got

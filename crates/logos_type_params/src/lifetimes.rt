@@ -1,8 +1,8 @@
-//! Sets the lifetimes of types to `'s`.
+//! Sets the lifetimes of types to `'s`. Each type that is given or written goes through it.
+
 ghost use Rattle.std.specs.Prelude.{◌≡◌, map, IfOk};
-ghost use Rattle.logos_type.specs.Parts.{whole, trees, tree_of};
-ghost use Rattle.logos_type.specs.TypeTrees.{type_tree};
-ghost use Rattle.logos_type_params.specs.TypeParams.{with_lifetimes, with_lifetime, own_lifetime};
+ghost use Rattle.logos_type_params.specs.Words.{whole, trees, tree_of, type_tree};
+ghost use Rattle.logos_type_params.specs.Views.{with_lifetimes, with_lifetime, own_lifetime};
 
 use crate::substitution::set_lifetime;
 use logos_token::error::Memory;
@@ -50,14 +50,14 @@ fn set_each<'s>(alloc: Global, parts: &[Part<'s>]) -> Result<Part<'s>, AllocErro
     Ok(Part::Whole(after))
 }
 
-/// Returns the type with its lifetimes and those of all types inside it set to `'s`: the lifetime of
-/// a reference, which gets one if it has none, and the lifetimes among the angle arguments of a path
-/// that is a type. Other lifetimes stay, such as those of `dyn` and `for<..>`, and so do parts that
-/// are never replaced, such as the type before `as`.
+/// Returns the type with its lifetimes and those of all types inside it set to `'s`: the lifetime
+/// of a reference, which gets one if it has none, and the lifetimes among the angle arguments of a
+/// path that is a type. Other lifetimes stay, such as those of `dyn` and `for<..>`, and so do parts
+/// that are never replaced, such as the type before `as`.
 ///
 /// # Errors
 ///
-/// `Memory` if there is not enough memory.
+/// Returns `Memory` if memory runs out.
 pub fn replace_lifetimes<'s>(
     alloc: Global,
     type_expr: &TypeExpr<'s>,
@@ -74,7 +74,7 @@ pub fn replace_lifetimes<'s>(
 ///
 /// # Errors
 ///
-/// `Memory` if there is not enough memory.
+/// Returns `Memory` if memory runs out.
 pub fn replace_lifetime<'s>(alloc: Global, type_expr: &TypeExpr<'s>) -> Result<TypeExpr<'s>, Memory>
     ensures { IfOk result (λ after. type_tree after ≡ with_lifetime (type_tree type_expr.now)) }
 {

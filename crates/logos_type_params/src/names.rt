@@ -1,4 +1,5 @@
 //! Holds names in the order in which they are declared.
+
 ghost use Rattle.std.specs.Prelude.{map};
 ghost use Rattle.logos_type_params.specs.NameLists.{named_of};
 ghost use Rattle.logos_type_params.specs.inside.Fronts.{AreInFront};
@@ -10,7 +11,7 @@ use std::alloc::Global;
 
 /// Declared names. A name can be declared more than once.
 #[derive(Drop)]
-pub(crate) struct Names<'s> {
+pub(crate) struct DeclaredNames<'s> {
     /// The names, in order of declaration.
     pub(crate) list: Vec<Ident<'s>>,
     /// Their texts, each once.
@@ -18,15 +19,16 @@ pub(crate) struct Names<'s> {
     ghost same: { AreInFront (map named_of list.items) texts.keys },
 }
 
-impl<'s> Names<'s> {
+impl<'s> DeclaredNames<'s> {
     ghost use Rattle.std.specs.Prelude.{◌≡◌, ◌++◌, ◌∷◌, [], map, OnOk, OnErr};
-    ghost use Rattle.logos_type_params.specs.NameLists.{named_of, is_declared};
+    ghost use Rattle.logos_type_params.specs.Words.{is_declared};
+    ghost use Rattle.logos_type_params.specs.NameLists.{named_of};
 
     /// Returns an empty list.
-    pub(crate) fn new(alloc: Global) -> Names<'s>
+    pub(crate) fn new(alloc: Global) -> DeclaredNames<'s>
         ensures { result.list.items ≡ [] }
     {
-        Names {
+        DeclaredNames {
             list: Vec::new(alloc),
             texts: IndexSet::new(alloc),
         }

@@ -1,7 +1,7 @@
 //! Reports faults of names and types. Each function adds one fault.
+
 ghost use Rattle.std.specs.Prelude.{◌≡◌, ◌++◌, ◌∷◌, [], IfOk, OnOk, OnErr, string_bytes};
-ghost use Rattle.logos_type_params.specs.TypeParams.{named_of, about, previous};
-ghost use Rattle.logos_type_params.specs.TypeParams.{type_nesting_text, limit_type_nesting};
+ghost use Rattle.logos_type_params.specs.Views.{named_of, about, previous, type_nesting_text, limit_type_nesting};
 
 use logos_token::error::{Errors, FaultCode, Memory};
 use logos_token::token::{Ident, Span};
@@ -22,7 +22,7 @@ fn joined(alloc: Global, before: &str, text: &str, after: &str) -> Result<String
 ///
 /// # Errors
 ///
-/// `Memory` if there is not enough memory. The faults are then unchanged.
+/// Returns `Memory` if memory runs out. The faults are then unchanged.
 pub fn report_about(
     errors: &mut Errors,
     code: FaultCode,
@@ -43,7 +43,7 @@ pub fn report_about(
 ///
 /// # Errors
 ///
-/// `Memory` if there is not enough memory. The faults are then unchanged.
+/// Returns `Memory` if memory runs out. The faults are then unchanged.
 pub fn report_previous(errors: &mut Errors, at: Span) -> Result<(), Memory>
     ensures ok { OnOk result (errors.new ≡ errors.old ++ previous at ∷ []) }
     ensures err { OnErr result (errors.new ≡ errors.old) }

@@ -1,8 +1,9 @@
-//! Finds the parameters that hold themselves.
+//! Finds the parameters that hold themselves. It runs once, after all attributes of an enum are
+//! read.
+
 ghost use Rattle.std.specs.Prelude.{◌≡◌, ◌↔◌, [], length, map, IfOk, OnOk, IsTrue};
-ghost use Rattle.logos_type.specs.Parts.{name, tree_of};
-ghost use Rattle.logos_type_params.specs.Substitution.{param_value};
-ghost use Rattle.logos_type_params.specs.SelfReference.{names, Leads};
+ghost use Rattle.logos_type_params.specs.Words.{name, tree_of};
+ghost use Rattle.logos_type_params.specs.SelfReference.{param_value, names, Leads};
 ghost use Rattle.logos_type_params.specs.inside.Chains.{Reaches, AreReached};
 
 use crate::substitution::TypeParam;
@@ -80,9 +81,7 @@ fn all_reached<'s>(
 
 impl<'p, 's> Chains<'p, 's> {
     ghost use Rattle.std.specs.Prelude.{◌≡◌, ◌↔◌, map, IfOk, IsTrue};
-    ghost use Rattle.logos_type_params.specs.Substitution.{param_value};
-    ghost use Rattle.logos_type_params.specs.SelfReference.{Leads};
-    ghost use Rattle.logos_type_params.specs.inside.Chains.{AreMarked};
+    ghost use Rattle.logos_type_params.specs.Views.{param_value, Leads, AreMarked};
 
     /// Finds the chains of these types. This takes time linear in the sizes of all types.
     pub(crate) fn new(
@@ -116,7 +115,7 @@ impl<'p, 's> Chains<'p, 's> {
 ///
 /// # Errors
 ///
-/// `Memory` if there is not enough memory.
+/// Returns `Memory` if memory runs out.
 pub fn holds_itself<'s>(
     alloc: Global,
     params: &IndexMap<&'s str, TypeParam<'s>>,

@@ -1,13 +1,9 @@
 //! Replaces declared type parameters in types.
-ghost use Rattle.std.specs.Prelude.{◌≡◌, ◌<◌, ℕ, Bool, true, false, List, map, IfOk, IfErr};
-ghost use Rattle.std.specs.Prelude.{MatchOption};
-ghost use Rattle.logos_type.specs.Parts.{Tree, name, whole, trees, tree_of, sign_of};
-ghost use Rattle.logos_type_params.specs.Substitution.{Params, given, given_first, given_type};
-ghost use Rattle.logos_type_params.specs.Substitution.{set_sign, param_value, After};
-ghost use Rattle.logos_type_params.specs.Substitution.{AllAfter, Passes, SomePasses};
-ghost use Rattle.logos_type_params.specs.SubstitutionViews.{IfDeep};
-ghost use Rattle.logos_type.specs.Depth.{exceeds};
-ghost use Rattle.logos_type_params.specs.inside.Given.{given_of, params_of};
+
+ghost use Rattle.std.specs.Prelude.{◌≡◌, ◌<◌, ℕ, Bool, true, false, List, map, IfOk, IfErr, MatchOption};
+ghost use Rattle.logos_type_params.specs.Words.{Tree, name, whole, trees, tree_of, sign_of, IfDeep, exceeds};
+ghost use Rattle.logos_type_params.specs.Views.{Params, given, given_first, given_type, set_sign, param_value, After, AllAfter, Passes, SomePasses, params_of};
+ghost use Rattle.logos_type_params.specs.inside.Given.{given_of};
 
 use indexmap::{IndexMap, IndexSet};
 use logos_token::token::Span;
@@ -86,8 +82,8 @@ fn find<'p, 's>(params: Replacing<'p, 's>, text: &str) -> Given<'p, 's>
 ///
 /// # Errors
 ///
-/// `LimitNesting` if more than `levels` types stand inside one another then, and `Memory` if there
-/// is not enough memory.
+/// Returns `LimitNesting` if more than `levels` types stand inside one another then, and `Memory`
+/// if memory runs out.
 #[cycle(after)]
 pub fn type_after<'s>(
     alloc: Global,

@@ -1,24 +1,14 @@
 //! Holds the declared type parameters of an enum and the types given to them.
-ghost use Rattle.std.specs.Prelude.{◌≡◌, ◌++◌, ◌∷◌, [], Some, None, map, IfOk, OnOk, OnErr};
-ghost use Rattle.std.specs.Prelude.{if◌then◌else◌, option_map};
-ghost use Rattle.logos_token.specs.Views.{tokens_of};
-ghost use Rattle.logos_token.specs.Tokens.{run_span};
-ghost use Rattle.logos_type.specs.Parts.{tree_of};
-ghost use Rattle.logos_type_reader.specs.ReadingViews.{IfFault};
-ghost use Rattle.logos_type.specs.TypeTrees.{type_tree};
-ghost use Rattle.logos_type_reader.specs.TypeExprs.{IsTypeExpr, NoTypeExpr};
-ghost use Rattle.logos_type_params.specs.Substitution.{param_value};
-ghost use Rattle.logos_type_params.specs.inside.Checks.{ChecksName};
-ghost use Rattle.logos_type_params.specs.TypeParams.{named_of, given_of, type_syntax};
-ghost use Rattle.logos_type_params.specs.TypeParams.{many_lifetimes};
-ghost use Rattle.logos_type_params.specs.TypeParams.{former, given_more, given_faults};
-ghost use Rattle.logos_type_params.specs.TypeParams.{ReadsValue};
+
+ghost use Rattle.std.specs.Prelude.{◌≡◌, ◌++◌, ◌∷◌, [], Some, None, map, IfOk, OnOk, OnErr, if◌then◌else◌, option_map};
+ghost use Rattle.logos_type_params.specs.Words.{tokens_of, run_span, tree_of, IfFault, type_tree, IsTypeExpr, NoTypeExpr};
+ghost use Rattle.logos_type_params.specs.Views.{param_value, ChecksName, named_of, given_of, type_syntax, many_lifetimes, former, given_more, given_faults, ReadsValue};
 
 mod concrete;
 mod written;
 
 use crate::lifetimes::set_lifetimes;
-use crate::names::Names;
+use crate::names::DeclaredNames;
 use crate::reporting::{report_about, report_depth, report_previous};
 use crate::self_reference::Chains;
 use crate::substitution::TypeParam;
@@ -33,7 +23,7 @@ use std::alloc::Global;
 /// The declared type parameters of an enum, and the types given to them.
 #[derive(Drop)]
 pub struct TypeParams<'s> {
-    names: Names<'s>,
+    names: DeclaredNames<'s>,
     /// The types, by the names of the parameters to which they are given.
     types: IndexMap<&'s str, TypeParam<'s>>,
     lifetime: bool,
@@ -93,7 +83,7 @@ fn whole_type<'s>(
 ///
 /// # Errors
 ///
-/// `Memory` if there is not enough memory. The faults are then unchanged.
+/// Returns `Memory` if memory runs out. The faults are then unchanged.
 pub fn read_value<'s>(
     alloc: Global,
     run: Tokens<'_, 's>,
@@ -220,18 +210,15 @@ fn check_name<'s>(
 
 impl<'s> TypeParams<'s> {
     ghost use Rattle.std.specs.Prelude.{◌≡◌, ◌++◌, ◌∷◌, [], OnOk, OnErr, true, false, if◌then◌else◌};
-    ghost use Rattle.logos_token.specs.Views.{tokens_of};
-    ghost use Rattle.logos_type_params.specs.SelfFaults.{AreChecked};
-    ghost use Rattle.logos_type_params.specs.TypeParams.{Value, value_of, named_of, many_lifetimes};
-    ghost use Rattle.logos_type_params.specs.TypeParams.{IsSet};
-    ghost use Rattle.logos_type_params.specs.WrittenTypes.{types_of};
+    ghost use Rattle.logos_type_params.specs.Words.{tokens_of};
+    ghost use Rattle.logos_type_params.specs.Views.{AreChecked, Value, value_of, named_of, many_lifetimes, IsSet, types_of};
 
     /// Returns an empty list of parameters, which takes its memory from `alloc`.
     pub fn new(alloc: Global) -> TypeParams<'s>
         ensures { value_of result ≡ record { names = []; types = []; lifetime = false } }
     {
         TypeParams {
-            names: Names::new(alloc),
+            names: DeclaredNames::new(alloc),
             types: IndexMap::new(alloc),
             lifetime: false,
             alloc,
@@ -243,7 +230,7 @@ impl<'s> TypeParams<'s> {
     ///
     /// # Errors
     ///
-    /// `Memory` if there is not enough memory. Everything is then unchanged.
+    /// Returns `Memory` if memory runs out. Everything is then unchanged.
     pub fn explicit_lifetime(&mut self, span: Span, errors: &mut Errors) -> Result<(), Memory>
         ensures value { OnOk result (value_of self.new ≡ record {
           names = (value_of self.old).names;
@@ -264,7 +251,7 @@ impl<'s> TypeParams<'s> {
     ///
     /// # Errors
     ///
-    /// `Memory` if there is not enough memory. The parameters are then unchanged.
+    /// Returns `Memory` if memory runs out. The parameters are then unchanged.
     pub fn add(&mut self, name: Ident<'s>) -> Result<(), Memory>
         ensures ok { OnOk result (value_of self.new ≡ record {
           names = (value_of self.old).names ++ named_of name.entry ∷ [];
@@ -284,7 +271,7 @@ impl<'s> TypeParams<'s> {
     ///
     /// # Errors
     ///
-    /// `Memory` if there is not enough memory. Everything is then unchanged.
+    /// Returns `Memory` if memory runs out. Everything is then unchanged.
     pub fn set(
         &mut self,
         name: Ident<'s>,
@@ -329,7 +316,7 @@ impl<'s> TypeParams<'s> {
     ///
     /// # Errors
     ///
-    /// `Memory` if there is not enough memory. The faults are then unchanged.
+    /// Returns `Memory` if memory runs out. The faults are then unchanged.
     pub fn check(&self, errors: &mut Errors) -> Result<(), Memory>
         ensures ok { OnOk result (AreChecked (types_of self.now) []
             (value_of self.now).names errors.old errors.new) }

@@ -1,4 +1,5 @@
--- The place of a fault: what stands in front of it, and the sign at it, decide that the run begins with no type.
+-- The place of a fault: what stands in front of it, and the sign at it, decide that the run begins
+-- with no type.
 use Rattle.std.specs.Prelude.{◌≡◌, ℕ, List, Bool}
 use Rattle.logos_lexeme.specs.declared.lexeme.Span.{Span}
 use Rattle.logos_lexeme.specs.declared.lexeme.Spacing.TheVariants.{Alone, Joint}
@@ -9,22 +10,23 @@ use Rattle.logos_type_reader.specs.Reading.{NoType}
 
 -- What stands in front of a place of a run: tokens, and groups that are open there.
 pub data Front : Type 0 where
-  -- nothing
+  -- Nothing.
   start : Front
-  -- a token, and then the rest
+  -- A token, and then the rest.
   past : Token → Front → Front
-  -- an opening delimiter, and then what stands in front of the place inside the group
+  -- An opening delimiter, and then what stands in front of the place inside the group.
   within : Delimiter → Front → Front
 
--- The front stands in front of a place of the run. What is left is the rest of the run there, or of the group that is open there.
+-- The front stands in front of a place of the run. What is left is the rest of the run there, or of
+-- the group that is open there.
 pub data IsAt : Front → TokenList → TokenList → Type 0 where
   at_start : {run : TokenList} → IsAt start run run
   past_token : {front : Front} {token : Token} {rest left : TokenList} → IsAt front rest left → IsAt (past token front) (also token rest) left
   in_group : {front : Front} {delimiter : Delimiter} {span : Span} {inside rest left : TokenList} → IsAt front inside left →
       IsAt (within delimiter front) (also (group delimiter span inside) rest) left
 
--- Both runs begin with the same sign, or both are empty. A sign is a token, and after a joint punctuation the next sign, too, as in `::`. Of a group
--- the opening delimiter alone is meant.
+-- Both runs begin with the same sign, or both are empty. A sign is a token, and after a joint
+-- punctuation the next sign, too, as in `::`. Of a group the opening delimiter alone is meant.
 pub data SameSign : TokenList → TokenList → Type 0 where
   no_sign : SameSign none none
   same_name : {text : List ℕ} {span : Span} {rest other : TokenList} → SameSign (also (identifier text span) rest) (also (identifier text span) other)
@@ -37,12 +39,12 @@ pub data SameSign : TokenList → TokenList → Type 0 where
   same_group : {delimiter : Delimiter} {span other_span : Span} {inside other_inside rest other : TokenList} →
       SameSign (also (group delimiter span inside) rest) (also (group delimiter other_span other_inside) other)
 
--- the front of these tokens
+-- The front of these tokens.
 abbrev pub front_of : TokenList → Front
 front_of none = start
 front_of (also token rest) = past token (front_of rest)
 
--- the front, and these tokens after it
+-- The front, and these tokens after it.
 abbrev pub followed : Front → TokenList → Front
 followed start run = front_of run
 followed (past token front) run = past token (followed front run)
@@ -55,20 +57,21 @@ pub record EndsWith (front : Front) (span : Span) : Type 0 where
   pub is : front ≡ followed former tokens
   pub spans : span ≡ run_span tokens
 
--- The fault stands at this place: a mismatch at the first token that is left, and a type that is not supported right in front of the place.
+-- The fault stands at this place: a mismatch at the first token that is left, and a type that is
+-- not supported right in front of the place.
 abbrev pub StandsAt : Fault → Front → TokenList → Type 0
 StandsAt (mismatch span) front left = span ≡ first_span left
 StandsAt (unsupported span) front left = EndsWith front span
 StandsAt too_deep front left = ⊥
 
--- the same fault where these tokens are left at its place
+-- The same fault where these tokens are left at its place.
 abbrev pub fault_at : Fault → TokenList → Fault
 fault_at (mismatch span) left = mismatch (first_span left)
 fault_at (unsupported span) left = unsupported span
 fault_at too_deep left = too_deep
 
--- A place of the run where the fault stands, so that the front and the sign at the place decide it: each run that has both has this fault, whatever comes
--- after them.
+-- A place of the run where the fault stands, so that the front and the sign at the place decide it:
+-- each run that has both has this fault, whatever comes after them.
 pub record FaultPlace (levels : ℕ) (plus : Bool) (run : TokenList) (fault : Fault) : Type 0 where
   pub front : Front
   pub left : TokenList

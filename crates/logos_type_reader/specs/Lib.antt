@@ -6,3 +6,5 @@ pub mod TypeExprs
 pub mod Written
 pub mod inside
 pub mod FaultPlaces
+pub mod Words
+pub mod Views

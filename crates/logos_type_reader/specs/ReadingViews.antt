@@ -22,12 +22,12 @@ outside_of None = None
 abbrev pub spot_of : SpotView → Spot
 spot_of spot = record { place = spot.place; run = tokens_of spot.run; outside = outside_of spot.outside }
 
--- a measure of what is left: twice the tokens, and one more if a group has to be closed
+-- A measure of what is left: twice the tokens, and one more if a group has to be closed.
 abbrev pub left : TokenList → Option TokenList → ℕ
 left run None = 2 * count_of run
 left run (Some rest) = 2 * (count_of run + count_of rest) + 1
 
--- the step is what comes next
+-- The step is what comes next.
 abbrev pub IsStep : Result Step Stop → Move → Type 0
 IsStep (Ok End) next = next ≡ ends
 IsStep (Ok (Take leaf spot)) next = next ≡ takes (sign_of leaf) (spot_of spot)
@@ -39,13 +39,13 @@ IsStep (Ok (Nest leaf spot place)) next = next ≡ nests (sign_of leaf) (spot_of
 IsStep (Err (Unsupported span)) next = next ≡ stops (unsupported span)
 IsStep (Err (Mismatch span)) next = next ≡ stops (mismatch span)
 
--- the same for the first token
+-- The same for the first token.
 abbrev pub IsFirst : Result Opening Stop → First → Type 0
 IsFirst (Ok read) first = first ≡ starts read.barred (sign_of read.leaf) (spot_of read.spot)
 IsFirst (Err (Unsupported span)) first = first ≡ refused (unsupported span)
 IsFirst (Err (Mismatch span)) first = first ≡ refused (mismatch span)
 
--- this holds of the fault, unless there was not enough memory
+-- This holds of the fault, unless there was not enough memory.
 abbrev pub IfFault : (Fault → Type 0) → TypeFault → Type 0
 IfFault Holds (faults.Unsupported span) = Holds (unsupported span)
 IfFault Holds (faults.Mismatch span) = Holds (mismatch span)
@@ -59,13 +59,15 @@ fault_of (Mismatch span) = faults.Mismatch span
 abbrev pub spot_left : Spot → ℕ
 spot_left spot = left spot.run spot.outside
 
--- one step is made: its parts are added, and the spot after them is returned, if something comes next; or the fault is returned
+-- One step is made: its parts are added, and the spot after them is returned, if something comes
+-- next; or the fault is returned.
 abbrev pub GivesMove : ℕ → Spot → List Tree → List Tree → Result (Option (Bool × SpotView)) TypeFault → Type 0
 GivesMove levels spot old new (Ok None) = (next_of spot ≡ ends) × (new ≡ old)
 GivesMove levels spot old new (Ok (Some read)) = (front : List Tree) × (new ≡ old ++ front) × IsMove levels read.0 spot front (spot_of read.1)
 GivesMove levels spot old new (Err fault) = IfFault (NoMove levels spot) fault
 
--- all parts from the spot on are added, and whether one of them makes the type one that is not supported is returned with the rest
+-- All parts from the spot on are added, and whether one of them makes the type one that is not
+-- supported is returned with the rest.
 abbrev pub GivesParts : ℕ → Spot → List Tree → List Tree → Result (Bool × Tokens) TypeFault → Type 0
 GivesParts levels spot old new (Ok read) = (parts : List Tree) × (new ≡ old ++ parts) × AreParts levels read.0 spot parts (tokens_of read.1)
 GivesParts levels spot old new (Err fault) = IfFault (NoParts levels spot) fault

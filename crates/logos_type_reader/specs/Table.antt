@@ -16,52 +16,54 @@ use Rattle.logos_type_reader.specs.declared.table.place.Place.{Place}
 use Rattle.logos_type_reader.specs.declared.table.place.Place.TheVariants as place
 use Rattle.logos_type.specs.Parts.{Sign, word, mark, colons, arrow, value, opening, closing, reference, lifetime, other_lifetime}
 
--- the span of the first token, or 0..0 if there is none
+-- The span of the first token, or 0..0 if there is none.
 abbrev pub first_span : TokenList → Span
 first_span none = record { from = 0; to = 0 }
 first_span (also token rest) = span_of token
 
--- why a run does not begin with a type
+-- Why a run does not begin with a type.
 pub data Fault : Type 0 where
-  -- a type that is not supported stands at this span
+  -- A type that is not supported stands at this span.
   unsupported : (span : Span) → Fault
-  -- the first token that does not fit stands at this span
+  -- The first token that does not fit stands at this span.
   mismatch : (span : Span) → Fault
-  -- more types stand inside one another than are allowed
+  -- More types stand inside one another than are allowed.
   too_deep : Fault
 
--- The position of the reader: a place, the tokens that are left there, and, if these are inside a group, the tokens after the group.
+-- The position of the reader: a place, the tokens that are left there, and, if these are inside a
+-- group, the tokens after the group.
 pub record Spot : Type 0 where
   pub place : Place
   pub run : TokenList
   pub outside : Option TokenList
 
--- the tokens after all groups that are open
+-- The tokens after all groups that are open.
 abbrev pub outer : TokenList → Option TokenList → TokenList
 outer run None = run
 outer run (Some rest) = rest
 
--- the next step
+-- The next step.
 pub data Move : Type 0 where
-  -- ends what was begun
+  -- Ends what was begun.
   ends : Move
-  -- takes this token
+  -- Takes this token.
   takes : Sign → Spot → Move
-  -- takes this token, which only types that are not supported have
+  -- Takes this token, which only types that are not supported have.
   bars : Sign → Spot → Move
-  -- reads a type and goes on at this place; `+` can join bounds if `plus` holds
+  -- Reads a type and goes on at this place; `+` can join bounds if `plus` holds.
   asks : (plus : Bool) → Place → Move
-  -- reads a type that is never replaced and goes on at this place
+  -- Reads a type that is never replaced and goes on at this place.
   keeps_type : Place → Move
-  -- takes these tokens without reading types in them
+  -- Takes these tokens without reading types in them.
   keeps : TokenList → Spot → Move
-  -- takes this token, with which a path or bounds begin, reads these from the spot on, and goes on at this place
+  -- Takes this token, with which a path or bounds begin, reads these from the spot on, and goes on
+  -- at this place.
   nests : Sign → Spot → Place → Move
-  -- nothing fits, for this reason
+  -- Nothing fits, for this reason.
   stops : Fault → Move
 
--- The beginning of a type: its first token, whether only types that are not supported have that, and the spot after it; or the reason why none
--- begins.
+-- The beginning of a type: its first token, whether only types that are not supported have that,
+-- and the spot after it; or the reason why none begins.
 pub data First : Type 0 where
   starts : (barred : Bool) → Sign → Spot → First
   refused : Fault → First
@@ -69,79 +71,80 @@ pub data First : Type 0 where
 abbrev pub mismatches : TokenList → Move
 mismatches run = stops (mismatch (first_span run))
 
--- a place with the tokens that are left there
+-- A place with the tokens that are left there.
 abbrev pub to : Place → TokenList → Option TokenList → Spot
 to p run outside = record { place = p; run = run; outside = outside }
 
--- whether `::` comes first
+-- Whether `::` comes first.
 abbrev pub begins_colons : TokenList → Bool
 begins_colons (also (punctuation c Joint span) (also (punctuation d spacing other) rest)) = (c == 58) && (d == 58)
 begins_colons run = false
 
--- whether this character comes first
+-- Whether this character comes first.
 abbrev pub begins_mark : ℕ → TokenList → Bool
 begins_mark wanted (also (punctuation c spacing span) rest) = c == wanted
 begins_mark wanted run = false
 
--- whether `->` comes first
+-- Whether `->` comes first.
 abbrev pub begins_arrow : TokenList → Bool
 begins_arrow (also (punctuation c Joint span) (also (punctuation d spacing other) rest)) = (c == 45) && (d == 62)
 begins_arrow run = false
 
--- whether `...` comes first
+-- Whether `...` comes first.
 abbrev pub begins_dots : TokenList → Bool
 begins_dots (also (punctuation c Joint span) (also (punctuation d Joint other) (also (punctuation e spacing third) rest))) = ((c == 46) && (d == 46)) && (e == 46)
 begins_dots run = false
 
--- whether a group in parentheses comes first
+-- Whether a group in parentheses comes first.
 abbrev pub begins_parenthesis : TokenList → Bool
 begins_parenthesis (also (group Parenthesis span inside) rest) = true
 begins_parenthesis run = false
 
--- whether `:` comes first that is not the beginning of `::`
+-- Whether `:` comes first that is not the beginning of `::`.
 abbrev pub typing : TokenList → Bool
 typing run = begins_mark 58 run && not (begins_colons run)
 
--- whether a path goes on after a name: with `<`, `::` or a parenthesis
+-- Whether a path goes on after a name: with `<`, `::` or a parenthesis.
 abbrev pub goes_on : TokenList → Bool
 goes_on run = (begins_mark 60 run || begins_colons run) || begins_parenthesis run
 
--- whether a bound comes first: a name, `'`, `?`, `::` or a parenthesis
+-- Whether a bound comes first: a name, `'`, `?`, `::` or a parenthesis.
 abbrev pub begins_bound : TokenList → Bool
 begins_bound (also (identifier text span) rest) = true
 begins_bound run = ((begins_mark 39 run || begins_mark 63 run) || begins_colons run) || begins_parenthesis run
 
--- the tokens after the first two
+-- The tokens after the first two.
 abbrev pub after_two : TokenList → TokenList
 after_two (also first (also second rest)) = rest
 after_two run = none
 
--- the tokens after the first three
+-- The tokens after the first three.
 abbrev pub after_three : TokenList → TokenList
 after_three (also first (also second (also third rest))) = rest
 after_three run = none
 
--- a group is opened; only one can be open at a time
+-- A group is opened; only one can be open at a time.
 abbrev pub opens : Delimiter → Span → Place → TokenList → TokenList → Option TokenList → Move
 opens delimiter span next inside rest None = takes (opening delimiter) (to next inside (Some rest))
 opens delimiter span next inside rest (Some other) = stops (mismatch span)
 
--- a path that has had arguments is not the name of a macro
+-- A path that has had arguments is not the name of a macro.
 abbrev pub argued : PathKind → PathKind
 argued Plain = OfType
 argued OfType = OfType
 argued OfBound = OfBound
 
--- after the last name of a path: `!` makes a macro of the path if it is a type and has had no arguments
+-- After the last name of a path: `!` makes a macro of the path if it is a type and has had no
+-- arguments.
 abbrev pub name_end : PathKind → TokenList → Option TokenList → Move
 name_end Plain (also (punctuation c spacing span) rest) outside = if c == 33 then bars (mark 33) (to place.Macro rest outside) else ends
 name_end kind run outside = ends
 
--- after a path that has had its arguments
+-- After a path that has had its arguments.
 abbrev pub segments_move : PathKind → TokenList → Option TokenList → Move
 segments_move kind run outside = if begins_colons run then takes colons (to (place.Colons kind false) (after_two run) outside) else ends
 
--- after a name of a path
+-- After a name of a path.
 abbrev pub named_move : PathKind → TokenList → Option TokenList → Move
 named_move kind (also (punctuation c spacing span) rest) outside =
     if c == 60 then takes (mark 60) (to (place.Arguments (argued kind)) rest outside)
@@ -150,21 +153,21 @@ named_move kind (also (punctuation c spacing span) rest) outside =
 named_move kind (also (group Parenthesis span inside) rest) outside = opens Parenthesis span place.Inputs inside rest outside
 named_move kind run outside = ends
 
--- after the `!` of a macro: a group
+-- After the `!` of a macro: a group.
 abbrev pub macro_move : TokenList → Option TokenList → Move
 macro_move (also (group delimiter span inside) rest) outside = takes (opening delimiter) (to place.End rest outside)
 macro_move run outside = mismatches run
 
--- after the parentheses of a path or of a function: perhaps `->`
+-- After the parentheses of a path or of a function: perhaps `->`.
 abbrev pub output_move : TokenList → Option TokenList → Move
 output_move run outside = if begins_arrow run then takes arrow (to place.Target (after_two run) outside) else ends
 
--- the end of a group, and the place after it
+-- The end of a group, and the place after it.
 abbrev pub closes : Delimiter → Place → Option TokenList → Move
 closes delimiter next (Some rest) = takes (closing delimiter) (to next rest None)
 closes delimiter next None = ends
 
--- among arguments in parentheses
+-- Among arguments in parentheses.
 abbrev pub inputs_move : TokenList → Option TokenList → Move
 inputs_move none outside = closes Parenthesis place.Output outside
 inputs_move run outside = asks true place.InputEnd
@@ -174,31 +177,32 @@ input_end_move none outside = closes Parenthesis place.Output outside
 input_end_move (also (punctuation c spacing span) rest) outside = if c == 44 then takes (mark 44) (to place.Inputs rest outside) else stops (mismatch span)
 input_end_move run outside = mismatches run
 
--- after `::`: a name, or `<` where arguments may stand
+-- After `::`: a name, or `<` where arguments may stand.
 abbrev pub colons_move : PathKind → Bool → TokenList → Option TokenList → Move
 colons_move kind arguments (also (identifier text span) rest) outside = takes (word text) (to (place.Named kind) rest outside)
 colons_move kind arguments (also (punctuation c spacing span) rest) outside =
     if arguments && (c == 60) then takes (mark 60) (to (place.Arguments (argued kind)) rest outside) else stops (mismatch span)
 colons_move kind arguments run outside = mismatches run
 
--- the lifetime among the arguments of a path of this kind
+-- The lifetime among the arguments of a path of this kind.
 abbrev pub argument_lifetime : PathKind → List ℕ → Sign
 argument_lifetime OfBound text = other_lifetime text
 argument_lifetime kind text = lifetime text
 
--- after `'`
+-- After `'`.
 abbrev pub lifetime_move : PathKind → TokenList → Option TokenList → Move
 lifetime_move kind (also (identifier text span) rest) outside = takes (argument_lifetime kind text) (to (place.ArgumentEnd kind) rest outside)
 lifetime_move kind run outside = mismatches run
 
--- among arguments, at a name: before `=` it is bound, before `:` constrained, and else a type begins
+-- Among arguments, at a name: before `=` it is bound, before `:` constrained, and else a type
+-- begins.
 abbrev pub argument_word : PathKind → List ℕ → TokenList → Option TokenList → Move
 argument_word kind text rest outside =
     if begins_mark 61 rest then takes (word text) (to (place.Equals kind) rest outside)
     else (if typing rest then bars (word text) (to (place.Constrained kind) rest outside)
     else asks true (place.ArgumentEnd kind))
 
--- among arguments: `>`, a lifetime, a literal, braces, a name before `=` or `:`, or a type
+-- Among arguments: `>`, a lifetime, a literal, braces, a name before `=` or `:`, or a type.
 abbrev pub arguments_move : PathKind → TokenList → Option TokenList → Move
 arguments_move kind (also (punctuation c spacing span) rest) outside =
     if c == 62 then takes (mark 62) (to (place.Segments kind) rest outside)
@@ -209,22 +213,22 @@ arguments_move kind (also (identifier text span) rest) outside = argument_word k
 arguments_move kind (also (group Brace span inside) rest) outside = opens Brace span (place.Braced kind) inside rest outside
 arguments_move kind run outside = asks true (place.ArgumentEnd kind)
 
--- in braces: tokens in which no types are read
+-- In braces: tokens in which no types are read.
 abbrev pub braced_move : PathKind → TokenList → Option TokenList → Move
 braced_move kind none outside = closes Brace (place.ArgumentEnd kind) outside
 braced_move kind run outside = keeps run (to (place.Braced kind) none outside)
 
--- after a name before `=`
+-- After a name before `=`.
 abbrev pub equals_move : PathKind → TokenList → Option TokenList → Move
 equals_move kind (also (punctuation c spacing span) rest) outside = if c == 61 then takes (mark 61) (to (place.Value kind) rest outside) else stops (mismatch span)
 equals_move kind run outside = mismatches run
 
--- after a name before `:`: the `:`, and bounds
+-- After a name before `:`: the `:`, and bounds.
 abbrev pub constrained_move : PathKind → TokenList → Option TokenList → Move
 constrained_move kind (also (punctuation c spacing span) rest) outside = if c == 58 then nests (mark 58) (to (place.Bound true) rest None) (place.ArgumentEnd kind) else stops (mismatch span)
 constrained_move kind run outside = mismatches run
 
--- after an argument: `,` or `>`
+-- After an argument: `,` or `>`.
 abbrev pub argument_end_move : PathKind → TokenList → Option TokenList → Move
 argument_end_move kind (also (punctuation c spacing span) rest) outside =
     if c == 44 then takes (mark 44) (to (place.Arguments kind) rest outside)
@@ -232,17 +236,17 @@ argument_end_move kind (also (punctuation c spacing span) rest) outside =
     else stops (mismatch span))
 argument_end_move kind run outside = mismatches run
 
--- after `&` and its lifetime: perhaps `mut`, and a type
+-- After `&` and its lifetime: perhaps `mut`, and a type.
 abbrev pub referent_move : TokenList → Option TokenList → Move
 referent_move (also (identifier text span) rest) outside = if bytes_eq text (codes "mut") then takes (word text) (to place.Target rest outside) else asks false place.End
 referent_move run outside = asks false place.End
 
--- after `*`: `const` or `mut`
+-- After `*`: `const` or `mut`.
 abbrev pub pointer_move : TokenList → Option TokenList → Move
 pointer_move (also (identifier text span) rest) outside = if bytes_eq text (codes "const") || bytes_eq text (codes "mut") then takes (word text) (to place.Target rest outside) else stops (mismatch span)
 pointer_move run outside = mismatches run
 
--- in parentheses: types with commas between them, and perhaps one after the last
+-- In parentheses: types with commas between them, and perhaps one after the last.
 abbrev pub list_move : TokenList → Option TokenList → Move
 list_move none outside = closes Parenthesis place.End outside
 list_move run outside = asks true place.ListEnd
@@ -252,24 +256,24 @@ list_end_move none outside = closes Parenthesis place.End outside
 list_end_move (also (punctuation c spacing span) rest) outside = if c == 44 then takes (mark 44) (to place.List rest outside) else stops (mismatch span)
 list_end_move run outside = mismatches run
 
--- in brackets, after the type: nothing, or `;`
+-- In brackets, after the type: nothing, or `;`.
 abbrev pub element_end_move : TokenList → Option TokenList → Move
 element_end_move none outside = closes Bracket place.End outside
 element_end_move (also (punctuation c spacing span) rest) outside = if c == 59 then takes (mark 59) (to place.Length rest outside) else stops (mismatch span)
 element_end_move run outside = mismatches run
 
--- after that `;`: tokens in which no types are read
+-- After that `;`: tokens in which no types are read.
 abbrev pub length_move : TokenList → Option TokenList → Move
 length_move none outside = mismatches none
 length_move run outside = keeps run (to place.LengthEnd none outside)
 
--- after the type with which `<` begins: `as` or `>`
+-- After the type with which `<` begins: `as` or `>`.
 abbrev pub self_end_move : TokenList → Option TokenList → Move
 self_end_move (also (identifier text span) rest) outside = if bytes_eq text (codes "as") then takes (word text) (to place.SelfTrait rest outside) else stops (mismatch span)
 self_end_move (also (punctuation c spacing span) rest) outside = if c == 62 then takes (mark 62) (to place.SelfClosed rest outside) else stops (mismatch span)
 self_end_move run outside = mismatches run
 
--- where a path begins, and the place after it
+-- Where a path begins, and the place after it.
 abbrev pub path_move : PathKind → Place → TokenList → Move
 path_move kind next (also (identifier text span) rest) = nests (word text) (to (place.Named kind) rest None) next
 path_move kind next (also (punctuation c spacing span) rest) =
@@ -277,64 +281,64 @@ path_move kind next (also (punctuation c spacing span) rest) =
     else stops (mismatch span)
 path_move kind next run = mismatches run
 
--- after that path: `>`
+-- After that path: `>`.
 abbrev pub self_trait_end_move : TokenList → Option TokenList → Move
 self_trait_end_move (also (punctuation c spacing span) rest) outside = if c == 62 then takes (mark 62) (to place.SelfClosed rest outside) else stops (mismatch span)
 self_trait_end_move run outside = mismatches run
 
--- after that `>`: `::`
+-- After that `>`: `::`.
 abbrev pub self_closed_move : TokenList → Option TokenList → Move
 self_closed_move run outside = if begins_colons run then takes colons (to (place.Colons OfType false) (after_two run) outside) else mismatches run
 
--- after a bound
+-- After a bound.
 abbrev pub after_bound : BoundKind → Place
 after_bound (Listed plus) = place.BoundEnd plus
 after_bound (Enclosed plus) = place.EnclosedEnd plus
 
--- after `dyn` or `impl`, where a bound stands, at `'`: a lifetime
+-- After `dyn` or `impl`, where a bound stands, at `'`: a lifetime.
 abbrev pub bound_lifetime_move : Bool → TokenList → Option TokenList → Move
 bound_lifetime_move plus (also (identifier text span) rest) outside = takes (other_lifetime text) (to (place.BoundEnd plus) rest outside)
 bound_lifetime_move plus run outside = mismatches run
 
--- where the path of a bound may have `for<..>` before it
+-- Where the path of a bound may have `for<..>` before it.
 abbrev pub trait_move : BoundKind → TokenList → Option TokenList → Move
 trait_move kind (also (identifier text span) rest) outside =
     if bytes_eq text (codes "for") then takes (word text) (to (place.For (OfTrait kind)) rest outside) else path_move OfBound (after_bound kind) (also (identifier text span) rest)
 trait_move kind run outside = path_move OfBound (after_bound kind) run
 
--- where the path of a bound may also have `?` before it
+-- Where the path of a bound may also have `?` before it.
 abbrev pub question_move : BoundKind → TokenList → Option TokenList → Move
 question_move kind (also (punctuation c spacing span) rest) outside =
     if c == 63 then takes (mark 63) (to (place.Trait kind) rest outside) else trait_move kind (also (punctuation c spacing span) rest) outside
 question_move kind run outside = trait_move kind run outside
 
--- a bound: a lifetime, a path, or a path in parentheses
+-- A bound: a lifetime, a path, or a path in parentheses.
 abbrev pub bound_move : Bool → TokenList → Option TokenList → Move
 bound_move plus (also (punctuation c spacing span) rest) outside =
     if c == 39 then bound_lifetime_move plus rest outside else question_move (Listed plus) (also (punctuation c spacing span) rest) outside
 bound_move plus (also (group Parenthesis span inside) rest) outside = opens Parenthesis span (place.Question plus) inside rest outside
 bound_move plus run outside = question_move (Listed plus) run outside
 
--- after a bound: perhaps `+`
+-- After a bound: perhaps `+`.
 abbrev pub bound_end_move : Bool → TokenList → Option TokenList → Move
 bound_end_move plus (also (punctuation c spacing span) rest) outside = if plus && (c == 43) then takes (mark 43) (to place.Further rest outside) else ends
 bound_end_move plus run outside = ends
 
--- after `+`: perhaps a bound
+-- After `+`: perhaps a bound.
 abbrev pub further_move : TokenList → Option TokenList → Move
 further_move run outside = if begins_bound run then bound_move true run outside else ends
 
--- after a bound in parentheses: their end
+-- After a bound in parentheses: their end.
 abbrev pub enclosed_end_move : Bool → TokenList → Option TokenList → Move
 enclosed_end_move plus none outside = closes Parenthesis (place.BoundEnd plus) outside
 enclosed_end_move plus run outside = mismatches run
 
--- after `for<..>`: a function, or the path of a bound
+-- After `for<..>`: a function, or the path of a bound.
 abbrev pub after_for : Binder → Place
 after_for OfFunction = place.Qualified
 after_for (OfTrait kind) = place.TraitPath kind
 
--- after `for`: `<`
+-- After `for`: `<`.
 abbrev pub for_move : Binder → TokenList → Option TokenList → Move
 for_move binder (also (punctuation c spacing span) rest) outside = if c == 60 then takes (mark 60) (to (place.ForList binder) rest outside) else stops (mismatch span)
 for_move binder run outside = mismatches run
@@ -343,7 +347,7 @@ abbrev pub for_lifetime_move : Binder → TokenList → Option TokenList → Mov
 for_lifetime_move binder (also (identifier text span) rest) outside = takes (other_lifetime text) (to (place.ForEnd binder) rest outside)
 for_lifetime_move binder run outside = mismatches run
 
--- among the lifetimes of `for<..>`: one, or `>`
+-- Among the lifetimes of `for<..>`: one, or `>`.
 abbrev pub for_list_move : Binder → TokenList → Option TokenList → Move
 for_list_move binder (also (punctuation c spacing span) rest) outside =
     if c == 62 then takes (mark 62) (to (after_for binder) rest outside)
@@ -351,7 +355,7 @@ for_list_move binder (also (punctuation c spacing span) rest) outside =
     else stops (mismatch span))
 for_list_move binder run outside = mismatches run
 
--- after one: `,` or `>`
+-- After one: `,` or `>`.
 abbrev pub for_end_move : Binder → TokenList → Option TokenList → Move
 for_end_move binder (also (punctuation c spacing span) rest) outside =
     if c == 44 then takes (mark 44) (to (place.ForList binder) rest outside)
@@ -359,42 +363,42 @@ for_end_move binder (also (punctuation c spacing span) rest) outside =
     else stops (mismatch span))
 for_end_move binder run outside = mismatches run
 
--- after `extern` and its literal: `fn`
+-- After `extern` and its literal: `fn`.
 abbrev pub linked_move : TokenList → Option TokenList → Move
 linked_move (also (identifier text span) rest) outside = if bytes_eq text (codes "fn") then takes (word text) (to place.Function rest outside) else stops (mismatch span)
 linked_move run outside = mismatches run
 
--- after `unsafe`: `extern` or `fn`
+-- After `unsafe`: `extern` or `fn`.
 abbrev pub unsafe_move : TokenList → Option TokenList → Move
 unsafe_move (also (identifier text span) rest) outside = if bytes_eq text (codes "extern") then takes (word text) (to place.Extern rest outside) else linked_move (also (identifier text span) rest) outside
 unsafe_move run outside = mismatches run
 
--- after `for<..>`: `unsafe`, `extern` or `fn`
+-- After `for<..>`: `unsafe`, `extern` or `fn`.
 abbrev pub qualified_move : TokenList → Option TokenList → Move
 qualified_move (also (identifier text span) rest) outside = if bytes_eq text (codes "unsafe") then takes (word text) (to place.Unsafe rest outside) else unsafe_move (also (identifier text span) rest) outside
 qualified_move run outside = mismatches run
 
--- after `extern`: perhaps a literal
+-- After `extern`: perhaps a literal.
 abbrev pub extern_move : TokenList → Option TokenList → Move
 extern_move (also (literal text span) rest) outside = takes (value text) (to place.Linked rest outside)
 extern_move run outside = linked_move run outside
 
--- after `fn`: the parameters, in parentheses
+-- After `fn`: the parameters, in parentheses.
 abbrev pub function_move : TokenList → Option TokenList → Move
 function_move (also (group Parenthesis span inside) rest) outside = opens Parenthesis span place.Taken inside rest outside
 function_move run outside = mismatches run
 
--- where the type of a parameter can begin, or `...`
+-- Where the type of a parameter can begin, or `...`.
 abbrev pub taken_value : TokenList → Option TokenList → Move
 taken_value run outside = if begins_dots run then bars (mark 46) (to place.Variadic (after_three run) outside) else asks true place.OneTaken
 
--- among the parameters: a name before `:`, a type, or `...`
+-- Among the parameters: a name before `:`, a type, or `...`.
 abbrev pub taken_move : TokenList → Option TokenList → Move
 taken_move none outside = closes Parenthesis place.Output outside
 taken_move (also (identifier text span) rest) outside = if typing rest then takes (word text) (to place.Typed rest outside) else asks true place.OneTaken
 taken_move run outside = taken_value run outside
 
--- between a name and `:`
+-- Between a name and `:`.
 abbrev pub typed_move : TokenList → Option TokenList → Move
 typed_move (also (punctuation c spacing span) rest) outside = if c == 58 then takes (mark 58) (to place.TypedValue rest outside) else stops (mismatch span)
 typed_move run outside = mismatches run
@@ -404,7 +408,7 @@ one_taken_move none outside = closes Parenthesis place.Output outside
 one_taken_move (also (punctuation c spacing span) rest) outside = if c == 44 then takes (mark 44) (to place.Taken rest outside) else stops (mismatch span)
 one_taken_move run outside = mismatches run
 
--- after `...`: perhaps `,`
+-- After `...`: perhaps `,`.
 abbrev pub variadic_move : TokenList → Option TokenList → Move
 variadic_move none outside = closes Parenthesis place.Output outside
 variadic_move (also (punctuation c spacing span) rest) outside = if c == 44 then takes (mark 44) (to place.VariadicEnd rest outside) else stops (mismatch span)
@@ -414,7 +418,7 @@ abbrev pub variadic_end_move : TokenList → Option TokenList → Move
 variadic_end_move none outside = closes Parenthesis place.Output outside
 variadic_end_move run outside = mismatches run
 
--- the next step at a place inside a type
+-- The next step at a place inside a type.
 unfoldable pub next_at : Place → TokenList → Option TokenList → Move
 next_at place.End run outside = ends
 next_at (place.Named kind) run outside = named_move kind run outside
@@ -466,24 +470,24 @@ next_at place.OneTaken run outside = one_taken_move run outside
 next_at place.Variadic run outside = variadic_move run outside
 next_at place.VariadicEnd run outside = variadic_end_move run outside
 
--- after `&'`
+-- After `&'`.
 abbrev pub reference_lifetime_first : TokenList → First
 reference_lifetime_first (also (identifier text span) rest) = starts false (reference (Some text)) (to place.Referent rest None)
 reference_lifetime_first run = refused (mismatch (first_span run))
 
--- after `&`: perhaps a lifetime
+-- After `&`: perhaps a lifetime.
 abbrev pub reference_first : TokenList → First
 reference_first (also (punctuation c spacing span) rest) =
     if c == 39 then reference_lifetime_first rest else starts false (reference None) (to place.Referent (also (punctuation c spacing span) rest) None)
 reference_first run = starts false (reference None) (to place.Referent run None)
 
--- a group
+-- A group.
 abbrev pub group_first : Delimiter → Span → TokenList → TokenList → First
 group_first Parenthesis span inside rest = starts false (opening Parenthesis) (to place.List inside (Some rest))
 group_first Bracket span inside rest = starts false (opening Bracket) (to place.Element inside (Some rest))
 group_first Brace span inside rest = refused (mismatch span)
 
--- the place after the word with which a type begins
+-- The place after the word with which a type begins.
 abbrev pub word_place : Bool → List ℕ → Place
 word_place plus text =
     if bytes_eq text (codes "dyn") || bytes_eq text (codes "impl") then place.Bound plus
@@ -493,13 +497,13 @@ word_place plus text =
     else (if bytes_eq text (codes "for") then place.For OfFunction
     else place.Named Plain))))
 
--- a word
+-- A word.
 abbrev pub word_first : Bool → List ℕ → Span → TokenList → First
 word_first plus text span rest =
     if bytes_eq text (codes "_") then refused (unsupported span)
     else starts (bytes_eq text (codes "impl")) (word text) (to (word_place plus text) rest None)
 
--- a punctuation
+-- A punctuation.
 abbrev pub mark_first : ℕ → Span → TokenList → TokenList → First
 mark_first c span run rest =
     if c == 38 then reference_first rest
@@ -509,20 +513,20 @@ mark_first c span run rest =
     else (if begins_colons run then starts false colons (to (place.Colons Plain false) (after_two run) None)
     else refused (mismatch span)))))
 
--- the beginning of a type
+-- The beginning of a type.
 unfoldable pub begin : Bool → TokenList → First
 begin plus (also (identifier text span) rest) = word_first plus text span rest
 begin plus (also (group delimiter span inside) rest) = group_first delimiter span inside rest
 begin plus (also (punctuation c spacing span) rest) = mark_first c span (also (punctuation c spacing span) rest) rest
 begin plus run = refused (mismatch (first_span run))
 
--- a word that is reserved, so that it is not the name of a type
+-- A word that is reserved, so that it is not the name of a type.
 abbrev pub is_reserved : List ℕ → Bool
 is_reserved text =
     ((bytes_eq text (codes "dyn") || bytes_eq text (codes "impl")) || (bytes_eq text (codes "_") || bytes_eq text (codes "for")))
     || ((bytes_eq text (codes "fn") || bytes_eq text (codes "unsafe")) || bytes_eq text (codes "extern"))
 
--- the name, if the type is just a name
+-- The name, if the type is exactly a name.
 abbrev pub name_of : TokenList → Option (List ℕ)
 name_of (also (identifier text span) rest) = if is_reserved text then None else (if goes_on rest || begins_mark 33 rest then None else Some text)
 name_of run = None

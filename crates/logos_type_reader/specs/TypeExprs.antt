@@ -5,14 +5,14 @@ use Rattle.logos_type.specs.Parts.{Tree}
 use Rattle.logos_type_reader.specs.Table.{Fault}
 use Rattle.logos_type_reader.specs.Reading.{IsType, NoType}
 
--- how many types can stand inside one another; the outermost one counts
+-- How many types can stand inside one another; the outermost one counts.
 abbrev pub type_nesting : ℕ
 type_nesting = 128
 
--- the run begins with this type, and the rest follows
+-- The run begins with this type, and the rest follows.
 abbrev pub IsTypeExpr : TokenList → Tree → TokenList → Type 0
 IsTypeExpr run tree rest = IsType type_nesting true run tree rest
 
--- the run does not begin with a type, and this is its first fault from the left
+-- The run does not begin with a type, and this is its first fault from the left.
 abbrev pub NoTypeExpr : TokenList → Fault → Type 0
 NoTypeExpr run fault = NoType type_nesting true run fault

@@ -1,4 +1,5 @@
--- How a type is written, form by form: its tokens before a rest, the parts it is made of, and what would lengthen it.
+-- How a type is written, form by form: its tokens before a rest, the parts it is made of, and what
+-- would lengthen it.
 use Rattle.std.specs.Prelude.{◌≡◌, ℕ, ◌-◌, ◌<◌, not, ◌&&◌, ◌||◌, List, [], ◌∷◌, ◌++◌, Bool, true, false, Some, None, codes, bytes_eq}
 use Rattle.logos_lexeme.specs.declared.lexeme.Span.{Span}
 use Rattle.logos_lexeme.specs.declared.lexeme.Spacing.{Spacing}
@@ -11,24 +12,24 @@ use Rattle.logos_type.specs.Parts.{Tree, sign, name, whole, still, trees, none a
 use Rattle.logos_type_reader.specs.StillRuns.{still_run}
 use Rattle.logos_type_reader.specs.Table.{is_reserved, goes_on, begins_colons, begins_arrow, begins_mark, begins_bound, typing, argued, argument_lifetime}
 
--- how a type ends
+-- How a type ends.
 pub data Ending : Type 0 where
-  -- whatever follows does not lengthen it
+  -- Whatever follows does not lengthen it.
   closed : Ending
-  -- in a name of a path: `<`, `::` or parentheses would lengthen it
+  -- In a name of a path: `<`, `::` or parentheses would lengthen it.
   named : Ending
-  -- in such a name, where `!` would make a macro of the path, too
+  -- In such a name, where `!` would make a macro of the path, too.
   plain_named : Ending
-  -- in the angle arguments of a path: `::` would
+  -- In the angle arguments of a path: `::` would.
   applied : Ending
-  -- in the parentheses of a path or of a function: `->` would
+  -- In the parentheses of a path or of a function: `->` would.
   taking : Ending
-  -- in a bound that ends so: `+` would, too
+  -- In a bound that ends so: `+` would, too.
   bounded : Ending → Ending
-  -- in a `+`: another bound would
+  -- In a `+`: another bound would.
   trailing : Ending
 
--- the run does not lengthen a type that ends so
+-- The run does not lengthen a type that ends so.
 abbrev pub may_follow : Ending → TokenList → Bool
 may_follow closed run = true
 may_follow named run = not (goes_on run)
@@ -38,33 +39,33 @@ may_follow taking run = not (begins_arrow run)
 may_follow (bounded e) run = may_follow e run && not (begins_mark 43 run)
 may_follow trailing run = not (begins_bound run)
 
--- how such a path ends in a name
+-- How such a path ends in a name.
 abbrev pub name_ending : PathKind → Ending
 name_ending Plain = plain_named
 name_ending OfType = named
 name_ending OfBound = named
 
--- the word `mut` comes first
+-- The word `mut` comes first.
 abbrev pub begins_mut : TokenList → Bool
 begins_mut (also (identifier text span) rest) = bytes_eq text (codes "mut")
 begins_mut run = false
 
--- a name and `=`, or a name and `:`, come first
+-- A name and `=`, or a name and `:`, come first.
 abbrev pub begins_named_argument : TokenList → Bool
 begins_named_argument (also (identifier text span) rest) = begins_mark 61 rest || typing rest
 begins_named_argument run = false
 
--- a name and `:` come first, and not `::`
+-- A name and `:` come first, and not `::`.
 abbrev pub begins_parameter : TokenList → Bool
 begins_parameter (also (identifier text span) rest) = typing rest
 begins_parameter run = false
 
--- the word `for` comes first
+-- The word `for` comes first.
 abbrev pub begins_for : TokenList → Bool
 begins_for (also (identifier text span) rest) = bytes_eq text (codes "for")
 begins_for run = false
 
--- after `for`: the lifetimes in angle brackets
+-- After `for`: the lifetimes in angle brackets.
 mutual
   pub data Lifetimes : TokenList → List Tree → TokenList → Type 0 where
     -- `<'a, 'b>`
@@ -78,32 +79,33 @@ mutual
         LifetimeList (also (punctuation 39 p s) (also (identifier text t) (also (punctuation 44 q u) run))) (sign (other_lifetime text) ∷ sign (mark 44) ∷ parts) rest
 
 mutual
-  -- The run begins with this type, after which is the rest, and the type ends so. As many types as levels may stand inside one another, this one
-  -- counted; where `plus` does not hold, `+` joins no bounds.
+  -- The run begins with this type, after which is the rest, and the type ends so. As many types as
+  -- levels may stand inside one another, this one counted; where `plus` does not hold, `+` joins no
+  -- bounds.
   pub data Written : ℕ → Bool → TokenList → Tree → TokenList → Ending → Type 0 where
     -- `Name`
     a_name : {levels : ℕ} {plus : Bool} {text : List ℕ} {s : Span} {rest : TokenList} → 0 < levels → is_reserved text ≡ false →
         Written levels plus (also (identifier text s) rest) (name text) rest plain_named
-    -- anything else is a tree of its parts
+    -- Anything else is a tree of its parts.
     a_form : {levels : ℕ} {plus : Bool} {run rest : TokenList} {parts : List Tree} {e : Ending} → 0 < levels → Form (levels - 1) plus run parts rest e →
         Written levels plus run (whole (trees parts)) rest e
 
-  -- a type that is more than a name
+  -- A type that is more than a name.
   pub data Form : ℕ → Bool → TokenList → List Tree → TokenList → Ending → Type 0 where
-    -- `Name::Name`, `Name<T>`, `Name(T) -> T`
+    -- `Name::Name`, `Name<T>`, `Name(T) -> T`.
     path : {levels : ℕ} {plus : Bool} {text : List ℕ} {s : Span} {run rest : TokenList} {parts : List Tree} {e : Ending} →
         is_reserved text ≡ false → Longer levels Plain run parts rest e →
         Form levels plus (also (identifier text s) run) (sign (word text) ∷ parts) rest e
     -- `::Name::Name`
     rooted : {levels : ℕ} {plus : Bool} {s t : Span} {p : Spacing} {run rest : TokenList} {parts : List Tree} {e : Ending} → Path levels Plain run parts rest e →
         Form levels plus (also (punctuation 58 Joint s) (also (punctuation 58 p t) run)) (sign colons ∷ parts) rest e
-    -- `<T as Name>::Name`, `<T>::Name`
+    -- `<T as Name>::Name`, `<T>::Name`.
     qualified : {levels : ℕ} {plus : Bool} {s : Span} {p : Spacing} {run rest : TokenList} {parts : List Tree} {e : Ending} → Qualified levels run parts rest e →
         Form levels plus (also (punctuation 60 p s) run) (sign (mark 60) ∷ parts) rest e
-    -- `&T`, `&mut T`
+    -- `&T`, `&mut T`.
     borrowed : {levels : ℕ} {plus : Bool} {s : Span} {p : Spacing} {run rest : TokenList} {parts : List Tree} {e : Ending} → Referent levels run parts rest e →
         Form levels plus (also (punctuation 38 p s) run) (sign (reference None) ∷ parts) rest e
-    -- `&'a T`, `&'a mut T`
+    -- `&'a T`, `&'a mut T`.
     borrowed_for : {levels : ℕ} {plus : Bool} {text : List ℕ} {s t u : Span} {p q : Spacing} {run rest : TokenList} {parts : List Tree} {e : Ending} →
         Referent levels run parts rest e →
         Form levels plus (also (punctuation 38 p s) (also (punctuation 39 q t) (also (identifier text u) run))) (sign (reference (Some text)) ∷ parts) rest e
@@ -121,7 +123,7 @@ mutual
         Written levels true inside t (also (punctuation 59 p u) (also first length)) e →
         Form levels plus (also (group Bracket s inside) rest)
         (sign (opening Bracket) ∷ t ∷ sign (mark 59) ∷ still (trees (still_run (also first length))) ∷ sign (closing Bracket) ∷ []) rest closed
-    -- `()`, `(T)`, `(T,)`, `(T, T)`
+    -- `()`, `(T)`, `(T,)`, `(T, T)`.
     tuple : {levels : ℕ} {plus : Bool} {s : Span} {inside rest : TokenList} {parts : List Tree} → Listed levels inside parts →
         Form levels plus (also (group Parenthesis s inside) rest) (sign (opening Parenthesis) ∷ (parts ++ (sign (closing Parenthesis) ∷ []))) rest closed
     -- `dyn Name + 'a`
@@ -130,17 +132,17 @@ mutual
     -- `for<'a> fn(&'a T)`
     bound_function : {levels : ℕ} {plus : Bool} {s : Span} {run middle rest : TokenList} {parts others : List Tree} {e : Ending} → Lifetimes run parts middle → Function levels middle others rest e →
         Form levels plus (also (identifier (codes "for") s) run) (sign (word (codes "for")) ∷ (parts ++ others)) rest e
-    -- `fn(T, name: T) -> T`, `extern "C" fn(T)`, `unsafe fn(T)`
+    -- `fn(T, name: T) -> T`, `extern "C" fn(T)`, `unsafe fn(T)`.
     function : {levels : ℕ} {plus : Bool} {run rest : TokenList} {parts : List Tree} {e : Ending} → Function levels run parts rest e → Form levels plus run parts rest e
 
-  -- after `&` and its lifetime
+  -- After `&` and its lifetime.
   pub data Referent : ℕ → TokenList → List Tree → TokenList → Ending → Type 0 where
     shared : {levels : ℕ} {run rest : TokenList} {t : Tree} {e : Ending} → begins_mut run ≡ false → Written levels false run t rest e →
         Referent levels run (t ∷ []) rest e
     mutable : {levels : ℕ} {s : Span} {run rest : TokenList} {t : Tree} {e : Ending} → Written levels false run t rest e →
         Referent levels (also (identifier (codes "mut") s) run) (sign (word (codes "mut")) ∷ t ∷ []) rest e
 
-  -- types with commas between them, and perhaps one after the last
+  -- Types with commas between them, and perhaps one after the last.
   pub data Listed : ℕ → TokenList → List Tree → Type 0 where
     nothing : {levels : ℕ} → Listed levels none []
     single : {levels : ℕ} {run : TokenList} {t : Tree} {e : Ending} → Written levels true run t none e → Listed levels run (t ∷ [])
@@ -148,7 +150,7 @@ mutual
         Written levels true run t (also (punctuation 44 p s) others) e → Listed levels others parts →
         Listed levels run (t ∷ sign (mark 44) ∷ parts)
 
-  -- after the `<` with which a type begins: the type stays as it is
+  -- After the `<` with which a type begins: the type stays as it is.
   pub data Qualified : ℕ → TokenList → List Tree → TokenList → Ending → Type 0 where
     -- `T>::Name`
     of_type : {levels : ℕ} {s t u : Span} {p q : Spacing} {run further rest : TokenList} {self : Tree} {parts : List Tree} {e f : Ending} →
@@ -160,25 +162,25 @@ mutual
         AnyPath levels OfType middle trait (also (punctuation 62 p s) (also (punctuation 58 Joint t) (also (punctuation 58 q u) further))) f → Path levels OfType further parts rest g →
         Qualified levels run (still (and_part self no_part) ∷ sign (word (codes "as")) ∷ (trait ++ (sign (mark 62) ∷ sign colons ∷ parts))) rest g
 
-  -- `Name::Name` or `::Name::Name`, where a path has to stand
+  -- `Name::Name` or `::Name::Name`, where a path has to stand.
   pub data AnyPath : ℕ → PathKind → TokenList → List Tree → TokenList → Ending → Type 0 where
     from_name : {levels : ℕ} {kind : PathKind} {run rest : TokenList} {parts : List Tree} {e : Ending} → Path levels kind run parts rest e → AnyPath levels kind run parts rest e
     from_root : {levels : ℕ} {kind : PathKind} {s t : Span} {p : Spacing} {run rest : TokenList} {parts : List Tree} {e : Ending} → Path levels kind run parts rest e →
         AnyPath levels kind (also (punctuation 58 Joint s) (also (punctuation 58 p t) run)) (sign colons ∷ parts) rest e
 
-  -- a path from a name on
+  -- A path from a name on.
   pub data Path : ℕ → PathKind → TokenList → List Tree → TokenList → Ending → Type 0 where
     -- `Name`
     last : {levels : ℕ} {kind : PathKind} {text : List ℕ} {s : Span} {rest : TokenList} → Path levels kind (also (identifier text s) rest) (sign (word text) ∷ []) rest (name_ending kind)
     longer : {levels : ℕ} {kind : PathKind} {text : List ℕ} {s : Span} {run rest : TokenList} {parts : List Tree} {e : Ending} → Longer levels kind run parts rest e →
         Path levels kind (also (identifier text s) run) (sign (word text) ∷ parts) rest e
 
-  -- after a name of a path, where the path does not end in it
+  -- After a name of a path, where the path does not end in it.
   pub data Longer : ℕ → PathKind → TokenList → List Tree → TokenList → Ending → Type 0 where
     -- `::Name`
     member : {levels : ℕ} {kind : PathKind} {s t : Span} {p : Spacing} {run rest : TokenList} {parts : List Tree} {e : Ending} → Path levels kind run parts rest e →
         Longer levels kind (also (punctuation 58 Joint s) (also (punctuation 58 p t) run)) (sign colons ∷ parts) rest e
-    -- `<T, T>`, `::<T, T>`
+    -- `<T, T>`, `::<T, T>`.
     angled : {levels : ℕ} {kind : PathKind} {run rest : TokenList} {parts : List Tree} → Angled levels (argued kind) run parts rest → Longer levels kind run parts rest applied
     -- `<T, T>::Name`
     angled_member : {levels : ℕ} {kind : PathKind} {s t : Span} {p : Spacing} {run further rest : TokenList} {parts others : List Tree} {e : Ending} →
@@ -193,14 +195,14 @@ mutual
         Longer levels kind (also (group Parenthesis s inside) (also (punctuation 45 Joint t) (also (punctuation 62 p u) run)))
         (sign (opening Parenthesis) ∷ (parts ++ (sign (closing Parenthesis) ∷ sign arrow ∷ result ∷ []))) rest e
 
-  -- the angle arguments of a path
+  -- The angle arguments of a path.
   pub data Angled : ℕ → PathKind → TokenList → List Tree → TokenList → Type 0 where
     plain : {levels : ℕ} {kind : PathKind} {s : Span} {p : Spacing} {run rest : TokenList} {parts : List Tree} → Arguments levels kind run parts rest →
         Angled levels kind (also (punctuation 60 p s) run) (sign (mark 60) ∷ parts) rest
     turbofish : {levels : ℕ} {kind : PathKind} {s t u : Span} {p q : Spacing} {run rest : TokenList} {parts : List Tree} → Arguments levels kind run parts rest →
         Angled levels kind (also (punctuation 58 Joint s) (also (punctuation 58 p t) (also (punctuation 60 q u) run))) (sign colons ∷ sign (mark 60) ∷ parts) rest
 
-  -- arguments with commas between them, and perhaps one after the last, up to `>`
+  -- Arguments with commas between them, and perhaps one after the last, up to `>`.
   pub data Arguments : ℕ → PathKind → TokenList → List Tree → TokenList → Type 0 where
     finished : {levels : ℕ} {kind : PathKind} {s : Span} {p : Spacing} {rest : TokenList} → Arguments levels kind (also (punctuation 62 p s) rest) (sign (mark 62) ∷ []) rest
     final : {levels : ℕ} {kind : PathKind} {s : Span} {p : Spacing} {run rest : TokenList} {parts : List Tree} → Argument levels kind run parts (also (punctuation 62 p s) rest) →
@@ -209,13 +211,13 @@ mutual
         Argument levels kind run parts (also (punctuation 44 p s) others) → Arguments levels kind others back rest →
         Arguments levels kind run (parts ++ (sign (mark 44) ∷ back)) rest
 
-  -- one angle argument
+  -- One angle argument.
   pub data Argument : ℕ → PathKind → TokenList → List Tree → TokenList → Type 0 where
     -- `'a`
     a_lifetime : {levels : ℕ} {kind : PathKind} {text : List ℕ} {s t : Span} {p : Spacing} {rest : TokenList} →
         Argument levels kind (also (punctuation 39 p s) (also (identifier text t) rest)) (sign (argument_lifetime kind text) ∷ []) rest
     a_literal : {levels : ℕ} {kind : PathKind} {text : List ℕ} {s : Span} {rest : TokenList} → Argument levels kind (also (literal text s) rest) (sign (value text) ∷ []) rest
-    -- `{}`, `{ tokens }`
+    -- `{}`, `{ tokens }`.
     empty_braces : {levels : ℕ} {kind : PathKind} {s : Span} {rest : TokenList} →
         Argument levels kind (also (group Brace s none) rest) (sign (opening Brace) ∷ sign (closing Brace) ∷ []) rest
     braces : {levels : ℕ} {kind : PathKind} {s : Span} {first : Token} {inside rest : TokenList} →
@@ -226,7 +228,8 @@ mutual
     a_binding : {levels : ℕ} {kind : PathKind} {text : List ℕ} {s u : Span} {p : Spacing} {run rest : TokenList} {t : Tree} {e : Ending} → Written levels true run t rest e →
         Argument levels kind (also (identifier text s) (also (punctuation 61 p u) run)) (sign (word text) ∷ sign (mark 61) ∷ t ∷ []) rest
 
-  -- bounds: one where `plus` does not hold, else some with `+` between them, and perhaps one after the last
+  -- Bounds: one where `plus` does not hold, else some with `+` between them, and perhaps one after
+  -- the last.
   pub data Bounds : ℕ → Bool → TokenList → List Tree → TokenList → Ending → Type 0 where
     one_bound : {levels : ℕ} {run rest : TokenList} {parts : List Tree} {e : Ending} → Bound levels run parts rest e → Bounds levels false run parts rest e
     last_bound : {levels : ℕ} {run rest : TokenList} {parts : List Tree} {e : Ending} → Bound levels run parts rest e → Bounds levels true run parts rest (bounded e)
@@ -235,39 +238,39 @@ mutual
     bounds : {levels : ℕ} {s : Span} {p : Spacing} {run others rest : TokenList} {parts back : List Tree} {e f : Ending} → Bound levels run parts (also (punctuation 43 p s) others) e →
         may_follow e (also (punctuation 43 p s) others) ≡ true → Bounds levels true others back rest f → Bounds levels true run (parts ++ (sign (mark 43) ∷ back)) rest f
 
-  -- one bound
+  -- One bound.
   pub data Bound : ℕ → TokenList → List Tree → TokenList → Ending → Type 0 where
     -- `'a`
     lifetime_bound : {levels : ℕ} {text : List ℕ} {s t : Span} {p : Spacing} {rest : TokenList} →
         Bound levels (also (punctuation 39 p s) (also (identifier text t) rest)) (sign (other_lifetime text) ∷ []) rest closed
-    -- `Name`, `?Name`, `for<'a> Name`
+    -- `Name`, `?Name`, `for<'a> Name`.
     trait_bound : {levels : ℕ} {run rest : TokenList} {parts : List Tree} {e : Ending} → Questioned levels run parts rest e → Bound levels run parts rest e
     -- `(Name)`
     enclosed : {levels : ℕ} {s : Span} {inside rest : TokenList} {parts : List Tree} {e : Ending} → Questioned levels inside parts none e →
         Bound levels (also (group Parenthesis s inside) rest) (sign (opening Parenthesis) ∷ (parts ++ (sign (closing Parenthesis) ∷ []))) rest closed
 
-  -- the path of a bound, perhaps with `?` before it
+  -- The path of a bound, perhaps with `?` before it.
   pub data Questioned : ℕ → TokenList → List Tree → TokenList → Ending → Type 0 where
     unquestioned : {levels : ℕ} {run rest : TokenList} {parts : List Tree} {e : Ending} → Trait levels run parts rest e → Questioned levels run parts rest e
     questioned : {levels : ℕ} {s : Span} {p : Spacing} {run rest : TokenList} {parts : List Tree} {e : Ending} → Trait levels run parts rest e →
         Questioned levels (also (punctuation 63 p s) run) (sign (mark 63) ∷ parts) rest e
 
-  -- that path, perhaps with `for<..>` before it
+  -- That path, perhaps with `for<..>` before it.
   pub data Trait : ℕ → TokenList → List Tree → TokenList → Ending → Type 0 where
     unbound : {levels : ℕ} {run rest : TokenList} {parts : List Tree} {e : Ending} → begins_for run ≡ false → AnyPath levels OfBound run parts rest e → Trait levels run parts rest e
     for_all : {levels : ℕ} {s : Span} {run middle rest : TokenList} {parts others : List Tree} {e : Ending} → Lifetimes run parts middle → AnyPath levels OfBound middle others rest e →
         Trait levels (also (identifier (codes "for") s) run) (sign (word (codes "for")) ∷ (parts ++ others)) rest e
 
-  -- a function from `fn`, `extern` or `unsafe` on
+  -- A function from `fn`, `extern` or `unsafe` on.
   pub data Function : ℕ → TokenList → List Tree → TokenList → Ending → Type 0 where
-    -- `unsafe fn(T)`, `unsafe extern "C" fn(T)`
+    -- `unsafe fn(T)`, `unsafe extern "C" fn(T)`.
     not_safe : {levels : ℕ} {s : Span} {run rest : TokenList} {parts : List Tree} {e : Ending} → Linked levels run parts rest e →
         Function levels (also (identifier (codes "unsafe") s) run) (sign (word (codes "unsafe")) ∷ parts) rest e
     safe : {levels : ℕ} {run rest : TokenList} {parts : List Tree} {e : Ending} → Linked levels run parts rest e → Function levels run parts rest e
 
-  -- a function from `fn` or `extern` on
+  -- A function from `fn` or `extern` on.
   pub data Linked : ℕ → TokenList → List Tree → TokenList → Ending → Type 0 where
-    -- `extern fn(T)`, `extern "C" fn(T)`
+    -- `extern fn(T)`, `extern "C" fn(T)`.
     linked : {levels : ℕ} {s t : Span} {run rest : TokenList} {parts : List Tree} {e : Ending} → Taking levels run parts rest e →
         Linked levels (also (identifier (codes "extern") s) (also (identifier (codes "fn") t) run)) (sign (word (codes "extern")) ∷ sign (word (codes "fn")) ∷ parts) rest e
     linked_as : {levels : ℕ} {text : List ℕ} {s t u : Span} {run rest : TokenList} {parts : List Tree} {e : Ending} → Taking levels run parts rest e →
@@ -277,7 +280,7 @@ mutual
     unlinked : {levels : ℕ} {t : Span} {run rest : TokenList} {parts : List Tree} {e : Ending} → Taking levels run parts rest e →
         Linked levels (also (identifier (codes "fn") t) run) (sign (word (codes "fn")) ∷ parts) rest e
 
-  -- after `fn`
+  -- After `fn`.
   pub data Taking : ℕ → TokenList → List Tree → TokenList → Ending → Type 0 where
     takes_only : {levels : ℕ} {s : Span} {inside rest : TokenList} {parts : List Tree} → Parameters levels inside parts →
         Taking levels (also (group Parenthesis s inside) rest) (sign (opening Parenthesis) ∷ (parts ++ (sign (closing Parenthesis) ∷ []))) rest taking
@@ -286,7 +289,7 @@ mutual
         Taking levels (also (group Parenthesis s inside) (also (punctuation 45 Joint t) (also (punctuation 62 p u) run)))
         (sign (opening Parenthesis) ∷ (parts ++ (sign (closing Parenthesis) ∷ sign arrow ∷ result ∷ []))) rest e
 
-  -- what a function takes, with commas between, and perhaps one after the last
+  -- What a function takes, with commas between, and perhaps one after the last.
   pub data Parameters : ℕ → TokenList → List Tree → Type 0 where
     no_parameter : {levels : ℕ} → Parameters levels none []
     last_parameter : {levels : ℕ} {run : TokenList} {parts : List Tree} → Parameter levels run parts none → Parameters levels run parts

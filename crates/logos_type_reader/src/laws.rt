@@ -1,13 +1,9 @@
-//! Laws of the reading of types. Nothing calls these functions: the contract of each is a law.
+//! Laws of the reading of types. No code calls these functions: the contract of each is a
+//! proved law.
+
 ghost use Rattle.std.specs.Prelude.{◌≡◌, ◌<◌, ◌≤◌, ◌⊎◌, ℕ, Bool, true};
-ghost use Rattle.logos_token.specs.Tokens.{TokenList, IsRestOf, count_of};
-ghost use Rattle.logos_type.specs.Parts.{Tree};
-ghost use Rattle.logos_type_reader.specs.Table.{Fault, too_deep};
-ghost use Rattle.logos_type_reader.specs.Reading.{IsType, NoType};
-ghost use Rattle.logos_type_reader.specs.Written.{Ending, Written, may_follow};
-ghost use Rattle.logos_type_reader.specs.FaultPlaces.{FaultPlace, IsAt, SameSign};
-ghost use Rattle.logos_type_reader.specs.TypeExprs.{IsTypeExpr, NoTypeExpr};
-ghost use Rattle.logos_type.specs.Depth.{depth};
+ghost use Rattle.logos_type_reader.specs.Words.{TokenList, IsRestOf, count_of, Tree, depth};
+ghost use Rattle.logos_type_reader.specs.Views.{Fault, too_deep, IsType, NoType, Ending, Written, may_follow, FaultPlace, IsAt, SameSign, IsTypeExpr, NoTypeExpr};
 
 /// A run begins with at most one type, which leaves one rest. It has at most one fault, and none if
 /// it begins with a type.
@@ -72,8 +68,9 @@ pub fn read_is_written()
         × Written levels plus run tree rest ending × (may_follow ending rest ≡ true) }
 {}
 
-/// A fault has a place in its run, unless types nest too deep. Each run with the same tokens in front of this place and the same
-/// sign at it has the fault, too, so none of them begins with a written type.
+/// A fault has a place in its run, unless types nest too deep. Each run with the same tokens in
+/// front of this place and the same sign at it has the fault, too, so none of them begins with a
+/// written type.
 pub fn fault_place()
     ensures place { (levels : ℕ) (plus : Bool) (run : TokenList) (fault : Fault) →
         NoType levels plus run fault → (fault ≡ too_deep) ⊎ FaultPlace levels plus run fault }

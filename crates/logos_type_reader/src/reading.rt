@@ -1,14 +1,10 @@
-//! Reads types.
+//! Reads types. `logos_enum` calls it at each field, and `logos_type_params` at each type that an
+//! attribute gives.
+
 ghost use Rattle.std.specs.Prelude.{◌≡◌, ◌<◌, ◌∷◌, ◌++◌, [], ℕ, map, IfOk, IfErr, OnOk, None, Ok, false};
-ghost use Rattle.logos_token.specs.Tokens.{IsRestOf, count_of, run_span};
-ghost use Rattle.logos_token.specs.Views.{tokens_of, inside_of, tree_of as token_of};
-ghost use Rattle.logos_type.specs.Parts.{tree_of, sign_of, sign, opening, closing, still, trees, also, none};
-ghost use Rattle.logos_type_reader.specs.StillRuns.{still_run, still_token};
-ghost use Rattle.logos_type_reader.specs.Table.{Spot as SpotOfRuns, outer, name_of, asks, keeps_type, nests};
-ghost use Rattle.logos_type_reader.specs.Reading.{IsType, NoType, IsMove, after_type, next_of};
-ghost use Rattle.logos_type_reader.specs.ReadingViews.{spot_of, outside_of, IfFault, IsStep, GivesMove, GivesParts};
-ghost use Rattle.logos_type.specs.TypeTrees.{type_tree};
-ghost use Rattle.logos_type_reader.specs.TypeExprs.{IsTypeExpr, NoTypeExpr};
+ghost use Rattle.logos_type_reader.specs.Words.{IsRestOf, count_of, run_span, tokens_of, inside_of, tree_of, sign_of, sign, opening, closing, still, trees, also, none, still_run, still_token, type_tree};
+ghost use Rattle.logos_type_reader.specs.Views.{Spot as SpotOfRuns, outer, name_of, asks, keeps_type, nests, IsType, NoType, IsMove, after_type, next_of, spot_of, outside_of, IfFault, IsStep, GivesMove, GivesParts, IsTypeExpr, NoTypeExpr};
+ghost use Rattle.logos_token.specs.Views.{tree_of as token_of};
 
 use crate::table::{Place, Spot, Step, Stop, begin, next_at, read_name};
 use logos_token::token::{Group, Span, TokenTree, Tokens};
@@ -30,7 +26,7 @@ pub enum TypeFault {
 }
 
 impl From<AllocError> for TypeFault {
-    ghost use Rattle.logos_type_reader.specs.declared.reading.TypeFault.TheVariants.{Memory};
+    ghost use Rattle.logos_type_reader.specs.Views.{Memory};
 
     ghost from_gives = { λ _ fault. fault ≡ Memory };
 
@@ -40,7 +36,7 @@ impl From<AllocError> for TypeFault {
 }
 
 impl<T: Drop> From<AllocFailed<T>> for TypeFault {
-    ghost use Rattle.logos_type_reader.specs.declared.reading.TypeFault.TheVariants.{Memory};
+    ghost use Rattle.logos_type_reader.specs.Views.{Memory};
 
     ghost from_gives = { λ _ fault. fault ≡ Memory };
 
@@ -50,7 +46,7 @@ impl<T: Drop> From<AllocFailed<T>> for TypeFault {
 }
 
 impl From<Stop> for TypeFault {
-    ghost use Rattle.logos_type_reader.specs.ReadingViews.{fault_of};
+    ghost use Rattle.logos_type_reader.specs.Views.{fault_of};
 
     ghost from_gives = { λ stop fault. fault ≡ fault_of stop };
 
@@ -399,9 +395,9 @@ pub(crate) fn type_at<'t, 's>(
 ///
 /// # Errors
 ///
-/// `Unsupported` with the span of a type that is not supported, `Mismatch` with the span of the
-/// first token that does not fit, `LimitNesting` if more than 128 types stand inside one another,
-/// and `Memory` if there is not enough memory.
+/// Returns `Unsupported` with the span of a type that is not supported, `Mismatch` with the span of
+/// the first token that does not fit, `LimitNesting` if more than 128 types stand inside one
+/// another, and `Memory` if memory runs out.
 pub fn read_type<'t, 's>(
     alloc: Global,
     tokens: Tokens<'t, 's>,

@@ -10,7 +10,7 @@ use Rattle.logos_attribute.specs.declared.callback.CallbackFault.TheVariants.{Cl
 use Rattle.logos_attribute.specs.Slices.{ident_slice}
 use Rattle.logos_attribute.specs.Callbacks.{CallbackView, label, inline, callback_closure, callback_body}
 
--- the callback that the views are, with the span of the whole
+-- The callback that the views are, with the span of the whole.
 abbrev pub run_view : Span → CallbackRun → CallbackView
 run_view span (Label run) = label (tokens_of run)
 run_view span (Inline arg body) = inline (ident_slice arg) (tokens_of body) span
@@ -19,7 +19,7 @@ abbrev pub callback_fault : Span → CallbackFault → Fault
 callback_fault span Closure = callback_closure span
 callback_fault span Body = callback_body span
 
--- the result of reading a callback
+-- The result of reading a callback.
 abbrev pub read_view : Span → Result CallbackRun CallbackFault → Result CallbackView Fault
 read_view span (Ok run) = Ok (run_view span run)
 read_view span (Err cause) = Err (callback_fault span cause)

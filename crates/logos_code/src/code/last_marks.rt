@@ -3,12 +3,7 @@
 //! Where all ways to a state agree on it, a lexer need not note the marks that it passes. The last marks are searched for
 //! along the entries of the rows, and then checked: only the check says that they are right.
 ghost use Rattle.std.specs.Prelude.{◌≡◌, ◌+◌, ◌*◌, ◌<◌, ◌≤◌, IfOk, IsTrue, length, option_map, if◌then◌else◌};
-ghost use Rattle.logos_code.specs.CodeView.{code_of, mark_of};
-ghost use Rattle.logos_code.specs.Headline.{IsSound};
-ghost use Rattle.logos_code.specs.LastMarks.{AreLastMarks, last_mark_at};
-ghost use Rattle.logos_code.specs.Rows.{AreRows};
-ghost use Rattle.logos_code.specs.inside.LastMarks.{IsOwn, Follows, FollowsBack, EntryAgrees};
-ghost use Rattle.logos_code.specs.inside.LastMarks.{StateAgrees, BeginsUnmarked, Agree};
+ghost use Rattle.logos_code.specs.Views.{code_of, mark_of, IsSound, AreLastMarks, last_mark_at, AreRows, IsOwn, Follows, FollowsBack, EntryAgrees, StateAgrees, BeginsUnmarked, Agree};
 
 use super::rows::{STAYS, UNSAID, WIDTH};
 use super::{CodeParts, CodeState, Mark};

@@ -1,6 +1,6 @@
 //! Makes code values. This module is for the generator of codes alone, so `code` does not export it.
 ghost use Rattle.std.specs.Prelude.{◌≡◌, IfOk};
-ghost use Rattle.logos_code.specs.CodeView.{code_of, IsValid};
+ghost use Rattle.logos_code.specs.Views.{code_of, IsValid};
 
 use super::last_marks::last_marks_of;
 use super::masks::masks_of;

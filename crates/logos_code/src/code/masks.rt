@@ -1,9 +1,9 @@
-//! Masks: the tests of fast loops, for eight bytes at once.
-ghost use Rattle.std.specs.Prelude.{◌≡◌, ◌<◌, IfOk};
-ghost use Rattle.logos_code.specs.CodeView.{code_of};
-ghost use Rattle.logos_code.specs.Masks.{IsMask, AreMasks, mask_bit};
-ghost use Rattle.logos_code.specs.Headline.{NamesTest};
-ghost use Rattle.logos_code.specs.Bytes.{passes_test};
+//! Masks: the tests of fast loops, for sixteen bytes at once.
+
+ghost use Rattle.std.specs.Prelude.{◌≡◌, ◌+◌, ◌*◌, ◌<◌, ◌≤◌, ◌^◌, ◌==◌, ℕ, if◌then◌else◌, IfOk};
+ghost use Rattle.std.specs.Int.{bit_at};
+ghost use Rattle.logos_code.specs.Words.{passes_test};
+ghost use Rattle.logos_code.specs.Views.{code_of, IsMask, AreMasks, NamesTest};
 
 use super::CodeParts;
 use std::alloc::{AllocError, Global};
@@ -12,7 +12,7 @@ use std::alloc::{AllocError, Global};
 ///
 /// # Errors
 /// Returns an error when memory runs out.
-pub(super) fn masks_of(alloc: Global, parts: &CodeParts) -> Result<Vec<[u8; 2048]>, AllocError>
+pub(super) fn masks_of(alloc: Global, parts: &CodeParts) -> Result<Vec<[u8; 32]>, AllocError>
     ensures { IfOk result (λ masks. AreMasks (code_of parts.now) masks.items) }
 {
     let mut masks = Vec::new(alloc);
@@ -23,22 +23,41 @@ pub(super) fn masks_of(alloc: Global, parts: &CodeParts) -> Result<Vec<[u8; 2048
     Ok(masks)
 }
 
-/// Returns the mask of the test. Entry `8 * b + k` is 0 where byte `b` passes the test, and else has bit `k` alone.
-fn mask_of(parts: &CodeParts, test: usize) -> [u8; 2048]
+/// Returns the mask of the test. Bit `b / 16 % 8` of entry `16 * (b / 128) + b % 16` is set where byte `b` passes the test.
+fn mask_of(parts: &CodeParts, test: usize) -> [u8; 32]
     requires { NamesTest (code_of parts.now) test }
     ensures { IsMask (passes_test parts.now.bit_tables.items test) result }
 {
-    let mut mask = [0; 2048];
-    for at in 0..2048 {
-        mask[at] = mask_entry(parts.passes_test(test, (at / 8) as u8), at % 8);
+    let mut mask = [0; 32];
+    for at in 0..32 {
+        mask[at] = mask_entry(parts, test, 128 * (at / 16) + at % 16);
     }
     mask
 }
 
-/// Returns the entry of a mask: bit `k`, unless the byte passes.
-fn mask_entry(passes: bool, k: usize) -> u8
-    requires { k < 8 }
-    ensures { result ≡ mask_bit passes k }
+/// Returns the entry of a mask for the eight bytes that are 16 apart from the first one on: bit `k` is set where byte `k` of
+/// these passes the test.
+fn mask_entry(parts: &CodeParts, test: usize, first: usize) -> u8
+    requires test { NamesTest (code_of parts.now) test }
+    requires first { first < 144 }
+    ensures { (k : ℕ) → k < 8 → (bit_at result k == 1)
+        ≡ passes_test parts.now.bit_tables.items test (first + 16 * k) }
 {
-    if passes { 0 } else { 1 << k }
+    mask_bit(parts.passes_test(test, first as u8), 0)
+        + mask_bit(parts.passes_test(test, (first + 16) as u8), 1)
+        + mask_bit(parts.passes_test(test, (first + 32) as u8), 2)
+        + mask_bit(parts.passes_test(test, (first + 48) as u8), 3)
+        + mask_bit(parts.passes_test(test, (first + 64) as u8), 4)
+        + mask_bit(parts.passes_test(test, (first + 80) as u8), 5)
+        + mask_bit(parts.passes_test(test, (first + 96) as u8), 6)
+        + mask_bit(parts.passes_test(test, (first + 112) as u8), 7)
+}
+
+/// Returns bit `k` alone if the byte passes, and else 0.
+fn mask_bit(passes: bool, k: usize) -> u8
+    requires { k < 8 }
+    ensures is { result ≡ if passes then 2 ^ k else 0 }
+    ensures small { result ≤ 2 ^ k }
+{
+    if passes { 1 << k } else { 0 }
 }

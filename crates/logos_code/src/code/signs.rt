@@ -1,7 +1,6 @@
 //! Signs: the marks of states, found by one look.
 ghost use Rattle.std.specs.Prelude.{◌≡◌, IfOk, map, option_map};
-ghost use Rattle.logos_code.specs.CodeView.{mark_of, code_of};
-ghost use Rattle.logos_code.specs.Signs.{mark_by, AreSigns};
+ghost use Rattle.logos_code.specs.Views.{mark_of, code_of, mark_by, AreSigns};
 
 use super::{CodeParts, Mark};
 use logos_hir::leaf::LeafId;

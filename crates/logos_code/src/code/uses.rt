@@ -1,7 +1,6 @@
 //! Uses: what becomes of the matches of a leaf, by one look.
 ghost use Rattle.std.specs.Prelude.{◌≡◌, IfOk, map};
-ghost use Rattle.logos_code.specs.CodeView.{use_of};
-ghost use Rattle.logos_code.specs.Uses.{use_by};
+ghost use Rattle.logos_code.specs.Views.{use_of, use_by};
 
 use super::{CodeLeaf, CodeParts};
 use logos_pattern::leaf::VariantKind;

@@ -8,7 +8,7 @@ use Rattle.logos_graph.specs.View.{GraphValue, rules_of}
 use Rattle.logos_graph.specs.GraphOf.{IsGraphOf}
 use Rattle.logos_automaton.specs.declared.errors.BuildError.{BuildError}
 use Rattle.logos_automaton.specs.declared.errors.BuildError.TheVariants.{LimitSize, LimitStates, Memory}
-use Rattle.logos_source.specs.Analyses.{AnalysisView}
+use Rattle.logos_parser.specs.Analyses.{AnalysisView}
 use Rattle.logos_codegen.specs.Texts.{fault_at, size_text, states_text}
 use Rattle.logos_codegen.specs.Rules.{named_rule, GraphReports}
 use Rattle.logos_codegen.specs.Source.{IsAccepted, IsWithinSizes}

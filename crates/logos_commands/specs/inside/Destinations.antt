@@ -1,6 +1,7 @@
--- What the steps of `export` give, by where the chart goes.
-use Rattle.std.specs.Prelude.{◌≡◌, string_bytes}
+-- What the steps of a command give.
+use Rattle.std.specs.Prelude.{◌≡◌, ◌++◌, ◌∷◌, [], ℕ, List, string_bytes}
 use Rattle.logos_commands.specs.Charts.{Destination, file_at, refused}
+use Rattle.logos_commands.specs.Runs.{Effect, prints, makes_file}
 use Rattle.logos_commands.specs.declared.failure.Failure.{Failure}
 use Rattle.logos_commands.specs.declared.failure.Failure.TheVariants.{NotExported, Memory}
 use Rattle.logos_commands.specs.declared.outcome.Outcome.{Outcome}
@@ -11,8 +12,11 @@ abbrev pub FailsAt : Destination → Failure → Type 0
 FailsAt (file_at path) failure = failure ≡ Memory
 FailsAt (refused why) failure = failure ≡ NotExported why
 
--- whether what a command gives is a chart for the file at which it is to be
-abbrev pub IsChartAt : Destination → Outcome → Type 0
-IsChartAt (file_at path) (Chart chart text) = string_bytes chart ≡ path
-IsChartAt (file_at path) (Text text) = ⊥
-IsChartAt (refused why) outcome = ⊥
+-- what an outcome does once it is delivered
+abbrev pub effect_of : Outcome → Effect
+effect_of (Text text) = prints (string_bytes text)
+effect_of (Chart path text) = makes_file (string_bytes path) (string_bytes text)
+
+-- a text of which this holds, and LF
+abbrev pub EndsWithLine : (List ℕ → Type 0) → List ℕ → Type 0
+EndsWithLine Holds shown = (text : List ℕ) × Holds text × (shown ≡ text ++ 10 ∷ [])

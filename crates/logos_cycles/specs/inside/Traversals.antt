@@ -2,15 +2,16 @@
 use Rattle.std.specs.Prelude.{◌≡◌, ◌<◌, ◌+◌, ◌⊎◌, ℕ, List, Bool, true, false, not, Contains, length, slice_index_or}
 use Rattle.std.specs.List.{count_by}
 
--- whether the node is found
+-- Whether the node is found.
 abbrev pub IsFound : List Bool → ℕ → Type 0
 IsFound found node = slice_index_or found node false ≡ true
 
--- how many nodes are not found, and how many wait
+-- How many nodes are not found, and how many wait.
 abbrev pub left_in : List Bool → List ℕ → ℕ
 left_in found waiting = count_by not found + length waiting
 
--- Each of the targets that is a node is found afterwards, and no other node is added. Those that were added wait.
+-- Each of the targets that is a node is found afterwards, and no other node is added. Those that
+-- were added wait.
 pub record Reaches (targets : List ℕ) (found : List Bool) (waiting : List ℕ)
     (found' : List Bool) (waiting' : List ℕ) : Type 0 where
   pub same_length : length found' ≡ length found

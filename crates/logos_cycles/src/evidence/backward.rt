@@ -1,5 +1,6 @@
 //! Walks against the edges, one for each component.
-use crate::evidence::{Place, meets};
+
+use crate::evidence::{Membership, meets};
 use std::alloc::{AllocError, Global};
 
 /// An edge, seen from the node to which it leads.
@@ -13,8 +14,8 @@ struct Arrow {
 /// The state of the walks against the edges.
 #[derive(Drop)]
 pub(crate) struct Backward {
-    /// The places of the nodes; those that were met have their components.
-    pub(crate) places: Vec<Place>,
+    /// The memberships of the nodes; those that were met have their components.
+    pub(crate) memberships: Vec<Membership>,
     /// The edges that lead to each node.
     arrows: Vec<Vec<Arrow>>,
     /// For each node, whether it was met.
@@ -47,11 +48,11 @@ impl Backward {
     ///
     /// # Errors
     ///
-    /// `AllocError` if there is not enough memory.
+    /// Returns `AllocError` if memory runs out.
     pub(crate) fn new(
         alloc: Global,
         lists: &[Vec<usize>],
-        places: Vec<Place>,
+        memberships: Vec<Membership>,
     ) -> Result<Backward, AllocError> {
         let mut arrows = no_arrows(alloc, lists.len())?;
         for (from, list) in lists.iter().enumerate() {
@@ -59,7 +60,7 @@ impl Backward {
         }
         let met = vec![in alloc; false; lists.len()]?;
         Ok(Backward {
-            places,
+            memberships,
             arrows,
             met,
             order: Vec::new(alloc),
@@ -68,7 +69,7 @@ impl Backward {
 
     /// Puts `node` into the component of `root`, unless it was met before. `edge` is its edge that
     /// leads nearer to the root.
-    fn place(
+    fn membership(
         &mut self,
         node: usize,
         root: usize,
@@ -79,11 +80,11 @@ impl Backward {
             return Ok(());
         }
         let to_rank = self.order.len();
-        if let Some(place) = self.places.get_mut(node) {
-            place.root = root;
-            place.order = start;
-            place.toward = edge;
-            place.to_rank = to_rank;
+        if let Some(membership) = self.memberships.get_mut(node) {
+            membership.root = root;
+            membership.order = start;
+            membership.toward = edge;
+            membership.to_rank = to_rank;
         }
         self.order.push(node)?;
         Ok(())
@@ -106,7 +107,7 @@ impl Backward {
     fn spread(&mut self, node: usize, root: usize, start: usize) -> Result<(), AllocError> {
         for at in 0..self.arrow_count(node) {
             if let Some(arrow) = self.arrow(node, at) {
-                self.place(arrow.from, root, start, arrow.edge)?;
+                self.membership(arrow.from, root, start, arrow.edge)?;
             }
         }
         Ok(())
@@ -127,11 +128,11 @@ impl Backward {
     ///
     /// # Errors
     ///
-    /// `AllocError` if there is not enough memory.
+    /// Returns `AllocError` if memory runs out.
     pub(crate) fn walk(&mut self, nodes: &[usize]) -> Result<(), AllocError> {
         for root in nodes.iter().rev() {
             let start = self.order.len();
-            self.place(*root, *root, start, 0)?;
+            self.membership(*root, *root, start, 0)?;
             self.finish(*root, start)?;
         }
         Ok(())

@@ -1,10 +1,11 @@
 //! A walk along the edges, which finishes a node after all nodes to which it leads.
-use crate::evidence::{Place, meets};
+
+use crate::evidence::{Membership, meets};
 use std::alloc::{AllocError, Global};
 
 /// A node on the path, some of whose edges are still to be followed.
 #[derive(Clone, Copy)]
-struct Frame {
+struct Visit {
     node: usize,
     /// The index of its next edge.
     next: usize,
@@ -14,14 +15,14 @@ struct Frame {
 #[derive(Drop)]
 pub(crate) struct Forward {
     /// For each node the edge through which it was met, and the length of the path then.
-    pub(crate) places: Vec<Place>,
+    pub(crate) memberships: Vec<Membership>,
     /// The nodes that are finished, in the order in which they were.
     pub(crate) left: Vec<usize>,
     /// For each node, whether it was met.
     met: Vec<bool>,
     /// The path from the start to the current node. Each node on it was met through an edge of the
     /// one before.
-    path: Vec<Frame>,
+    path: Vec<Visit>,
 }
 
 /// Returns the greatest number of steps that a walk can take: one for each edge, and one to finish
@@ -39,9 +40,9 @@ impl Forward {
     ///
     /// # Errors
     ///
-    /// `AllocError` if there is not enough memory.
+    /// Returns `AllocError` if memory runs out.
     pub(crate) fn new(alloc: Global, len: usize) -> Result<Forward, AllocError> {
-        let nowhere = Place {
+        let nowhere = Membership {
             root: len,
             order: 0,
             toward: 0,
@@ -50,10 +51,10 @@ impl Forward {
             edge: 0,
             from_rank: 0,
         };
-        let places = vec![in alloc; nowhere; len]?;
+        let memberships = vec![in alloc; nowhere; len]?;
         let met = vec![in alloc; false; len]?;
         Ok(Forward {
-            places,
+            memberships,
             left: Vec::new(alloc),
             met,
             path: Vec::new(alloc),
@@ -66,17 +67,17 @@ impl Forward {
             return Ok(());
         }
         let from_rank = self.path.len();
-        if let Some(place) = self.places.get_mut(to) {
-            place.from = from;
-            place.edge = edge;
-            place.from_rank = from_rank;
+        if let Some(membership) = self.memberships.get_mut(to) {
+            membership.from = from;
+            membership.edge = edge;
+            membership.from_rank = from_rank;
         }
-        self.path.push(Frame { node: to, next: 0 })?;
+        self.path.push(Visit { node: to, next: 0 })?;
         Ok(())
     }
 
     /// Follows the next edge of the node that was last on the path, or finishes the node.
-    fn step(&mut self, lists: &[Vec<usize>], frame: Frame) -> Result<(), AllocError> {
+    fn step(&mut self, lists: &[Vec<usize>], frame: Visit) -> Result<(), AllocError> {
         let Some(list) = lists.get(frame.node) else {
             return Ok(());
         };
@@ -84,7 +85,7 @@ impl Forward {
             self.left.push(frame.node)?;
             return Ok(());
         };
-        self.path.push(Frame {
+        self.path.push(Visit {
             node: frame.node,
             next: frame.next + 1,
         })?;
@@ -106,7 +107,7 @@ impl Forward {
     ///
     /// # Errors
     ///
-    /// `AllocError` if there is not enough memory.
+    /// Returns `AllocError` if memory runs out.
     pub(crate) fn walk(&mut self, lists: &[Vec<usize>]) -> Result<(), AllocError> {
         let steps = steps_along(lists);
         for node in 0..lists.len() {

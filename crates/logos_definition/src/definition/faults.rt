@@ -1,13 +1,7 @@
 //! Reports faults of definitions. Each function adds one fault.
+
 ghost use Rattle.std.specs.Prelude.{OnOk};
-ghost use Rattle.logos_token.specs.Views.{tokens_of};
-ghost use Rattle.logos_attribute.specs.Slices.{ident_slice};
-ghost use Rattle.logos_attribute.specs.Reports.{AddsFault};
-ghost use Rattle.logos_definition.specs.Definitions.{priority_value, priority_twice};
-ghost use Rattle.logos_definition.specs.Definitions.{priority_form, greedy_value, greedy_twice};
-ghost use Rattle.logos_definition.specs.Definitions.{greedy_form, callback_form, ignore_form};
-ghost use Rattle.logos_definition.specs.Definitions.{unknown_nested, named_expected};
-ghost use Rattle.logos_definition.specs.Definitions.{unexpected_token};
+ghost use Rattle.logos_definition.specs.Words.{tokens_of, ident_slice, AddsFault, priority_value, priority_twice, priority_form, greedy_value, greedy_twice, greedy_form, callback_form, ignore_form, unknown_nested, named_expected, unexpected_token};
 
 use logos_attribute::reporting::{report_form, report_named, report_run};
 use logos_token::error::{Errors, FaultCode, Memory};

@@ -1,13 +1,14 @@
 //! Reads whole attributes of an enum and its variants.
+
 ghost use Rattle.std.specs.Prelude.{OnOk};
-ghost use Rattle.logos_attribute.specs.Reports.{AddsFault};
-ghost use Rattle.logos_definition.specs.Attributes.{logos_form};
+ghost use Rattle.logos_definition.specs.Words.{AddsFault};
+ghost use Rattle.logos_definition.specs.Views.{logos_form};
 
 use crate::definition::{Definition, read_definition};
 use crate::meta::{Meta, meta_of};
 use crate::parser::Parser;
 use logos_attribute::nested::AttributeParser;
-use logos_item::Attribute;
+use logos_enum::Attribute;
 use logos_token::error::{Errors, FaultCode, Memory};
 use logos_token::token::Span;
 
@@ -20,17 +21,12 @@ fn report_logos_form(span: Span, errors: &mut Errors) -> Result<(), Memory>
 
 impl<'s> Parser<'s> {
     ghost use Rattle.std.specs.Prelude.{◌≡◌, OnOk, OnErr, IfOk, option_map, true};
-    ghost use Rattle.logos_item.specs.AttributeValues.{attribute_value};
-    ghost use Rattle.logos_attribute.specs.Reports.{IsReport};
-    ghost use Rattle.logos_definition.specs.Attributes.{meta_report};
-    ghost use Rattle.logos_definition.specs.Attributes.{MetaSays, AttributeSays};
-    ghost use Rattle.logos_definition.specs.DefinitionViews.{definition_view};
-    ghost use Rattle.logos_definition.specs.Metas.{meta_of, meta_view};
-    ghost use Rattle.logos_definition.specs.ParserViews.{parser_view, HasNotFailed};
+    ghost use Rattle.logos_definition.specs.Words.{attribute_value, IsReport};
+    ghost use Rattle.logos_definition.specs.Views.{meta_report, ReadsMeta, ReadsAttribute, definition_view, meta_of, meta_view, parser_view, HasNotFailed};
 
     /// Adds the arguments of a `logos` attribute, or reports that it has none.
     fn add_meta(&mut self, meta: Meta<'_, 's>, span: Span) -> Result<(), Memory>
-        ensures { OnOk result (MetaSays
+        ensures { OnOk result (ReadsMeta
             (parser_view self.old) (parser_view self.new) self.old.errors self.new.errors
             (meta_view meta.entry) span) }
     {
@@ -42,7 +38,7 @@ impl<'s> Parser<'s> {
 
     /// Adds an attribute of the enum.
     fn add_attribute(&mut self, attribute: Attribute<'_, 's>) -> Result<(), Memory>
-        ensures { OnOk result (AttributeSays
+        ensures { OnOk result (ReadsAttribute
             (parser_view self.old) (parser_view self.new) self.old.errors self.new.errors
             (attribute_value attribute.entry)) }
     {
@@ -57,9 +53,9 @@ impl<'s> Parser<'s> {
     ///
     /// # Errors
     ///
-    /// `Memory` if there is not enough memory. The parser has then failed.
+    /// Returns `Memory` if memory runs out. The parser has then failed.
     pub fn try_parse_logos(&mut self, attribute: Attribute<'_, 's>) -> Result<(), Memory>
-        ensures ok { OnOk result (AttributeSays
+        ensures ok { OnOk result (ReadsAttribute
             (parser_view self.old) (parser_view self.new) self.old.errors self.new.errors
             (attribute_value attribute.entry)) }
         ensures going { OnOk result (HasNotFailed self.old self.new) }
@@ -74,7 +70,7 @@ impl<'s> Parser<'s> {
     ///
     /// # Errors
     ///
-    /// `Memory` if there is not enough memory. The parser has then failed.
+    /// Returns `Memory` if memory runs out. The parser has then failed.
     pub fn parse_definition_attr(
         &mut self,
         attribute: Attribute<'_, 's>,

@@ -1,22 +1,14 @@
-//! Reports faults of the options of a lexer. Each function adds one fault, or one and the place of
+//! Reports faults of the options of a lexer. Each function adds one fault, or one and the span of
 //! the former value.
+
 ghost use Rattle.std.specs.Prelude.{◌≡◌, ◌++◌, OnOk, Some};
-ghost use Rattle.logos_token.specs.Views.{tokens_of};
-ghost use Rattle.logos_attribute.specs.Slices.{ident_slice};
-ghost use Rattle.logos_attribute.specs.Reports.{AddsFault};
-ghost use Rattle.logos_definition.specs.OptionFaults.{once_only, utf8_twice, extras_twice};
-ghost use Rattle.logos_definition.specs.OptionFaults.{error_twice, export_twice, skip_form};
-ghost use Rattle.logos_definition.specs.OptionFaults.{skip_group, utf8_value, utf8_form};
-ghost use Rattle.logos_definition.specs.OptionFaults.{extras_form, crate_form, export_bytes};
-ghost use Rattle.logos_definition.specs.OptionFaults.{export_form, subpattern_form, error_form};
-ghost use Rattle.logos_definition.specs.OptionFaults.{source_old, unknown_logos, invalid_nested};
-ghost use Rattle.logos_definition.specs.OptionFaults.{type_form};
+ghost use Rattle.logos_definition.specs.Words.{tokens_of, ident_slice, AddsFault, once_only, utf8_twice, extras_twice, error_twice, export_twice, skip_form, skip_group, utf8_value, utf8_form, extras_form, crate_form, export_bytes, export_form, subpattern_form, error_form, source_old, unknown_logos, invalid_nested, type_form};
 
 use logos_attribute::reporting::{report_form, report_named, report_run};
 use logos_token::error::{Errors, FaultCode, Memory};
 use logos_token::token::{Ident, Span, Tokens};
 
-/// Reports a second value, and the place of the former one.
+/// Reports a second value, and the span of the former one.
 fn report_twice(
     errors: &mut Errors,
     code: FaultCode,
@@ -31,7 +23,7 @@ fn report_twice(
     Ok(())
 }
 
-/// Reports a second UTF-8 mode, and the place of the former one.
+/// Reports a second UTF-8 mode, and the span of the former one.
 pub(super) fn report_mode_twice(here: Span, there: Span, errors: &mut Errors) -> Result<(), Memory>
     ensures { OnOk result (errors.new ≡ errors.old ++ utf8_twice here (Some there)) }
 {
@@ -44,7 +36,7 @@ pub(super) fn report_mode_twice(here: Span, there: Span, errors: &mut Errors) ->
     )
 }
 
-/// Reports a second type of extras, and the place of the former one.
+/// Reports a second type of extras, and the span of the former one.
 pub(super) fn report_extras_twice(
     here: Span,
     there: Span,
@@ -61,7 +53,7 @@ pub(super) fn report_extras_twice(
     )
 }
 
-/// Reports a second error type, and the place of the former one.
+/// Reports a second error type, and the span of the former one.
 pub(super) fn report_error_twice(here: Span, there: Span, errors: &mut Errors) -> Result<(), Memory>
     ensures { OnOk result (errors.new ≡ errors.old ++ error_twice here (Some there)) }
 {
@@ -74,7 +66,7 @@ pub(super) fn report_error_twice(here: Span, there: Span, errors: &mut Errors) -
     )
 }
 
-/// Reports a second export path, and the place of the former one.
+/// Reports a second export path, and the span of the former one.
 pub(super) fn report_export_twice(
     here: Span,
     there: Span,

@@ -21,23 +21,8 @@ use logos_token::util::MaybeVoid;
 
 impl<'s> Parser<'s> {
     ghost use Rattle.std.specs.Prelude.{OnOk, IfOk, string_bytes};
-    ghost use Rattle.logos_attribute.specs.Pieces.{grouped, named};
-    ghost use Rattle.logos_token.specs.Views.{tokens_of};
-    ghost use Rattle.logos_attribute.specs.Slices.{ident_slice, literal_slice};
-    ghost use Rattle.logos_attribute.specs.Reports.{IsReport, map_report, and_then};
-    ghost use Rattle.logos_attribute.specs.Literals.{text_report, string_in};
-    ghost use Rattle.logos_attribute.specs.LiteralViews.{literal_view};
-    ghost use Rattle.logos_attribute.specs.Nested.{value_of, piece_of, pieces_left};
-    ghost use Rattle.logos_definition.specs.Definitions.{definition_report};
-    ghost use Rattle.logos_definition.specs.ErrorTypeViews.{error_view};
-    ghost use Rattle.logos_definition.specs.Options.{skip_plain, skip_whole, skip_report};
-    ghost use Rattle.logos_definition.specs.Options.{mode_set, utf8_report, extras_set};
-    ghost use Rattle.logos_definition.specs.Options.{extras_report, crate_report, path_set};
-    ghost use Rattle.logos_definition.specs.Options.{held_path, export_report, subpattern_set};
-    ghost use Rattle.logos_definition.specs.Options.{subpattern_report, error_set, error_report};
-    ghost use Rattle.logos_definition.specs.Options.{setting_report, option_report};
-    ghost use Rattle.logos_definition.specs.Arguments.{ErrorSays, TypeSays, PieceSays, PiecesSay};
-    ghost use Rattle.logos_definition.specs.ParserViews.{parser_view};
+    ghost use Rattle.logos_definition.specs.Words.{grouped, named, tokens_of, ident_slice, literal_slice, IsReport, map_report, and_then, text_report, string_in, literal_view, value_of, piece_of, pieces_left, definition_report, skip_plain, skip_whole, skip_report, mode_set, utf8_report, extras_set, extras_report, crate_report, path_set, held_path, export_report, subpattern_set, subpattern_report, error_set, error_report, setting_report, option_report, ReadsError, ReadsType, ReadsPiece, ReadsPieces};
+    ghost use Rattle.logos_definition.specs.Views.{error_view, parser_view};
 
     /// Sets the UTF-8 mode, in place of a former one.
     fn set_mode(&mut self, tokens: Tokens<'_, 's>) -> Result<(), Memory>
@@ -215,7 +200,7 @@ impl<'s> Parser<'s> {
 
     /// Adds the argument `error(..)`. Returns whether the arguments after it are read.
     fn add_error_group(&mut self, name: Ident<'s>, group: Tokens<'_, 's>) -> Result<bool, Memory>
-        ensures { IfOk result (λ goes_on. ErrorSays (ident_slice name.entry)
+        ensures { IfOk result (λ goes_on. ReadsError (ident_slice name.entry)
             (parser_view self.old) (parser_view self.new) self.old.errors self.new.errors
             (grouped (tokens_of group.entry)) goes_on) }
     {
@@ -228,7 +213,7 @@ impl<'s> Parser<'s> {
 
     /// Adds the argument `error`. Returns whether the arguments after it are read.
     fn add_error(&mut self, name: Ident<'s>, value: &NestedValue<'_, 's>) -> Result<bool, Memory>
-        ensures { IfOk result (λ goes_on. ErrorSays (ident_slice name.entry)
+        ensures { IfOk result (λ goes_on. ReadsError (ident_slice name.entry)
             (parser_view self.old) (parser_view self.new) self.old.errors self.new.errors
             (value_of value.now) goes_on) }
     {
@@ -241,7 +226,7 @@ impl<'s> Parser<'s> {
 
     /// Adds the argument `type`.
     fn add_type(&mut self, name: Ident<'s>, value: &NestedValue<'_, 's>) -> Result<(), Memory>
-        ensures { OnOk result (TypeSays (ident_slice name.entry)
+        ensures { OnOk result (ReadsType (ident_slice name.entry)
             (parser_view self.old) (parser_view self.new) self.old.errors self.new.errors
             (value_of value.now)) }
     {
@@ -336,7 +321,7 @@ impl<'s> Parser<'s> {
 
     /// Adds a named argument. Returns whether the arguments after it are read.
     fn add_named(&mut self, name: Ident<'s>, value: &NestedValue<'_, 's>) -> Result<bool, Memory>
-        ensures { IfOk result (PieceSays
+        ensures { IfOk result (ReadsPiece
             (parser_view self.old) (parser_view self.new) self.old.errors self.new.errors
             (named (ident_slice name.entry) (value_of value.now))) }
     {
@@ -353,7 +338,7 @@ impl<'s> Parser<'s> {
 
     /// Adds an argument. Returns whether the arguments after it are read.
     fn add_piece(&mut self, piece: Nested<'_, 's>) -> Result<bool, Memory>
-        ensures { IfOk result (PieceSays
+        ensures { IfOk result (ReadsPiece
             (parser_view self.old) (parser_view self.new) self.old.errors self.new.errors
             (piece_of piece.entry)) }
     {
@@ -367,7 +352,7 @@ impl<'s> Parser<'s> {
 
     /// Adds the arguments in order, up to one after which no more are read.
     pub(super) fn add_pieces(&mut self, pieces: AttributeParser<'_, 's>) -> Result<(), Memory>
-        ensures { OnOk result (PiecesSay
+        ensures { OnOk result (ReadsPieces
             (parser_view self.old) (parser_view self.new) self.old.errors self.new.errors
             (pieces_left pieces.entry)) }
     {

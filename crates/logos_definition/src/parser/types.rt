@@ -1,11 +1,11 @@
 //! Declares the generic parameters of an enum, and replaces them in types.
 
 ghost use Rattle.std.specs.Prelude.{OnOk};
-ghost use Rattle.logos_attribute.specs.Reports.{AddsFault};
-ghost use Rattle.logos_definition.specs.Attributes.{const_generic};
+ghost use Rattle.logos_definition.specs.Words.{AddsFault};
+ghost use Rattle.logos_definition.specs.Views.{const_generic};
 
 use crate::parser::Parser;
-use logos_item::{Parameter, ParameterKind};
+use logos_enum::{Parameter, ParameterKind};
 use logos_token::error::{Errors, FaultCode, Memory};
 use logos_token::token::Span;
 use logos_type::TypeExpr;
@@ -24,16 +24,9 @@ fn report_const(span: Span, errors: &mut Errors) -> Result<(), Memory>
 
 impl<'s> Parser<'s> {
     ghost use Rattle.std.specs.Prelude.{◌≡◌, ◌++◌, [], IfOk, OnOk, OnErr, option_map, true};
-    ghost use Rattle.logos_token.specs.Tokens.{run_span};
-    ghost use Rattle.logos_token.specs.Views.{tokens_of};
-    ghost use Rattle.logos_type.specs.TypeTrees.{type_tree};
-    ghost use Rattle.logos_attribute.specs.Reports.{IsReport};
-    ghost use Rattle.logos_attribute.specs.Slices.{ident_slice};
-    ghost use Rattle.logos_definition.specs.Attributes.{parameter_report};
-    ghost use Rattle.logos_type_params.specs.Generics.{generics, generics_of, missing_types};
+    ghost use Rattle.logos_definition.specs.Words.{run_span, tokens_of, type_tree, IsReport, ident_slice, generics, generics_of, missing_types, GetsUnheld};
+    ghost use Rattle.logos_definition.specs.Views.{parameter_report, parser_view, HasNotFailed};
     ghost use Rattle.logos_type_params.specs.TypeParams.{value_of};
-    ghost use Rattle.logos_definition.specs.ParserTypes.{GetsUnheld};
-    ghost use Rattle.logos_definition.specs.ParserViews.{parser_view, HasNotFailed};
 
     /// Adds a generic parameter.
     fn add_parameter(&mut self, parameter: Parameter<'_, 's>) -> Result<(), Memory>
@@ -56,7 +49,7 @@ impl<'s> Parser<'s> {
     ///
     /// # Errors
     ///
-    /// `Memory` if there is not enough memory. The parser has then failed.
+    /// Returns `Memory` if memory runs out. The parser has then failed.
     pub fn parse_generic(&mut self, parameter: Parameter<'_, 's>) -> Result<(), Memory>
         ensures ok { OnOk result (IsReport
             (parameter_report parameter.entry.kind (ident_slice parameter.entry.name)
@@ -74,7 +67,7 @@ impl<'s> Parser<'s> {
     ///
     /// # Errors
     ///
-    /// `Memory` if there is not enough memory. The parser has then failed.
+    /// Returns `Memory` if memory runs out. The parser has then failed.
     pub fn generics(&mut self) -> Result<Option<Generics<'s>>, Memory>
         ensures value { IfOk result (λ made. option_map generics_of made
             ≡ generics (value_of self.old.types)) }
@@ -106,7 +99,7 @@ impl<'s> Parser<'s> {
     ///
     /// # Errors
     ///
-    /// `Memory` if there is not enough memory. The parser has then failed.
+    /// Returns `Memory` if memory runs out. The parser has then failed.
     pub fn get_type(&mut self, written: &TypeExpr<'s>, span: Span) -> Result<TypeExpr<'s>, Memory>
         ensures ok { IfOk result (λ got. GetsUnheld self.old.types (type_tree written.now) span
             self.old.errors self.new.errors (type_tree got)) }

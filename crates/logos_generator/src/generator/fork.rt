@@ -1,18 +1,6 @@
 //! Makes forks and fast loops.
-ghost use Rattle.std.specs.Prelude.{◌≡◌, ◌<◌, ◌≤◌, ◌↔◌, ◌&&◌, ◌==◌, ℕ, true, IfOk, OnOk};
-ghost use Rattle.std.specs.Prelude.{OnErr, IsTrue, [], ◌∷◌, length, map, option_map};
-ghost use Rattle.std.specs.Prelude.{find, nat_le, slice_index, None};
-ghost use Rattle.std.specs.List.{All, flat_map};
-ghost use Rattle.std.specs.Option.{option_or};
-ghost use Rattle.logos_byte_class.specs.Bytes.{ranges_of, has_byte, AreSeparated, comparison_of};
-ghost use Rattle.logos_code.specs.CodeView.{condition_of, branch_of, entry_of, fork_of};
-ghost use Rattle.logos_graph.specs.GraphView.{edge_of, state_number};
-ghost use Rattle.logos_generator.specs.Nodes.{hit, leads_beside, Extends, IsConditionOf};
-ghost use Rattle.logos_generator.specs.Nodes.{AreBranchesOf, IsForkOf, IsLoopOf, cost};
-ghost use Rattle.logos_generator.specs.Numbering.{numbered, loop_uses, condition_uses};
-ghost use Rattle.logos_generator.specs.Numbering.{branch_uses, fork_uses};
-ghost use Rattle.logos_generator.specs.Numbering.{fork_tables, jump_table, with_tables};
-ghost use Rattle.logos_generator.specs.StateView.{AddsBranch};
+ghost use Rattle.std.specs.Prelude.{◌≡◌, ◌<◌, ◌≤◌, ◌↔◌, ◌&&◌, ◌==◌, ℕ, true, IfOk, OnOk, OnErr, IsTrue, [], ◌∷◌, length, map, option_map, find, nat_le, slice_index, None};
+ghost use Rattle.logos_generator.specs.Words.{All, flat_map, option_or, ranges_of, has_byte, AreSeparated, comparison_of, condition_of, branch_of, entry_of, fork_of, edge_of, state_number, hit, leads_beside, Extends, IsConditionOf, AreBranchesOf, IsForkOf, IsLoopOf, cost, numbered, loop_uses, condition_uses, branch_uses, fork_uses, fork_tables, jump_table, with_tables, AddsBranch};
 
 use super::node_tables::NodeTables;
 use super::tests_by_bits::add_test;

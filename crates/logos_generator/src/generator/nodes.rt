@@ -1,12 +1,7 @@
 //! Makes the nodes of a code one by one.
 ghost use Rattle.std.specs.Prelude.{◌≡◌, ◌≤◌, ◌<◌, OnOk, OnErr, IfOk, length};
-ghost use Rattle.logos_byte_class.specs.Bytes.{ranges_of};
-ghost use Rattle.logos_graph.specs.GraphView.{graph_state_of, state_number};
-ghost use Rattle.logos_generator.specs.GeneratorValue.{code_leaf_value, leaf_value};
-ghost use Rattle.logos_generator.specs.NodeCalls.{Continues, MakesFork, MakesLoop, MakesLoopOver};
-ghost use Rattle.logos_generator.specs.Nodes.{left_out};
-ghost use Rattle.logos_generator.specs.Numbering.{bit_tables_of};
-ghost use Rattle.logos_generator.specs.StateView.{IsCodable};
+ghost use Rattle.logos_generator.specs.Words.{ranges_of, graph_state_of, state_number, code_leaf_value, leaf_value, left_out, bit_tables_of, IsCodable};
+ghost use Rattle.logos_generator.specs.Views.{Continues, MakesFork, MakesLoop, MakesLoopOver};
 
 use super::Generator;
 use super::fork::{impl_fork, maybe_impl_fast_loop};

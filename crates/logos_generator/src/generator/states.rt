@@ -1,19 +1,6 @@
 //! Makes the states of a code from those of a graph.
 ghost use Rattle.std.specs.Prelude.{◌≡◌, ◌<◌, [], IfOk, OnOk, length, map, option_map};
-ghost use Rattle.std.specs.List.{All, range_with_len};
-ghost use Rattle.logos_generator.specs.Runs.{RunsAs};
-ghost use Rattle.logos_generator.specs.Makes.{mark_made};
-ghost use Rattle.logos_code.specs.CodeView.{mark_of, state_of};
-ghost use Rattle.logos_generator.specs.GeneratorValue.{code_leaf_value, leaf_value};
-ghost use Rattle.logos_graph.specs.FinishedGraph.{IsFinished};
-ghost use Rattle.logos_generator.specs.Nodes.{Extends, IsStateOf};
-ghost use Rattle.logos_generator.specs.Numbering.{HasNodesOf, numbered};
-ghost use Rattle.logos_generator.specs.Numbering.{state_uses, tests_of, uses_from};
-ghost use Rattle.logos_generator.specs.Numbering.{fork_tables, tables_from, with_tables};
-ghost use Rattle.logos_generator.specs.Numbering.{jump_tables_of};
-ghost use Rattle.logos_graph.specs.GraphView.{state_number, state_type_of, graph_state_of};
-ghost use Rattle.logos_graph.specs.StatesView.{states_left};
-ghost use Rattle.logos_generator.specs.StateView.{leaf_use, AreStatesOf, AreTablesOf, IsCodable};
+ghost use Rattle.logos_generator.specs.Words.{All, range_with_len, RunsAs, mark_made, mark_of, state_of, code_leaf_value, leaf_value, IsFinished, Extends, IsStateOf, HasNodesOf, numbered, state_uses, tests_of, uses_from, fork_tables, tables_from, with_tables, jump_tables_of, state_number, state_type_of, graph_state_of, states_left, leaf_use, AreStatesOf, AreTablesOf, IsCodable};
 
 use super::fork::{impl_fork, maybe_impl_fast_loop};
 use super::leaves::leaves_of;

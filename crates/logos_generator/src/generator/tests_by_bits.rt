@@ -1,13 +1,6 @@
 //! Makes tests of bytes by the bits of tables.
-ghost use Rattle.std.specs.Prelude.{◌≡◌, ◌+◌, ◌*◌, ◌<◌, ◌≤◌, ◌/◌, ◌∷◌, [], ℕ, Some};
-ghost use Rattle.std.specs.Prelude.{IfOk, OnOk, OnErr, length, slice_get, if◌then◌else◌};
-ghost use Rattle.std.specs.Bool.{beq};
-ghost use Rattle.std.specs.Cmp.Lexicographic.{pointwise};
-ghost use Rattle.indexmap.specs.IndexSet.{insert_key};
-ghost use Rattle.logos_byte_class.specs.Bytes.{ranges_of};
-ghost use Rattle.logos_code.specs.Bytes.{passes_test};
-ghost use Rattle.logos_generator.specs.Nodes.{Extends, IsTest, tests_byte};
-ghost use Rattle.logos_generator.specs.Numbering.{numbered, bits_from, bit_table, bit_tables_of};
+ghost use Rattle.std.specs.Prelude.{◌≡◌, ◌+◌, ◌*◌, ◌<◌, ◌≤◌, ◌/◌, ◌∷◌, [], ℕ, Some, IfOk, OnOk, OnErr, length, slice_get, if◌then◌else◌};
+ghost use Rattle.logos_generator.specs.Words.{beq, pointwise, insert_key, ranges_of, passes_test, Extends, IsTest, tests_byte, numbered, bits_from, bit_table, bit_tables_of};
 
 use indexmap::IndexSet;
 use logos_byte_class::byte_class::ByteClass;

@@ -1,13 +1,12 @@
 //! Distinguishes two states of a graph by bytes.
 ghost use Rattle.std.specs.Prelude.{◌≡◌, ◌≢◌, ◌<◌, ◌↔◌, [], IsTrue, IfOk, length};
-ghost use Rattle.logos_graph.specs.Graph.{Distinguishes};
-ghost use Rattle.logos_graph.specs.Least.{IsEvidence};
+ghost use Rattle.logos_graph.specs.Words.{Distinguishes, IsEvidence};
 
 use super::{Graph, State};
 use logos_token::error::Memory;
 use std::alloc::Global;
 
-/// Bytes that distinguish two states: they lead to states of different types, or can be followed from just one of the two.
+/// Bytes that distinguish two states: they lead to states of different types, or can be followed from exactly one of the two.
 #[derive(Debug, Drop)]
 pub struct Telling {
     pub bytes: Vec<u8>,

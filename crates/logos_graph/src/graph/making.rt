@@ -1,14 +1,7 @@
 //! Makes the graph of leaves.
 ghost use Rattle.std.specs.Prelude.{◌≡◌, ◌^◌, ◌<◌, ◌≤◌, [], IfOk, IfErr, length, map};
-ghost use Rattle.logos_automaton.specs.DfaView.{dfa_of};
-ghost use Rattle.logos_automaton.specs.Faults.{AreFaults, AllStart};
-ghost use Rattle.logos_automaton.specs.Errors.{fault_of};
+ghost use Rattle.logos_graph.specs.Words.{dfa_of, AreFaults, AllStart, fault_of, IsGraphOf, AreFindings, Refuses, size_of, rules_of, IsTotal, ReadsOneByteLate, Memory, LimitSize};
 ghost use Rattle.logos_automaton.specs.View as views;
-ghost use Rattle.logos_graph.specs.GraphOf.{IsGraphOf, AreFindings, Refuses};
-ghost use Rattle.logos_automaton.specs.Measures.{size_of};
-ghost use Rattle.logos_graph.specs.View.{rules_of};
-ghost use Rattle.logos_automaton.specs.Automaton.{IsTotal, ReadsOneByteLate};
-ghost use Rattle.logos_automaton.specs.declared.errors.BuildError.TheVariants.{Memory, LimitSize};
 
 use super::reduction::least_table;
 use super::{BuildError, Config, Graph, GraphError};

@@ -1,6 +1,6 @@
 //! Prints states and graphs.
 ghost use Rattle.std.specs.Prelude.{◌≡◌, ◌++◌, Some, IfOk, codes, string_bytes};
-ghost use Rattle.std.specs.Fmt.{decimal};
+ghost use Rattle.logos_graph.specs.Words.{decimal};
 
 use super::{State, StateData, StateType};
 use logos_token::error::Memory;

@@ -1,17 +1,6 @@
 //! Reduces the table of an automaton, and states what that means for its graph.
 ghost use Rattle.std.specs.Prelude.{◌<◌, ℕ, IfOk, Bool, List};
-ghost use Rattle.logos_reduce.specs.Raw.{IsRaw};
-ghost use Rattle.logos_reduce.specs.Table.{size, mark, type_of, edges};
-ghost use Rattle.logos_reduce.specs.History.{GivesEvidence};
-ghost use Rattle.logos_graph.specs.FinishedGraph.{NamesLeaves, IsFit};
-ghost use Rattle.logos_graph.specs.Found.{FindsTheLongest};
-ghost use Rattle.logos_graph.specs.Graph.{GraphState};
-ghost use Rattle.logos_graph.specs.Least.{IsLeast};
-ghost use Rattle.logos_automaton.specs.Munch.{Rule};
-ghost use Rattle.logos_graph.specs.ReduceShown.{Shows};
-ghost use Rattle.logos_graph.specs.Reduced.{IsReduced};
-ghost use Rattle.logos_automaton.specs.Faults.{AllStart};
-ghost use Rattle.logos_graph.specs.inside.Walk.{MarksOneByteLate};
+ghost use Rattle.logos_graph.specs.Words.{IsRaw, size, mark, type_of, edges, GivesEvidence, NamesLeaves, IsFit, FindsTheLongest, GraphState, IsLeast, Rule, Shows, IsReduced, AllStart, MarksOneByteLate};
 
 use logos_reduce::reduction::{Reduction, reduce};
 use logos_reduce::table::Table;

@@ -1,17 +1,7 @@
 //! Makes the states of a graph from its table.
-ghost use Rattle.std.specs.Prelude.{◌≡◌, ◌≢◌, ℕ, ◌<◌, ◌≤◌, ◌++◌, ◌∷◌, [], IsTrue, IsFalse};
-ghost use Rattle.std.specs.Prelude.{IfOk, OnOk, length, map, option_map, slice_index};
-ghost use Rattle.std.specs.List.{All};
-ghost use Rattle.logos_graph.specs.Backward.{HaveBackward};
-ghost use Rattle.logos_byte_class.specs.Bytes.{bounds};
-ghost use Rattle.logos_graph.specs.FinishedGraph.{AreNeat, IsFit, IsFinished};
-ghost use Rattle.logos_graph.specs.GraphView.{edge_of, graph_state_of, leaf_number};
-ghost use Rattle.logos_graph.specs.GraphView.{state_number, state_type_of};
-ghost use Rattle.logos_places.specs.Marks.{IsRising, IsFirstFrom};
-ghost use Rattle.logos_graph.specs.ReduceShown.{Shows};
-ghost use Rattle.logos_graph.specs.inside.States.{targets, with_range, with_run, AreEdgesOf, IsStateOf};
-ghost use Rattle.logos_reduce.specs.Table.{size, to, mark, type_of};
-ghost use Rattle.logos_reduce.specs.Rows.{target_by};
+ghost use Rattle.std.specs.Prelude.{◌≡◌, ◌≢◌, ℕ, ◌<◌, ◌≤◌, ◌++◌, ◌∷◌, [], IsTrue, IsFalse, IfOk, OnOk, length, map, option_map, slice_index};
+ghost use Rattle.logos_graph.specs.Words.{All, bounds, AreNeat, IsFit, IsFinished, IsRising, IsFirstFrom, Shows, size, to, mark, type_of, target_by};
+ghost use Rattle.logos_graph.specs.Views.{HaveBackward, edge_of, graph_state_of, leaf_number, state_number, state_type_of, targets, with_range, with_run, AreEdgesOf, IsStateOf};
 
 use super::{State, StateData, StateType};
 use logos_byte_class::byte_class::ByteClass;

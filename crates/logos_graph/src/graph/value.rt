@@ -1,16 +1,7 @@
 //! Graphs, and the calls on them.
-ghost use Rattle.std.specs.Prelude.{◌≡◌, ◌≢◌, ℕ, ◌-◌, ◌<◌, ◌↔◌, [], IsTrue, IfOk};
-ghost use Rattle.std.specs.Prelude.{Some, length, map, slice_get, string_bytes};
-ghost use Rattle.std.specs.List.{range_with_len};
-ghost use Rattle.logos_automaton.specs.DfaView.{dfa_of};
-ghost use Rattle.logos_automaton.specs.Errors.{fault_of};
-ghost use Rattle.logos_graph.specs.Backward.{AreBackward};
-ghost use Rattle.logos_graph.specs.FinishedGraph.{IsFit, IsFinished};
-ghost use Rattle.logos_graph.specs.GraphView.{graph_state_of, state_number};
-ghost use Rattle.logos_graph.specs.Mermaid.{mermaid_of};
-ghost use Rattle.logos_graph.specs.ReduceShown.{Shows};
-ghost use Rattle.logos_graph.specs.StatesView.{states_left};
-ghost use Rattle.logos_reduce.specs.History.{GivesEvidence};
+ghost use Rattle.std.specs.Prelude.{◌≡◌, ◌≢◌, ℕ, ◌-◌, ◌<◌, ◌↔◌, [], IsTrue, IfOk, Some, length, map, slice_get, string_bytes};
+ghost use Rattle.logos_graph.specs.Words.{range_with_len, dfa_of, fault_of, IsFit, IsFinished, mermaid_of, Shows, GivesEvidence};
+ghost use Rattle.logos_graph.specs.Views.{AreBackward, graph_state_of, state_number, states_left};
 
 use super::mermaid::chart;
 use super::printing::Listing;
@@ -43,12 +34,10 @@ pub struct States {
 }
 
 impl<'s> Model for Graph<'s> {
-    ghost use Rattle.std.specs.Coded.{codes};
+    ghost use Rattle.std.specs.Prelude.{[]};
+    ghost use Rattle.logos_graph.specs.Words.{codes, named, GraphValue};
     ghost use Rattle.logos_hir.specs.contracts.hir.Hir as e;
     ghost use Rattle.logos_type.specs.contracts.type_expr.Part as p;
-    ghost use Rattle.std.specs.Prelude.{[]};
-    ghost use mir.Syntax.{named};
-    ghost use Rattle.logos_graph.specs.View.{GraphValue};
 
     ghost Value = { GraphValue };
 
@@ -58,7 +47,7 @@ impl<'s> Model for Graph<'s> {
       (p.the_row (record { mir = named 1; lft = [] })).coded,
     ) };
 
-    ghost use Rattle.logos_graph.specs.GraphInside.{value_of, IsConsistent};
+    ghost use Rattle.logos_graph.specs.Views.{value_of, IsConsistent};
 
     ghost view = { value_of };
 
@@ -136,6 +125,7 @@ impl Graph<'_> {
         ensures finished { self.now.faults ≡ [] →
             IsFinished self.now.states (length self.now.leaves) }
     {
+        // A read of a field brings the invariant of the type into the proof.
         let _ = &self.states;
         State(0)
     }
@@ -225,9 +215,8 @@ impl fmt::Display for Graph<'_> {
 impl Iterator for States {
     type Item = State;
 
-    ghost use Rattle.std.specs.Iterator.{YieldsFirstBy, item_count};
-    ghost use Rattle.logos_graph.specs.GraphView.{state_number};
-    ghost use Rattle.logos_graph.specs.StatesView.{states_left};
+    ghost use Rattle.logos_graph.specs.Words.{YieldsFirstBy, item_count};
+    ghost use Rattle.logos_graph.specs.Views.{state_number, states_left};
 
     ghost next_gives = { YieldsFirstBy state_number states_left };
 

@@ -6,6 +6,7 @@ use Rattle.logos_hir.specs.Sets.{Set}
 use Rattle.logos_hir.specs.RangeSets.{set_of}
 use Rattle.logos_hir.specs.Operands.{selection}
 
--- of each character of a set, and of each that it lacks, the effect says what the function makes of it
+-- Of each character of a set, and of each that it lacks, the effect says what the function makes of
+-- it.
 abbrev pub Makes : Effect → (Set → Set) → Type 0
 Makes effect f = (before : Set) (c : ℕ) → scalar c ≡ true → f before c ≡ selection before (set_of effect.inside) (set_of effect.outside) c

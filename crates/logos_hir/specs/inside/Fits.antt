@@ -5,10 +5,10 @@ use Rattle.logos_hir.specs.declared.build.branches.Fits.{Fits}
 use Rattle.logos_hir.specs.Tree.{Tree}
 use Rattle.logos_hir.specs.Build.{char_ranges_of, byte_ranges_of}
 
--- each tree has such ranges
+-- Each tree has such ranges.
 abbrev pub all_have : (Tree → Option (List (ℕ × ℕ))) → List Tree → Bool
 all_have ranges_of ts = list_all (λ t. is_some (ranges_of t)) ts
 
--- the classes that the branches fit
+-- The classes that the branches fit.
 abbrev pub fits_of : List Tree → Fits
 fits_of ts = record { chars = all_have char_ranges_of ts; bytes = all_have byte_ranges_of ts }

@@ -3,14 +3,14 @@ use Rattle.std.specs.Prelude.{ℕ, ◌+◌, ◌-◌, ◌&&◌, ◌==◌, nat_le,
 use Rattle.std.specs.List.{list_any}
 use Rattle.logos_hir.specs.Sets.{Set}
 
--- some pair ends with the number
+-- Some pair ends with the number.
 abbrev pub in_values : List (ℕ × ℕ) → Set
 in_values table c = list_any (λ p. p.1 == c) table
 
--- some pair leads from a member to the number
+-- Some pair leads from a member to the number.
 abbrev pub in_image : List (ℕ × ℕ) → Set → Set
 in_image table set c = list_any (λ p. set p.0 && (p.1 == c)) table
 
--- the members from the first to the last one, moved so that the first becomes another
+-- The members from the first to the last one, moved so that the first becomes another.
 abbrev pub shift : ℕ → ℕ → ℕ → Set → Set
 shift first last to set c = (nat_le to c && nat_le c (to + (last - first))) && set (c - to + first)

@@ -4,31 +4,31 @@ use Rattle.std.specs.List.{list_all}
 use lib.Utf8.{scalar}
 use Rattle.logos_hir.specs.Sets.{Set, next, is_range, in_ranges}
 
--- a character, or the number after the last one
+-- A character, or the number after the last one.
 abbrev pub IsPlace : ℕ → Type 0
 IsPlace c = (scalar c || (c == 0x11_0000)) ≡ true
 
--- each is a range of characters, in any order
+-- Each is a range of characters, in any order.
 abbrev pub AreRanges : List (ℕ × ℕ) → Type 0
 AreRanges ranges = list_all is_range ranges ≡ true
 
--- the least number that a further range may start at, after ranges that start at n or after it
+-- The least number that a further range may start at, after ranges that start at n or after it.
 abbrev pub free_from : ℕ → List (ℕ × ℕ) → ℕ
 free_from n [] = n
 free_from n (r ∷ rest) = free_from (next r.1 + 1) rest
 
--- the numbers from the first one up to the end, which is left out, and up to the last one
+-- The numbers from the first one up to the end, which is left out, and up to the last one.
 abbrev pub in_gap : ℕ → ℕ → ℕ → Set
 in_gap first end last c = nat_le first c && (nat_lt c end && nat_le c last)
 
--- the numbers in the new ranges are those in the old ones, and those of the set
+-- The numbers in the new ranges are those in the old ones, and those of the set.
 abbrev pub Adds : List (ℕ × ℕ) → List (ℕ × ℕ) → Set → Type 0
 Adds old new set = (c : ℕ) → in_ranges new c ≡ (in_ranges old c || set c)
 
--- the characters in the new ranges are those in the old ones, and those of the set
+-- The characters in the new ranges are those in the old ones, and those of the set.
 abbrev pub AddsCharacters : List (ℕ × ℕ) → List (ℕ × ℕ) → Set → Type 0
 AddsCharacters old new set = (c : ℕ) → scalar c ≡ true → in_ranges new c ≡ (in_ranges old c || set c)
 
--- the characters in the ranges are those of the set
+-- The characters in the ranges are those of the set.
 abbrev pub HasCharacters : List (ℕ × ℕ) → Set → Type 0
 HasCharacters ranges set = (c : ℕ) → scalar c ≡ true → in_ranges ranges c ≡ set c

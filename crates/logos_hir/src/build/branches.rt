@@ -1,14 +1,9 @@
-//! Builders of alternations, which flatten them and make classes of them.
+//! Builders of alternations, which flatten them and make classes of them. Only the simplifier calls
+//! them.
 
-ghost use Rattle.std.specs.Prelude.{◌≡◌, ◌≤◌, ◌++◌, ◌∷◌, [], map, length, take, drop, Option};
-ghost use Rattle.std.specs.Prelude.{option_map, is_some, ◌&&◌, true, false, IfOk, OnOk};
-ghost use Rattle.std.specs.Str.{chars};
-ghost use Rattle.logos_hir.specs.Hir.{pairs, tree_of, class_tree};
-ghost use Rattle.logos_hir.specs.Build.{sole_char, char_ranges_of, byte_ranges_of, all_ranges};
-ghost use Rattle.logos_hir.specs.Build.{branches_of, bytes_or, chars_or, choice_of, alternation_of};
-ghost use Rattle.logos_hir.specs.Simplest.{IsSimplest};
-ghost use Rattle.logos_hir.specs.inside.BuildSteps.{IsAdded, IsFlatAlone};
-ghost use Rattle.logos_hir.specs.inside.Fits.{fits_of};
+ghost use Rattle.std.specs.Prelude.{◌≡◌, ◌≤◌, ◌++◌, ◌∷◌, [], map, length, take, drop, Option, option_map, is_some, ◌&&◌, true, false, IfOk, OnOk};
+ghost use Rattle.logos_hir.specs.Words.{chars};
+ghost use Rattle.logos_hir.specs.Views.{pairs, tree_of, class_tree, sole_char, char_ranges_of, byte_ranges_of, all_ranges, branches_of, bytes_or, chars_or, choice_of, alternation_of, IsSimplest, IsAdded, IsFlatAlone, fits_of};
 
 use super::{byte_class, char_class};
 use crate::hir::{Class, Hir, Range};
@@ -36,7 +31,8 @@ fn characters(alloc: Global, text: &str) -> Result<Vec<char>, AllocError>
     text.chars().collect(alloc)
 }
 
-/// Adds the ranges of a class of characters, or of a literal of one character. Returns whether the branch is one of these.
+/// Adds the ranges of a class of characters, or of a literal of one character. Returns whether the
+/// branch is one of these.
 fn push_char_ranges(out: &mut Vec<Range>, branch: &Hir) -> Result<bool, AllocError>
     ensures { IfOk result (λ done. IsAdded (char_ranges_of (tree_of branch.now)) done
         (pairs out.old.items) (pairs out.new.items)) }
@@ -57,7 +53,8 @@ fn push_char_ranges(out: &mut Vec<Range>, branch: &Hir) -> Result<bool, AllocErr
     }
 }
 
-/// Adds the ranges of a class of bytes, or of a literal of one byte. Returns whether the branch is one of these.
+/// Adds the ranges of a class of bytes, or of a literal of one byte. Returns whether the branch is
+/// one of these.
 fn push_byte_ranges(out: &mut Vec<Range>, branch: &Hir) -> Result<bool, AllocError>
     ensures { IfOk result (λ done. IsAdded (byte_ranges_of (tree_of branch.now)) done
         (pairs out.old.items) (pairs out.new.items)) }
@@ -106,7 +103,8 @@ fn byte_ranges(alloc: Global, branches: &[Hir]) -> Result<Option<Vec<Range>>, Al
     Ok(Some(out))
 }
 
-/// Adds branches after the others. Where there are no others yet, the vector of the branches is taken over as it is.
+/// Adds branches after the others. Where there are no others yet, the vector of the branches is
+/// taken over as it is.
 fn push_branches(branches: &mut Vec<Hir>, mut inner: Vec<Hir>) -> Result<(), AllocError>
     ensures { OnOk result (map tree_of branches.new.items ≡
         map tree_of branches.old.items ++ map tree_of inner.items) }
@@ -141,7 +139,8 @@ fn bytes_or(alloc: Global, branches: Vec<Hir>) -> Result<Hir, AllocError>
     }
 }
 
-/// Makes a class of characters if each branch fits one, else a class of bytes or an alternation of the branches.
+/// Makes a class of characters if each branch fits one, else a class of bytes or an alternation of
+/// the branches.
 fn chars_or(alloc: Global, branches: Vec<Hir>) -> Result<Hir, AllocError>
     ensures { IfOk result (λ hir. tree_of hir ≡
         chars_or (map tree_of branches.items)
@@ -153,8 +152,8 @@ fn chars_or(alloc: Global, branches: Vec<Hir>) -> Result<Hir, AllocError>
     }
 }
 
-/// Makes an alternation of branches that are not alternations themselves. One branch is itself, and branches that fit a class
-/// become it.
+/// Makes an alternation of branches that are not alternations themselves. One branch is itself, and
+/// branches that fit a class become it.
 pub(crate) fn choice(mut branches: Vec<Hir>) -> Result<Hir, AllocError>
     ensures { IfOk result (λ hir. tree_of hir ≡ choice_of (map tree_of branches.items)) }
 {
@@ -168,11 +167,13 @@ pub(crate) fn choice(mut branches: Vec<Hir>) -> Result<Hir, AllocError>
     }
 }
 
-/// Makes an alternation in its simplest form: branches of alternations inside it become its own, one branch is itself, characters
-/// alone become a class of characters, and bytes alone a class of bytes.
+/// Makes an alternation in its simplest form: branches of alternations inside it become its own,
+/// one branch is itself, characters alone become a class of characters, and bytes alone a class of
+/// bytes.
 ///
 /// # Errors
-/// Returns `AllocError` when memory runs out.
+///
+/// Returns `AllocError` if memory runs out.
 pub fn alternation(all: Vec<Hir>) -> Result<Hir, AllocError>
     ensures { IfOk result (λ hir. tree_of hir ≡ alternation_of (map tree_of all.items)) }
 {
@@ -247,8 +248,9 @@ fn fits_of_class(class: &Class) -> Fits
     }
 }
 
-/// Returns which classes fit the branches that a tree in its simplest form brings into an alternation. The branches of an alternation
-/// fit no class, since otherwise it would be that class.
+/// Returns which classes fit the branches that a tree in its simplest form brings into an
+/// alternation. The branches of an alternation fit no class, since otherwise it would be that
+/// class.
 fn fits_of(branch: &Hir) -> Fits
     requires { IsSimplest (tree_of branch.now) }
     ensures { result ≡ fits_of (branches_of (tree_of branch.now)) }
@@ -266,7 +268,8 @@ fn fits_of(branch: &Hir) -> Fits
     }
 }
 
-/// Adds the branches that a tree in its simplest form brings into an alternation. Returns which classes they fit.
+/// Adds the branches that a tree in its simplest form brings into an alternation. Returns which
+/// classes they fit.
 pub(crate) fn push_fitting(branches: &mut Vec<Hir>, branch: Hir) -> Result<Fits, AllocError>
     requires { IsSimplest (tree_of branch) }
     ensures items { OnOk result (map tree_of branches.new.items ≡
@@ -278,8 +281,8 @@ pub(crate) fn push_fitting(branches: &mut Vec<Hir>, branch: Hir) -> Result<Fits,
     Ok(fits)
 }
 
-/// Replaces the branches from `from` on with one class, if they fit one. Returns which classes the branches from there on fit
-/// afterwards.
+/// Replaces the branches from `from` on with one class, if they fit one. Returns which classes the
+/// branches from there on fit afterwards.
 pub(crate) fn join_class(
     alloc: Global,
     branches: &mut Vec<Hir>,

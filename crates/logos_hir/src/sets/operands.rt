@@ -1,9 +1,9 @@
-//! Operands of a bracket, each with the operator in front of it.
+//! Operands of a bracket, each with the operator in front of it. The reader of brackets puts each
+//! operand on one.
 
 ghost use Rattle.std.specs.Prelude.{◌≡◌, false, IfOk, OnOk};
-ghost use Rattle.logos_hir.specs.Sets.{Set};
-ghost use Rattle.logos_hir.specs.RangeSets.{set_of};
-ghost use Rattle.logos_hir.specs.Operands.{combination, selection, effects_on};
+ghost use Rattle.logos_hir.specs.Words.{Set};
+ghost use Rattle.logos_hir.specs.Views.{set_of, combination, selection, effects_on};
 
 use crate::sets::RangeSet;
 use std::alloc::{AllocError, Global};
@@ -19,7 +19,7 @@ pub enum SetOperator {
     SymmetricDifference,
 }
 
-/// Two sets, by the operator between them.
+/// Combines two sets by the operator between them.
 pub fn combination(op: SetOperator, a: &RangeSet, b: &RangeSet) -> Result<RangeSet, AllocError>
     ensures { IfOk result (λ set. set_of set ≡ combination op (set_of a.now) (set_of b.now)) }
 {
@@ -38,21 +38,21 @@ pub struct Effect {
     inside: RangeSet,
 }
 
-/// The set without members.
+/// Returns the set without members.
 fn nothing(alloc: Global) -> Result<RangeSet, AllocError>
     ensures { IfOk result (λ set. set_of set ≡ (λ c. false)) }
 {
     RangeSet::from_ranges(alloc, &[])
 }
 
-/// A set with the same members.
+/// Returns a set with the same members.
 fn copy(alloc: Global, set: &RangeSet) -> Result<RangeSet, AllocError>
     ensures { IfOk result (λ out. set_of out ≡ set_of set.now) }
 {
     RangeSet::from_ranges(alloc, set.ranges())
 }
 
-/// The members of `inside` that are in the test, and those of `outside` that are not.
+/// Returns the members of `inside` that are in the test, and those of `outside` that are not.
 fn selection(test: &RangeSet, inside: &RangeSet, outside: &RangeSet) -> Result<RangeSet, AllocError>
     ensures { IfOk result (λ set. set_of set ≡ selection (set_of test.now) (set_of inside.now)
         (set_of outside.now)) }
@@ -62,9 +62,7 @@ fn selection(test: &RangeSet, inside: &RangeSet, outside: &RangeSet) -> Result<R
 
 impl Effect {
     ghost use Rattle.std.specs.Prelude.{◌≡◌, IfOk};
-    ghost use Rattle.logos_hir.specs.RangeSets.{set_of};
-    ghost use Rattle.logos_hir.specs.Operands.{combination, with_operand, selection};
-    ghost use Rattle.logos_hir.specs.inside.Effects.{Makes};
+    ghost use Rattle.logos_hir.specs.Views.{set_of, combination, with_operand, selection, Makes};
 
     /// Returns the effect of an operand after an operator.
     fn after_operator(alloc: Global, op: SetOperator, set: &RangeSet) -> Result<Effect, AllocError>
@@ -87,7 +85,7 @@ impl Effect {
         }
     }
 
-    /// The effect of one operand.
+    /// Returns the effect of one operand.
     fn of(
         alloc: Global,
         operator: Option<SetOperator>,
@@ -105,7 +103,7 @@ impl Effect {
         }
     }
 
-    /// The effect of these operands, and then of others.
+    /// Returns the effect of these operands, and then of others.
     fn then(&self, other: &Effect) -> Result<Effect, AllocError>
         ensures outside { IfOk result (λ effect. set_of effect.outside ≡
             selection (set_of self.now.outside) (set_of other.now.inside)
@@ -137,8 +135,8 @@ fn push_effect(effects: &mut Vec<Effect>, count: usize, effect: Effect) -> Resul
     }
 }
 
-/// The operands so far. They are put together as they come, so that each range is gone over as often
-/// as the operands can be halved, and few effects wait.
+/// The operands so far. They are put together as they come, so that each range is gone over as
+/// often as the operands can be halved, and few effects wait.
 #[derive(Drop)]
 pub struct OperandRuns {
     /// One for each binary digit 1 of the number of operands, of so many of them.
@@ -148,10 +146,9 @@ pub struct OperandRuns {
 
 impl OperandRuns {
     ghost use Rattle.std.specs.Prelude.{◌≡◌, false, IfOk, OnOk};
-    ghost use Rattle.logos_hir.specs.RangeSets.{set_of};
-    ghost use Rattle.logos_hir.specs.Operands.{with_operand, made_by};
+    ghost use Rattle.logos_hir.specs.Views.{set_of, with_operand, made_by};
 
-    /// No operand.
+    /// Returns no operand.
     pub fn new(alloc: Global) -> OperandRuns
         ensures { made_by result ≡ (λ c. false) }
     {
@@ -178,7 +175,7 @@ impl OperandRuns {
         Ok(())
     }
 
-    /// The set that the operands make, from the left.
+    /// Returns the set that the operands make, from the left.
     pub fn set(&self, alloc: Global) -> Result<RangeSet, AllocError>
         ensures { IfOk result (λ set. set_of set ≡ made_by self.now) }
     {

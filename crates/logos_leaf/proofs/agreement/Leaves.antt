@@ -5,7 +5,7 @@ use Rattle.logos_token.specs.Faults.{Fault}
 use Rattle.logos_type.specs.Parts.{Tree as TypeTree}
 use Rattle.logos_hir.specs.Hir.{literal_tree}
 use Rattle.logos_hir.specs.Tree.{Tree}
-use Rattle.logos_item.specs.Values.{Slice, ident_slice}
+use Rattle.logos_enum.specs.Values.{Slice, ident_slice}
 use Rattle.logos_pattern.specs.Leaf.{KindValue, plain, holding, skipped}
 use Rattle.logos_attribute.specs.Reports.{Report, with_faults, without_faults, map_report}
 use Rattle.logos_definition.specs.Definitions.{DefinitionView}

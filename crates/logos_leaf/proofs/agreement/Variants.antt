@@ -10,9 +10,9 @@ use Rattle.logos_token.specs.Tokens.{TokenList}
 use Rattle.logos_token.specs.declared.token.Ident.{Ident}
 use Rattle.logos_type.specs.Parts.{Tree as TypeTree}
 use Rattle.logos_type_params.specs.Substitution.{Params, given}
-use Rattle.logos_item.specs.AttributeValues.{AttributeValue, SplitAttribute, attribute_in}
-use Rattle.logos_item.specs.EnumValues.{FieldsValue, VariantValue}
-use Rattle.logos_item.specs.Values.{ident_slice}
+use Rattle.logos_enum.specs.AttributeValues.{AttributeValue, SplitAttribute, attribute_in}
+use Rattle.logos_enum.specs.EnumValues.{FieldsValue, VariantValue}
+use Rattle.logos_enum.specs.Values.{ident_slice}
 use Rattle.logos_pattern.specs.Leaf.{KindValue, skipped}
 use Rattle.logos_attribute.specs.Reports.{IsReport}
 use Rattle.logos_definition.specs.Attributes.{meta_report}

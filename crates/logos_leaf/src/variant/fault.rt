@@ -1,9 +1,7 @@
 //! The faults of variants and of the attributes on them. Each function reports one.
+
 ghost use Rattle.std.specs.Prelude.{◌≡◌, ◌++◌, IfOk, OnOk, string_bytes};
-ghost use Rattle.logos_attribute.specs.Reports.{AddsFault};
-ghost use Rattle.logos_leaf.specs.VariantFaults.{fields_text, variant_fields, count_faults};
-ghost use Rattle.logos_leaf.specs.VariantFaults.{named_fields, error_variant};
-ghost use Rattle.logos_leaf.specs.VariantFaults.{token_form, regex_form};
+ghost use Rattle.logos_leaf.specs.Words.{AddsFault, fields_text, variant_fields, count_faults, named_fields, error_variant, token_form, regex_form};
 
 use logos_token::error::{Errors, FaultCode, Memory};
 use logos_token::token::Span;
@@ -31,7 +29,8 @@ pub(super) fn report_variant_fields(
     errors.err(FaultCode::VariantFields, text.as_str(), span)
 }
 
-/// Reports a variant with `count` fields in the parentheses with this span, unless it has one field.
+/// Reports a variant with `count` fields in the parentheses with this span, unless it has one
+/// field.
 pub(super) fn report_count(count: usize, span: Span, errors: &mut Errors) -> Result<(), Memory>
     ensures { OnOk result (errors.new ≡ errors.old ++ count_faults count span) }
 {

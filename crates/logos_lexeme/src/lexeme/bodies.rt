@@ -1,12 +1,9 @@
-//! Checks the contents of literals and reads the pieces of strings.
+//! Checks the contents of literals and reads the pieces of strings. The ends of literals are tested
+//! here once they are found, and `logos_token` reads the values of literals with it.
 
 ghost use Rattle.std.specs.Prelude.{◌≡◌, ℕ, ◌+◌, ◌^◌, ◌<◌, ◌≤◌, ◌↔◌, ◌==◌, ◌||◌, Bool, true, List, IsTrue, IsFalse, length, slice_index, slice_range, MatchOption};
-ghost use Rattle.std.specs.Char.{digit_value};
-ghost use Rattle.logos_lexeme.specs.LexemeRuns.{IsFirst, Steps};
-ghost use Rattle.logos_lexeme.specs.LexemeEnds.{Ends};
-ghost use Rattle.logos_lexeme.specs.LiteralBodies.{is_simple, simple_value, is_hex, hex_value, greatest_of, digits_between, is_blank, BreaksLine, IsEscape, IsHexEscape, IsUnicodeEscape, IsAllowed, Says, IsPiece, IsCharacterPiece, IsSound};
-ghost use Rattle.logos_lexeme.specs.LiteralBodies.{bytes_of};
-ghost use Rattle.logos_lexeme.specs.inside.LiteralReads.{ReadsByte, IsPlain};
+ghost use Rattle.logos_lexeme.specs.Words.{digit_value, IsFirst, Steps};
+ghost use Rattle.logos_lexeme.specs.Views.{Ends, is_simple, simple_value, is_hex, hex_value, greatest_of, digits_between, is_blank, BreaksLine, IsEscape, IsHexEscape, IsUnicodeEscape, IsAllowed, StandsFor, IsPiece, IsCharacterPiece, IsSound, bytes_of, ReadsByte, IsPlain};
 
 use crate::lexeme::characters::byte_at;
 use crate::lexeme::ends::prefix_of;
@@ -279,8 +276,8 @@ fn plain_at(source: &str, content: Content, at: usize) -> Option<(Piece, usize)>
 pub fn piece_at(source: &str, escapes: bool, content: Content, at: usize) -> Option<(Piece, usize)>
     requires { at ≤ length source.now }
     ensures { MatchOption result
-        ((next : ℕ) (held : List ℕ) → Says escapes content source.now at next held → ⊥)
-        (λ found. Says escapes content source.now at found.1 (bytes_of found.0)) }
+        ((next : ℕ) (held : List ℕ) → StandsFor escapes content source.now at next held → ⊥)
+        (λ found. StandsFor escapes content source.now at found.1 (bytes_of found.0)) }
 {
     if !escapes {
         return plain_at(source, content, at);

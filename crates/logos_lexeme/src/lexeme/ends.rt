@@ -1,12 +1,9 @@
-//! Finds the end of the lexeme or gap that opens at a byte offset.
+//! Finds the end of the lexeme or gap that opens at a byte offset. `lexeme_at` asks it once the
+//! opening is known.
 
 ghost use Rattle.std.specs.Prelude.{◌≡◌, ◌≢◌, ℕ, ◌+◌, ◌-◌, ◌<◌, ◌≤◌, ◌↔◌, length, slice_index, MatchOption, IsTrue};
-ghost use Rattle.std.specs.Str.{IsCharBoundary};
-ghost use Rattle.logos_lexeme.specs.LexemeCharacters.{past, is_space, is_continuing};
-ghost use Rattle.logos_lexeme.specs.LexemeRuns.{Run, IsFirst, Passes};
-ghost use Rattle.logos_lexeme.specs.LexemeOpenings.{opening_at, prefix_of};
-ghost use Rattle.logos_lexeme.specs.LexemeEnds.{IsLineEnd, Closes, IsName, IsSuffix, has_base, GoesOn, ReachesQuote, IsRawEnd, IsQuoted, IsRaw, Ends};
-ghost use Rattle.logos_lexeme.specs.inside.CommentReads.{IsOnward};
+ghost use Rattle.logos_lexeme.specs.Words.{IsCharBoundary, past, is_space, is_continuing, Run, IsFirst, Passes};
+ghost use Rattle.logos_lexeme.specs.Views.{opening_at, prefix_of, IsLineEnd, Closes, IsName, IsSuffix, has_base, GoesOn, ReachesQuote, IsRawEnd, IsQuoted, IsRaw, Ends, IsOnward};
 
 use crate::lexeme::characters::{byte_at, char_at, is_continuing, is_space, past};
 use crate::lexeme::openings::{Content, Opening, name_at};

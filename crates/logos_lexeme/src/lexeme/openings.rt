@@ -1,9 +1,8 @@
-//! Classifies what opens at a byte offset of a source text.
+//! Classifies what opens at a byte offset of a source text. `lexeme_at` asks it first.
 
 ghost use Rattle.std.specs.Prelude.{◌≡◌, ◌+◌, ◌<◌, ◌≤◌, min, length, slice_index};
-ghost use Rattle.std.specs.Char.{is_ascii_digit};
-ghost use Rattle.std.specs.Str.{IsCharBoundary};
-ghost use Rattle.logos_lexeme.specs.LexemeOpenings.{hashes, raw_opening, string_opening, character_opening, bytes_opening, literal_opening, line_kind, block_kind, comment_opening, name_at, spacing, delimiter_kind, single_kind, other_opening, follows_apostrophe, is_lifetime_name, literal_at, opening_at, kind_of};
+ghost use Rattle.logos_lexeme.specs.Words.{is_ascii_digit, IsCharBoundary};
+ghost use Rattle.logos_lexeme.specs.Views.{hashes, raw_opening, string_opening, character_opening, bytes_opening, literal_opening, line_kind, block_kind, comment_opening, name_at, spacing, delimiter_kind, single_kind, other_opening, follows_apostrophe, is_lifetime_name, literal_at, opening_at, kind_of};
 
 use crate::lexeme::characters::{byte_at, char_at, is_mark, is_space, is_start, past};
 use crate::lexeme::{Delimiter, Kind, Spacing};
@@ -118,7 +117,7 @@ fn bytes_opening(source: &str, at: usize) -> Option<Opening>
     string_opening(Content::Bytes, source, at)
 }
 
-/// Returns the literal that opens at a place.
+/// Returns the literal that opens at a byte offset.
 #[tactic(auto, unfolding(crate::specs::LexemeOpenings::literal_opening))]
 fn literal_opening(source: &str, at: usize) -> Option<Opening>
     requires inside { at < length source.now }
@@ -171,7 +170,7 @@ fn block_kind(source: &str, at: usize) -> Kind
     }
 }
 
-/// Returns the comment that opens at a place.
+/// Returns the comment that opens at a byte offset.
 #[tactic(auto, unfolding(crate::specs::LexemeOpenings::comment_opening))]
 fn comment_opening(source: &str, at: usize) -> Option<Opening>
     requires { at ≤ length source.now }
@@ -290,7 +289,7 @@ fn other_opening(source: &str, at: usize) -> Opening
     Opening::Nothing
 }
 
-/// Returns whether a `'` stands directly before a place.
+/// Returns whether a `'` stands directly before a byte offset.
 #[tactic(auto, unfolding(crate::specs::LexemeOpenings::follows_apostrophe))]
 fn follows_apostrophe(source: &str, at: usize) -> bool
     ensures { result ≡ follows_apostrophe source.now at }
@@ -301,7 +300,7 @@ fn follows_apostrophe(source: &str, at: usize) -> bool
     byte_at(source, at - 1) == b'\''
 }
 
-/// Returns whether the name of a lifetime begins at a place: what can begin an identifier,
+/// Returns whether the name of a lifetime begins at a byte offset: what can begin an identifier,
 /// directly after `'`.
 #[tactic(auto, unfolding(crate::specs::LexemeOpenings::is_lifetime_name))]
 fn is_lifetime_name(source: &str, at: usize) -> bool
@@ -314,7 +313,7 @@ fn is_lifetime_name(source: &str, at: usize) -> bool
     is_start(char_at(source, at))
 }
 
-/// Returns the literal that opens at a place; none opens where the name of a lifetime begins.
+/// Returns the literal that opens at a byte offset; none opens where the name of a lifetime begins.
 #[tactic(auto, unfolding(crate::specs::LexemeOpenings::literal_at))]
 fn literal_at(source: &str, at: usize) -> Option<Opening>
     requires inside { at < length source.now }
@@ -327,7 +326,7 @@ fn literal_at(source: &str, at: usize) -> Option<Opening>
     literal_opening(source, at)
 }
 
-/// Returns what opens at a place: a literal wherever one opens, else a comment, else what the
+/// Returns what opens at a byte offset: a literal wherever one opens, else a comment, else what the
 /// character can begin.
 #[tactic(auto, unfolding(crate::specs::LexemeOpenings::opening_at))]
 pub fn opening_at(source: &str, at: usize) -> Opening

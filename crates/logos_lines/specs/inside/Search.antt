@@ -2,10 +2,10 @@
 use Rattle.std.specs.Prelude.{ℕ, ◌+◌, ◌==◌, ◌&&◌, ◌||◌, not, if◌then◌else◌, Bool}
 use Rattle.logos_lines.specs.Places.{continues}
 
--- whether the search for a column ends before a character that begins with this byte
+-- Whether the search for a column ends before a character that begins with this byte.
 abbrev pub ends_search : ℕ → ℕ → ℕ → Bool
 ends_search byte reached column = not (continues byte) && ((reached == column) || (byte == 10))
 
--- the column after a byte that is not LF
+-- The column after a byte that is not LF.
 abbrev pub next_column : ℕ → ℕ → ℕ
 next_column byte column = if continues byte then column else column + 1

@@ -1,11 +1,7 @@
 //! The slow way of a try: state by state, with a note of the last mark passed.
-ghost use Rattle.std.specs.Prelude.{◌≡◌, ◌+◌, ◌-◌, ◌<◌, ◌≤◌, ℕ, max, length, slice_get, drop};
-ghost use Rattle.std.specs.Prelude.{option_map, IfSome, IsTrue, IsCharBoundary, ◌^◌, ◌↔◌};
-ghost use Rattle.logos_code.specs.CodeView.{state_at};
-ghost use Rattle.logos_code.specs.Signs.{mark_by};
-ghost use Rattle.logos_code.specs.Runs.{Does, Tries, EndsError, target, looped, marked};
-ghost use Rattle.logos_machine.specs.inside.Stands.{IsStand, StaysWithin};
-ghost use Rattle.logos_machine.specs.inside.Attempts.{context_of, stand_of, turn_of, found_of};
+ghost use Rattle.std.specs.Prelude.{◌≡◌, ◌+◌, ◌-◌, ◌<◌, ◌≤◌, ℕ, max, length, slice_get, drop, option_map, IfSome, IsTrue, IsCharBoundary, ◌^◌, ◌↔◌};
+ghost use Rattle.logos_machine.specs.Words.{state_at, mark_by, Does, Tries, EndsError, target, looped, marked, IsStand, StaysWithin};
+ghost use Rattle.logos_machine.specs.Views.{context_of, stand_of, turn_of, found_of};
 
 use super::fast_loop::stop;
 use logos_code::code::Code;

@@ -1,14 +1,13 @@
 //! Fast loops: where the bytes end that pass a test.
-ghost use Rattle.std.specs.Prelude.{◌≡◌, ◌<◌, ◌≤◌, ◌^◌, length, map, not};
-ghost use lib.Lanes.{mask_l};
-ghost use Rattle.logos_code.specs.Bytes.{passes_test};
-ghost use Rattle.logos_code.specs.Headline.{NamesTest};
-ghost use Rattle.logos_code.specs.Masks.{mask_bit};
-ghost use Rattle.logos_machine.specs.inside.Looks.{StopsAt};
+
+ghost use Rattle.std.specs.Prelude.{◌≡◌, ◌+◌, ◌/◌, ◌%◌, ◌<◌, ◌≤◌, length, map, not, slice_index};
+ghost use Rattle.logos_machine.specs.Words.{mask_l, passes_test, NamesTest};
+ghost use Rattle.logos_machine.specs.Views.{StopsAt};
 
 use logos_code::code::Code;
+use std::simd::prelude::*;
 
-/// Returns the index of the first byte from `from` on that does not pass the test, or the length of the input. Eight
+/// Returns the index of the first byte from `from` on that does not pass the test, or the length of the input. Sixteen
 /// bytes are tested at once, without a branch for each.
 #[inline(always)]
 pub(super) fn stop(code: &Code, test: usize, input: &[u8], from: usize) -> usize
@@ -16,41 +15,50 @@ pub(super) fn stop(code: &Code, test: usize, input: &[u8], from: usize) -> usize
     requires within { from ≤ length input.now }
     ensures { StopsAt code.now test input.now from result }
 {
-    let Some(block) = input[from..].first_chunk::<8>() else {
+    let Some(block) = input[from..].first_chunk::<16>() else {
         return stop_late(code, test, input, from);
     };
     let bits = stopping(code, test, block);
     if bits != 0 {
         return from + bits.trailing_zeros() as usize;
     }
-    stop_far(code, test, input, from + 8)
+    stop_far(code, test, input, from + 16)
 }
 
 /// Returns a number whose bit `k` is set if byte `k` of the block does not pass the test.
 #[inline(always)]
-fn stopping(code: &Code, test: usize, block: &[u8; 8]) -> u8
+fn stopping(code: &Code, test: usize, block: &[u8; 16]) -> u64
     requires { NamesTest code.now test }
     ensures { result ≡ mask_l (map (λ b. not (passes_test code.now.bit_tables test b)) block.now) }
 {
-    bit(code, test, block[0], 0)
-        + bit(code, test, block[1], 1)
-        + bit(code, test, block[2], 2)
-        + bit(code, test, block[3], 3)
-        + bit(code, test, block[4], 4)
-        + bit(code, test, block[5], 5)
-        + bit(code, test, block[6], 6)
-        + bit(code, test, block[7], 7)
+    let bytes = u8x16::from_array(*block);
+    let mask = code.mask(test);
+    let near = by_low(mask, 0, bytes) & by_high(NEAR, bytes);
+    let far = by_low(mask, 16, bytes) & by_high(FAR, bytes);
+    (near | far).simd_eq(u8x16::splat(0)).to_bitmask()
 }
 
-/// Returns bit `k` alone if the byte does not pass the test, and else 0.
+/// For the upper half of a byte below 128: the number that has this bit alone. For the others: 0.
+const NEAR: [u8; 16] = [1, 2, 4, 8, 16, 32, 64, 128, 0, 0, 0, 0, 0, 0, 0, 0];
+
+/// For the upper half of a byte from 128 on: the number that has the bit alone whose place is 8 less. For the others: 0.
+const FAR: [u8; 16] = [0, 0, 0, 0, 0, 0, 0, 0, 1, 2, 4, 8, 16, 32, 64, 128];
+
+/// Looks up the lower half of each byte in the sixteen entries of a mask from a place on.
 #[inline(always)]
-fn bit(code: &Code, test: usize, byte: u8, k: usize) -> u8
-    requires test { NamesTest code.now test }
-    requires place { k < 8 }
-    ensures is { result ≡ mask_bit (passes_test code.now.bit_tables test byte) k }
-    ensures small { result ≤ 2 ^ k }
+fn by_low(mask: &[u8; 32], at: usize, bytes: u8x16) -> u8x16
+    requires { at ≤ 16 }
+    ensures { result ≡ map (λ b. slice_index mask.now (at + b % 16)) bytes }
 {
-    code.mask(test)[8 * byte as usize + k]
+    u8x16::from_slice(&mask[at..]).swizzle_dyn_within::<16>(bytes & u8x16::splat(15))
+}
+
+/// Looks up the upper half of each byte.
+#[inline(always)]
+fn by_high(bits: [u8; 16], bytes: u8x16) -> u8x16
+    ensures { result ≡ map (λ b. slice_index bits (b / 16)) bytes }
+{
+    u8x16::from_array(bits).swizzle_dyn_within::<16>(bytes >> u8x16::splat(4))
 }
 
 /// Does what `stop` does, where a run is long.
@@ -62,17 +70,17 @@ fn stop_far(code: &Code, test: usize, input: &[u8], from: usize) -> usize
     ensures { StopsAt code.now test input.now from result }
 {
     let mut at = from;
-    while let Some(block) = input[at..].first_chunk::<8>() {
+    while let Some(block) = input[at..].first_chunk::<16>() {
         let bits = stopping(code, test, block);
         if bits != 0 {
             return at + bits.trailing_zeros() as usize;
         }
-        at += 8;
+        at += 16;
     }
     stop_late(code, test, input, at)
 }
 
-/// Does what `stop` does, byte by byte, where fewer than eight bytes are left.
+/// Does what `stop` does, byte by byte, where fewer than sixteen bytes are left.
 #[cold]
 #[inline(never)]
 fn stop_late(code: &Code, test: usize, input: &[u8], from: usize) -> usize
@@ -81,7 +89,7 @@ fn stop_late(code: &Code, test: usize, input: &[u8], from: usize) -> usize
     ensures { StopsAt code.now test input.now from result }
 {
     let mut at = from;
-    while at < input.len() && bit(code, test, input[at], 0) == 0 {
+    while at < input.len() && code.passes_test(test, input[at]) {
         at += 1;
     }
     at

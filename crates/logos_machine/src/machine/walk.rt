@@ -1,9 +1,7 @@
 //! The fast way of a try: a look at an entry for each byte.
 ghost use Rattle.std.specs.Prelude.{◌≡◌, ◌<◌, ◌≤◌, ◌/◌, ◌%◌, length, slice_index_or};
-ghost use Rattle.logos_code.specs.CodeView.{state_at};
-ghost use Rattle.logos_code.specs.Headline.{IsSound};
-ghost use Rattle.logos_code.specs.Rows.{IsEntry, IsPlace};
-ghost use Rattle.logos_machine.specs.inside.Looks.{Reaches, LooksAhead, IsOutcome};
+ghost use Rattle.logos_machine.specs.Words.{state_at, IsSound, IsEntry, IsPlace};
+ghost use Rattle.logos_machine.specs.Views.{Reaches, LooksAhead, IsOutcome};
 
 use super::attempt::{Found, attempt_with_marks, error_end};
 use super::fast_loop::stop;

@@ -1,9 +1,7 @@
 //! The literals of patterns, with their values.
 
 ghost use Rattle.std.specs.Prelude.{◌≡◌, ◌<◌, ◌++◌, OnOk, string_bytes};
-ghost use Rattle.std.specs.List.{flat_map};
-ghost use Rattle.std.specs.Str.{chars};
-ghost use Rattle.logos_pattern.specs.Escaping.{is_metacharacter, escaped_character, upper_digit, escaped_byte, escaped_bytes};
+ghost use Rattle.logos_pattern.specs.Words.{flat_map, chars, is_metacharacter, escaped_character, upper_digit, escaped_byte, escaped_bytes};
 
 use logos_token::error::Memory;
 use logos_token::token;
@@ -76,8 +74,8 @@ fn push_text(text: &mut String, value: &str) -> Result<(), AllocError>
     Ok(())
 }
 
-/// Pushes a byte of a byte string as the text of a pattern. If `literal` holds, that pattern matches the byte
-/// alone.
+/// Pushes a byte of a byte string as the text of a pattern. If `literal` holds, that pattern
+/// matches the byte alone.
 fn push_byte(text: &mut String, literal: bool, byte: u8) -> Result<(), AllocError>
     ensures { OnOk result (string_bytes text.new ≡
         string_bytes text.old ++ escaped_byte literal byte) }
@@ -93,8 +91,8 @@ fn push_byte(text: &mut String, literal: bool, byte: u8) -> Result<(), AllocErro
     text.push(char::from(byte))
 }
 
-/// Pushes the bytes of a byte string as the text of a pattern. If `literal` holds, that pattern matches these
-/// bytes alone.
+/// Pushes the bytes of a byte string as the text of a pattern. If `literal` holds, that pattern
+/// matches these bytes alone.
 fn push_bytes(text: &mut String, literal: bool, value: &[u8]) -> Result<(), AllocError>
     ensures { OnOk result (string_bytes text.new ≡
         string_bytes text.old ++ escaped_bytes literal value.now) }
@@ -107,14 +105,15 @@ fn push_bytes(text: &mut String, literal: bool, value: &[u8]) -> Result<(), Allo
 
 impl<'s> Literal<'s> {
     ghost use Rattle.std.specs.Prelude.{◌≡◌, IfOk, IfSome, option_map, string_bytes};
-    ghost use Rattle.logos_token.specs.LiteralValues.{IsValue};
-    ghost use Rattle.logos_pattern.specs.Literals.{token_of, held_value, is_unicode, held_bytes, escaped};
+    ghost use Rattle.logos_pattern.specs.Words.{IsValue};
+    ghost use Rattle.logos_pattern.specs.Views.{token_of, held_value, is_unicode, held_bytes, escaped};
 
-    /// Reads the value of a token that is a string or a byte string. Returns `None` for any other literal. Does not
-    /// look at the token's suffix.
+    /// Reads the value of a token that is a string or a byte string. Returns `None` for any other
+    /// literal. Does not look at the token's suffix.
     ///
     /// # Errors
-    /// Returns `Memory` when memory runs out.
+    ///
+    /// Returns `Memory` if memory runs out.
     pub fn read(alloc: Global, token: &token::Literal<'s>) -> Result<Option<Literal<'s>>, Memory>
         ensures token { IfOk result (λ read. IfSome read (λ literal. token_of literal ≡
             token.now)) }
@@ -170,12 +169,13 @@ impl<'s> Literal<'s> {
         }
     }
 
-    /// Returns the value as the text of a pattern, in which each byte of a byte string above 7F is `\xNN`. If
-    /// `literal` holds, each of ``\ . + * ? ( ) | [ ] { } ^ $ # & - ~`` has a `\` before it, so that the pattern
-    /// matches the value and nothing else.
+    /// Returns the value as the text of a pattern, in which each byte of a byte string above 7F is
+    /// `\xNN`. If `literal` holds, each of ``\ . + * ? ( ) | [ ] { } ^ $ # & - ~`` has a `\` before
+    /// it, so that the pattern matches the value and nothing else.
     ///
     /// # Errors
-    /// Returns `Memory` when memory runs out.
+    ///
+    /// Returns `Memory` if memory runs out.
     pub fn escape(&self, alloc: Global, literal: bool) -> Result<String, Memory>
         ensures { IfOk result (λ text. string_bytes text ≡ escaped self.now literal) }
     {

@@ -5,16 +5,16 @@ use Rattle.logos_pattern_tokens.specs.declared.bracket.token.Lead.{Lead}
 use Rattle.logos_hir.specs.declared.sets.operands.SetOperator.{SetOperator}
 
 mutual
-  -- whether the bracket is negated, the literals at its front, and what comes after them
+  -- Whether the bracket is negated, the literals at its front, and what comes after them.
   pub data Bracket : Type 0 where
     bracket : Bool → Lead → Operands → Bracket
 
-  -- operands with operators between them
+  -- Operands with operators between them.
   pub data Operands : Type 0 where
     lone : Members → Operands
     joined : Operands → SetOperator → Members → Operands
 
-  -- one operand
+  -- One operand.
   pub data Members : Type 0 where
     nobody : Members
     member : Members → Item → Members

@@ -17,15 +17,15 @@ use Rattle.logos_pattern_tokens.specs.Token.{Text, ◌>>=◌, cut_at}
 use Rattle.logos_pattern_tokens.specs.Escapes.{begins, escape_at}
 use Rattle.logos_pattern_tokens.specs.bracket.Spelling.{code_of, begins_operator, begins_range}
 
--- ---- items
+-- ---- items.
 
--- an escape that is a character
+-- An escape that is a character.
 abbrev pub symbol_of : Atom → Option Symbol
 symbol_of (atoms.Character c) = Some (Character c)
 symbol_of (atoms.Byte b) = Some (Byte b)
 symbol_of _ = None
 
--- the end of a range, after its `-`
+-- The end of a range, after its `-`.
 unfoldable pub last_at : Text → Option (Symbol × Text)
 last_at [] = None
 last_at (c ∷ rest) =
@@ -35,11 +35,11 @@ last_at (c ∷ rest) =
 unfoldable pub range_token : Symbol → Symbol × Text → Option (BracketToken × Text)
 range_token a x = if nat_le (code_of a) (code_of x.0) then Some (tokens.Item (items.Range a x.0), x.1) else None
 
--- a character, or the range that it begins
+-- A character, or the range that it begins.
 unfoldable pub range_at : Symbol → Text → Option (BracketToken × Text)
 range_at a rest = if begins_range rest then last_at (drop 1 rest) >>= range_token a else Some (tokens.Item (items.One a), rest)
 
--- a class, which cannot begin a range
+-- A class, which cannot begin a range.
 unfoldable pub lone_at : Item → Text → Option (BracketToken × Text)
 lone_at item rest = if begins_range rest then None else Some (tokens.Item item, rest)
 
@@ -54,9 +54,9 @@ unfoldable pub item_at : Text → Option (BracketToken × Text)
 item_at [] = None
 item_at (c ∷ rest) = if c == 92 then escape_at rest >>= (λ x. escape_item x.0 x.1) else range_at (Character c) rest
 
--- ---- openings
+-- ---- openings.
 
--- the number of dashes at the front, added to a count
+-- The number of dashes at the front, added to a count.
 abbrev pub dashes_from : ℕ → Text → ℕ × Text
 dashes_from n [] = (n, [])
 dashes_from n (c ∷ rest) = if c == 45 then dashes_from (n + 1) rest else (n, c ∷ rest)
@@ -65,15 +65,15 @@ unfoldable pub lead_at : Text → Lead × Text
 lead_at [] = (Dashes 0, [])
 lead_at (c ∷ rest) = if c == 93 then (LoneBracket, rest) else (Dashes (dashes_from 0 (c ∷ rest)).0, (dashes_from 0 (c ∷ rest)).1)
 
--- after `[`
+-- After `[`.
 unfoldable pub open_at : Text → Bool × Lead × Text
 open_at text =
     if begins 94 text then (true, (lead_at (drop 1 text)).0, (lead_at (drop 1 text)).1)
     else (false, (lead_at text).0, (lead_at text).1)
 
--- ---- classes of ASCII characters
+-- ---- classes of ASCII characters.
 
--- `]` after `[:name:`
+-- `]` after `[:name:`.
 unfoldable pub class_end : Bool → Text → Text → Option (BracketToken × Text)
 class_end negated name [] = None
 class_end negated name (c ∷ rest) = if c == 93 then option_map (λ kind. (tokens.Item (items.Ascii kind negated), rest)) (ascii_named name) else None
@@ -82,19 +82,19 @@ class_end negated name (c ∷ rest) = if c == 93 then option_map (λ kind. (toke
 unfoldable pub name_end : Bool → Text → Option (BracketToken × Text)
 name_end negated text = cut_at 58 text >>= (λ x. class_end negated x.0 x.1)
 
--- after `[:`
+-- After `[:`.
 unfoldable pub colon_at : Text → Option (BracketToken × Text)
 colon_at [] = None
 colon_at (c ∷ rest) = if c == 94 then name_end true rest else name_end false (c ∷ rest)
 
--- after `[`
+-- After `[`.
 unfoldable pub class_at : Text → Option (BracketToken × Text)
 class_at [] = None
 class_at (c ∷ rest) = if c == 58 then colon_at rest else None
 
--- ---- tokens
+-- ---- tokens.
 
--- a class, or else a nested bracket
+-- A class, or else a nested bracket.
 unfoldable pub inner_at : Text → BracketToken × Text
 inner_at text = unwrap_or (class_at text) (tokens.Open (open_at text).0 (open_at text).1, (open_at text).2)
 

@@ -18,7 +18,7 @@ use Rattle.logos_pattern_tokens.specs.Token.{Text}
 use Rattle.logos_pattern_tokens.specs.Spelling.{NotBegins, Lacks, Escapes}
 use Rattle.logos_hir.specs.Property.{ascii_named}
 
--- ---- the tokens of a bracket
+-- ---- the tokens of a bracket.
 
 abbrev mutual
   pub bracket_tokens : Bracket → List BracketToken
@@ -33,9 +33,9 @@ abbrev mutual
   members_tokens (member ms item) = members_tokens ms ++ tokens.Item item ∷ []
   members_tokens (nested ms b) = members_tokens ms ++ bracket_tokens b
 
--- ---- characters
+-- ---- characters.
 
--- the number of a character or of a byte
+-- The number of a character or of a byte.
 abbrev pub code_of : Symbol → ℕ
 code_of (Character c) = c
 code_of (Byte b) = b
@@ -46,7 +46,7 @@ pub data Symbols : Symbol → Text → Text → Type 0 where
   escaped : (c : ℕ) (text rest : Text) → Escapes (atoms.Character c) text rest → Symbols (Character c) (92 ∷ text) rest
   escaped_byte : (b : ℕ) (text rest : Text) → Escapes (atoms.Byte b) text rest → Symbols (Byte b) (92 ∷ text) rest
 
--- `&&`, `--`, `~~`
+-- `&&`, `--`, `~~`.
 abbrev pub operator_letter : SetOperator → ℕ
 operator_letter Intersection = 38
 operator_letter Difference = 45
@@ -67,13 +67,13 @@ begins_range [] = false
 begins_range (c ∷ []) = false
 begins_range (c ∷ d ∷ rest) = (c == 45) && not ((d == 93) || (d == 45))
 
--- ---- classes of ASCII characters
+-- ---- classes of ASCII characters.
 
--- `:name:]`, or `:^name:]` for the complement
+-- `:name:]`, or `:^name:]` for the complement.
 abbrev pub class_text : Text → Bool → Text
 class_text name negated = 58 ∷ (if negated then 94 ∷ [] else []) ++ name ++ 58 ∷ 93 ∷ []
 
--- the name of a class; no such name has a `:`
+-- The name of a class; no such name has a `:`.
 abbrev pub IsClass : Text → AsciiKind → Type 0
 IsClass name kind = Lacks 58 name × (ascii_named name ≡ Some kind)
 
@@ -81,7 +81,7 @@ IsClass name kind = Lacks 58 name × (ascii_named name ≡ Some kind)
 abbrev pub NoClass : Text → Type 0
 NoClass text = (name : Text) (kind : AsciiKind) (negated : Bool) (rest : Text) → IsClass name kind → text ≢ class_text name negated ++ rest
 
--- ---- openings
+-- ---- openings.
 
 -- Any number of `-`, or one `]`, comes before the rest.
 pub data Leads : Lead → Text → Text → Type 0 where
@@ -93,7 +93,7 @@ pub data Opens : Bool → Lead → Text → Text → Type 0 where
   positive : (lead : Lead) (text rest : Text) → NotBegins 94 text → Leads lead text rest → Opens false lead text rest
   negative : (lead : Lead) (text rest : Text) → Leads lead text rest → Opens true lead (94 ∷ text) rest
 
--- ---- tokens
+-- ---- tokens.
 
 -- The text, which is inside brackets, begins with the token, and the rest follows it.
 pub data BracketTakes : BracketToken → Text → Text → Type 0 where

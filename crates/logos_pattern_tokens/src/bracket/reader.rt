@@ -1,9 +1,8 @@
-//! Reads one token from the front of a text, inside brackets.
+//! Reads one token from the front of a text, inside brackets. `logos_syntax` calls it for each
+//! token between `[` and `]`.
 
 ghost use Rattle.std.specs.Prelude.{◌≡◌, ◌+◌, ◌≤◌, Option, Some, MatchOption, option_map};
-ghost use Rattle.logos_pattern_tokens.specs.Token.{Gives};
-ghost use Rattle.logos_pattern_tokens.specs.bracket.Spelling.{code_of, begins_operator, begins_range};
-ghost use Rattle.logos_pattern_tokens.specs.bracket.Reader.{symbol_of, last_at, range_token, range_at, lone_at, escape_item, item_at, dashes_from, lead_at, open_at, class_end, name_end, colon_at, class_at, inner_at, operator_of, bracket_token_at};
+ghost use Rattle.logos_pattern_tokens.specs.Views.{Gives, code_of, begins_operator, begins_range, symbol_of, last_at, range_token, range_at, lone_at, escape_item, item_at, dashes_from, lead_at, open_at, class_end, name_end, colon_at, class_at, inner_at, operator_of, bracket_token_at};
 
 use crate::bracket::token::{BracketToken, Item, Lead, Symbol};
 use crate::counts::cut_at;
@@ -66,8 +65,9 @@ fn no_symbol(atom: Atom) -> Kind {
 /// Reads the end of a range, from after its `-`.
 ///
 /// # Errors
-/// `Unclosed` if the text is empty, `ClassRange` if a class comes next, `EscapeUnknown` if another escape
-/// does that is not a character; else those of `escape_at`.
+///
+/// Returns `Unclosed` if the text is empty, `ClassRange` if a class comes next, `EscapeUnknown` if
+/// another escape does that is not a character; else those of `escape_at`.
 #[tactic(auto, unfolding(crate::specs::bracket::Reader::last_at))]
 fn last_at(alloc: Global, text: &[char]) -> Result<(Symbol, &[char]), Fault>
     ensures { Gives (λ x. (x.0, x.1.now)) result (last_at text.now) }
@@ -88,7 +88,8 @@ fn last_at(alloc: Global, text: &[char]) -> Result<(Symbol, &[char]), Fault>
 /// Returns the range from `first` to `last`, and the rest of the text.
 ///
 /// # Errors
-/// `ClassRange` if `last` is less than `first`.
+///
+/// Returns `ClassRange` if `last` is less than `first`.
 #[tactic(auto, unfolding(crate::specs::bracket::Reader::range_token))]
 fn range_token<'t>(
     first: Symbol,
@@ -103,10 +104,11 @@ fn range_token<'t>(
     Ok((BracketToken::Item(Item::Range(first, last)), rest))
 }
 
-/// Reads what comes after the character `first`: returns the range that it begins, if it does, or the
-/// character alone.
+/// Reads what comes after the character `first`: returns the range that it begins, if it does, or
+/// the character alone.
 ///
 /// # Errors
+///
 /// Those of `last_at` and `range_token`.
 #[tactic(auto, unfolding(crate::specs::bracket::Reader::range_at))]
 fn range_at(alloc: Global, first: Symbol, rest: &[char]) -> Result<(BracketToken, &[char]), Fault>
@@ -122,7 +124,8 @@ fn range_at(alloc: Global, first: Symbol, rest: &[char]) -> Result<(BracketToken
 /// Returns the class as an item, and the rest of the text.
 ///
 /// # Errors
-/// `ClassRange` if a range goes on here, since a class cannot be the start of one.
+///
+/// Returns `ClassRange` if a range goes on here, since a class cannot be the start of one.
 #[tactic(auto, unfolding(crate::specs::bracket::Reader::lone_at))]
 fn lone_at(item: Item, rest: &[char]) -> Result<(BracketToken, &[char]), Fault>
     ensures { Gives (λ x. (x.0, x.1.now)) result (lone_at item rest.now) }
@@ -136,8 +139,9 @@ fn lone_at(item: Item, rest: &[char]) -> Result<(BracketToken, &[char]), Fault>
 /// Reads what comes after an escape: returns the item that begins with it.
 ///
 /// # Errors
-/// `EscapeUnknown` if the escape is neither a character nor a class; else those of `range_at` or
-/// `lone_at`.
+///
+/// Returns `EscapeUnknown` if the escape is neither a character nor a class; else those of
+/// `range_at` or `lone_at`.
 #[tactic(auto, unfolding(crate::specs::bracket::Reader::escape_item))]
 fn escape_item(alloc: Global, atom: Atom, rest: &[char]) -> Result<(BracketToken, &[char]), Fault>
     ensures { Gives (λ x. (x.0, x.1.now)) result (escape_item atom rest.now) }
@@ -154,7 +158,8 @@ fn escape_item(alloc: Global, atom: Atom, rest: &[char]) -> Result<(BracketToken
 /// Reads an item: a character, a range or a class.
 ///
 /// # Errors
-/// `Unclosed` if the text is empty; else the fault of the item, and `Memory`.
+///
+/// Returns `Unclosed` if the text is empty; else the fault of the item, and `Memory`.
 #[tactic(auto, unfolding(crate::specs::bracket::Reader::item_at))]
 fn item_at(alloc: Global, text: &[char]) -> Result<(BracketToken, &[char]), Fault>
     ensures { Gives (λ x. (x.0, x.1.now)) result (item_at text.now) }
@@ -198,8 +203,8 @@ fn lead_at(text: &[char]) -> (Lead, &[char])
     }
 }
 
-/// Reads what comes after `[`: returns whether `^` negates the bracket, the literals after that, and the
-/// rest of the text.
+/// Reads what comes after `[`: returns whether `^` negates the bracket, the literals after that,
+/// and the rest of the text.
 #[tactic(auto, unfolding(crate::specs::bracket::Reader::open_at))]
 pub fn open_at(text: &[char]) -> (bool, Lead, &[char])
     ensures negated { result.0 ≡ (open_at text.now).0 }
@@ -218,8 +223,8 @@ pub fn open_at(text: &[char]) -> (bool, Lead, &[char])
     }
 }
 
-/// Reads the `]` after `[:name:`. Returns `None` if it is not there, or no class of ASCII characters has
-/// the name.
+/// Reads the `]` after `[:name:`. Returns `None` if it is not there, or no class of ASCII
+/// characters has the name.
 #[tactic(auto, unfolding(crate::specs::bracket::Reader::class_end))]
 fn class_end<'t>(
     negated: bool,
@@ -260,7 +265,8 @@ fn colon_at(text: &[char]) -> Option<(BracketToken, &[char])>
     }
 }
 
-/// Reads `:name:]` or `:^name:]`, a class of ASCII characters. Returns `None` if the text does not begin so.
+/// Reads `:name:]` or `:^name:]`, a class of ASCII characters. Returns `None` if the text does not
+/// begin so.
 #[tactic(auto, unfolding(crate::specs::bracket::Reader::class_at))]
 fn class_at(text: &[char]) -> Option<(BracketToken, &[char])>
     ensures { option_map (λ x. (x.0, x.1.now)) result ≡ class_at text.now }
@@ -271,8 +277,8 @@ fn class_at(text: &[char]) -> Option<(BracketToken, &[char])>
     }
 }
 
-/// Reads what comes after `[` inside a bracket: a class of ASCII characters, or else the start of a nested
-/// bracket.
+/// Reads what comes after `[` inside a bracket: a class of ASCII characters, or else the start of a
+/// nested bracket.
 #[tactic(auto, unfolding(crate::specs::bracket::Reader::inner_at))]
 fn inner_at(text: &[char]) -> (BracketToken, &[char])
     ensures token { result.0 ≡ (inner_at text.now).0 }
@@ -298,10 +304,12 @@ fn operator_of(c: char) -> SetOperator
     }
 }
 
-/// Reads the token at the front of the text, which is inside brackets, and returns it with the rest.
+/// Reads the token at the front of the text, which is inside brackets, and returns it with the
+/// rest.
 ///
 /// # Errors
-/// `Unclosed` if the text is empty; else the fault of the token, and `Memory`.
+///
+/// Returns `Unclosed` if the text is empty; else the fault of the token, and `Memory`.
 #[tactic(auto, unfolding(crate::specs::bracket::Reader::bracket_token_at))]
 pub fn bracket_token_at(alloc: Global, text: &[char]) -> Result<(BracketToken, &[char]), Fault>
     ensures { Gives (λ x. (x.0, x.1.now)) result (bracket_token_at text.now) }

@@ -17,9 +17,9 @@ use Rattle.logos_token.proofs.reading.PieceLemmas.{piece-boundary}
 use Rattle.logos_token.proofs.printing.PrintParts.{parts, after, bare_lexeme, printed-lexemes, rebuilt-whole}
 use Rattle.logos_token.proofs.printing.PrintPieces.{Follows, Joined, HasText}
 use Rattle.logos_token.proofs.printing.PrintSources.{has_text, has_joints, has_docs, has_no_space}
-use Rattle.logos_item.specs.Marks.{comma}
-use Rattle.logos_strip.specs.declared.places.Scope.TheVariants.{Enum}
-use Rattle.logos_strip.specs.declared.places.Place.TheVariants.{Open}
+use Rattle.logos_enum.specs.Marks.{comma}
+use Rattle.logos_strip.specs.declared.spots.Scope.TheVariants.{Enum}
+use Rattle.logos_strip.specs.declared.spots.TokenSpot.TheVariants.{Open}
 use Rattle.logos_strip.specs.Stripping.{stripped}
 use Rattle.logos_strip.proofs.again.SiteLemmas.{Site, same, loose, Continues, sites_lexemes, Linked, first_after, remake}
 use Rattle.logos_strip.proofs.again.ThinningLemmas.{is_joint, Thins, ended, drops, keeps, loosens, first_stays, thins-run}

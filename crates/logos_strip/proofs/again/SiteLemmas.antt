@@ -27,7 +27,7 @@ use Rattle.logos_token.proofs.reading.PieceLemmas.{piece-advances, piece-boundar
 use Rattle.logos_token.proofs.printing.PrintParts.{parts, parts-append, after, bare_lexeme}
 use Rattle.logos_token.proofs.printing.PrintPieces.{gap_of, IsSeparator, joint_or_not, joint_from, separates, whole_length, drop_on, byte_behind, Shown, HasText, HasDocs}
 use Rattle.logos_token.proofs.printing.PrintAgain.{HasNoSpace}
-use Rattle.logos_item.specs.Marks.{comma}
+use Rattle.logos_enum.specs.Marks.{comma}
 use Rattle.logos_strip.proofs.again.CommaLemmas.{comma_space, comma_next}
 
 -- a gap of one byte
@@ -160,7 +160,7 @@ module _ (a : List ℕ) (utf8 : IsUtf8 a) (text : HasText a) (docs : HasDocs a) 
   printed_site s ss q gap l e = e ∙ ap (after gap) (parts-append (site_lexemes a s) (sites_lexemes a ss) ∙ ap (λ ps. ps ++ parts (sites_lexemes a ss)) (site_parts s ss l.0 l.1))
 
   slice_same : (p to q : ℕ) (rest : List ℕ) → p ≤ to → to ≤ length a → drop q b ≡ slice_range a p to ++ rest → (x y : ℕ) → x + q ≡ y + p → p ≤ x → x < to → get_or b y 0 ≡ get_or a x 0
-  slice_same p to q rest le fits e x y places low high =
+  slice_same p to q rest le fits e x y spots low high =
       let i = x - p in
       let long = length-between a p to fits in
       let f : q + i ≡ y = omega arith in
@@ -194,7 +194,7 @@ module _ (a : List ℕ) (utf8 : IsUtf8 a) (text : HasText a) (docs : HasDocs a) 
         filled = omega arith;
         fits = omega arith;
         holds = omega arith;
-        same = λ x y places low high. slice_same p to q (after gap ps) (omega arith) fits e x y places low (omega arith);
+        same = λ x y spots low high. slice_same p to q (after gap ps) (omega arith) fits e x y spots low (omega arith);
         blank = elim parted [
           | inl g ↦ elim (blank 32 g) [ inl h ↦ inl h | inr h ↦ inr (inr h) ]
           | inr g ↦ inr (blank 10 g)
@@ -217,8 +217,8 @@ module _ (a : List ℕ) (utf8 : IsUtf8 a) (text : HasText a) (docs : HasDocs a) 
         filled = omega arith;
         fits = omega (arith, w.fits);
         holds = omega (arith, w.holds);
-        same = λ x y places low high. elim (cases_lt x to) [
-          | inl l ↦ slice_same p to q rest (omega arith) fits e x y places low l
+        same = λ x y spots low high. elim (cases_lt x to) [
+          | inl l ↦ slice_same p to q rest (omega arith) fits e x y spots low l
           | inr l ↦ w.same x y (omega arith) l (omega arith)
         ];
         blank = rw (← there) w.blank;
@@ -284,7 +284,7 @@ module _ (a : List ℕ) (utf8 : IsUtf8 a) (text : HasText a) (docs : HasDocs a) 
         show_joint kind p to q tail j next inside e (subst (λ x. Wide x (q + (to - p))) (l.1 j) (wide t (q + (to - p)) shown))
   ]
 
-  -- the pieces of the printed text from a place on
+  -- the pieces of the printed text from a spot on
   pub record Remade (q : ℕ) (ss : List Site) : Type 0 where
     pub news : List Piece
     pub filled : Pieces b q news (length b)
@@ -305,7 +305,7 @@ module _ (a : List ℕ) (utf8 : IsUtf8 a) (text : HasText a) (docs : HasDocs a) 
             ∙ sym (map-append bare_lexeme (site_lexemes a s) (sites_lexemes a ss));
       }
 
-  -- where a `'` stands directly before a place of the printed text, one stands directly before the site in the source
+  -- where a `'` stands directly before a spot of the printed text, one stands directly before the site in the source
   abbrev pub IsAfter : ℕ → List Site → Type 0
   IsAfter q [] = Unit {0}
   IsAfter q (s ∷ ss) = follows_apostrophe b q ≡ true → follows_apostrophe a (site_from s) ≡ true
@@ -345,9 +345,9 @@ module _ (a : List ℕ) (utf8 : IsUtf8 a) (text : HasText a) (docs : HasDocs a) 
       let byte : get_or b q 0 ≡ 44 =
       let z : q + 0 ≡ q = omega arith in
       ap (λ i. get_or b i 0) (sym z) ∙ at_reads 0 b (slice_range a p to) q (after (32 ∷ []) (parts (sites_lexemes a ss))) e 0 (omega arith) ∙ ap (λ (xs : List ℕ). get_or xs 0 0) l.1 in
-      let place : q + (to - p) ≡ q + 1 = omega arith in
-      let blank : (get_or b (q + 1) 0 ≡ 32) ⊎ ((get_or b (q + 1) 0 ≡ 10) ⊎ (q + 1 ≡ length b)) = rw (← place) w.blank in
-      let there : IsNext b q (Punctuation Alone) (q + (to - p)) = subst (IsNext b q (Punctuation Alone)) (sym place) (comma_next b q byte blank) in
+      let spot : q + (to - p) ≡ q + 1 = omega arith in
+      let blank : (get_or b (q + 1) 0 ≡ 32) ⊎ ((get_or b (q + 1) 0 ≡ 10) ⊎ (q + 1 ≡ length b)) = rw (← spot) w.blank in
+      let there : IsNext b q (Punctuation Alone) (q + (to - p)) = subst (IsNext b q (Punctuation Alone)) (sym spot) (comma_next b q byte blank) in
       record {
         remade = one_more (loose spacing p to) ss (Punctuation Alone) q (q + (to - p)) there (rw byte refl) r;
         no_space = comma_space b q byte;
@@ -379,8 +379,8 @@ module _ (a : List ℕ) (utf8 : IsUtf8 a) (text : HasText a) (docs : HasDocs a) 
       let joint = joint_from a kind p to none in
       let adv = piece-advances a p kind to l.0.1 in
       let tail = after (site_gap a (same kind p to)) (parts (sites_lexemes a (t ∷ ts))) in
-      let places : to - 1 + q ≡ q + (to - p) - 1 + p = omega (arith, adv.0) in
-      let byte : get_or b (q + (to - p) - 1) 0 ≡ get_or a (to - 1) 0 = slice_same p to q tail (omega (arith, adv.0)) adv.1 e (to - 1) (q + (to - p) - 1) places (omega (arith, adv.0)) (omega (arith, adv.0)) in
+      let spots : to - 1 + q ≡ q + (to - p) - 1 + p = omega (arith, adv.0) in
+      let byte : get_or b (q + (to - p) - 1) 0 ≡ get_or a (to - 1) 0 = slice_same p to q tail (omega (arith, adv.0)) adv.1 e (to - 1) (q + (to - p) - 1) spots (omega (arith, adv.0)) (omega (arith, adv.0)) in
       ap (follows_apostrophe a) (l.1 joint) ∙ follows-same a b to (q + (to - p)) (omega (arith, adv.0)) byte found
 
   pub remake : (ss : List Site) (q : ℕ) (gap : List ℕ) → Linked a ss → (gap ≡ []) ⊎ IsSeparator gap → (gap ≡ [] → IsAfter q ss) → q ≤ length b → drop q b ≡ after gap (parts (sites_lexemes a ss)) → Remade q ss

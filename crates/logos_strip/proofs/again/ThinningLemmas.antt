@@ -7,12 +7,12 @@ use Rattle.logos_lexeme.specs.declared.lexeme.Spacing.TheVariants.{Alone, Joint}
 use Rattle.logos_lexeme.specs.declared.lexeme.Delimiter.{Delimiter}
 use Rattle.logos_token.specs.Tokens.{Token, identifier, punctuation, literal, doc, group, TokenList, none, also}
 use Rattle.logos_token.specs.Spelling.{Lexeme, leaf, opens, closes, token_lexemes, lexemes}
-use Rattle.logos_item.specs.Marks.{comma, hash}
-use Rattle.logos_strip.specs.declared.places.Scope.{Scope}
-use Rattle.logos_strip.specs.declared.places.Scope.TheVariants.{Enum, Attribute, Derives, Variants, Fields}
-use Rattle.logos_strip.specs.declared.places.Place.{Place}
-use Rattle.logos_strip.specs.declared.places.Place.TheVariants.{Open, Hash, Gone, Named, Within}
-use Rattle.logos_strip.specs.Places.{goes, after_attributed, after_in_enum, after_in_attribute, place_after, scope_inside}
+use Rattle.logos_enum.specs.Marks.{comma, hash}
+use Rattle.logos_strip.specs.declared.spots.Scope.{Scope}
+use Rattle.logos_strip.specs.declared.spots.Scope.TheVariants.{Enum, Attribute, Derives, Variants, Fields}
+use Rattle.logos_strip.specs.declared.spots.TokenSpot.{TokenSpot}
+use Rattle.logos_strip.specs.declared.spots.TokenSpot.TheVariants.{Open, Hash, Gone, Named, Within}
+use Rattle.logos_strip.specs.Spots.{goes, after_attributed, after_in_enum, after_in_attribute, spot_after, scope_inside}
 use Rattle.logos_strip.specs.Stripping.{alone, in_front, left, thinned, sorted}
 use Rattle.logos_strip.proofs.once.ShapeLemmas.{front_either}
 
@@ -59,17 +59,17 @@ drop-token stays (group delimiter span inside) ls ms t =
     drops r.stays (opens delimiter span.from) r.thins
 
 -- whether the first token of a run stays
-abbrev pub first_stays : Scope → Place → TokenList → Bool
-first_stays scope place none = true
-first_stays scope place (also token rest) = not (goes scope place (also token rest))
+abbrev pub first_stays : Scope → TokenSpot → TokenList → Bool
+first_stays scope spot none = true
+first_stays scope spot (also token rest) = not (goes scope spot (also token rest))
 
 -- only a comma stands in front of what goes
 
-if_goes : (scope : Scope) (rest : TokenList) (found : Bool) (other : Place) → goes scope other rest ≡ false → goes scope (if found then Open else other) rest ≡ true → found ≡ true
+if_goes : (scope : Scope) (rest : TokenList) (found : Bool) (other : TokenSpot) → goes scope other rest ≡ false → goes scope (if found then Open else other) rest ≡ true → found ≡ true
 if_goes scope rest true other e f = refl
 if_goes scope rest false other e f = absurd (false≢true (sym e ∙ f))
 
-mark-goes : (scope : Scope) (rest : TokenList) (found : Bool) (other : Place) → goes scope other rest ≡ false → goes scope (if found then Hash else other) rest ≡ true → ⊥
+mark-goes : (scope : Scope) (rest : TokenList) (found : Bool) (other : TokenSpot) → goes scope other rest ≡ false → goes scope (if found then Hash else other) rest ≡ true → ⊥
 mark-goes scope rest true other e f = false≢true f
 mark-goes scope rest false other e f = false≢true (sym e ∙ f)
 
@@ -77,33 +77,33 @@ module _ (character : ℕ) (spacing : Spacing) (span : Span) (rest : TokenList) 
   abbrev Mark : Token
   Mark = punctuation character spacing span
 
-  attributed-goes : (scope : Scope) (first place : Place) → goes scope first rest ≡ false → goes scope place (also Mark rest) ≡ false → goes scope (after_attributed first place false Mark) rest ≡ true → (character == comma) ≡ true
+  attributed-goes : (scope : Scope) (first spot : TokenSpot) → goes scope first rest ≡ false → goes scope spot (also Mark rest) ≡ false → goes scope (after_attributed first spot false Mark) rest ≡ true → (character == comma) ≡ true
   attributed-goes scope first Open e stays f = absurd (mark-goes scope rest (character == hash) first e f)
   attributed-goes scope first Hash e stays f = absurd (false≢true f)
   attributed-goes scope first Gone e stays f = absurd (true≢false stays)
   attributed-goes scope first Named e stays f = if_goes scope rest (character == comma) Within refl f
   attributed-goes scope first Within e stays f = if_goes scope rest (character == comma) Within refl f
 
-  enum-goes : (place : Place) → goes Enum place (also Mark rest) ≡ false → goes Enum (after_in_enum place false Mark) rest ≡ true → (character == comma) ≡ true
+  enum-goes : (spot : TokenSpot) → goes Enum spot (also Mark rest) ≡ false → goes Enum (after_in_enum spot false Mark) rest ≡ true → (character == comma) ≡ true
   enum-goes Open stays f = attributed-goes Enum Within Open refl stays f
   enum-goes Hash stays f = attributed-goes Enum Within Hash refl stays f
   enum-goes Gone stays f = absurd (true≢false stays)
   enum-goes Named stays f = attributed-goes Enum Within Named refl stays f
   enum-goes Within stays f = absurd (false≢true f)
 
-  path-goes : (place : Place) → goes Attribute (after_in_attribute place Mark) rest ≡ true → (character == comma) ≡ true
+  path-goes : (spot : TokenSpot) → goes Attribute (after_in_attribute spot Mark) rest ≡ true → (character == comma) ≡ true
   path-goes Open f = absurd (false≢true f)
   path-goes Hash f = absurd (false≢true f)
   path-goes Gone f = absurd (false≢true f)
   path-goes Named f = absurd (false≢true f)
   path-goes Within f = absurd (false≢true f)
 
-  comma-goes : (scope : Scope) (place : Place) → goes scope place (also Mark rest) ≡ false → goes scope (place_after scope place false Mark) rest ≡ true → (character == comma) ≡ true
-  comma-goes Enum place stays f = enum-goes place stays f
-  comma-goes Attribute place stays f = path-goes place f
-  comma-goes Derives place stays f = if_goes Derives rest (character == comma) Within refl f
-  comma-goes Variants place stays f = attributed-goes Variants Named place refl stays f
-  comma-goes Fields place stays f = attributed-goes Fields Within place refl stays f
+  comma-goes : (scope : Scope) (spot : TokenSpot) → goes scope spot (also Mark rest) ≡ false → goes scope (spot_after scope spot false Mark) rest ≡ true → (character == comma) ≡ true
+  comma-goes Enum spot stays f = enum-goes spot stays f
+  comma-goes Attribute spot stays f = path-goes spot f
+  comma-goes Derives spot stays f = if_goes Derives rest (character == comma) Within refl f
+  comma-goes Variants spot stays f = attributed-goes Variants Named spot refl stays f
+  comma-goes Fields spot stays f = attributed-goes Fields Within spot refl stays f
 
 -- one token that stays
 
@@ -113,8 +113,8 @@ loosen stays character spacing span ls ms e t =
     let P : ℕ → Type 0 = λ c. Thins true (leaf (punctuation c spacing span) ∷ ls) (leaf (punctuation c Alone span) ∷ ms) in
     subst P (sym e) (loosens stays spacing span t)
 
-abbrev ThinsRun : Scope → Place → TokenList → Type 0
-ThinsRun scope place run = Thins (first_stays scope place run) (lexemes run) (lexemes (left (sorted scope place run)))
+abbrev ThinsRun : Scope → TokenSpot → TokenList → Type 0
+ThinsRun scope spot run = Thins (first_stays scope spot run) (lexemes run) (lexemes (left (sorted scope spot run)))
 
 abbrev ThinsInside : Token → Type 0
 ThinsInside (group delimiter span inside) = (scope : Scope) → ThinsRun scope Open inside
@@ -127,8 +127,8 @@ thins-leaf pieces inner token ls ms one joint same other stays t =
     let P : Token → Type 0 = λ u. Thins true (token_lexemes token ++ ls) (token_lexemes u ++ ms) in
     subst (λ u. P (in_front pieces u)) (sym same) (front_either P pieces token kept (subst P (sym other) kept))
 
--- punctuation in front of others, after which the place is this one
-mark-front : (scope : Scope) (next : Place) (character : ℕ) (spacing : Spacing) (span : Span) (rest : TokenList) → (goes scope next rest ≡ true → (character == comma) ≡ true) → ThinsRun scope next rest →
+-- punctuation in front of others, after which the spot is this one
+mark-front : (scope : Scope) (next : TokenSpot) (character : ℕ) (spacing : Spacing) (span : Span) (rest : TokenList) → (goes scope next rest ≡ true → (character == comma) ≡ true) → ThinsRun scope next rest →
     Thins true (leaf (punctuation character spacing span) ∷ lexemes rest) (token_lexemes (in_front (sorted scope next rest) (punctuation character spacing span)) ++ lexemes (left (sorted scope next rest)))
 mark-front scope next character spacing span none only t = keeps true _ (λ e. refl) t
 mark-front scope next character spacing span (also token more) only t = go (goes scope next (also token more)) refl
@@ -137,14 +137,14 @@ mark-front scope next character spacing span (also token more) only t = go (goes
         Thins true (leaf (punctuation character spacing span) ∷ lexemes (also token more))
         (token_lexemes (in_front (sorted scope next (also token more)) (punctuation character spacing span)) ++ lexemes (left (sorted scope next (also token more))))
     go true e =
-        let after = left (sorted scope (place_after scope next true token) more) in
+        let after = left (sorted scope (spot_after scope next true token) more) in
         let u : Thins false (lexemes (also token more)) (lexemes after) = rw e at t in
         let w : Thins true (leaf (punctuation character spacing span) ∷ lexemes (also token more)) (leaf (punctuation character Alone span) ∷ lexemes after) =
         loosen false character spacing span _ _ (eqb-true character comma (only e)) u in
         rw e w
     go false e =
-        let first = in_front (sorted scope (place_after scope next false token) more) (thinned (scope_inside scope next token more) token) in
-        let after = also first (left (sorted scope (place_after scope next false token) more)) in
+        let first = in_front (sorted scope (spot_after scope next false token) more) (thinned (scope_inside scope next token more) token) in
+        let after = also first (left (sorted scope (spot_after scope next false token) more)) in
         let u : Thins true (lexemes (also token more)) (lexemes after) = rw e at t in
         let w : Thins true (leaf (punctuation character spacing span) ∷ lexemes (also token more)) (leaf (punctuation character spacing span) ∷ lexemes after) = keeps true _ (λ f. refl) u in
         rw e w
@@ -179,27 +179,27 @@ group-left stays pieces (Some scope) delimiter span inside ls ms ih t =
     rw (group-front pieces delimiter span kept) (thins-group stays (first_stays scope Open inside) delimiter span inside kept ls ms (ih scope) t)
 
 -- one token that stays, with what is left after it
-keep-token : (scope : Scope) (place : Place) (token : Token) (rest : TokenList) → goes scope place (also token rest) ≡ false → ThinsInside token → ThinsRun scope (place_after scope place false token) rest →
+keep-token : (scope : Scope) (spot : TokenSpot) (token : Token) (rest : TokenList) → goes scope spot (also token rest) ≡ false → ThinsInside token → ThinsRun scope (spot_after scope spot false token) rest →
     Thins true (token_lexemes token ++ lexemes rest)
-    (token_lexemes (in_front (sorted scope (place_after scope place false token) rest) (thinned (scope_inside scope place token rest) token)) ++ lexemes (left (sorted scope (place_after scope place false token) rest)))
-keep-token scope place (identifier text span) rest stays ih t = thins-leaf _ (scope_inside scope place (identifier text span) rest) (identifier text span) _ _ refl refl refl refl _ t
-keep-token scope place (punctuation character spacing span) rest stays ih t = mark-front scope (place_after scope place false (punctuation character spacing span)) character spacing span rest (comma-goes character spacing span rest scope place stays) t
-keep-token scope place (literal text span) rest stays ih t = thins-leaf _ (scope_inside scope place (literal text span) rest) (literal text span) _ _ refl refl refl refl _ t
-keep-token scope place (doc text span) rest stays ih t = thins-leaf _ (scope_inside scope place (doc text span) rest) (doc text span) _ _ refl refl refl refl _ t
-keep-token scope place (group delimiter span inside) rest stays ih t = group-left _ _ (scope_inside scope place (group delimiter span inside) rest) delimiter span inside _ _ ih t
+    (token_lexemes (in_front (sorted scope (spot_after scope spot false token) rest) (thinned (scope_inside scope spot token rest) token)) ++ lexemes (left (sorted scope (spot_after scope spot false token) rest)))
+keep-token scope spot (identifier text span) rest stays ih t = thins-leaf _ (scope_inside scope spot (identifier text span) rest) (identifier text span) _ _ refl refl refl refl _ t
+keep-token scope spot (punctuation character spacing span) rest stays ih t = mark-front scope (spot_after scope spot false (punctuation character spacing span)) character spacing span rest (comma-goes character spacing span rest scope spot stays) t
+keep-token scope spot (literal text span) rest stays ih t = thins-leaf _ (scope_inside scope spot (literal text span) rest) (literal text span) _ _ refl refl refl refl _ t
+keep-token scope spot (doc text span) rest stays ih t = thins-leaf _ (scope_inside scope spot (doc text span) rest) (doc text span) _ _ refl refl refl refl _ t
+keep-token scope spot (group delimiter span inside) rest stays ih t = group-left _ _ (scope_inside scope spot (group delimiter span inside) rest) delimiter span inside _ _ ih t
 
-step : (scope : Scope) (place : Place) (token : Token) (rest : TokenList) → ThinsInside token → ((next : Place) → ThinsRun scope next rest) → ThinsRun scope place (also token rest)
-step scope place token rest inside ih = go (goes scope place (also token rest)) refl
+step : (scope : Scope) (spot : TokenSpot) (token : Token) (rest : TokenList) → ThinsInside token → ((next : TokenSpot) → ThinsRun scope next rest) → ThinsRun scope spot (also token rest)
+step scope spot token rest inside ih = go (goes scope spot (also token rest)) refl
   where
-    go : (b : Bool) → goes scope place (also token rest) ≡ b → ThinsRun scope place (also token rest)
-    go true e = let t = drop-token (first_stays scope (place_after scope place true token) rest) token (lexemes rest) _ (ih (place_after scope place true token)) in rw e t
-    go false e = let t = keep-token scope place token rest e inside (ih (place_after scope place false token)) in rw e t
+    go : (b : Bool) → goes scope spot (also token rest) ≡ b → ThinsRun scope spot (also token rest)
+    go true e = let t = drop-token (first_stays scope (spot_after scope spot true token) rest) token (lexemes rest) _ (ih (spot_after scope spot true token)) in rw e t
+    go false e = let t = keep-token scope spot token rest e inside (ih (spot_after scope spot false token)) in rw e t
 
 -- what is left of a run is thinned
-pub thins-run : (scope : Scope) (place : Place) (run : TokenList) → ThinsRun scope place run
-thins-run scope place none = ended
-thins-run scope place (also (identifier text span) rest) = step scope place (identifier text span) rest tt (λ next. thins-run scope next rest)
-thins-run scope place (also (punctuation character spacing span) rest) = step scope place (punctuation character spacing span) rest tt (λ next. thins-run scope next rest)
-thins-run scope place (also (literal text span) rest) = step scope place (literal text span) rest tt (λ next. thins-run scope next rest)
-thins-run scope place (also (doc text span) rest) = step scope place (doc text span) rest tt (λ next. thins-run scope next rest)
-thins-run scope place (also (group delimiter span inside) rest) = step scope place (group delimiter span inside) rest (λ inner. thins-run inner Open inside) (λ next. thins-run scope next rest)
+pub thins-run : (scope : Scope) (spot : TokenSpot) (run : TokenList) → ThinsRun scope spot run
+thins-run scope spot none = ended
+thins-run scope spot (also (identifier text span) rest) = step scope spot (identifier text span) rest tt (λ next. thins-run scope next rest)
+thins-run scope spot (also (punctuation character spacing span) rest) = step scope spot (punctuation character spacing span) rest tt (λ next. thins-run scope next rest)
+thins-run scope spot (also (literal text span) rest) = step scope spot (literal text span) rest tt (λ next. thins-run scope next rest)
+thins-run scope spot (also (doc text span) rest) = step scope spot (doc text span) rest tt (λ next. thins-run scope next rest)
+thins-run scope spot (also (group delimiter span inside) rest) = step scope spot (group delimiter span inside) rest (λ inner. thins-run inner Open inside) (λ next. thins-run scope next rest)

@@ -4,14 +4,14 @@ use Rattle.std.specs.Str.{bytes_eq}
 use Rattle.logos_lexeme.specs.declared.lexeme.Delimiter.TheVariants.{Parenthesis, Bracket, Brace}
 use Rattle.logos_token.specs.Tokens.{Token, identifier, punctuation, literal, doc, group, TokenList, none, also}
 use Rattle.logos_token.specs.PrintedAgain.{no_span, bare_token, bare}
-use Rattle.logos_item.specs.Marks.{colon, hash, begins_with, is_none}
-use Rattle.logos_item.specs.Attributes.{is_path_mark}
-use Rattle.logos_strip.specs.declared.places.Scope.{Scope}
-use Rattle.logos_strip.specs.declared.places.Scope.TheVariants.{Enum, Attribute, Derives, Variants, Fields}
-use Rattle.logos_strip.specs.declared.places.Place.{Place}
-use Rattle.logos_strip.specs.declared.places.Place.TheVariants.{Open, Hash, Gone, Named, Within}
-use Rattle.logos_strip.specs.Helpers.{is_helper_name, is_helper_path, holds_helper, begins_helper, after_word, after_colon, after_colons, holds_after, ends_entry, is_macro_name, is_macro_segment, is_macro_path, is_global_path, is_macro_entry}
-use Rattle.logos_strip.specs.Places.{begins_gone, goes, place_after, scope_of, scope_inside}
+use Rattle.logos_enum.specs.Marks.{colon, hash, begins_with, is_none}
+use Rattle.logos_token.specs.First.{is_path_mark, after_word, after_colon, after_path_mark}
+use Rattle.logos_strip.specs.declared.spots.Scope.{Scope}
+use Rattle.logos_strip.specs.declared.spots.Scope.TheVariants.{Enum, Attribute, Derives, Variants, Fields}
+use Rattle.logos_strip.specs.declared.spots.TokenSpot.{TokenSpot}
+use Rattle.logos_strip.specs.declared.spots.TokenSpot.TheVariants.{Open, Hash, Gone, Named, Within}
+use Rattle.logos_strip.specs.Helpers.{is_helper_name, is_helper_path, holds_helper, begins_helper, holds_after, ends_entry, is_macro_name, is_macro_segment, is_macro_path, is_global_path, is_macro_entry}
+use Rattle.logos_strip.specs.Spots.{begins_gone, goes, spot_after, scope_of, scope_inside}
 use Rattle.logos_strip.specs.Stripping.{alone, in_front, left, thinned, sorted, stripped}
 use Rattle.logos_strip.proofs.once.ShapeLemmas.{after-bare, is_comma-bare}
 use Rattle.logos_strip.proofs.once.OnceLemmas.{stripped-once}
@@ -42,7 +42,7 @@ mark-bare : (found : Bool) (run : TokenList) → (if found then after_colon (bar
 mark-bare true run = colon-bare run
 mark-bare false run = refl
 
-colons-bare : (run : TokenList) → after_colons (bare run) ≡ option_map bare (after_colons run)
+colons-bare : (run : TokenList) → after_path_mark (bare run) ≡ option_map bare (after_path_mark run)
 colons-bare none = refl
 colons-bare (also (identifier text span) rest) = refl
 colons-bare (also (punctuation character spacing span) rest) = mark-bare (is_path_mark character spacing) rest
@@ -62,13 +62,13 @@ name-bare : (run : TokenList) → is_macro_name (bare run) ≡ is_macro_name run
 name-bare run = ap (holds_after ends_entry) (word-bare (codes "Logos") run) ∙ holds-bare ends_entry ends-bare (after_word (codes "Logos") run)
 
 segment-bare : (run : TokenList) → is_macro_segment (bare run) ≡ is_macro_segment run
-segment-bare run = ap (holds_after is_macro_name) (colons-bare run) ∙ holds-bare is_macro_name name-bare (after_colons run)
+segment-bare run = ap (holds_after is_macro_name) (colons-bare run) ∙ holds-bare is_macro_name name-bare (after_path_mark run)
 
 path-bare : (run : TokenList) → is_macro_path (bare run) ≡ is_macro_path run
 path-bare run = ap (holds_after is_macro_segment) (word-bare (codes "logos") run) ∙ holds-bare is_macro_segment segment-bare (after_word (codes "logos") run)
 
 global-bare : (run : TokenList) → is_global_path (bare run) ≡ is_global_path run
-global-bare run = ap (holds_after is_macro_path) (colons-bare run) ∙ holds-bare is_macro_path path-bare (after_colons run)
+global-bare run = ap (holds_after is_macro_path) (colons-bare run) ∙ holds-bare is_macro_path path-bare (after_path_mark run)
 
 entry-bare : (run : TokenList) → is_macro_entry (bare run) ≡ is_macro_entry run
 entry-bare run =
@@ -117,7 +117,7 @@ gone-bare Derives run = entry-bare run
 gone-bare Variants run = helper-bare run
 gone-bare Fields run = helper-bare run
 
-goes-bare : (scope : Scope) (place : Place) (run : TokenList) → goes scope place (bare run) ≡ goes scope place run
+goes-bare : (scope : Scope) (spot : TokenSpot) (run : TokenList) → goes scope spot (bare run) ≡ goes scope spot run
 goes-bare scope Open run = gone-bare scope run
 goes-bare scope Hash run = refl
 goes-bare scope Gone run = refl
@@ -128,12 +128,12 @@ none-bare : (run : TokenList) → is_none (bare run) ≡ is_none run
 none-bare none = refl
 none-bare (also token rest) = refl
 
-scope-bare : (scope : Scope) (place : Place) (token : Token) (rest : TokenList) → scope_inside scope place (bare_token token) (bare rest) ≡ scope_inside scope place token rest
-scope-bare scope place (identifier text span) rest = refl
-scope-bare scope place (punctuation character spacing span) rest = refl
-scope-bare scope place (literal text span) rest = refl
-scope-bare scope place (doc text span) rest = refl
-scope-bare scope place (group delimiter span inside) rest = ap (scope_of scope place delimiter) (none-bare rest)
+scope-bare : (scope : Scope) (spot : TokenSpot) (token : Token) (rest : TokenList) → scope_inside scope spot (bare_token token) (bare rest) ≡ scope_inside scope spot token rest
+scope-bare scope spot (identifier text span) rest = refl
+scope-bare scope spot (punctuation character spacing span) rest = refl
+scope-bare scope spot (literal text span) rest = refl
+scope-bare scope spot (doc text span) rest = refl
+scope-bare scope spot (group delimiter span inside) rest = ap (scope_of scope spot delimiter) (none-bare rest)
 
 -- what is left
 
@@ -157,8 +157,8 @@ left-bare [] = refl
 left-bare (None ∷ pieces) = left-bare pieces
 left-bare (Some token ∷ pieces) = ap (λ t. also t (left (bare_pieces pieces))) (front-bare pieces token) ∙ ap (also (bare_token (in_front pieces token))) (left-bare pieces)
 
-abbrev SortedBare : Scope → Place → TokenList → Type 0
-SortedBare scope place run = sorted scope place (bare run) ≡ bare_pieces (sorted scope place run)
+abbrev SortedBare : Scope → TokenSpot → TokenList → Type 0
+SortedBare scope spot run = sorted scope spot (bare run) ≡ bare_pieces (sorted scope spot run)
 
 abbrev InsideBare : Token → Type 0
 InsideBare (group delimiter span inside) = (scope : Scope) → SortedBare scope Open inside
@@ -177,24 +177,24 @@ piece-bare : (gone : Bool) (inner other : Option Scope) (token : Token) → inne
 piece-bare true inner other token e ih = refl
 piece-bare false inner other token e ih = ap (λ t. Some t) (ap (λ o. thinned o (bare_token token)) e ∙ thinned-bare other token ih)
 
-step : (scope : Scope) (place : Place) (token : Token) (rest : TokenList) → InsideBare token → ((next : Place) → SortedBare scope next rest) → SortedBare scope place (also token rest)
-step scope place token rest inside ih =
-    let gone = goes scope place (also token rest) in
-    let first = piece-bare gone (scope_inside scope place (bare_token token) (bare rest)) (scope_inside scope place token rest) token (scope-bare scope place token rest) inside in
-    let next = place_after scope place gone token in
-    let after : sorted scope (place_after scope place gone (bare_token token)) (bare rest) ≡ bare_pieces (sorted scope next rest) = ap (λ p. sorted scope p (bare rest)) (after-bare scope place gone token) ∙ ih next in
-    let piece : Bool → Option Token = λ b. if b then None else Some (thinned (scope_inside scope place (bare_token token) (bare rest)) (bare_token token)) in
-    ap (λ b. piece b ∷ sorted scope (place_after scope place b (bare_token token)) (bare rest)) (goes-bare scope place (also token rest))
-    ∙ ap (λ p. p ∷ sorted scope (place_after scope place gone (bare_token token)) (bare rest)) first
-    ∙ ap (λ ps. option_map bare_token (if gone then None else Some (thinned (scope_inside scope place token rest) token)) ∷ ps) after
+step : (scope : Scope) (spot : TokenSpot) (token : Token) (rest : TokenList) → InsideBare token → ((next : TokenSpot) → SortedBare scope next rest) → SortedBare scope spot (also token rest)
+step scope spot token rest inside ih =
+    let gone = goes scope spot (also token rest) in
+    let first = piece-bare gone (scope_inside scope spot (bare_token token) (bare rest)) (scope_inside scope spot token rest) token (scope-bare scope spot token rest) inside in
+    let next = spot_after scope spot gone token in
+    let after : sorted scope (spot_after scope spot gone (bare_token token)) (bare rest) ≡ bare_pieces (sorted scope next rest) = ap (λ p. sorted scope p (bare rest)) (after-bare scope spot gone token) ∙ ih next in
+    let piece : Bool → Option Token = λ b. if b then None else Some (thinned (scope_inside scope spot (bare_token token) (bare rest)) (bare_token token)) in
+    ap (λ b. piece b ∷ sorted scope (spot_after scope spot b (bare_token token)) (bare rest)) (goes-bare scope spot (also token rest))
+    ∙ ap (λ p. p ∷ sorted scope (spot_after scope spot gone (bare_token token)) (bare rest)) first
+    ∙ ap (λ ps. option_map bare_token (if gone then None else Some (thinned (scope_inside scope spot token rest) token)) ∷ ps) after
 
-sorted-bare : (scope : Scope) (place : Place) (run : TokenList) → SortedBare scope place run
-sorted-bare scope place none = refl
-sorted-bare scope place (also (identifier text span) rest) = step scope place (identifier text span) rest tt (λ next. sorted-bare scope next rest)
-sorted-bare scope place (also (punctuation character spacing span) rest) = step scope place (punctuation character spacing span) rest tt (λ next. sorted-bare scope next rest)
-sorted-bare scope place (also (literal text span) rest) = step scope place (literal text span) rest tt (λ next. sorted-bare scope next rest)
-sorted-bare scope place (also (doc text span) rest) = step scope place (doc text span) rest tt (λ next. sorted-bare scope next rest)
-sorted-bare scope place (also (group delimiter span inside) rest) = step scope place (group delimiter span inside) rest (λ inner. sorted-bare inner Open inside) (λ next. sorted-bare scope next rest)
+sorted-bare : (scope : Scope) (spot : TokenSpot) (run : TokenList) → SortedBare scope spot run
+sorted-bare scope spot none = refl
+sorted-bare scope spot (also (identifier text span) rest) = step scope spot (identifier text span) rest tt (λ next. sorted-bare scope next rest)
+sorted-bare scope spot (also (punctuation character spacing span) rest) = step scope spot (punctuation character spacing span) rest tt (λ next. sorted-bare scope next rest)
+sorted-bare scope spot (also (literal text span) rest) = step scope spot (literal text span) rest tt (λ next. sorted-bare scope next rest)
+sorted-bare scope spot (also (doc text span) rest) = step scope spot (doc text span) rest tt (λ next. sorted-bare scope next rest)
+sorted-bare scope spot (also (group delimiter span inside) rest) = step scope spot (group delimiter span inside) rest (λ inner. sorted-bare inner Open inside) (λ next. sorted-bare scope next rest)
 
 stripped-bare : (tokens : TokenList) → stripped (bare tokens) ≡ bare (stripped tokens)
 stripped-bare tokens = ap left (sorted-bare Enum Open tokens) ∙ left-bare (sorted Enum Open tokens)

@@ -5,9 +5,9 @@ use Rattle.logos_lexeme.specs.declared.lexeme.Spacing.{Spacing}
 use Rattle.logos_lexeme.specs.declared.lexeme.Spacing.TheVariants.{Alone, Joint}
 use Rattle.logos_lexeme.specs.declared.lexeme.Span.{Span}
 use Rattle.logos_token.specs.Tokens.{Token, identifier, punctuation, literal, doc, group, TokenList, none, also}
-use Rattle.logos_item.specs.Marks.{comma, colon}
-use Rattle.logos_item.specs.Attributes.{is_path_mark}
-use Rattle.logos_strip.specs.Helpers.{is_comma, after_word, after_colon, after_colons, holds_after, ends_entry, is_macro_name, is_macro_segment, is_macro_path, is_global_path, is_macro_entry}
+use Rattle.logos_enum.specs.Marks.{comma, colon}
+use Rattle.logos_token.specs.First.{is_path_mark, after_word, after_colon, after_path_mark}
+use Rattle.logos_strip.specs.Helpers.{is_comma, holds_after, ends_entry, is_macro_name, is_macro_segment, is_macro_path, is_global_path, is_macro_entry}
 
 -- the same entry comes first, up to the spacing of the comma after it
 pub data SameEntry : TokenList → TokenList → Type 0 where
@@ -47,11 +47,11 @@ module _ (test : TokenList → Bool) (same : (one other : TokenList) → SameEnt
   comma_mark Alone = refl
   comma_mark Joint = refl
 
-  comma_none : (span : Span) (spacing : Spacing) (rest : TokenList) → holds_after test (after_colons (also (punctuation comma spacing span) rest)) ≡ false
+  comma_none : (span : Span) (spacing : Spacing) (rest : TokenList) → holds_after test (after_path_mark (also (punctuation comma spacing span) rest)) ≡ false
   comma_none span Alone rest = refl
   comma_none span Joint rest = refl
 
-  colons_same : (one other : TokenList) → SameEntry one other → holds_after test (after_colons one) ≡ holds_after test (after_colons other)
+  colons_same : (one other : TokenList) → SameEntry one other → holds_after test (after_path_mark one) ≡ holds_after test (after_path_mark other)
   colons_same _ _ ended = refl
   colons_same _ _ (parted span spacing other rest next) = comma_none span spacing rest ∙ sym (comma_none span other next)
   colons_same _ _ (further (identifier text span) e s) = refl

@@ -8,13 +8,13 @@ use Rattle.logos_lexeme.specs.declared.lexeme.Span.{Span}
 use Rattle.logos_lexeme.specs.declared.lexeme.Delimiter.{Delimiter}
 use Rattle.logos_lexeme.specs.declared.lexeme.Delimiter.TheVariants.{Parenthesis, Bracket, Brace}
 use Rattle.logos_token.specs.Tokens.{Token, identifier, punctuation, literal, doc, group, TokenList, none, also}
-use Rattle.logos_item.specs.Marks.{comma, colon, hash, begins_with, is_none}
-use Rattle.logos_strip.specs.declared.places.Scope.{Scope}
-use Rattle.logos_strip.specs.declared.places.Scope.TheVariants.{Enum, Attribute, Derives, Variants, Fields}
-use Rattle.logos_strip.specs.declared.places.Place.{Place}
-use Rattle.logos_strip.specs.declared.places.Place.TheVariants.{Open, Hash, Gone, Named, Within}
+use Rattle.logos_enum.specs.Marks.{comma, colon, hash, begins_with, is_none}
+use Rattle.logos_strip.specs.declared.spots.Scope.{Scope}
+use Rattle.logos_strip.specs.declared.spots.Scope.TheVariants.{Enum, Attribute, Derives, Variants, Fields}
+use Rattle.logos_strip.specs.declared.spots.TokenSpot.{TokenSpot}
+use Rattle.logos_strip.specs.declared.spots.TokenSpot.TheVariants.{Open, Hash, Gone, Named, Within}
 use Rattle.logos_strip.specs.Helpers.{is_comma, is_helper_name, is_helper_path, holds_helper, begins_helper, is_macro_entry}
-use Rattle.logos_strip.specs.Places.{goes, after_part, after_start, after_hash, after_attributed, after_in_enum, after_in_attribute, place_after, scope_of, scope_inside}
+use Rattle.logos_strip.specs.Spots.{goes, after_part, after_start, after_hash, after_attributed, after_in_enum, after_in_attribute, spot_after, scope_of, scope_inside}
 use Rattle.logos_strip.specs.Stripping.{alone, in_front, left, thinned, sorted, stripped}
 use Rattle.logos_strip.proofs.once.ShapeLemmas.{shape, front_either, shape-front, after-front, scope-front}
 use Rattle.logos_strip.proofs.once.EntryLemmas.{SameEntry, ended, parted, further, entry_same}
@@ -29,15 +29,15 @@ left-kept none = refl
 left-kept (also token none) = refl
 left-kept (also token (also next rest)) = ap (also token) (left-kept (also next rest))
 
--- the place where what goes ends
-abbrev settled : Place → Place
+-- the spot where what goes ends
+abbrev settled : TokenSpot → TokenSpot
 settled Gone = Open
-settled place = place
+settled spot = spot
 
--- no place of an attribute's brackets is in what goes
-abbrev IsReached : Scope → Place → Type 0
+-- no spot of an attribute's brackets is in what goes
+abbrev IsReached : Scope → TokenSpot → Type 0
 IsReached Attribute Gone = ⊥
-IsReached scope place = Unit {0}
+IsReached scope spot = Unit {0}
 
 reached-start : (scope : Scope) → IsReached scope Open
 reached-start Enum = tt
@@ -46,12 +46,12 @@ reached-start Derives = tt
 reached-start Variants = tt
 reached-start Fields = tt
 
-if_place : (P : Place → Type 0) (found : Bool) (one other : Place) → P one → P other → P (if found then one else other)
-if_place P true one other a b = a
-if_place P false one other a b = b
+if_spot : (P : TokenSpot → Type 0) (found : Bool) (one other : TokenSpot) → P one → P other → P (if found then one else other)
+if_spot P true one other a b = a
+if_spot P false one other a b = b
 
-reached-path : (place : Place) (token : Token) → IsReached Attribute (place_after Attribute place false token)
-reached-path Open (identifier text span) = if_place (IsReached Attribute) (bytes_eq text (codes "derive")) Named Within tt tt
+reached-path : (spot : TokenSpot) (token : Token) → IsReached Attribute (spot_after Attribute spot false token)
+reached-path Open (identifier text span) = if_spot (IsReached Attribute) (bytes_eq text (codes "derive")) Named Within tt tt
 reached-path Open (punctuation character spacing span) = tt
 reached-path Open (literal text span) = tt
 reached-path Open (doc text span) = tt
@@ -61,19 +61,19 @@ reached-path Gone token = tt
 reached-path Named token = tt
 reached-path Within token = tt
 
-reached-after : (scope : Scope) (place : Place) (gone : Bool) (token : Token) → IsReached scope (place_after scope place gone token)
-reached-after Enum place gone token = tt
-reached-after Attribute place gone token = reached-path place token
-reached-after Derives place gone token = tt
-reached-after Variants place gone token = tt
-reached-after Fields place gone token = tt
+reached-after : (scope : Scope) (spot : TokenSpot) (gone : Bool) (token : Token) → IsReached scope (spot_after scope spot gone token)
+reached-after Enum spot gone token = tt
+reached-after Attribute spot gone token = reached-path spot token
+reached-after Derives spot gone token = tt
+reached-after Variants spot gone token = tt
+reached-after Fields spot gone token = tt
 
--- what stays is followed by no place in what goes
+-- what stays is followed by no spot in what goes
 
-if_settled : (found : Bool) (one other : Place) → settled one ≡ one → settled other ≡ other → settled (if found then one else other) ≡ (if found then one else other)
-if_settled found one other a b = if_place (λ p. settled p ≡ p) found one other a b
+if_settled : (found : Bool) (one other : TokenSpot) → settled one ≡ one → settled other ≡ other → settled (if found then one else other) ≡ (if found then one else other)
+if_settled found one other a b = if_spot (λ p. settled p ≡ p) found one other a b
 
-settled-start : (other : Place) → settled other ≡ other → (token : Token) → settled (after_start other token) ≡ after_start other token
+settled-start : (other : TokenSpot) → settled other ≡ other → (token : Token) → settled (after_start other token) ≡ after_start other token
 settled-start other e (identifier text span) = e
 settled-start other e (punctuation character spacing span) = if_settled (character == hash) Hash other refl e
 settled-start other e (literal text span) = e
@@ -87,21 +87,21 @@ settled-hash (literal text span) = refl
 settled-hash (doc text span) = refl
 settled-hash (group delimiter span inside) = refl
 
-settled-attributed : (first place : Place) → settled first ≡ first → (token : Token) → settled (after_attributed first place false token) ≡ after_attributed first place false token
+settled-attributed : (first spot : TokenSpot) → settled first ≡ first → (token : Token) → settled (after_attributed first spot false token) ≡ after_attributed first spot false token
 settled-attributed first Open e token = settled-start first e token
 settled-attributed first Hash e token = settled-hash token
 settled-attributed first Gone e token = refl
 settled-attributed first Named e token = if_settled (is_comma token) Open Within refl refl
 settled-attributed first Within e token = if_settled (is_comma token) Open Within refl refl
 
-settled-enum : (place : Place) (token : Token) → settled (after_in_enum place false token) ≡ after_in_enum place false token
+settled-enum : (spot : TokenSpot) (token : Token) → settled (after_in_enum spot false token) ≡ after_in_enum spot false token
 settled-enum Open token = settled-attributed Within Open refl token
 settled-enum Hash token = settled-attributed Within Hash refl token
 settled-enum Gone token = settled-attributed Within Gone refl token
 settled-enum Named token = settled-attributed Within Named refl token
 settled-enum Within token = refl
 
-settled-path : (place : Place) (token : Token) → settled (after_in_attribute place token) ≡ after_in_attribute place token
+settled-path : (spot : TokenSpot) (token : Token) → settled (after_in_attribute spot token) ≡ after_in_attribute spot token
 settled-path Open (identifier text span) = if_settled (bytes_eq text (codes "derive")) Named Within refl refl
 settled-path Open (punctuation character spacing span) = refl
 settled-path Open (literal text span) = refl
@@ -112,21 +112,21 @@ settled-path Gone token = refl
 settled-path Named token = refl
 settled-path Within token = refl
 
-settled-after : (scope : Scope) (place : Place) (token : Token) → settled (place_after scope place false token) ≡ place_after scope place false token
-settled-after Enum place token = settled-enum place token
-settled-after Attribute place token = settled-path place token
-settled-after Derives place token = if_settled (is_comma token) Open Within refl refl
-settled-after Variants place token = settled-attributed Named place refl token
-settled-after Fields place token = settled-attributed Within place refl token
+settled-after : (scope : Scope) (spot : TokenSpot) (token : Token) → settled (spot_after scope spot false token) ≡ spot_after scope spot false token
+settled-after Enum spot token = settled-enum spot token
+settled-after Attribute spot token = settled-path spot token
+settled-after Derives spot token = if_settled (is_comma token) Open Within refl refl
+settled-after Variants spot token = settled-attributed Named spot refl token
+settled-after Fields spot token = settled-attributed Within spot refl token
 
 -- what goes stands where an attribute or an entry may begin, and so does what is after it
-abbrev GoesOpen : Scope → Place → Token → Type 0
-GoesOpen scope place token = (settled place ≡ Open) × (settled (place_after scope place true token) ≡ Open)
+abbrev GoesOpen : Scope → TokenSpot → Token → Type 0
+GoesOpen scope spot token = (settled spot ≡ Open) × (settled (spot_after scope spot true token) ≡ Open)
 
-gone-entry : (token : Token) → settled (place_after Derives Gone true token) ≡ Open
-gone-entry token = if_place (λ p. settled p ≡ Open) (is_comma token) Open Gone refl refl
+gone-entry : (token : Token) → settled (spot_after Derives Gone true token) ≡ Open
+gone-entry token = if_spot (λ p. settled p ≡ Open) (is_comma token) Open Gone refl refl
 
-goes-open : (scope : Scope) (place : Place) (token : Token) (run : TokenList) → IsReached scope place → goes scope place run ≡ true → GoesOpen scope place token
+goes-open : (scope : Scope) (spot : TokenSpot) (token : Token) (run : TokenList) → IsReached scope spot → goes scope spot run ≡ true → GoesOpen scope spot token
 goes-open Enum Open token run reached e = (refl, refl)
 goes-open Attribute Open token run reached e = absurd (false≢true e)
 goes-open Derives Open token run reached e = (refl, gone-entry token)
@@ -143,12 +143,12 @@ goes-open scope Within token run reached e = absurd (false≢true e)
 
 -- the brackets of an attribute keep its path
 
-no_scope : (place : Place) (token : Token) (rest : TokenList) → scope_inside Derives place token rest ≡ None
-no_scope place (identifier text span) rest = refl
-no_scope place (punctuation character spacing span) rest = refl
-no_scope place (literal text span) rest = refl
-no_scope place (doc text span) rest = refl
-no_scope place (group delimiter span inside) rest = refl
+no_scope : (spot : TokenSpot) (token : Token) (rest : TokenList) → scope_inside Derives spot token rest ≡ None
+no_scope spot (identifier text span) rest = refl
+no_scope spot (punctuation character spacing span) rest = refl
+no_scope spot (literal text span) rest = refl
+no_scope spot (doc text span) rest = refl
+no_scope spot (group delimiter span inside) rest = refl
 
 abbrev BeginsSame : TokenList → TokenList → Type 0
 BeginsSame one other = begins_with colon one ≡ begins_with colon other
@@ -165,21 +165,21 @@ first-colon pieces inner token rest more =
     colon-shape (doc text span) rest = refl
     colon-shape (group delimiter span inside) rest = refl
 
-attribute-goes : (place : Place) (run : TokenList) → IsReached Attribute place → goes Attribute place run ≡ false
+attribute-goes : (spot : TokenSpot) (run : TokenList) → IsReached Attribute spot → goes Attribute spot run ≡ false
 attribute-goes Open run reached = refl
 attribute-goes Hash run reached = refl
 attribute-goes Gone run reached = absurd reached
 attribute-goes Named run reached = refl
 attribute-goes Within run reached = refl
 
-colon-left : (place : Place) (rest : TokenList) → IsReached Attribute place → BeginsSame (left (sorted Attribute place rest)) rest
-colon-left place none reached = refl
-colon-left place (also token rest) reached = rw (attribute-goes place (also token rest) reached) (first-colon _ _ token rest _)
+colon-left : (spot : TokenSpot) (rest : TokenList) → IsReached Attribute spot → BeginsSame (left (sorted Attribute spot rest)) rest
+colon-left spot none reached = refl
+colon-left spot (also token rest) reached = rw (attribute-goes spot (also token rest) reached) (first-colon _ _ token rest _)
 
 path-left : (inside : TokenList) → is_helper_path (left (sorted Attribute Open inside)) ≡ is_helper_path inside
 path-left none = refl
 path-left (also (identifier text span) rest) =
-    let next = place_after Attribute Open false (identifier text span) in
+    let next = spot_after Attribute Open false (identifier text span) in
     let more = left (sorted Attribute next rest) in
     let is : is_helper_path (also (identifier text span) more) ≡ is_helper_path (also (identifier text span) rest) =
     ap (λ b. is_helper_name text && not b) (colon-left next rest (reached-path Open (identifier text span))) in
@@ -244,12 +244,12 @@ holds-left : (scope : Scope) (rest : TokenList) → holds_helper (left (sorted s
 holds-left scope none = refl
 holds-left scope (also (group Bracket span inside) rest) =
     let inner = scope_of scope Hash Bracket (is_none rest) in
-    let next = sorted scope (place_after scope Hash false (group Bracket span inside)) rest in
+    let next = sorted scope (spot_after scope Hash false (group Bracket span inside)) rest in
     let is = brackets-left scope (is_none rest) span inside rest (left next) in
     front_either (λ t. holds_helper (also t (left next)) ≡ holds_helper (also (group Bracket span inside) rest)) next (thinned inner (group Bracket span inside)) is
     (ap (λ t. holds_helper (also t (left next))) (alone-group inner Bracket span inside) ∙ is)
 holds-left scope (also token rest) =
-    let next = sorted scope (place_after scope Hash false token) rest in
+    let next = sorted scope (spot_after scope Hash false token) rest in
     other-left next (scope_inside scope Hash token rest) token rest (left next) tt
 
 -- no helper attribute begins with what stays
@@ -261,7 +261,7 @@ mark-shape (literal text span) rest = refl
 mark-shape (doc text span) rest = refl
 mark-shape (group delimiter span inside) rest = refl
 
-mark-left : (scope : Scope) (first : Place) (token : Token) (rest : TokenList) → begins_helper (also token rest) ≡ false → begins_helper (also token (left (sorted scope (after_start first token) rest))) ≡ false
+mark-left : (scope : Scope) (first : TokenSpot) (token : Token) (rest : TokenList) → begins_helper (also token rest) ≡ false → begins_helper (also token (left (sorted scope (after_start first token) rest))) ≡ false
 mark-left scope first (identifier text span) rest h = refl
 mark-left scope first (punctuation character spacing span) rest h = go (character == hash) refl
   where
@@ -272,7 +272,7 @@ mark-left scope first (literal text span) rest h = refl
 mark-left scope first (doc text span) rest h = refl
 mark-left scope first (group delimiter span inside) rest h = refl
 
-helper-left : (scope : Scope) (first : Place) (pieces : List (Option Token)) (inner : Option Scope) (token : Token) (rest : TokenList) → begins_helper (also token rest) ≡ false →
+helper-left : (scope : Scope) (first : TokenSpot) (pieces : List (Option Token)) (inner : Option Scope) (token : Token) (rest : TokenList) → begins_helper (also token rest) ≡ false →
     begins_helper (also (in_front pieces (thinned inner token)) (left (sorted scope (after_start first token) rest))) ≡ false
 helper-left scope first pieces inner token rest h =
     let t = in_front pieces (thinned inner token) in
@@ -306,34 +306,34 @@ one-entry token rest ih = go (is_comma token) refl
     go true e = parted-entry token rest (sorted Derives (after_part Within token) rest) e
     go false e =
         let more = left (sorted Derives Within rest) in
-        let P : Place → Type 0 = λ p. SameEntry (also token rest) (left (Some token ∷ sorted Derives p rest)) in
-        let place : Within ≡ after_part Within token = ap (λ b. if b then Open else Within) (sym e) in
-        subst P place (subst (λ t. SameEntry (also token rest) (also t more)) (sym (within-front rest token)) (further token e ih))
+        let P : TokenSpot → Type 0 = λ p. SameEntry (also token rest) (left (Some token ∷ sorted Derives p rest)) in
+        let spot : Within ≡ after_part Within token = ap (λ b. if b then Open else Within) (sym e) in
+        subst P spot (subst (λ t. SameEntry (also token rest) (also t more)) (sym (within-front rest token)) (further token e ih))
 
 entry-left : (rest : TokenList) → SameEntry rest (left (sorted Derives Within rest))
 entry-left none = ended
 entry-left (also token rest) = rw (no_scope Within token rest) (one-entry token rest (entry-left rest))
 
 -- What is left of a token that stays, and of those after it.
-module _ (scope : Scope) (place : Place) (token : Token) (rest : TokenList) where
-  abbrev Next : Place
-  Next = place_after scope place false token
+module _ (scope : Scope) (spot : TokenSpot) (token : Token) (rest : TokenList) where
+  abbrev Next : TokenSpot
+  Next = spot_after scope spot false token
 
   abbrev first_left : Token
-  first_left = in_front (sorted scope Next rest) (thinned (scope_inside scope place token rest) token)
+  first_left = in_front (sorted scope Next rest) (thinned (scope_inside scope spot token rest) token)
 
   abbrev rest_left : TokenList
   rest_left = left (sorted scope Next rest)
 
 -- it stays again
-goes-left : (scope : Scope) (place : Place) (token : Token) (rest : TokenList) → goes scope place (also token rest) ≡ false → goes scope place (also (first_left scope place token rest) (rest_left scope place token rest)) ≡ false
-goes-left Enum Open token rest h = helper-left Enum Within (sorted Enum (place_after Enum Open false token) rest) (scope_inside Enum Open token rest) token rest h
+goes-left : (scope : Scope) (spot : TokenSpot) (token : Token) (rest : TokenList) → goes scope spot (also token rest) ≡ false → goes scope spot (also (first_left scope spot token rest) (rest_left scope spot token rest)) ≡ false
+goes-left Enum Open token rest h = helper-left Enum Within (sorted Enum (spot_after Enum Open false token) rest) (scope_inside Enum Open token rest) token rest h
 goes-left Attribute Open token rest h = refl
 goes-left Derives Open token rest h =
     let is : is_macro_entry (left (Some token ∷ sorted Derives (after_part Within token) rest)) ≡ false = sym (entry_same _ _ (one-entry token rest (entry-left rest))) ∙ h in
     rw (no_scope Open token rest) is
-goes-left Variants Open token rest h = helper-left Variants Named (sorted Variants (place_after Variants Open false token) rest) (scope_inside Variants Open token rest) token rest h
-goes-left Fields Open token rest h = helper-left Fields Within (sorted Fields (place_after Fields Open false token) rest) (scope_inside Fields Open token rest) token rest h
+goes-left Variants Open token rest h = helper-left Variants Named (sorted Variants (spot_after Variants Open false token) rest) (scope_inside Variants Open token rest) token rest h
+goes-left Fields Open token rest h = helper-left Fields Within (sorted Fields (spot_after Fields Open false token) rest) (scope_inside Fields Open token rest) token rest h
 goes-left scope Hash token rest h = refl
 goes-left scope Gone token rest h = absurd (true≢false h)
 goes-left scope Named token rest h = refl
@@ -344,8 +344,8 @@ none-left : (rest : TokenList) → is_none (left (sorted Enum Within rest)) ≡ 
 none-left none = refl
 none-left (also token rest) = refl
 
-scope-rest : (scope : Scope) (place : Place) (delimiter : Delimiter) (span : Span) (inside rest : TokenList) →
-    scope_of scope place delimiter (is_none (rest_left scope place (group delimiter span inside) rest)) ≡ scope_of scope place delimiter (is_none rest)
+scope-rest : (scope : Scope) (spot : TokenSpot) (delimiter : Delimiter) (span : Span) (inside rest : TokenList) →
+    scope_of scope spot delimiter (is_none (rest_left scope spot (group delimiter span inside) rest)) ≡ scope_of scope spot delimiter (is_none rest)
 scope-rest Enum Open delimiter span inside rest = refl
 scope-rest Enum Hash Parenthesis span inside rest = refl
 scope-rest Enum Hash Bracket span inside rest = refl
@@ -356,26 +356,28 @@ scope-rest Enum Within delimiter span inside rest = ap (scope_of Enum Within del
 scope-rest Attribute Open delimiter span inside rest = refl
 scope-rest Attribute Hash delimiter span inside rest = refl
 scope-rest Attribute Gone delimiter span inside rest = refl
-scope-rest Attribute Named delimiter span inside rest = refl
+scope-rest Attribute Named Parenthesis span inside rest = refl
+scope-rest Attribute Named Bracket span inside rest = refl
+scope-rest Attribute Named Brace span inside rest = refl
 scope-rest Attribute Within delimiter span inside rest = refl
-scope-rest Derives place delimiter span inside rest = refl
+scope-rest Derives spot delimiter span inside rest = refl
 scope-rest Variants Open delimiter span inside rest = refl
 scope-rest Variants Hash delimiter span inside rest = refl
 scope-rest Variants Gone delimiter span inside rest = refl
 scope-rest Variants Named delimiter span inside rest = refl
 scope-rest Variants Within delimiter span inside rest = refl
-scope-rest Fields place delimiter span inside rest = refl
+scope-rest Fields spot delimiter span inside rest = refl
 
-scope-again : (scope : Scope) (place : Place) (token : Token) (rest : TokenList) → scope_inside scope place token (rest_left scope place token rest) ≡ scope_inside scope place token rest
-scope-again scope place (identifier text span) rest = refl
-scope-again scope place (punctuation character spacing span) rest = refl
-scope-again scope place (literal text span) rest = refl
-scope-again scope place (doc text span) rest = refl
-scope-again scope place (group delimiter span inside) rest = scope-rest scope place delimiter span inside rest
+scope-again : (scope : Scope) (spot : TokenSpot) (token : Token) (rest : TokenList) → scope_inside scope spot token (rest_left scope spot token rest) ≡ scope_inside scope spot token rest
+scope-again scope spot (identifier text span) rest = refl
+scope-again scope spot (punctuation character spacing span) rest = refl
+scope-again scope spot (literal text span) rest = refl
+scope-again scope spot (doc text span) rest = refl
+scope-again scope spot (group delimiter span inside) rest = scope-rest scope spot delimiter span inside rest
 
-scope-left : (scope : Scope) (place : Place) (token : Token) (rest : TokenList) → scope_inside scope place (first_left scope place token rest) (rest_left scope place token rest) ≡ scope_inside scope place token rest
-scope-left scope place token rest =
-    scope-front scope place (sorted scope (place_after scope place false token) rest) (scope_inside scope place token rest) token (rest_left scope place token rest) ∙ scope-again scope place token rest
+scope-left : (scope : Scope) (spot : TokenSpot) (token : Token) (rest : TokenList) → scope_inside scope spot (first_left scope spot token rest) (rest_left scope spot token rest) ≡ scope_inside scope spot token rest
+scope-left scope spot token rest =
+    scope-front scope spot (sorted scope (spot_after scope spot false token) rest) (scope_inside scope spot token rest) token (rest_left scope spot token rest) ∙ scope-again scope spot token rest
 
 -- and what it holds is left
 abbrev InsideOnce : Token → Type 0
@@ -400,54 +402,54 @@ thinned-front pieces (Some scope) token ih = let both = thinned-again scope toke
 
 -- Twice is once.
 
-abbrev Once : Scope → Place → TokenList → Type 0
-Once scope place run = sorted scope (settled place) (left (sorted scope place run)) ≡ kept (left (sorted scope place run))
+abbrev Once : Scope → TokenSpot → TokenList → Type 0
+Once scope spot run = sorted scope (settled spot) (left (sorted scope spot run)) ≡ kept (left (sorted scope spot run))
 
-stays : (scope : Scope) (place : Place) (token : Token) (rest : TokenList) → goes scope place (also token rest) ≡ false → InsideOnce token → Once scope (place_after scope place false token) rest →
-    sorted scope place (also (first_left scope place token rest) (rest_left scope place token rest)) ≡ Some (first_left scope place token rest) ∷ kept (rest_left scope place token rest)
-stays scope place token rest h inside ih =
-    let first = first_left scope place token rest in
-    let more = rest_left scope place token rest in
-    let next = place_after scope place false token in
+stays : (scope : Scope) (spot : TokenSpot) (token : Token) (rest : TokenList) → goes scope spot (also token rest) ≡ false → InsideOnce token → Once scope (spot_after scope spot false token) rest →
+    sorted scope spot (also (first_left scope spot token rest) (rest_left scope spot token rest)) ≡ Some (first_left scope spot token rest) ∷ kept (rest_left scope spot token rest)
+stays scope spot token rest h inside ih =
+    let first = first_left scope spot token rest in
+    let more = rest_left scope spot token rest in
+    let next = spot_after scope spot false token in
     let pieces = sorted scope next rest in
-    let inner = scope_inside scope place token rest in
-    let again : thinned (scope_inside scope place first more) first ≡ first = ap (λ o. thinned o first) (scope-left scope place token rest) ∙ thinned-front pieces inner token inside in
-    let after : place_after scope place false first ≡ next = after-front scope place false pieces inner token in
-    let there : settled next ≡ next = settled-after scope place token in
-    let others : sorted scope (place_after scope place false first) more ≡ kept more = ap (λ p. sorted scope p more) (after ∙ sym there) ∙ ih in
-    rw (goes-left scope place token rest h) (ap (λ t. Some t ∷ sorted scope (place_after scope place false first) more) again ∙ ap (λ ps. Some first ∷ ps) others)
+    let inner = scope_inside scope spot token rest in
+    let again : thinned (scope_inside scope spot first more) first ≡ first = ap (λ o. thinned o first) (scope-left scope spot token rest) ∙ thinned-front pieces inner token inside in
+    let after : spot_after scope spot false first ≡ next = after-front scope spot false pieces inner token in
+    let there : settled next ≡ next = settled-after scope spot token in
+    let others : sorted scope (spot_after scope spot false first) more ≡ kept more = ap (λ p. sorted scope p more) (after ∙ sym there) ∙ ih in
+    rw (goes-left scope spot token rest h) (ap (λ t. Some t ∷ sorted scope (spot_after scope spot false first) more) again ∙ ap (λ ps. Some first ∷ ps) others)
 
-stays-place : (scope : Scope) (place : Place) (run : TokenList) → goes scope place run ≡ false → settled place ≡ place
-stays-place scope Open run h = refl
-stays-place scope Hash run h = refl
-stays-place scope Gone run h = absurd (true≢false h)
-stays-place scope Named run h = refl
-stays-place scope Within run h = refl
+stays-spot : (scope : Scope) (spot : TokenSpot) (run : TokenList) → goes scope spot run ≡ false → settled spot ≡ spot
+stays-spot scope Open run h = refl
+stays-spot scope Hash run h = refl
+stays-spot scope Gone run h = absurd (true≢false h)
+stays-spot scope Named run h = refl
+stays-spot scope Within run h = refl
 
-step : (scope : Scope) (place : Place) (token : Token) (rest : TokenList) → IsReached scope place → InsideOnce token → ((next : Place) → IsReached scope next → Once scope next rest) → Once scope place (also token rest)
-step scope place token rest reached inside ih = go (goes scope place (also token rest)) refl
+step : (scope : Scope) (spot : TokenSpot) (token : Token) (rest : TokenList) → IsReached scope spot → InsideOnce token → ((next : TokenSpot) → IsReached scope next → Once scope next rest) → Once scope spot (also token rest)
+step scope spot token rest reached inside ih = go (goes scope spot (also token rest)) refl
   where
-    go : (b : Bool) → goes scope place (also token rest) ≡ b → Once scope place (also token rest)
+    go : (b : Bool) → goes scope spot (also token rest) ≡ b → Once scope spot (also token rest)
     go true e =
-        let next = place_after scope place true token in
+        let next = spot_after scope spot true token in
         let more = left (sorted scope next rest) in
-        let open_places = goes-open scope place token (also token rest) reached e in
-        let is : sorted scope (settled place) more ≡ kept more = ap (λ p. sorted scope p more) (open_places.0 ∙ sym open_places.1) ∙ ih next (reached-after scope place true token) in
+        let open_spots = goes-open scope spot token (also token rest) reached e in
+        let is : sorted scope (settled spot) more ≡ kept more = ap (λ p. sorted scope p more) (open_spots.0 ∙ sym open_spots.1) ∙ ih next (reached-after scope spot true token) in
         rw e is
     go false e =
-        let is : sorted scope (settled place) (also (first_left scope place token rest) (rest_left scope place token rest)) ≡ Some (first_left scope place token rest) ∷ kept (rest_left scope place token rest) =
-        ap (λ p. sorted scope p (also (first_left scope place token rest) (rest_left scope place token rest))) (stays-place scope place (also token rest) e)
-        ∙ stays scope place token rest e inside (ih (place_after scope place false token) (reached-after scope place false token)) in
+        let is : sorted scope (settled spot) (also (first_left scope spot token rest) (rest_left scope spot token rest)) ≡ Some (first_left scope spot token rest) ∷ kept (rest_left scope spot token rest) =
+        ap (λ p. sorted scope p (also (first_left scope spot token rest) (rest_left scope spot token rest))) (stays-spot scope spot (also token rest) e)
+        ∙ stays scope spot token rest e inside (ih (spot_after scope spot false token) (reached-after scope spot false token)) in
         rw e is
 
-once : (scope : Scope) (place : Place) (run : TokenList) → IsReached scope place → Once scope place run
-once scope place none reached = refl
-once scope place (also (identifier text span) rest) reached = step scope place (identifier text span) rest reached tt (λ next r. once scope next rest r)
-once scope place (also (punctuation character spacing span) rest) reached = step scope place (punctuation character spacing span) rest reached tt (λ next r. once scope next rest r)
-once scope place (also (literal text span) rest) reached = step scope place (literal text span) rest reached tt (λ next r. once scope next rest r)
-once scope place (also (doc text span) rest) reached = step scope place (doc text span) rest reached tt (λ next r. once scope next rest r)
-once scope place (also (group delimiter span inside) rest) reached =
-    step scope place (group delimiter span inside) rest reached (λ inner. once inner Open inside (reached-start inner)) (λ next r. once scope next rest r)
+once : (scope : Scope) (spot : TokenSpot) (run : TokenList) → IsReached scope spot → Once scope spot run
+once scope spot none reached = refl
+once scope spot (also (identifier text span) rest) reached = step scope spot (identifier text span) rest reached tt (λ next r. once scope next rest r)
+once scope spot (also (punctuation character spacing span) rest) reached = step scope spot (punctuation character spacing span) rest reached tt (λ next r. once scope next rest r)
+once scope spot (also (literal text span) rest) reached = step scope spot (literal text span) rest reached tt (λ next r. once scope next rest r)
+once scope spot (also (doc text span) rest) reached = step scope spot (doc text span) rest reached tt (λ next r. once scope next rest r)
+once scope spot (also (group delimiter span inside) rest) reached =
+    step scope spot (group delimiter span inside) rest reached (λ inner. once inner Open inside (reached-start inner)) (λ next r. once scope next rest r)
 
 -- nothing more goes from what is left of an enum
 pub stripped-once : (tokens : TokenList) → stripped (stripped tokens) ≡ stripped tokens

@@ -4,8 +4,8 @@ use Rattle.logos_token.specs.declared.token.Punct.{Punct}
 use Rattle.logos_token.specs.declared.token.views.Group.{Group}
 use Rattle.logos_token.specs.Tokens.{Token, punctuation, group, TokenList, append}
 use Rattle.logos_token.specs.Views.{stream_tokens, inside_of}
-use Rattle.logos_strip.specs.declared.places.Scope.{Scope}
-use Rattle.logos_strip.specs.declared.places.Scope.TheVariants.{Enum, Attribute, Derives, Variants, Fields}
+use Rattle.logos_strip.specs.declared.spots.Scope.{Scope}
+use Rattle.logos_strip.specs.declared.spots.Scope.TheVariants.{Enum, Attribute, Derives, Variants, Fields}
 use Rattle.logos_strip.specs.declared.writer.Writer.{Writer}
 use Rattle.logos_strip.specs.Stripping.{left}
 

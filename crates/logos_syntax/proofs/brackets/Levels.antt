@@ -10,7 +10,7 @@ use Rattle.logos_hir.specs.Sets.{Set, union}
 use Rattle.logos_pattern_tokens.specs.bracket.Form.{Bracket, bracket, Operands, lone, joined, Members, nobody, member, nested}
 use Rattle.logos_pattern_tokens.specs.bracket.Spelling.{bracket_tokens, operands_tokens, members_tokens}
 use Rattle.logos_syntax.specs.bracket.Meaning.{set_or_complement, item_set, lead_set, bracket_set, operands_set, members_set, bracket_depth, operands_depth, members_depth}
-use Rattle.logos_syntax.specs.inside.BracketStack.{Frame, Frames, fresh_frame, value, whole, close, bracket_step}
+use Rattle.logos_syntax.specs.inside.BracketStack.{BracketFrame, Frames, fresh_frame, value, whole, close, bracket_step}
 use Rattle.logos_syntax.specs.inside.BracketStack.{with_before}
 
 -- a bracket that is open: the operands before the last one, with the operator behind them, and the last one
@@ -52,7 +52,7 @@ abbrev pub inside_depth : Option (Operands × SetOperator) → Members → ℕ
 inside_depth None ms = members_depth ms
 inside_depth (Some b) ms = max (operands_depth b.0) (members_depth ms)
 
-abbrev pub frame_of : Flags → ℕ → Level → Frame
+abbrev pub frame_of : Flags → ℕ → Level → BracketFrame
 frame_of flags level l = record {
   negated = l.negated;
   before = before_set flags l.lead l.before;
@@ -64,7 +64,7 @@ abbrev pub size : Stack → ℕ
 size bottom = 0
 size (over k l) = suc (size k)
 
-abbrev pub below_of : Flags → ℕ → Stack → List Frame
+abbrev pub below_of : Flags → ℕ → Stack → List BracketFrame
 below_of flags base bottom = []
 below_of flags base (over k l) = frame_of flags (base + size k + 1) l ∷ below_of flags base k
 
@@ -121,7 +121,7 @@ depth_nested None ms x = refl
 depth_nested (Some b) ms x = omega arith
 
 -- the innermost frame becomes another one
-abbrev to_frame : Flags → ℕ → Stack → Frame → Option Frames
+abbrev to_frame : Flags → ℕ → Stack → BracketFrame → Option Frames
 to_frame flags base k f = Some (record { top = f; below = below_of flags base k })
 
 item_is : (flags : Flags) (level : ℕ) (l : Level) (item : ItemOf) → record (frame_of flags level l) { here = union (frame_of flags level l).here (item_set flags item) } ≡ frame_of flags level (with_members l (member l.members item))

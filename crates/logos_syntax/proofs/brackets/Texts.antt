@@ -11,7 +11,7 @@ use Rattle.logos_pattern_tokens.specs.bracket.Form.{Bracket, bracket, Operands, 
 use Rattle.logos_pattern_tokens.specs.bracket.Spelling.{operands_tokens, BracketTakes, BracketCuts, Opens, Encloses}
 use Rattle.logos_syntax.specs.bracket.Meaning.{bracket_set, item_fits, TokensFit, BracketFits, bracket_depth}
 use Rattle.logos_pattern_tokens.specs.bracket.Reader.{bracket_token_at}
-use Rattle.logos_syntax.specs.inside.BracketStack.{Frame, Frames, whole, close, bracket_step, fresh_frame}
+use Rattle.logos_syntax.specs.inside.BracketStack.{BracketFrame, Frames, whole, close, bracket_step, fresh_frame}
 use Rattle.logos_syntax.specs.inside.BracketView.{MayStand}
 use Rattle.logos_pattern_tokens.proofs.Picks.{IsTaken}
 use Rattle.logos_pattern_tokens.proofs.BracketTokens.{open_is, bracket_token_taken, bracket_token_is}
@@ -218,7 +218,7 @@ no_fit flags negated lead text here after p item h e unfit inside rest k fit =
 
 -- ---- depth
 
-abbrev deepest_below : List Frame → ℕ
+abbrev deepest_below : List BracketFrame → ℕ
 deepest_below [] = 0
 deepest_below (g ∷ gs) = max g.inner (deepest_below gs)
 
@@ -228,7 +228,7 @@ deepest s = max s.top.inner (deepest_below s.below)
 abbrev Deeper : Frames → Option Frames → Type 0
 Deeper s o = IfSome o (λ t. deepest s ≤ deepest t)
 
-close_deeper : (flags : Flags) (f : Frame) (gs : List Frame) → Deeper (record { top = f; below = gs }) (close flags f gs)
+close_deeper : (flags : Flags) (f : BracketFrame) (gs : List BracketFrame) → Deeper (record { top = f; below = gs }) (close flags f gs)
 close_deeper flags f [] = tt
 close_deeper flags f (g ∷ gs) = omega arith
 

@@ -5,13 +5,13 @@ use Rattle.logos_pattern_tokens.specs.declared.error.Stop.TheVariants as stops
 use Rattle.logos_pattern_tokens.specs.Token.{repeats}
 use Rattle.logos_syntax.specs.inside.GroupsView.{Repeats, Steps}
 use Rattle.logos_pattern_tokens.specs.declared.token.Operator.{Operator}
-use Rattle.logos_syntax.specs.inside.Groups.{Group, Part, State, repeat}
+use Rattle.logos_syntax.specs.inside.Groups.{Group, GroupPart, State, repeat}
 
-pub repeats_deep : (g : Group) (op : Operator) (o : Option Part) (p : Part) → o ≡ Some p → 250 ≤ p.1 → (x : Group) × (repeat g op o ≡ Some x) × (250 < x.inner)
+pub repeats_deep : (g : Group) (op : Operator) (o : Option GroupPart) (p : GroupPart) → o ≡ Some p → 250 ≤ p.1 → (x : Group) × (repeat g op o ≡ Some x) × (250 < x.inner)
 repeats_deep g op None p e h = absurd cc
 repeats_deep g op (Some q) p e h =
     let same : q ≡ p = cc in
-    let deep : q.1 ≡ p.1 = ap (λ (x : Part). x.1) same in
+    let deep : q.1 ≡ p.1 = ap (λ (x : GroupPart). x.1) same in
     (_, refl, omega arith)
 
 -- the step of an operator, by what becomes of the group

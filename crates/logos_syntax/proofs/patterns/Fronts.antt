@@ -8,14 +8,14 @@ use Rattle.logos_pattern_tokens.specs.declared.token.Flags.{Flags}
 use Rattle.logos_hir.specs.declared.hir.Hir.{Hir}
 use Rattle.logos_pattern_tokens.specs.Token.{Text, Token, opens}
 use Rattle.logos_pattern_tokens.specs.Reader.{token_at}
-use Rattle.logos_syntax.specs.declared.names.Names.{Names}
+use Rattle.logos_syntax.specs.declared.names.GroupNames.{GroupNames}
 use Rattle.logos_syntax.specs.Written.{branches_tokens, taken as start_taken, Cuts, NamesDiffer, branches_flags, inner_flags}
 use Rattle.logos_syntax.specs.Grammar.{BranchesFit, branches_depth}
 use Rattle.logos_syntax.specs.Nesting.{Around, outermost, within, groups_open, around_tokens, around_flags, AroundFits, around_depth, Front, front_flags, BracketFront, IsTooDeep, by_groups, by_brackets}
 use Rattle.logos_syntax.specs.inside.Groups.{State, deepest, deepest_below}
 use Rattle.logos_syntax.specs.inside.BracketView.{IsStopOf, IfDeepBracket}
 use Rattle.logos_syntax.specs.inside.GroupsView.{Steps, Ends}
-use Rattle.logos_syntax.specs.inside.Names.{Admits}
+use Rattle.logos_syntax.specs.inside.GroupNames.{Admits}
 use Rattle.logos_syntax.specs.inside.Reading.{IsDeepAt, token_deep, bracket_deep, IfDeepToken, IfDeepText, names_after, HasRead}
 use Rattle.logos_syntax.proofs.patterns.Levels.{Stack, bottom, over, Place, level_inside, state_of, below_of, size, length-below_of, flags_inside, depth_inside}
 use Rattle.logos_syntax.proofs.patterns.Levels as levels
@@ -67,7 +67,7 @@ front_of flags text rest ts p is stack_fits fits cut differ =
       names = subst (NamesDiffer []) (sym e) differ;
     }
 
-module _ (flags : Flags) (text rest : Text) (s : State) (names : Names) (r : HasRead flags text rest s names) where
+module _ (flags : Flags) (text rest : Text) (s : State) (names : GroupNames) (r : HasRead flags text rest s names) where
   abbrev read : IsRead flags r.tokens s
   read = is_read flags r.tokens s r.run
 
@@ -96,7 +96,7 @@ module _ (flags : Flags) (text rest : Text) (s : State) (names : Names) (r : Has
       ∙ ap (λ (f : Flags). branches_flags f (level_inside read.place.level)) (sym (flags_around flags read.place.stack))
 
 -- a bracket in it opens too deep
-pub deep_brackets : (flags : Flags) (text following : Text) (s : State) (names : Names) → (r : HasRead flags text (91 ∷ following) s names) → (count : ℕ) → BracketFront s.top.flags following count →
+pub deep_brackets : (flags : Flags) (text following : Text) (s : State) (names : GroupNames) → (r : HasRead flags text (91 ∷ following) s names) → (count : ℕ) → BracketFront s.top.flags following count →
     250 < length s.below + count → IsTooDeep flags text
 deep_brackets flags text following s names r count b deep =
     let n = open_groups flags text (91 ∷ following) s names r in
@@ -104,7 +104,7 @@ deep_brackets flags text following s names r count b deep =
     (subst (λ f. BracketFront f following count) (flags_here flags text (91 ∷ following) s names r) b) (omega arith)
 
 -- what a stop at a token says of the text
-pub deep_text : (flags : Flags) (text rest : Text) (s : State) (names others : Names) (stop : Stop) → (r : HasRead flags text rest s names) → IfDeepToken stop s (names_after [] r.tokens) rest others → IfDeepText flags text stop
+pub deep_text : (flags : Flags) (text rest : Text) (s : State) (names others : GroupNames) (stop : Stop) → (r : HasRead flags text rest s names) → IfDeepToken stop s (names_after [] r.tokens) rest others → IfDeepText flags text stop
 deep_text flags text rest s names others (stops.Syntax kind left) r h = tt
 deep_text flags text rest s names others stops.Memory r h = tt
 deep_text flags text rest s names others stops.LimitPatternNesting r h = from rest r h
@@ -114,7 +114,7 @@ deep_text flags text rest s names others stops.LimitPatternNesting r h = from re
     from rest r (bracket_deep following count b deep) = deep_brackets flags text following s names r count b deep
 
 -- a fault is no limit
-pub shallow_token : (fault : Fault) (stop : Stop) (s : State) (seen : List Text) (text : Text) (names : Names) → IsStopOf fault stop → IfDeepToken stop s seen text names
+pub shallow_token : (fault : Fault) (stop : Stop) (s : State) (seen : List Text) (text : Text) (names : GroupNames) → IsStopOf fault stop → IfDeepToken stop s seen text names
 shallow_token (faults.Syntax kind) (stops.Syntax other left) s seen text names h = tt
 shallow_token (faults.Syntax kind) stops.LimitPatternNesting s seen text names h = absurd h
 shallow_token (faults.Syntax kind) stops.Memory s seen text names h = tt
@@ -123,14 +123,14 @@ shallow_token faults.Memory stops.LimitPatternNesting s seen text names h = absu
 shallow_token faults.Memory stops.Memory s seen text names h = tt
 
 -- what a bracket that stops says
-pub bracket_is_deep : (s : State) (seen : List Text) (text : Text) (names : Names) (flags : Flags) (base : ℕ) (stop : Stop) → flags ≡ s.top.flags → base ≡ length s.below → IfDeepBracket flags base stop text → IfDeepToken stop s seen (91 ∷ text) names
+pub bracket_is_deep : (s : State) (seen : List Text) (text : Text) (names : GroupNames) (flags : Flags) (base : ℕ) (stop : Stop) → flags ≡ s.top.flags → base ≡ length s.below → IfDeepBracket flags base stop text → IfDeepToken stop s seen (91 ∷ text) names
 bracket_is_deep s seen text names flags base (stops.Syntax kind left) set is h = tt
 bracket_is_deep s seen text names flags base stops.Memory set is h = tt
 bracket_is_deep s seen text names flags base stops.LimitPatternNesting set is h =
     bracket_deep text h.0 (subst (λ f. BracketFront f text h.0) set h.1) (let deep = h.2 in omega arith)
 
 -- what a step that stops says
-pub step_is_deep : (s u : State) (seen : List Text) (text rest : Text) (token : Token) (names : Names) (stop : Stop) → token_at text ≡ Some (token, rest) → Admits seen token true names → Steps s token (Err stop) u → IfDeepToken stop s seen text names
+pub step_is_deep : (s u : State) (seen : List Text) (text rest : Text) (token : Token) (names : GroupNames) (stop : Stop) → token_at text ≡ Some (token, rest) → Admits seen token true names → Steps s token (Err stop) u → IfDeepToken stop s seen text names
 step_is_deep s u seen text rest token names (stops.Syntax kind left) is new h = tt
 step_is_deep s u seen text rest token names stops.Memory is new h = tt
 step_is_deep s u seen text rest token names stops.LimitPatternNesting is new h =

@@ -10,7 +10,7 @@ use Rattle.logos_pattern_tokens.specs.Token.{Opening, Token, atom, bracketed, ba
 use Rattle.logos_syntax.specs.Written.{Branches, first, next, Items, nothing, piece, setting, Piece, simple, class, group, repeated, items_flags, branches_flags, inner_flags}
 use Rattle.logos_syntax.specs.bracket.Meaning.{bracket_depth}
 use Rattle.logos_syntax.specs.Grammar.{branch_list, item_list, piece_tree, branches_depth, items_depth, piece_depth, captures, group_tree, is_greedy}
-use Rattle.logos_syntax.specs.inside.Groups.{Part, Group, State, with_last, all_branches, put, set, next_branch, fresh, whole_tree, repeat, close, step}
+use Rattle.logos_syntax.specs.inside.Groups.{GroupPart, Group, State, with_last, all_branches, put, set, next_branch, fresh, whole_tree, repeat, close, step}
 
 -- the inside of a group so far: the branches before the last one, and the last one
 pub record Level : Type 0 where
@@ -43,7 +43,7 @@ open_parts flags nothing = []
 open_parts flags (piece its p) = item_list flags its
 open_parts flags (setting its change) = item_list flags its
 
-abbrev pub open_last : ℕ → Flags → Items → Option Part
+abbrev pub open_last : ℕ → Flags → Items → Option GroupPart
 open_last level flags nothing = None
 open_last level flags (piece its p) = Some (piece_tree (items_flags flags its) p, level + piece_depth p)
 open_last level flags (setting its change) = None
@@ -161,11 +161,11 @@ finished_of flags captured level l = ap (λ bs. group_tree captured (alternation
 put_is : (flags : Flags) (captured : Bool) (level : ℕ) (l : Level) (p : Piece) (t : Tree) (k : ℕ) → t ≡ piece_tree (level_flags flags l) p → k ≡ level + piece_depth p →
     put (group_of flags captured level l) (t, k) ≡ group_of flags captured level (with_piece l p)
 put_is flags captured level l p t k tree depth =
-    let make : List Tree → Part → ℕ → Group = λ ps last inner. record { flags = level_flags flags l; captured = captured; branches = earlier flags l.before; parts = ps; last = Some last; inner = inner } in
+    let make : List Tree → GroupPart → ℕ → Group = λ ps last inner. record { flags = level_flags flags l; captured = captured; branches = earlier flags l.before; parts = ps; last = Some last; inner = inner } in
     let parts = all_items level (branch_flags flags l.before) l.items in
     let d = depth_piece l.before l.items p in
     let inner : max (level + inside_depth l.before l.items) k ≡ level + inside_depth l.before (piece l.items p) = omega arith in
-    let last : ◌≡◌ {A = Part} (t, k) (piece_tree (level_flags flags l) p, level + piece_depth p) = ap (λ r. (r, k)) tree ∙ ap (λ n. (piece_tree (level_flags flags l) p, n)) depth in
+    let last : ◌≡◌ {A = GroupPart} (t, k) (piece_tree (level_flags flags l) p, level + piece_depth p) = ap (λ r. (r, k)) tree ∙ ap (λ n. (piece_tree (level_flags flags l) p, n)) depth in
     ap (λ ps. make ps (t, k) (max (level + inside_depth l.before l.items) k)) parts
     ∙ ap (λ x. make (item_list (branch_flags flags l.before) l.items) x (max (level + inside_depth l.before l.items) k)) last
     ∙ ap (make (item_list (branch_flags flags l.before) l.items) (piece_tree (level_flags flags l) p, level + piece_depth p)) inner

@@ -1,4 +1,4 @@
--- Names in a set, by their characters.
+-- GroupNames in a set, by their characters.
 use Rattle.std.proofs.Common.{◌≡◌, ℕ, Bool, true, false, not, ◌||◌, List, [], ◌∷◌, Vec, Global, bytes_eq, refl, sym, ap, ap₂, ◌∙◌}
 use Rattle.std.specs.List.{list_any}
 use Rattle.std.specs.Ordering.{match_ordering, is_eq, nat_cmp}
@@ -7,9 +7,9 @@ use Rattle.std.specs.declared.cmp.Ordering.TheVariants.{Less, Equal, Greater}
 use Rattle.std.specs.Cmp.Lexicographic.{slice_cmp, bytes_decides}
 use Rattle.std.specs.BTreeSet.{insert_key}
 use Rattle.std.proofs.lemmas.Map.Text.{is_eq-slice_cmp}
-use Rattle.logos_syntax.specs.declared.names.Names.{Names}
+use Rattle.logos_syntax.specs.declared.names.GroupNames.{GroupNames}
 use Rattle.logos_pattern_tokens.specs.Token.{Text, named, opens}
-use Rattle.logos_syntax.specs.inside.Names.{HasNames, Admits}
+use Rattle.logos_syntax.specs.inside.GroupNames.{HasNames, Admits}
 
 abbrev pub Key : Type 0
 Key = Vec ℕ Global
@@ -50,7 +50,7 @@ among_same key [] = refl
 among_same key (k ∷ ks) = ap₂ ◌||◌ (is_eq-slice_cmp key.items k.items) (among_same key ks)
 
 -- a name is added, or it was there
-pub admits : (name : Text) (added : Bool) (seen : List Text) (new : Names) → added ≡ not (list_any (bytes_eq name) seen) → HasNames new (name ∷ seen) → Admits seen (opens (named name)) added new
+pub admits : (name : Text) (added : Bool) (seen : List Text) (new : GroupNames) → added ≡ not (list_any (bytes_eq name) seen) → HasNames new (name ∷ seen) → Admits seen (opens (named name)) added new
 admits name true seen new is has = (from (list_any (bytes_eq name) seen) is, has)
   where
     from : (b : Bool) → true ≡ not b → b ≡ false

@@ -5,7 +5,7 @@ use Rattle.logos_pattern_tokens.specs.declared.token.Operator.{Operator}
 use Rattle.logos_pattern_tokens.specs.Token.{Token, atom, bracketed, bar, opens, closes, sets, repeats}
 use Rattle.logos_syntax.specs.Written.{Branches, first, next, Items, nothing, piece, setting, Piece, simple, class, group, repeated, branches_tokens, items_tokens, piece_tokens}
 use Rattle.logos_syntax.specs.Grammar.{branches_depth, written_tree, TokenFits, BranchesFit, ItemsFit, PieceFits}
-use Rattle.logos_syntax.specs.inside.Groups.{Part, Group, State, start, whole_tree, step, Runs, stays, goes, deepest, repeat, close}
+use Rattle.logos_syntax.specs.inside.Groups.{GroupPart, Group, State, start, whole_tree, step, Runs, stays, goes, deepest, repeat, close}
 use Rattle.logos_syntax.proofs.patterns.Levels.{Level, Stack, bottom, over, Place, inside, branch_flags, level_flags, level_inside, with_level, with_piece, put_piece, front_flags, state_of, advance, close_level, moved, step_is, repeated_items, finished_of, inside_depth, depth_inside}
 
 -- ---- runs
@@ -242,7 +242,7 @@ whole_depth flags bs = let e = depth-level_of bs in omega arith
 abbrev IsDeeper : State → Option State → Type 0
 IsDeeper s o = IfSome o (λ t. deepest s ≤ deepest t)
 
-repeat_deeper : (g : Group) (gs : List Group) (op : Operator) (o : Option Part) → IsDeeper (record { top = g; below = gs }) (option_map (λ h. record { top = h; below = gs }) (repeat g op o))
+repeat_deeper : (g : Group) (gs : List Group) (op : Operator) (o : Option GroupPart) → IsDeeper (record { top = g; below = gs }) (option_map (λ h. record { top = h; below = gs }) (repeat g op o))
 repeat_deeper g gs op None = tt
 repeat_deeper g gs op (Some part) = omega arith
 

@@ -4,7 +4,7 @@ use lib.ListN.{get_or}
 use Rattle.logos_pattern_tokens.specs.declared.error.Stop.{Stop}
 use Rattle.logos_pattern_tokens.specs.declared.error.Stop.TheVariants as stops
 use Rattle.logos_pattern_tokens.specs.declared.token.Flags.{Flags}
-use Rattle.logos_syntax.specs.declared.names.Names.{Names}
+use Rattle.logos_syntax.specs.declared.names.GroupNames.{GroupNames}
 use Rattle.logos_syntax.specs.declared.bracket.stack.BracketValue.{BracketValue as FoundSet}
 use Rattle.logos_hir.specs.declared.hir.Hir.{Hir}
 use Rattle.logos_hir.specs.Hir.{tree_of}
@@ -26,7 +26,7 @@ use Rattle.logos_syntax.specs.Written.{Branches, branches_tokens, Starts, taken,
 use Rattle.logos_syntax.specs.Grammar.{written_tree, branches_depth, TokenFits, Spells, IsSpelled, IsFound, Refuses}
 use Rattle.logos_syntax.specs.inside.Groups.{State, start, whole_tree, step, Runs, stays, deepest}
 use Rattle.logos_syntax.specs.inside.GroupsView.{Steps, Ends}
-use Rattle.logos_syntax.specs.inside.Names.{HasNames, Admits}
+use Rattle.logos_syntax.specs.inside.GroupNames.{HasNames, Admits}
 use Rattle.logos_syntax.specs.inside.Reading.{GoesOn, StopsAt, ReadsToken, ReadsSimple, names_after, HasRead, StopsText}
 use Rattle.logos_pattern_tokens.proofs.Picks.{IsTaken}
 use Rattle.logos_pattern_tokens.proofs.TokenLemmas.{is_taken, taken_is}
@@ -111,10 +111,10 @@ differ_after seen (t ∷ ts) us h = differ_after (with_name seen t) ts us h.1
 
 -- ---- what the parser has read
 
-pub nothing_read : (flags : Flags) (text : Text) (s : State) (names : Names) → s ≡ start flags → HasNames names [] → HasRead flags text text s names
+pub nothing_read : (flags : Flags) (text : Text) (s : State) (names : GroupNames) → s ≡ start flags → HasNames names [] → HasRead flags text text s names
 nothing_read flags text s names is has = record { tokens = []; cut = refl; run = subst (Runs (start flags) []) (sym is) (stays (start flags)); differ = tt; has = has }
 
-pub reads_on : (flags : Flags) (text rest after : Text) (s u : State) (names others : Names) → (r : HasRead flags text rest s names) → GoesOn s (names_after [] r.tokens) rest u others after → HasRead flags text after u others
+pub reads_on : (flags : Flags) (text rest after : Text) (s u : State) (names others : GroupNames) → (r : HasRead flags text rest s names) → GoesOn s (names_after [] r.tokens) rest u others after → HasRead flags text after u others
 reads_on flags text rest after s u names others r g = record {
   tokens = r.tokens ++ g.token ∷ [];
   cut = cuts_more text r.tokens rest g.token after r.cut g.starts;
@@ -130,7 +130,7 @@ record Later (flags : Flags) (rest : Text) (s : State) (names : List Text) (writ
   run : Runs s more (at_level flags bottom (level_of written))
   differ : NamesDiffer names more
 
-later : (flags : Flags) (text rest : Text) (s : State) (names : Names) (r : HasRead flags text rest s names) (tree : Tree) (depth : ℕ) → (p : Spells flags text tree depth) → Later flags rest s (names_after [] r.tokens) p.written
+later : (flags : Flags) (text rest : Text) (s : State) (names : GroupNames) (r : HasRead flags text rest s names) (tree : Tree) (depth : ℕ) → (p : Spells flags text tree depth) → Later flags rest s (names_after [] r.tokens) p.written
 later flags text rest s names r tree depth p =
     let split = cuts_split r.tokens (branches_tokens p.written) text rest r.cut p.cut in
     record {
@@ -143,7 +143,7 @@ later flags text rest s names r tree depth p =
 -- ---- refusals
 
 -- what the parser stops at says of the text
-pub stopped : (flags : Flags) (text rest : Text) (s : State) (names : Names) (stop : Stop) → (r : HasRead flags text rest s names) → 0 < length rest → ((t : Token) (after : Text) → Starts t rest after → StopsAt stop s (names_after [] r.tokens) t) → StopsText flags text stop
+pub stopped : (flags : Flags) (text rest : Text) (s : State) (names : GroupNames) (stop : Stop) → (r : HasRead flags text rest s names) → 0 < length rest → ((t : Token) (after : Text) → Starts t rest after → StopsAt stop s (names_after [] r.tokens) t) → StopsText flags text stop
 stopped flags text rest s names (stops.Syntax kind left) r some stop = λ depth spelled. let l = later flags text rest s names r spelled.0 depth spelled.1 in from _ l.more l.cut l.run l.differ
   where
     from : (u : State) (more : List Token) → Cuts rest more [] → Runs s more u → NamesDiffer (names_after [] r.tokens) more → ⊥
@@ -169,7 +169,7 @@ stopped flags text rest s names stops.LimitPatternNesting r some stop = λ depth
 stopped flags text rest s names stops.Memory r some stop = tt
 
 -- a group is open at the end
-pub still_open : (flags : Flags) (text : Text) (s : State) (names : Names) → HasRead flags text [] s names → (s.below ≡ [] → ⊥) → (depth : ℕ) → IsSpelled flags text depth → ⊥
+pub still_open : (flags : Flags) (text : Text) (s : State) (names : GroupNames) → HasRead flags text [] s names → (s.below ≡ [] → ⊥) → (depth : ℕ) → IsSpelled flags text depth → ⊥
 still_open flags text s names r shut depth spelled =
     let l = later flags text [] s names r spelled.0 depth spelled.1 in
     let ran = subst (λ x. Runs s x (at_level flags bottom (level_of spelled.1.written))) (no_cut l.more l.cut) l.run in
@@ -177,7 +177,7 @@ still_open flags text s names r shut depth spelled =
 
 -- ---- what is found
 
-pub found : (flags : Flags) (text : Text) (s : State) (names : Names) (tree : Tree) → HasRead flags text [] s names → s.below ≡ [] → tree ≡ whole_tree s.top → s.top.inner ≤ 250 → IsFound flags text tree
+pub found : (flags : Flags) (text : Text) (s : State) (names : GroupNames) (tree : Tree) → HasRead flags text [] s names → s.below ≡ [] → tree ≡ whole_tree s.top → s.top.inner ≤ 250 → IsFound flags text tree
 found flags text s names tree r ended is shallow =
     let w = is_whole flags r.tokens s ended (is_read flags r.tokens s r.run) in (
       s.top.inner,
@@ -214,7 +214,7 @@ bracket_stops s seen text flags base (stops.Syntax kind left) set is h t rest (e
 bracket_stops s seen text flags base stops.LimitPatternNesting set is h t rest (enclosed b x r k) = (_, refl, (let deep = h b r k in omega arith))
 bracket_stops s seen text flags base stops.Memory set is h t rest (enclosed b x r k) = tt
 
-pub bracket_goes : (s u : State) (seen : List Text) (names : Names) (text rest : Text) (flags : Flags) (base : ℕ) (f : FoundSet) → flags ≡ s.top.flags → base ≡ length s.below → HasNames names seen → IsBracketValue flags base text f rest →
+pub bracket_goes : (s u : State) (seen : List Text) (names : GroupNames) (text rest : Text) (flags : Flags) (base : ℕ) (f : FoundSet) → flags ≡ s.top.flags → base ≡ length s.below → HasNames names seen → IsBracketValue flags base text f rest →
     ((b : Bracket) → set_of f.set ≡ bracket_set s.top.flags b → f.depth ≡ length s.below + bracket_depth b → step s (bracketed b) ≡ Some u) → GoesOn s seen (91 ∷ text) u names rest
 bracket_goes s u seen names text rest flags base f set is has b h = record {
   token = bracketed b.written;
@@ -235,7 +235,7 @@ faulted view s seen text faults.Memory (stops.Syntax other left) none is t rest 
 faulted view s seen text faults.Memory stops.LimitPatternNesting none is t rest h = absurd is
 faulted view s seen text faults.Memory stops.Memory none is t rest h = tt
 
-pub twice : (s : State) (seen : List Text) (text rest : Text) (token : Token) (new : Names) → token_at text ≡ Some (token, rest) → Admits seen token false new → (t : Token) (after : Text) → Takes t text after → TokenFits s.top.flags t → IsNew seen t → step s t ≡ None
+pub twice : (s : State) (seen : List Text) (text rest : Text) (token : Token) (new : GroupNames) → token_at text ≡ Some (token, rest) → Admits seen token false new → (t : Token) (after : Text) → Takes t text after → TokenFits s.top.flags t → IsNew seen t → step s t ≡ None
 twice s seen text rest token new is known t after h fit fresh =
     let e = one_taken text t token after rest h (taken_here text rest token is) in
     absurd (known (subst (IsNew seen) e.0 fresh))
@@ -248,7 +248,7 @@ step_stops s u seen text rest token stop is h t after k = let e = one_taken text
     from stops.LimitPatternNesting h = h.1
     from stops.Memory h = tt
 
-pub simple_goes : (s u : State) (seen : List Text) (text rest : Text) (token : Token) (names : Names) (r : Unit {0}) → token_at text ≡ Some (token, rest) → Admits seen token true names → Steps s token (Ok r) u → GoesOn s seen text u names rest
+pub simple_goes : (s u : State) (seen : List Text) (text rest : Text) (token : Token) (names : GroupNames) (r : Unit {0}) → token_at text ≡ Some (token, rest) → Admits seen token true names → Steps s token (Ok r) u → GoesOn s seen text u names rest
 simple_goes s u seen text rest token names r is new h = record {
   token = token;
   starts = taken token text rest (taken_here text rest token is);
@@ -258,7 +258,7 @@ simple_goes s u seen text rest token names r is new h = record {
   has = new.1;
 }
 
-pub not_bracket : (s u : State) (seen : List Text) (text : Text) (r : Result (Bor Text) Stop) (names : Names) → ((x : Text) → text ≡ 91 ∷ x → ⊥) → ReadsSimple s seen text r u names → ReadsToken s seen text r u names
+pub not_bracket : (s u : State) (seen : List Text) (text : Text) (r : Result (Bor Text) Stop) (names : GroupNames) → ((x : Text) → text ≡ 91 ∷ x → ⊥) → ReadsSimple s seen text r u names → ReadsToken s seen text r u names
 not_bracket s u seen text (Ok rest) names other h = h
 not_bracket s u seen text (Err stop) names other h = (λ t rest k. from t text rest k other h.0, h.1)
   where
@@ -282,7 +282,7 @@ refused_as flags text depth errors.Memory small spelled h = refl
 
 -- ---- the end
 
-pub ended : (flags : Flags) (text rest : Text) (s : State) (names : Names) (r : Result Hir Stop) → rest ≡ [] → HasRead flags text rest s names → Ends r s → IfOk r (λ hir. IsFound flags text (tree_of hir)) × IfErr r (StopsText flags text)
+pub ended : (flags : Flags) (text rest : Text) (s : State) (names : GroupNames) (r : Result Hir Stop) → rest ≡ [] → HasRead flags text rest s names → Ends r s → IfOk r (λ hir. IsFound flags text (tree_of hir)) × IfErr r (StopsText flags text)
 ended flags text rest s names r none read h = from r h (subst (λ x. HasRead flags text x s names) none read)
   where
     from : (r : Result Hir Stop) → Ends r s → HasRead flags text [] s names → IfOk r (λ hir. IsFound flags text (tree_of hir)) × IfErr r (StopsText flags text)

@@ -17,19 +17,19 @@ use Rattle.logos_hir.specs.Fold.{fold_case, fold_ascii}
 use Rattle.logos_pattern_tokens.specs.bracket.Form.{Bracket, bracket, Operands, lone, joined, Members, nobody, member, nested}
 use Rattle.logos_pattern_tokens.specs.bracket.Spelling.{code_of, bracket_tokens}
 
--- the last character, or the last byte
+-- The last character, or the last byte.
 abbrev pub last_of : Flags → ℕ
 last_of flags = if flags.unicode then 0x10FFFF else 255
 
--- the set, or under `i` the set with all that differs from a member in case alone
+-- The set, or under `i` the set with all that differs from a member in case alone.
 abbrev pub case_closure : Flags → Set → Set
 case_closure flags set = if flags.ignore_case then (if flags.unicode then fold_case set else fold_ascii set) else set
 
--- the set, or its complement
+-- The set, or its complement.
 abbrev pub set_or_complement : Flags → Bool → Set → Set
 set_or_complement flags negated set = if negated then complement (last_of flags) set else set
 
--- the set of an item, without its negation and as if `i` were off
+-- The set of an item, without its negation and as if `i` were off.
 abbrev pub item_test : Flags → Item → Set
 item_test flags (items.One s) = λ c. c == code_of s
 item_test flags (items.Range a b) = in_range (code_of a, code_of b)
@@ -47,7 +47,7 @@ is_negated (items.Ascii kind negated) = negated
 abbrev pub item_set : Flags → Item → Set
 item_set flags item = set_or_complement flags (is_negated item) (case_closure flags (only_chars (item_test flags item)))
 
--- the literals at the front, which have no other case
+-- The literals at the front, which have no other case.
 abbrev pub lead_set : Lead → Set
 lead_set (Dashes n) = λ c. nat_lt 0 n && (c == 45)
 lead_set LoneBracket = λ c. c == 93
@@ -56,18 +56,18 @@ abbrev mutual
   pub bracket_set : Flags → Bracket → Set
   bracket_set flags (bracket negated lead inside) = set_or_complement flags negated (operands_set flags lead inside)
 
-  -- operators are read from the left
+  -- Operators are read from the left.
   pub operands_set : Flags → Lead → Operands → Set
   operands_set flags lead (lone ms) = members_set flags (lead_set lead) ms
   operands_set flags lead (joined os op ms) = combination op (operands_set flags lead os) (members_set flags (λ c. false) ms)
 
-  -- the members together with those before them
+  -- The members together with those before them.
   pub members_set : Flags → Set → Members → Set
   members_set flags before nobody = before
   members_set flags before (member ms item) = union (members_set flags before ms) (item_set flags item)
   members_set flags before (nested ms b) = union (members_set flags before ms) (bracket_set flags b)
 
--- ---- what the flags allow
+-- ---- what the flags allow.
 
 -- If the pattern matches bytes, a character must be ASCII.
 abbrev pub symbol_fits : Flags → Symbol → Bool
@@ -92,7 +92,7 @@ TokensFit flags (tokens.Close ∷ others) = TokensFit flags others
 abbrev pub BracketFits : Flags → Bracket → Type 0
 BracketFits flags b = TokensFit flags (bracket_tokens b)
 
--- ---- how deeply brackets nest
+-- ---- how deeply brackets nest.
 
 abbrev mutual
   pub bracket_depth : Bracket → ℕ

@@ -9,37 +9,37 @@ use Rattle.logos_hir.specs.Sets.{Set, union}
 use Rattle.logos_syntax.specs.bracket.Meaning.{set_or_complement, item_set, lead_set}
 use Rattle.logos_hir.specs.Operands.{combination}
 
--- the inside of an open bracket, as far as it was read
-pub record Frame : Type 0 where
+-- The inside of an open bracket, as far as it was read.
+pub record BracketFrame : Type 0 where
   pub negated : Bool
-  -- the set of the operands that were ended by an operator, and the operator after them
+  -- The set of the operands that were ended by an operator, and the operator after them.
   pub before : Option (Set × SetOperator)
-  -- the operand that is being read
+  -- The operand that is being read.
   pub here : Set
-  -- the depth of its innermost place in the whole pattern
+  -- The depth of its innermost point in the whole pattern.
   pub inner : ℕ
 
 pub record Frames : Type 0 where
-  pub top : Frame
-  -- the brackets around it, the innermost first
-  pub below : List Frame
+  pub top : BracketFrame
+  -- The brackets around it, the innermost first.
+  pub below : List BracketFrame
 
-abbrev pub fresh_frame : Bool → Lead → ℕ → Frame
+abbrev pub fresh_frame : Bool → Lead → ℕ → BracketFrame
 fresh_frame negated lead level = record { negated = negated; before = None; here = lead_set lead; inner = level }
 
 abbrev pub with_before : Option (Set × SetOperator) → Set → Set
 with_before None set = set
 with_before (Some before) set = combination before.1 before.0 set
 
--- the set of the operands that were read
-abbrev pub value : Frame → Set
+-- The set of the operands that were read.
+abbrev pub value : BracketFrame → Set
 value f = with_before f.before f.here
 
--- the set of the bracket, as if it ended here
-abbrev pub whole : Flags → Frame → Set
+-- The set of the bracket, as if it ended here.
+abbrev pub whole : Flags → BracketFrame → Set
 whole flags f = set_or_complement flags f.negated (value f)
 
-abbrev pub close : Flags → Frame → List Frame → Option Frames
+abbrev pub close : Flags → BracketFrame → List BracketFrame → Option Frames
 close flags f [] = None
 close flags f (g ∷ gs) = Some (record { top = record g { here = union g.here (whole flags f); inner = max g.inner f.inner }; below = gs })
 

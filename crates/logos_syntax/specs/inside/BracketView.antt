@@ -6,7 +6,7 @@ use Rattle.logos_pattern_tokens.specs.declared.error.Stop.TheVariants as stops
 use Rattle.logos_pattern_tokens.specs.declared.token.Flags.{Flags}
 use Rattle.logos_pattern_tokens.specs.declared.bracket.token.BracketToken.{BracketToken}
 use Rattle.logos_pattern_tokens.specs.declared.bracket.token.BracketToken.TheVariants.{Item, Open, Operator, Close}
-use Rattle.logos_syntax.specs.declared.bracket.stack.Frame.{Frame as FrameValue}
+use Rattle.logos_syntax.specs.declared.bracket.stack.BracketFrame.{BracketFrame as FrameValue}
 use Rattle.logos_syntax.specs.declared.bracket.stack.Frames.{Frames as FramesValue}
 use Rattle.logos_syntax.specs.declared.bracket.stack.BracketValue.{BracketValue}
 use Rattle.logos_hir.specs.Hir.{pairs}
@@ -22,9 +22,9 @@ use Rattle.logos_pattern_tokens.specs.bracket.Form.{Bracket, bracket, Operands}
 use Rattle.logos_pattern_tokens.specs.bracket.Spelling.{operands_tokens, BracketCuts, Encloses}
 use Rattle.logos_syntax.specs.bracket.Meaning.{bracket_set, item_fits, BracketFits, bracket_depth}
 use Rattle.logos_syntax.specs.Nesting.{InsideFront, BracketFront}
-use Rattle.logos_syntax.specs.inside.BracketStack.{Frame, Frames, bracket_step}
+use Rattle.logos_syntax.specs.inside.BracketStack.{BracketFrame, Frames, bracket_step}
 
-abbrev pub frame_view : FrameValue → Frame
+abbrev pub frame_view : FrameValue → BracketFrame
 frame_view f = record {
   negated = f.negated;
   before = option_map (λ op. (made_by f.before, op)) f.operator;
@@ -42,7 +42,7 @@ NoStep flags s (Open negated lead) = ⊥
 NoStep flags s (Operator op) = ⊥
 NoStep flags s Close = s.below ≡ []
 
--- the token opens a bracket that is too deep
+-- The token opens a bracket that is too deep.
 abbrev pub TooDeep : ℕ → Frames → BracketToken → Type 0
 TooDeep base s (Open negated lead) = 250 < base + length s.below + 2
 TooDeep base s _ = ⊥
@@ -58,7 +58,7 @@ BracketSteps flags base old token (Err (stops.Syntax kind left)) new = NoStep fl
 BracketSteps flags base old token (Err stops.LimitPatternNesting) new = TooDeep base old token
 BracketSteps flags base old token (Err stops.Memory) new = Unit {0}
 
--- the set and the depth of a bracket whose inside is at the front of the text
+-- The set and the depth of a bracket whose inside is at the front of the text.
 pub record IsInside (flags : Flags) (base : ℕ) (negated : Bool) (lead : Lead) (text : Text) (found : BracketValue) (rest : Text) : Type 0 where
   pub inside : Operands
   pub cut : BracketCuts text (operands_tokens inside ++ Close ∷ []) rest
@@ -67,7 +67,7 @@ pub record IsInside (flags : Flags) (base : ℕ) (negated : Bool) (lead : Lead) 
   pub is_depth : found.depth ≡ base + bracket_depth (bracket negated lead inside)
   pub shallow : found.depth ≤ 250
 
--- what a stop means for a bracket
+-- What a stop means for a bracket.
 abbrev pub Denies : Flags → ℕ → Stop → Bracket → Type 0
 Denies flags base (stops.Syntax kind left) b = BracketFits flags b → ⊥
 Denies flags base stops.LimitPatternNesting b = 250 < base + bracket_depth b
@@ -90,7 +90,7 @@ ReadsInside flags base negated lead text (Err e) =
     ((inside : Operands) (rest : Text) → BracketCuts text (operands_tokens inside ++ Close ∷ []) rest → Denies flags base e (bracket negated lead inside))
     × IfDeepInside flags base e text
 
--- the set and the depth of a bracket that is at the front of the text, without its `[`
+-- The set and the depth of a bracket that is at the front of the text, without its `[`.
 pub record IsBracketValue (flags : Flags) (base : ℕ) (text : Text) (found : BracketValue) (rest : Text) : Type 0 where
   pub written : Bracket
   pub encloses : Encloses written text rest
@@ -105,7 +105,7 @@ ReadsBracket flags base text (Err e) =
     ((b : Bracket) (rest : Text) → Encloses b text rest → Denies flags base e b)
     × IfDeepBracket flags base e text
 
--- a fault as a stop
+-- A fault as a stop.
 abbrev pub IsStopOf : Fault → Stop → Type 0
 IsStopOf (faults.Syntax kind) (stops.Syntax other left) = Unit {0}
 IsStopOf (faults.Syntax kind) _ = ⊥

@@ -11,23 +11,23 @@ use Rattle.logos_syntax.specs.Written.{inner_flags}
 use Rattle.logos_syntax.specs.bracket.Meaning.{bracket_depth}
 use Rattle.logos_syntax.specs.Grammar.{atom_tree, class_tree, captures, group_tree, is_greedy, TokenFits}
 
--- a tree, and the depth of its innermost place in the whole pattern
-abbrev pub Part : Type 0
-Part = Tree × ℕ
+-- A tree, and the depth of its innermost point in the whole pattern.
+abbrev pub GroupPart : Type 0
+GroupPart = Tree × ℕ
 
--- the inside of an open group, as far as it was read
+-- The inside of an open group, as far as it was read.
 pub record Group : Type 0 where
   pub flags : Flags
   pub captured : Bool
   pub branches : List Tree
   pub parts : List Tree
-  -- the part that an operator would repeat
-  pub last : Option Part
+  -- The part that an operator would repeat.
+  pub last : Option GroupPart
   pub inner : ℕ
 
 pub record State : Type 0 where
   pub top : Group
-  -- the groups around it, the innermost first
+  -- The groups around it, the innermost first.
   pub below : List Group
 
 abbrev pub fresh : Flags → Bool → ℕ → Group
@@ -36,14 +36,14 @@ fresh flags captured level = record { flags = flags; captured = captured; branch
 abbrev pub start : Flags → State
 start flags = record { top = fresh flags false 0; below = [] }
 
-abbrev pub with_last : List Tree → Option Part → List Tree
+abbrev pub with_last : List Tree → Option GroupPart → List Tree
 with_last parts None = parts
 with_last parts (Some part) = parts ++ part.0 ∷ []
 
 abbrev pub all_parts : Group → List Tree
 all_parts g = with_last g.parts g.last
 
-abbrev pub put : Group → Part → Group
+abbrev pub put : Group → GroupPart → Group
 put g part = record g { parts = all_parts g; last = Some part; inner = max g.inner part.1 }
 
 abbrev pub set : Group → Flags → Group
@@ -58,18 +58,18 @@ next_branch g = record g { branches = all_branches g; parts = []; last = None }
 abbrev pub whole_tree : Group → Tree
 whole_tree g = group_tree g.captured (alternation_of (all_branches g))
 
-abbrev pub repetition_part : Flags → Operator → Part → Part
+abbrev pub repetition_part : Flags → Operator → GroupPart → GroupPart
 repetition_part flags op part = (repetition_of op.least op.most (is_greedy flags op) part.0, part.1 + 1)
 
 abbrev pub close : Group → List Group → Option State
 close top [] = None
 close top (g ∷ gs) = Some (record { top = put g (whole_tree top, top.inner); below = gs })
 
-abbrev pub repeat : Group → Operator → Option Part → Option Group
+abbrev pub repeat : Group → Operator → Option GroupPart → Option Group
 repeat g op None = None
 repeat g op (Some part) = Some (record g { last = Some (repetition_part g.flags op part); inner = max g.inner (part.1 + 1) })
 
--- the step of a token that the flags allow
+-- The step of a token that the flags allow.
 abbrev pub step : State → Token → Option State
 step s (atom a) = Some (record s { top = put s.top (atom_tree s.top.flags a, length s.below) })
 step s (bracketed b) = Some (record s { top = put s.top (class_tree s.top.flags b, length s.below + bracket_depth b) })
@@ -79,12 +79,12 @@ step s closes = close s.top s.below
 step s (sets change) = Some (record s { top = set s.top (flags_after change s.top.flags) })
 step s (repeats op) = option_map (λ g. record s { top = g }) (repeat s.top op s.top.last)
 
--- The parser reads tokens, each of which the flags at its place allow.
+-- The parser reads tokens, each of which the flags at its point allow.
 pub data Runs : State → List Token → State → Type 0 where
   stays : (s : State) → Runs s [] s
   goes : (s t u : State) (token : Token) (tokens : List Token) → TokenFits s.top.flags token → step s token ≡ Some t → Runs t tokens u → Runs s (token ∷ tokens) u
 
--- the depth of the innermost place so far
+-- The depth of the innermost point so far.
 abbrev pub deepest_below : List Group → ℕ
 deepest_below [] = 0
 deepest_below (g ∷ gs) = max g.inner (deepest_below gs)

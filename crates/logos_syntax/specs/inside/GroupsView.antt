@@ -4,19 +4,19 @@ use Rattle.std.specs.Option.{option_map}
 use Rattle.logos_pattern_tokens.specs.declared.error.Stop.{Stop}
 use Rattle.logos_pattern_tokens.specs.declared.error.Stop.TheVariants as stops
 use Rattle.logos_hir.specs.declared.hir.Hir.{Hir}
-use Rattle.logos_syntax.specs.declared.groups.Part.{Part as PartValue}
-use Rattle.logos_syntax.specs.declared.groups.OpenGroup.{OpenGroup}
+use Rattle.logos_syntax.specs.declared.groups.GroupPart.{GroupPart as PartValue}
+use Rattle.logos_syntax.specs.declared.groups.OpenedGroup.{OpenedGroup}
 use Rattle.logos_syntax.specs.declared.groups.Groups.{Groups}
 use Rattle.logos_hir.specs.Hir.{tree_of}
 use Rattle.logos_hir.specs.Simplest.{simplest_tree}
 use Rattle.logos_pattern_tokens.specs.Token.{Token}
 use Rattle.logos_syntax.specs.Grammar.{TokenFits}
-use Rattle.logos_syntax.specs.inside.Groups.{Part, Group, State, step, whole_tree, deepest}
+use Rattle.logos_syntax.specs.inside.Groups.{GroupPart, Group, State, step, whole_tree, deepest}
 
-abbrev pub part_view : PartValue → Part
+abbrev pub part_view : PartValue → GroupPart
 part_view p = (simplest_tree p.tree, p.depth)
 
-abbrev pub group_view : OpenGroup → Group
+abbrev pub group_view : OpenedGroup → Group
 group_view l = record {
   flags = l.flags;
   captured = l.captured;
@@ -29,7 +29,7 @@ group_view l = record {
 abbrev pub state_view : Groups → State
 state_view m = record { top = group_view m.top; below = reverse (map group_view m.below.items) }
 
--- What a step did, or why there is none: the flags do not allow the token, or a place is too deep.
+-- What a step did, or why there is none: the flags do not allow the token, or a point is too deep.
 abbrev pub Steps : State → Token → Result (Unit {0}) Stop → State → Type 0
 Steps old token (Ok _) new = TokenFits old.top.flags token × (step old token ≡ Some new)
 Steps old token (Err (stops.Syntax kind left)) new = TokenFits old.top.flags token → step old token ≡ None
@@ -43,7 +43,7 @@ Repeats (Err (stops.Syntax kind left)) read new = read ≡ None
 Repeats (Err stops.LimitPatternNesting) read new = (g : Group) × (read ≡ Some g) × (250 < g.inner)
 Repeats (Err stops.Memory) read new = Unit {0}
 
--- the tree of a parser that has no group open
+-- The tree of a parser that has no group open.
 abbrev pub Ends : Result Hir Stop → State → Type 0
 Ends (Ok hir) s = (s.below ≡ []) × (tree_of hir ≡ whole_tree s.top) × (s.top.inner ≤ 250)
 Ends (Err (stops.Syntax kind left)) s = s.below ≢ []

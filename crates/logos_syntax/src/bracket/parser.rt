@@ -1,7 +1,8 @@
-//! Reads a whole bracket.
+//! Reads a whole bracket. The parser calls it at each `[`.
 
 ghost use Rattle.std.specs.Prelude.{◌≡◌, ◌<◌, ◌≤◌};
-ghost use Rattle.logos_syntax.specs.inside.BracketView.{IsStopOf, ReadsInside, ReadsBracket};
+ghost use Rattle.logos_syntax.specs.Words.{pattern_nesting};
+ghost use Rattle.logos_syntax.specs.Views.{IsStopOf, ReadsInside, ReadsBracket};
 
 use crate::bracket::stack::{BracketOpening, BracketValue, Frames, MAX_NESTING};
 use logos_pattern_tokens::bracket::reader::{bracket_token_at, open_at};
@@ -9,8 +10,8 @@ use logos_pattern_tokens::error::{Fault, Kind, Stop};
 use logos_pattern_tokens::token::Flags;
 use std::alloc::Global;
 
-/// Returns the number of characters from the brace of an escape that is not closed to the end of the text,
-/// or the length of the text if there is no such escape.
+/// Returns the number of characters from the brace of an escape that is not closed to the end of
+/// the text, or the length of the text if there is no such escape.
 fn left_at_brace(text: &[char]) -> usize {
     let mut rest = after_braces(text);
     while let [_, after @ ..] = rest {
@@ -47,8 +48,8 @@ pub(crate) fn stop_for(flags: Flags, fault: Fault, rest: &[char]) -> Stop
     }
 }
 
-/// Returns the kind of a fault under the flags: if the pattern matches bytes, each fault of a property's name
-/// is `NotInBytes`.
+/// Returns the kind of a fault under the flags: if the pattern matches bytes, each fault of a
+/// property's name is `NotInBytes`.
 fn property_kind(flags: Flags, kind: Kind) -> Kind {
     match kind {
         Kind::UnknownProperty | Kind::PropertyForm if !flags.unicode => Kind::NotInBytes,
@@ -56,11 +57,12 @@ fn property_kind(flags: Flags, kind: Kind) -> Kind {
     }
 }
 
-/// Reads what comes after the opening of a bracket, up to its end: returns its set, how deeply it nests, and
-/// the rest of the text. `base` is the number of groups that are open around it.
+/// Reads what comes after the opening of a bracket, up to its end: returns its set, how deeply it
+/// nests, and the rest of the text. `base` is the number of groups that are open around it.
 ///
 /// # Errors
-/// The first fault from the left, `LimitPatternNesting`, or `Memory`.
+///
+/// Returns the first fault from the left, `LimitPatternNesting`, or `Memory`.
 fn read_inside(
     alloc: Global,
     flags: Flags,
@@ -68,7 +70,7 @@ fn read_inside(
     opening: BracketOpening,
     text: &[char],
 ) -> Result<(BracketValue, &[char]), Stop>
-    requires { base < 250 }
+    requires { base < pattern_nesting }
     ensures { ReadsInside flags base opening.negated opening.lead text.now result }
 {
     let mut frames = Frames::new(alloc, opening, base + 1)?;
@@ -92,18 +94,19 @@ fn read_inside(
     })
 }
 
-/// Reads a bracket, from after its `[`: returns its set, how deeply it nests, and the rest of the text. `base`
-/// is the number of groups that are open around it.
+/// Reads a bracket, from after its `[`: returns its set, how deeply it nests, and the rest of the
+/// text. `base` is the number of groups that are open around it.
 ///
 /// # Errors
-/// The first fault from the left, `LimitPatternNesting`, or `Memory`.
+///
+/// Returns the first fault from the left, `LimitPatternNesting`, or `Memory`.
 pub(crate) fn read_bracket(
     alloc: Global,
     flags: Flags,
     base: usize,
     text: &[char],
 ) -> Result<(BracketValue, &[char]), Stop>
-    requires { base ≤ 250 }
+    requires { base ≤ pattern_nesting }
     ensures { ReadsBracket flags base text.now result }
 {
     if base >= MAX_NESTING {

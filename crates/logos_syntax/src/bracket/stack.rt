@@ -1,8 +1,7 @@
 //! The stack of the brackets that are open while a bracket is read.
 
 ghost use Rattle.std.specs.Prelude.{◌≡◌, ◌+◌, ◌≤◌, ◌<◌, [], IfOk, OnOk, MatchBool, vec_len, length};
-ghost use Rattle.logos_hir.specs.Hir.{pairs};
-ghost use Rattle.logos_hir.specs.Sets.{members};
+ghost use Rattle.logos_syntax.specs.Words.{pattern_nesting, pairs, members};
 
 use crate::bracket::translate::{item_fits, lead_ranges, push_item, push_set, set_or_complement};
 use logos_hir::hir::Range;
@@ -14,7 +13,7 @@ use logos_pattern_tokens::token::Flags;
 use std::alloc::{AllocError, Global};
 use std::mem;
 
-/// The greatest number of groups, brackets and repetitions around one place.
+/// The greatest number of groups, brackets and repetitions around one point.
 pub(crate) const MAX_NESTING: usize = 250;
 
 /// How a bracket opens. `left` is the number of characters from its `[` to the end of the text.
@@ -27,7 +26,7 @@ pub(crate) struct BracketOpening {
 
 /// The inside of an open bracket, as far as it was read.
 #[derive(Drop)]
-pub(crate) struct Frame {
+pub(crate) struct BracketFrame {
     negated: bool,
     /// The operands that were ended by an operator.
     before: OperandRuns,
@@ -35,41 +34,40 @@ pub(crate) struct Frame {
     operator: Option<SetOperator>,
     /// The ranges of the operand that is being read.
     ranges: Vec<Range>,
-    /// The depth of its innermost place in the whole pattern.
+    /// The depth of its innermost point in the whole pattern.
     inner: usize,
     /// The number of characters from its `[` to the end of the text.
     left: usize,
-    ghost shallow: { inner ≤ 250 },
+    ghost shallow: { inner ≤ pattern_nesting },
 }
 
 /// The brackets that are open, the innermost on top.
 #[derive(Drop)]
 pub(crate) struct Frames {
-    top: Frame,
+    top: BracketFrame,
     /// The brackets around it, the outermost first.
-    below: Vec<Frame>,
-    ghost shallow: { vec_len below ≤ 250 },
+    below: Vec<BracketFrame>,
+    ghost shallow: { vec_len below ≤ pattern_nesting },
 }
 
-/// The set of a bracket, and the depth of its innermost place in the whole pattern.
+/// The set of a bracket, and the depth of its innermost point in the whole pattern.
 #[derive(Drop)]
 pub(crate) struct BracketValue {
     pub set: RangeSet,
     pub depth: usize,
 }
 
-impl Frame {
-    ghost use Rattle.logos_hir.specs.RangeSets.{set_of};
-    ghost use Rattle.logos_syntax.specs.inside.BracketStack.{fresh_frame, value, whole};
-    ghost use Rattle.logos_syntax.specs.inside.BracketView.{frame_view};
+impl BracketFrame {
+    ghost use Rattle.logos_syntax.specs.Words.{pattern_nesting, set_of, fresh_frame, value, whole};
+    ghost use Rattle.logos_syntax.specs.Views.{frame_view};
 
-    /// Returns a bracket of which only the opening was read. `level` is the number of groups and brackets around
-    /// its inside.
-    fn new(alloc: Global, opening: BracketOpening, level: usize) -> Result<Frame, AllocError>
-        requires { level ≤ 250 }
+    /// Returns a bracket of which only the opening was read. `level` is the number of groups and
+    /// brackets around its inside.
+    fn new(alloc: Global, opening: BracketOpening, level: usize) -> Result<BracketFrame, AllocError>
+        requires { level ≤ pattern_nesting }
         ensures { IfOk result (λ f. frame_view f ≡ fresh_frame opening.negated opening.lead level) }
     {
-        Ok(Frame {
+        Ok(BracketFrame {
             negated: opening.negated,
             before: OperandRuns::new(alloc),
             operator: None,
@@ -100,22 +98,22 @@ impl Frame {
 
 impl Frames {
     ghost use Rattle.std.specs.Prelude.{not, ◌==◌};
-    ghost use Rattle.logos_hir.specs.RangeSets.{set_of};
-    ghost use Rattle.logos_syntax.specs.inside.BracketStack.{fresh_frame, whole};
-    ghost use Rattle.logos_syntax.specs.inside.BracketView.{frame_view, frames_view, BracketSteps};
+    ghost use Rattle.logos_syntax.specs.Words.{pattern_nesting, set_of, fresh_frame, whole};
+    ghost use Rattle.logos_syntax.specs.Views.{frame_view, frames_view, BracketSteps};
 
-    /// Returns a stack with this one bracket. `level` is the number of groups and brackets around its inside.
+    /// Returns a stack with this one bracket. `level` is the number of groups and brackets around
+    /// its inside.
     pub(crate) fn new(
         alloc: Global,
         opening: BracketOpening,
         level: usize,
     ) -> Result<Frames, AllocError>
-        requires { level ≤ 250 }
+        requires { level ≤ pattern_nesting }
         ensures { IfOk result (λ m. frames_view m ≡
             record { top = fresh_frame opening.negated opening.lead level; below = [] }) }
     {
         Ok(Frames {
-            top: Frame::new(alloc, opening, level)?,
+            top: BracketFrame::new(alloc, opening, level)?,
             below: Vec::new(alloc),
         })
     }
@@ -141,7 +139,7 @@ impl Frames {
     pub(crate) fn finish(&self, alloc: Global, flags: Flags) -> Result<BracketValue, AllocError>
         ensures { IfOk result (λ found. (set_of found.set ≡
             whole flags (frames_view self.now).top) ×
-            (found.depth ≡ (frames_view self.now).top.inner) × (found.depth ≤ 250)) }
+            (found.depth ≡ (frames_view self.now).top.inner) × (found.depth ≤ pattern_nesting)) }
     {
         let set = self.top.whole(alloc, flags)?;
         Ok(BracketValue {
@@ -153,7 +151,8 @@ impl Frames {
     /// Adds an item to the innermost bracket.
     ///
     /// # Errors
-    /// `NotInBytes` if the flags do not allow the item, and `Memory`.
+    ///
+    /// Returns `NotInBytes` if the flags do not allow the item, and `Memory`.
     fn item(
         &mut self,
         alloc: Global,
@@ -178,7 +177,8 @@ impl Frames {
     /// Opens a bracket in the innermost one.
     ///
     /// # Errors
-    /// `LimitPatternNesting`, and `Memory`.
+    ///
+    /// Returns `LimitPatternNesting`, and `Memory`.
     fn open(
         &mut self,
         alloc: Global,
@@ -186,7 +186,7 @@ impl Frames {
         base: usize,
         opening: BracketOpening,
     ) -> Result<(), Stop>
-        requires { base ≤ 250 }
+        requires { base ≤ pattern_nesting }
         ensures { BracketSteps flags base (frames_view self.old)
             (BracketToken.Open opening.negated opening.lead) result (frames_view self.new) }
     {
@@ -194,7 +194,7 @@ impl Frames {
         if level > MAX_NESTING {
             return Err(Stop::LimitPatternNesting);
         }
-        let inside = Frame::new(alloc, opening, level)?;
+        let inside = BracketFrame::new(alloc, opening, level)?;
         let outside = mem::replace(&mut self.top, inside);
         self.below.push(outside)?;
         Ok(())
@@ -203,7 +203,8 @@ impl Frames {
     /// Ends the operand of the innermost bracket with an operator.
     ///
     /// # Errors
-    /// `Memory` alone.
+    ///
+    /// Returns `Memory` alone.
     fn operator(
         &mut self,
         alloc: Global,
@@ -225,7 +226,8 @@ impl Frames {
     /// Closes the innermost bracket, which must be inside another one.
     ///
     /// # Errors
-    /// `Unopened` if it is not, and `Memory`.
+    ///
+    /// Returns `Unopened` if it is not, and `Memory`.
     fn close(&mut self, alloc: Global, flags: Flags, base: usize, left: usize) -> Result<(), Stop>
         ensures { BracketSteps flags base (frames_view self.old) BracketToken.Close result
             (frames_view self.new) }
@@ -243,11 +245,12 @@ impl Frames {
         Ok(())
     }
 
-    /// Takes the next token. `left` is the number of characters from the token to the end of the text, and `base`
-    /// the number of groups around the outermost bracket.
+    /// Takes the next token. `left` is the number of characters from the token to the end of the
+    /// text, and `base` the number of groups around the outermost bracket.
     ///
     /// # Errors
-    /// The fault of the token here, `LimitPatternNesting`, or `Memory`.
+    ///
+    /// Returns the fault of the token here, `LimitPatternNesting`, or `Memory`.
     pub(crate) fn step(
         &mut self,
         alloc: Global,
@@ -256,7 +259,7 @@ impl Frames {
         token: BracketToken,
         left: usize,
     ) -> Result<(), Stop>
-        requires { base ≤ 250 }
+        requires { base ≤ pattern_nesting }
         ensures { BracketSteps flags base (frames_view self.old) token result
             (frames_view self.new) }
     {

@@ -1,12 +1,8 @@
-//! Turns the items of a bracket into the sets that they stand for.
+//! Turns the items of a bracket into the sets that they stand for. The stack of brackets calls it
+//! for each item.
 
 ghost use Rattle.std.specs.Prelude.{◌≡◌, ◌==◌, ◌∷◌, [], IfOk, IfSome, OnOk};
-ghost use Rattle.logos_hir.specs.Hir.{pairs};
-ghost use Rattle.logos_hir.specs.Sets.{only_chars, members, union, in_range};
-ghost use Rattle.logos_pattern_tokens.specs.bracket.Spelling.{code_of};
-ghost use Rattle.logos_hir.specs.RangeSets.{set_of};
-ghost use Rattle.logos_syntax.specs.bracket.Meaning.{last_of, case_closure, set_or_complement, item_test, is_negated, item_set, lead_set, symbol_fits, item_fits};
-ghost use Rattle.logos_hir.specs.Operands.{combination};
+ghost use Rattle.logos_syntax.specs.Words.{pairs, only_chars, members, union, in_range, code_of, set_of, last_of, case_closure, set_or_complement, item_test, is_negated, item_set, lead_set, symbol_fits, item_fits, combination};
 
 use logos_hir::fold::{fold_ascii, fold_case};
 use logos_hir::hir::Range;
@@ -25,7 +21,8 @@ fn last_of(flags: Flags) -> char
     if flags.unicode { char::MAX } else { '\u{FF}' }
 }
 
-/// Returns the set itself, or if `i` is on the set with all that differs from a member in case alone.
+/// Returns the set itself, or if `i` is on the set with all that differs from a member in case
+/// alone.
 pub(crate) fn case_closure(
     alloc: Global,
     flags: Flags,
@@ -110,8 +107,8 @@ fn item_set(alloc: Global, flags: Flags, item: Item) -> Result<RangeSet, AllocEr
     set_or_complement(flags, is_negated(item), same_letters)
 }
 
-/// Returns the ends of an item whose set is one range that needs no work: a character, a byte or a range
-/// while `i` is off.
+/// Returns the ends of an item whose set is one range that needs no work: a character, a byte or a
+/// range while `i` is off.
 fn plain_ends(flags: Flags, item: Item) -> Option<(u32, u32)>
     ensures { IfSome result (λ ends. item_set flags item ≡ members (ends ∷ [])) }
 {
@@ -170,8 +167,8 @@ pub(crate) fn lead_ranges(alloc: Global, lead: Lead) -> Result<Vec<Range>, Alloc
     }
 }
 
-/// Returns whether the symbol is allowed under the flags: if the pattern matches bytes, a character must be
-/// ASCII.
+/// Returns whether the symbol is allowed under the flags: if the pattern matches bytes, a character
+/// must be ASCII.
 fn symbol_fits(flags: Flags, symbol: Symbol) -> bool
     ensures { result ≡ symbol_fits flags symbol }
 {
@@ -181,8 +178,8 @@ fn symbol_fits(flags: Flags, symbol: Symbol) -> bool
     }
 }
 
-/// Returns whether the item is allowed under the flags: if the pattern matches bytes, its characters must be
-/// ASCII, and it must not be a property.
+/// Returns whether the item is allowed under the flags: if the pattern matches bytes, its
+/// characters must be ASCII, and it must not be a property.
 pub(crate) fn item_fits(flags: Flags, item: Item) -> bool
     ensures { result ≡ item_fits flags item }
 {

@@ -9,12 +9,11 @@ use Rattle.logos_tables.specs.Texts.{joined, step_texts, texts_of}
 pub record Appends (texts : List (List ℕ)) (old new : List ℕ) : Type 0 where
   pub is : new ≡ old ++ joined texts
 
--- a text is appended to by tables that hold what the code does, and by a rest after them
+-- a text is appended to by tables that hold what the code does, and by nothing else
 pub record AppendsTables (code : CodeValue) (old new : List ℕ) : Type 0 where
   pub tables : Tables
   pub hold : Hold code tables
-  pub rest : List ℕ
-  pub is : new ≡ old ++ (joined (texts_of code tables) ++ rest)
+  pub is : new ≡ old ++ joined (texts_of code tables)
 
 -- a text is appended to by the tables of these rows, by classes
 pub record AppendsSteps (classes symbols places : List ℕ) (rows : List (List ℕ)) (old new : List ℕ) : Type 0 where

@@ -7,25 +7,25 @@ use Rattle.logos_token.specs.Tokens.{Token, group, TokenList, count_of}
 use Rattle.logos_token.specs.Views.{tokens_of, inside_of}
 use Rattle.logos_token.specs.Printing.{Part, opening_text, closing_text, spaced, token_parts, run_parts, Printed, print_part}
 
--- the lexemes after the groups that are open; the innermost group is last in the list
+-- The lexemes after the groups that are open; the innermost group is last in the list.
 abbrev pub outer_parts : List Outer → List Part
 outer_parts [] = []
 outer_parts (o ∷ inner) = outer_parts inner ++ spaced (closing_text o.delimiter) ∷ run_parts (tokens_of o.rest)
 
--- the whole text that will be printed
+-- The whole text that will be printed.
 abbrev pub whole : Printed → List Outer → TokenList → Printed
 whole printed outer rest = fold print_part printed (run_parts rest ++ outer_parts outer)
 
--- a measure of the groups that are open: twice the tokens left after each, and one
+-- A measure of the groups that are open: twice the tokens left after each, and one.
 abbrev pub outer_left : List Outer → ℕ
 outer_left [] = 0
 outer_left (o ∷ inner) = 2 * count_of (tokens_of o.rest) + 1 + outer_left inner
 
--- the same with the run that comes next
+-- The same with the run that comes next.
 abbrev pub left_of : List Outer → TokenList → ℕ
 left_of outer rest = 2 * count_of rest + outer_left outer
 
--- a tree was printed; of a group, which is returned, only the opening delimiter
+-- A tree was printed; of a group, which is returned, only the opening delimiter.
 abbrev pub PrintsTree : Printed → Token → Printed → Option Group → Type 0
 PrintsTree before tree after inner =
     MatchOption inner (after ≡ fold print_part before (token_parts tree)) (λ g. (tree ≡ group g.delimiter g.span (inside_of g)) × (after ≡ print_part before (spaced (opening_text g.delimiter))))
@@ -35,6 +35,6 @@ abbrev pub PrintsOn : Printed → List Outer → TokenList → Printed → List 
 PrintsOn before outer rest after next_outer next =
     MatchOption next (after ≡ whole before outer rest) (λ run. whole after next_outer (tokens_of run) ≡ whole before outer rest)
 
--- a step leaves less to print
+-- A step leaves less to print.
 abbrev pub LeavesFewer : List Outer → TokenList → List Outer → Option Tokens → Type 0
 LeavesFewer outer rest next_outer next = IfSome next (λ run. left_of next_outer (tokens_of run) < left_of outer rest)

@@ -15,33 +15,33 @@ use Rattle.logos_token.specs.Spelling.{Piece, Pieces, Lexeme, opens, lexemes, se
 use Rattle.logos_token.specs.Refusals.{IsRefusal}
 use Rattle.logos_token.specs.Views.{stream_tokens}
 
--- a group that is open: the tokens before it, and its opening delimiter
+-- A group that is open: the tokens before it, and its opening delimiter.
 pub record Frame : Type 0 where
   pub before : TokenList
   pub delimiter : Delimiter
   pub span : Span
 
--- the lexemes of the groups that are open, innermost first, and of the tokens after them
+-- The lexemes of the groups that are open, innermost first, and of the tokens after them.
 abbrev pub frame_lexemes : List Frame → TokenList → List Lexeme
 frame_lexemes [] current = lexemes current
 frame_lexemes (f ∷ frames) current = frame_lexemes frames f.before ++ opens f.delimiter f.span.from ∷ lexemes current
 
--- their entries; the groups do not count any yet
+-- Their entries; the groups do not count any yet.
 abbrev pub frame_entries : List Frame → TokenList → List EntryValue
 frame_entries [] current = flat current
 frame_entries (f ∷ frames) current = frame_entries frames f.before ++ group_entry f.delimiter f.span 0 ∷ flat current
 
--- where the entries of the groups stand, outermost first
+-- Where the entries of the groups stand, outermost first.
 abbrev pub frame_places : List Frame → List OpenGroup
 frame_places [] = []
 frame_places (f ∷ frames) = frame_places frames ++ (record { delimiter = f.delimiter; span = f.span; place = length (frame_entries frames f.before) }) ∷ []
 
--- the opening delimiter of each group stands in the source
+-- The opening delimiter of each group stands in the source.
 abbrev pub AreOpenings : List ℕ → List Frame → Type 0
 AreOpenings bytes [] = Unit {0}
 AreOpenings bytes (f ∷ frames) = IsNext bytes f.span.from (Opening f.delimiter) f.span.to × AreOpenings bytes frames
 
--- the source is read up to `to`, into these entries and these open groups
+-- The source is read up to `to`, into these entries and these open groups.
 pub record IsRead (bytes : List ℕ) (to : ℕ) (entries : List EntryValue) (begun : List OpenGroup) : Type 0 where
   pub pieces : List Piece
   pub filled : Pieces bytes 0 pieces to
@@ -53,22 +53,22 @@ pub record IsRead (bytes : List ℕ) (to : ℕ) (entries : List EntryValue) (beg
   pub held : frame_entries frames current ≡ entries
   pub places : frame_places frames ≡ begun
 
--- unless there is an error, a next piece of this kind is read too
+-- Unless there is an error, a next piece of this kind is read too.
 abbrev pub ReadsOn : Kind → Span → (entries : List Entry) (open_groups : List OpenGroup) (next_entries : List Entry) (next_open : List OpenGroup) → Result (Unit {0}) TokenError → Type 0
 ReadsOn kind span entries open_groups next_entries next_open result =
     (bytes : List ℕ) → IsNext bytes span.from kind span.to → IsRead bytes span.from (map value_of entries) open_groups → OnOk result (IsRead bytes span.to (map value_of next_entries) next_open)
 
--- an error says why the source is refused
+-- An error says why the source is refused.
 abbrev pub RefusesAt : Kind → Span → List Entry → List OpenGroup → Result (Unit {0}) TokenError → Type 0
 RefusesAt kind span entries open_groups result =
     (bytes : List ℕ) → IsNext bytes span.from kind span.to → IsRead bytes span.from (map value_of entries) open_groups → IfErr result (IsRefusal bytes)
 
--- unless there is an error, the source that was read to its end spells the tokens of the result
+-- Unless there is an error, the source that was read to its end spells the tokens of the result.
 abbrev pub SpellsAtEnd : List Entry → List OpenGroup → Result TokenStream TokenError → Type 0
 SpellsAtEnd entries open_groups result =
     (bytes : List ℕ) → IsRead bytes (length bytes) (map value_of entries) open_groups → IfOk result (λ stream. Spells bytes (stream_tokens stream) × (depth_of (stream_tokens stream) ≤ 128))
 
--- an error at the end says why the source is refused
+-- An error at the end says why the source is refused.
 abbrev pub RefusesAtEnd : List Entry → List OpenGroup → Result TokenStream TokenError → Type 0
 RefusesAtEnd entries open_groups result =
     (bytes : List ℕ) → IsRead bytes (length bytes) (map value_of entries) open_groups → IfErr result (IsRefusal bytes)

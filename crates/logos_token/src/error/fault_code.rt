@@ -1,6 +1,7 @@
 //! The codes of faults.
+
 ghost use Rattle.std.specs.Prelude.{◌≡◌};
-ghost use Rattle.logos_token.specs.FaultNames.{name_of};
+ghost use Rattle.logos_token.specs.ViewWords.{name_of};
 
 use std::fmt;
 
@@ -23,7 +24,7 @@ pub enum FaultCode {
     LimitTokenNesting,
     /// More types stand inside one another than the limit.
     LimitTypeNesting,
-    /// More groups, brackets and repetitions stand around a place than the limit.
+    /// More groups, brackets and repetitions nest than the limit allows.
     LimitPatternNesting,
     /// All trees together are larger than the limit.
     LimitSize,
@@ -155,7 +156,7 @@ pub enum FaultCode {
     NoUniversalStart,
     /// A pattern that repeats any character without a bound, greedily.
     GreedyDot,
-    /// The earlier place that another fault is about.
+    /// The earlier span that another fault is about.
     Previous,
 }
 
@@ -249,7 +250,7 @@ impl FaultCode {
 
 impl fmt::Display for FaultCode {
     ghost use Rattle.std.specs.Prelude.{Some};
-    ghost use Rattle.logos_token.specs.FaultNames.{name_of};
+    ghost use Rattle.logos_token.specs.ViewWords.{name_of};
 
     ghost output = { λ code. Some (name_of code) };
 

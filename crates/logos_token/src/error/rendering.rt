@@ -1,8 +1,9 @@
-//! Renders faults as Rust text that reports them when it is compiled.
+//! Renders faults as Rust text that reports them when it is compiled. `logos_codegen` prints it in
+//! place of a lexer where a source has faults.
+
 ghost use Rattle.std.specs.Prelude.{◌≡◌, ◌++◌, OnOk, string_bytes};
-ghost use Rattle.std.specs.List.{flat_map};
-ghost use Rattle.logos_token.specs.FaultView.{faults_of, fault_of};
-ghost use Rattle.logos_token.specs.Rendering.{rendered_fault};
+ghost use Rattle.logos_token.specs.Words.{flat_map};
+ghost use Rattle.logos_token.specs.ViewWords.{faults_of, fault_of, rendered_fault};
 
 use crate::error::{Errors, Memory, SpannedError};
 use crate::util::push_escaped;
@@ -32,14 +33,14 @@ fn push_faults(text: &mut String, faults: &[SpannedError]) -> Result<(), Memory>
 
 impl Errors {
     ghost use Rattle.std.specs.Prelude.{◌≡◌, IfOk, option_map, string_bytes};
-    ghost use Rattle.logos_token.specs.Rendering.{rendered};
+    ghost use Rattle.logos_token.specs.ViewWords.{rendered};
 
     /// Returns a function that does not compile and whose compiler errors are the messages of the
     /// faults. `None` if there is no fault.
     ///
     /// # Errors
     ///
-    /// `Memory` if there is not enough memory.
+    /// Returns `Memory` if memory runs out.
     pub fn render(&self) -> Result<Option<String>, Memory>
         ensures { IfOk result (λ text. option_map string_bytes text ≡ rendered self.now) }
     {

@@ -1,10 +1,8 @@
-//! Laws of reading and printing tokens. Nothing calls these functions: the contract of each is a
-//! law.
+//! Laws of reading and printing tokens. No code calls these functions: the contract of each is a
+//! proved law.
+
 ghost use Rattle.std.specs.Prelude.{List, ℕ, IsUtf8};
-ghost use Rattle.logos_token.specs.Tokens.{TokenList};
-ghost use Rattle.logos_token.specs.Spelling.{Spells};
-ghost use Rattle.logos_token.specs.Printing.{printed};
-ghost use Rattle.logos_token.specs.PrintedAgain.{SpellsAgain, IsRunOf, EndsJoint};
+ghost use Rattle.logos_token.specs.Words.{TokenList, run_span, Spells, printed, SpellsAgain, IsRunOf, EndsJoint, IsSpanOf};
 
 /// The printed text of all tokens of a source spells the same tokens again, apart from their spans.
 pub fn prints_back()
@@ -18,4 +16,10 @@ pub fn prints_runs_back()
     ensures { (bytes : List ℕ) → IsUtf8 bytes → (tokens : TokenList) → Spells bytes tokens →
         (run : TokenList) → IsRunOf run tokens → (EndsJoint run → ⊥) →
         SpellsAgain (printed run) run }
+{}
+
+/// The span of neighbouring tokens of a source, at any depth, is a span of it.
+pub fn runs_have_spans()
+    ensures { (bytes : List ℕ) → IsUtf8 bytes → (run tokens : TokenList) → Spells bytes tokens →
+        IsRunOf run tokens → IsSpanOf bytes (run_span run) }
 {}

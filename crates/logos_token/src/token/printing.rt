@@ -1,12 +1,8 @@
-//! Prints tokens.
+//! Prints tokens. Callbacks, types and stripped enums are printed with it.
+
 ghost use Rattle.std.specs.Prelude.{◌≡◌, ◌<◌, ◌∷◌, [], List, ℕ, IsUtf8, IfOk, IfSome, MatchOption, string_bytes, codes, if◌then◌else◌};
-ghost use Rattle.logos_token.specs.PrintedAgain.{SpellsAgain, IsRunOf, EndsJoint};
-ghost use Rattle.logos_token.specs.Spelling.{Spells};
-ghost use Rattle.logos_token.specs.Tokens.{TokenList, none};
-ghost use Rattle.logos_token.specs.Views.{tokens_of};
-ghost use Rattle.logos_token.specs.Printing.{opening_text, closing_text, gap_after, is_line_comment, printed};
-ghost use Rattle.logos_token.specs.PrinterViews.{printed_of};
-ghost use Rattle.logos_token.specs.inside.PrintingSteps.{PrintsOn, LeavesFewer};
+ghost use Rattle.logos_token.specs.Words.{SpellsAgain, IsRunOf, EndsJoint, Spells, TokenList, none, opening_text, closing_text, gap_after, is_line_comment, printed};
+ghost use Rattle.logos_token.specs.ViewWords.{tokens_of, printed_of, PrintsOn, LeavesFewer};
 
 use crate::error::Memory;
 use crate::token::{Delimiter, Group, Spacing, TokenTree, Tokens};
@@ -75,11 +71,8 @@ pub fn gap_after_doc(text: &str) -> &'static str
 
 impl Printer {
     ghost use Rattle.std.specs.Prelude.{◌≡◌, [], OnOk, IfOk, string_bytes};
-    ghost use Rattle.std.specs.Char.{encode_utf8};
-    ghost use Rattle.logos_token.specs.Views.{tree_of};
-    ghost use Rattle.logos_token.specs.Printing.{print_part};
-    ghost use Rattle.logos_token.specs.PrinterViews.{printed_of};
-    ghost use Rattle.logos_token.specs.inside.PrintingSteps.{PrintsTree};
+    ghost use Rattle.logos_token.specs.Words.{encode_utf8, print_part};
+    ghost use Rattle.logos_token.specs.ViewWords.{tree_of, printed_of, PrintsTree};
 
     /// Returns a printer of nothing so far. It takes its memory from `alloc`.
     pub fn new(alloc: Global) -> Printer
@@ -193,7 +186,7 @@ fn step<'t, 's>(
 ///
 /// # Errors
 ///
-/// `Memory` if there is not enough memory.
+/// Returns `Memory` if memory runs out.
 pub fn print(alloc: Global, run: Tokens<'_, '_>) -> Result<String, Memory>
     ensures text { IfOk result (λ text. string_bytes text ≡ printed (tokens_of run.entry)) }
     ensures back { IfOk result (λ text. (source : List ℕ) (tokens : TokenList) →

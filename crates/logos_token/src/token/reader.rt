@@ -1,13 +1,8 @@
-//! Reads a source text into tokens.
+//! Reads a source text into tokens. `tokenize` is the first step of each reading of a source.
+
 ghost use Rattle.std.specs.Prelude.{◌≡◌, ℕ, ◌<◌, ◌≤◌, ◌↔◌, List, [], ◌∷◌, ◌++◌, map, length, IfOk, IfErr, OnOk, MatchResult, IsTrue};
-ghost use Rattle.std.specs.Str.{IsCharBoundary};
-ghost use Rattle.logos_lexeme.specs.Lexemes.{IsNext};
-ghost use Rattle.logos_token.specs.Tokens.{TokenList, depth_of};
-ghost use Rattle.logos_token.specs.Flat.{value_of};
-ghost use Rattle.logos_token.specs.Views.{stream_tokens};
-ghost use Rattle.logos_token.specs.Spelling.{Spells, RunStands};
-ghost use Rattle.logos_token.specs.inside.Reading.{IsRead, ReadsOn, RefusesAt, SpellsAtEnd, RefusesAtEnd};
-ghost use Rattle.logos_token.specs.Refusals.{IsRefusal, SpellsNothing, IsErrOf};
+ghost use Rattle.logos_token.specs.Words.{source_limit, delimiter_limit, IsCharBoundary, IsNext, TokenList, depth_of, Spells, RunStands};
+ghost use Rattle.logos_token.specs.ViewWords.{value_of, stream_tokens, IsRead, ReadsOn, RefusesAt, SpellsAtEnd, RefusesAtEnd, IsRefusal, SpellsNothing, IsErrOf};
 
 use crate::token::entry::Entry;
 use crate::token::views::TokenStream;
@@ -18,7 +13,7 @@ use std::alloc::{AllocError, AllocFailed, Global};
 /// The greatest length of a source, in bytes.
 const MAX_SOURCE: usize = 16_777_216;
 
-/// The greatest number of delimiters that can be open at one place.
+/// The greatest number of delimiters that can be open at once.
 const MAX_NESTING: usize = 128;
 
 /// The reasons why a source text cannot be read into tokens.
@@ -36,7 +31,7 @@ pub enum TokenError {
 
 impl From<AllocError> for TokenError {
     ghost use Rattle.std.specs.Prelude.{◌≡◌};
-    ghost use Rattle.logos_token.specs.declared.token.reader.TokenError.TheVariants.{Memory};
+    ghost use Rattle.logos_token.specs.ViewWords.{Memory};
 
     ghost from_gives = { λ _ error. error ≡ Memory };
 
@@ -47,7 +42,7 @@ impl From<AllocError> for TokenError {
 
 impl<T: Drop> From<AllocFailed<T>> for TokenError {
     ghost use Rattle.std.specs.Prelude.{◌≡◌};
-    ghost use Rattle.logos_token.specs.declared.token.reader.TokenError.TheVariants.{Memory};
+    ghost use Rattle.logos_token.specs.ViewWords.{Memory};
 
     ghost from_gives = { λ _ error. error ≡ Memory };
 
@@ -216,18 +211,18 @@ fn finish<'s>(
 ///
 /// # Errors
 ///
-/// `LimitSource` if the source is longer than 16,777,216 bytes; then it is not read. `Lexical` with
-/// the first fault from the left; a delimiter that is never closed is met at the end of the source.
-/// `LimitTokenNesting` at the first opening delimiter at which more than 128 are open. `Memory` if
-/// there is not enough memory.
+/// Returns `LimitSource` if the source is longer than 16,777,216 bytes; then it is not read.
+/// `Lexical` with the first fault from the left; a delimiter that is never closed is met at the end
+/// of the source. `LimitTokenNesting` at the first opening delimiter at which more than 128 are
+/// open. `Memory` if memory runs out.
 pub fn tokenize<'s>(alloc: Global, src: &'s str) -> Result<TokenStream<'s>, TokenError>
     ensures ok { IfOk result (λ stream. Spells src.now (stream_tokens stream)) }
-    ensures shallow { IfOk result (λ stream. depth_of (stream_tokens stream) ≤ 128) }
-    ensures limit { IsErrOf result TokenError.LimitSource ↔ (16777216 < length src.now) }
+    ensures shallow { IfOk result (λ stream. depth_of (stream_tokens stream) ≤ delimiter_limit) }
+    ensures limit { IsErrOf result TokenError.LimitSource ↔ (source_limit < length src.now) }
     ensures err { IfErr result (IsRefusal src.now) }
     ensures only { IfErr result (SpellsNothing src.now) }
     ensures complete { (tokens : TokenList) →
-        Spells src.now tokens → length src.now ≤ 16777216 → depth_of tokens ≤ 128 →
+        Spells src.now tokens → length src.now ≤ source_limit → depth_of tokens ≤ delimiter_limit →
         MatchResult result (λ stream. stream_tokens stream ≡ tokens)
         (λ error. error ≡ TokenError.Memory) }
 {

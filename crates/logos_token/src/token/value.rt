@@ -1,13 +1,9 @@
-//! Reads the values of string and byte string literals.
+//! Reads the values of string and byte string literals. Definitions, subpatterns and options ask
+//! for the value of each literal that they have.
 
 ghost use Rattle.std.specs.Prelude.{◌≡◌, ℕ, ◌+◌, ◌<◌, ◌≤◌, ◌++◌, ◌⊎◌, ◌==◌, ◌&&◌, ◌||◌, List, length, slice_index, slice_range, string_bytes, option_map, IfOk, OnOk, MatchOption};
-ghost use Rattle.std.specs.Str.{IsCharBoundary};
-ghost use Rattle.logos_lexeme.specs.LiteralBodies.{Holds};
-ghost use Rattle.logos_lexeme.specs.LiteralBodies.{bytes_of};
-ghost use Rattle.logos_token.specs.inside.ValueReads.{IsRest, IsAdded, IsAscii};
-ghost use Rattle.logos_token.specs.LiteralValues.{IsValue};
-ghost use Rattle.logos_token.specs.inside.ValueReads.{IsHeld};
-ghost use Rattle.logos_token.specs.Held.{held, held_value};
+ghost use Rattle.logos_token.specs.Words.{IsCharBoundary, Holds, bytes_of};
+ghost use Rattle.logos_token.specs.ViewWords.{IsRest, IsAdded, IsAscii, IsValue, IsHeld, held, held_value};
 
 use crate::error::Memory;
 use crate::token::Literal;
@@ -225,7 +221,7 @@ impl Literal<'_> {
     ///
     /// # Errors
     ///
-    /// `Memory` if there is not enough memory for the value.
+    /// Returns `Memory` if memory runs out for the value.
     pub fn value(&self, alloc: Global) -> Result<Option<LiteralValue>, Memory>
         ensures value { IfOk result (λ value. IsValue self.now.text.now value) }
         ensures held { IfOk result (λ value.

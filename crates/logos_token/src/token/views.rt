@@ -1,5 +1,6 @@
 //! Holds the tokens of a source in one flat buffer, and gives views of the runs in it.
-ghost use Rattle.std.proofs.Props.{props};
+
+ghost use Rattle.logos_token.specs.Words.{props};
 ghost use Rattle.logos_token.specs.Flat.{IsFlat};
 
 mod growing;
@@ -50,9 +51,8 @@ pub struct TokenIter<'t, 's> {
 
 impl<'s> TokenStream<'s> {
     ghost use Rattle.std.specs.Prelude.{◌≡◌, IfOk};
-    ghost use Rattle.logos_token.specs.Flat.{IsFlat, tokens_in};
-    ghost use Rattle.logos_token.specs.Tokens.{identifier, none, also};
-    ghost use Rattle.logos_token.specs.Views.{stream_tokens, tokens_of};
+    ghost use Rattle.logos_token.specs.Words.{identifier, none, also};
+    ghost use Rattle.logos_token.specs.ViewWords.{IsFlat, tokens_in, stream_tokens, tokens_of};
 
     /// Returns the buffer with these entries.
     pub(super) fn from_entries(entries: Vec<Entry<'s>>) -> TokenStream<'s>
@@ -62,11 +62,11 @@ impl<'s> TokenStream<'s> {
         TokenStream { entries }
     }
 
-    /// Returns a buffer with just this identifier.
+    /// Returns a buffer with exactly this identifier.
     ///
     /// # Errors
     ///
-    /// `AllocError` if there is not enough memory.
+    /// Returns `AllocError` if memory runs out.
     pub fn from_ident(alloc: Global, ident: Ident<'s>) -> Result<TokenStream<'s>, AllocError>
         ensures { IfOk result (λ stream. stream_tokens stream ≡
             also (identifier ident.entry.text.now ident.entry.span) none) }
@@ -87,7 +87,7 @@ impl<'s> TokenStream<'s> {
 
 impl Clone for TokenStream<'_> {
     ghost use Rattle.std.specs.Prelude.{◌≡◌};
-    ghost use Rattle.logos_token.specs.Views.{stream_tokens};
+    ghost use Rattle.logos_token.specs.ViewWords.{stream_tokens};
 
     // A copy has the same trees, with the same texts, spans and spacings.
     ghost is_clone = { λ stream copy. stream_tokens copy ≡ stream_tokens stream };
@@ -100,8 +100,8 @@ impl Clone for TokenStream<'_> {
 
 impl<'t, 's> Tokens<'t, 's> {
     ghost use Rattle.std.specs.Prelude.{◌≡◌, ◌↔◌, IsTrue, MatchOption, option_map, IfOk};
-    ghost use Rattle.logos_token.specs.Tokens.{none, also, IsRestOf, first_of, rest_of, run_span, count_of};
-    ghost use Rattle.logos_token.specs.Views.{stream_tokens, tokens_of, tree_of, iter_rest, listed};
+    ghost use Rattle.logos_token.specs.Words.{none, also, IsRestOf, first_of, rest_of, run_span, count_of};
+    ghost use Rattle.logos_token.specs.ViewWords.{stream_tokens, tokens_of, tree_of, iter_rest, listed};
 
     /// Returns whether the run has no tree.
     pub fn is_empty(self) -> bool
@@ -186,7 +186,7 @@ impl<'t, 's> Tokens<'t, 's> {
     ///
     /// # Errors
     ///
-    /// `Memory` if there is not enough memory.
+    /// Returns `Memory` if memory runs out.
     pub fn to_stream(self, alloc: Global) -> Result<TokenStream<'s>, Memory>
         ensures { IfOk result (λ stream. stream_tokens stream ≡ tokens_of self.entry) }
     {
@@ -204,7 +204,7 @@ impl<'t, 's> Tokens<'t, 's> {
 
 impl<'t, 's> Group<'t, 's> {
     ghost use Rattle.std.specs.Prelude.{◌≡◌};
-    ghost use Rattle.logos_token.specs.Views.{tokens_of, inside_of};
+    ghost use Rattle.logos_token.specs.ViewWords.{tokens_of, inside_of};
 
     /// Returns the run of trees between the delimiters.
     pub fn run(self) -> Tokens<'t, 's>
@@ -216,8 +216,8 @@ impl<'t, 's> Group<'t, 's> {
 
 impl TokenTree<'_, '_> {
     ghost use Rattle.std.specs.Prelude.{◌≡◌};
-    ghost use Rattle.logos_token.specs.Tokens.{span_of};
-    ghost use Rattle.logos_token.specs.Views.{tree_of};
+    ghost use Rattle.logos_token.specs.Words.{span_of};
+    ghost use Rattle.logos_token.specs.ViewWords.{tree_of};
 
     /// Returns the span of the tree in the source.
     pub fn span(self) -> Span
@@ -236,8 +236,8 @@ impl TokenTree<'_, '_> {
 impl<'t, 's> Iterator for TokenIter<'t, 's> {
     type Item = TokenTree<'t, 's>;
 
-    ghost use Rattle.std.specs.Iterator.{YieldsFirstBy, item_count};
-    ghost use Rattle.logos_token.specs.Views.{tree_of, iter_rest};
+    ghost use Rattle.logos_token.specs.Words.{YieldsFirstBy, item_count};
+    ghost use Rattle.logos_token.specs.ViewWords.{tree_of, iter_rest};
 
     ghost next_gives = { YieldsFirstBy tree_of iter_rest };
 

@@ -1,6 +1,7 @@
-//! Writes texts as the contents of string literals.
+//! Writes texts as the contents of string literals. Faults that show tokens write them with it.
+
 ghost use Rattle.std.specs.Prelude.{◌≡◌, ◌++◌, OnOk, string_bytes};
-ghost use Rattle.logos_token.specs.EscapedTexts.{escaped_character, escaped};
+ghost use Rattle.logos_token.specs.Words.{escaped_character, escaped};
 
 use crate::error::Memory;
 
@@ -25,7 +26,7 @@ fn push_character(text: &mut String, character: char) -> Result<(), Memory>
 ///
 /// # Errors
 ///
-/// `Memory` if there is not enough memory. A part of the value may then have been appended.
+/// Returns `Memory` if memory runs out. A part of the value may then have been appended.
 pub fn push_escaped(text: &mut String, value: &str) -> Result<(), Memory>
     ensures { OnOk result (string_bytes text.new ≡ string_bytes text.old ++ escaped value.now) }
 {

@@ -12,6 +12,6 @@ given_of Nothing = nothing
 given_of (Name text) = a_name text.now
 given_of (Parts parts) = a_type (trees (map tree_of parts.now))
 
--- the types that are given and the names that hold themselves, as the code has them
+-- The types that are given and the names that hold themselves, as the code has them.
 abbrev pub params_of : Replacing → Params
 params_of replacing = record { types = map param_value replacing.types.now.entries; held = texts replacing.held.now.keys }

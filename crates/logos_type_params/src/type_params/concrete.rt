@@ -1,9 +1,9 @@
-//! Finds the types given to the declared parameters, and the generic arguments of the enum.
+//! Finds the types given to the declared parameters, and the generic arguments of the enum. It runs
+//! once, for the type of the enum.
+
 ghost use Rattle.std.specs.Prelude.{◌≡◌, ◌++◌, ◌∷◌, [], map, IfOk, OnOk, option_map};
-ghost use Rattle.logos_type.specs.TypeTrees.{type_tree};
-ghost use Rattle.logos_type_params.specs.TypeParams.{named_of, given_of};
-ghost use Rattle.logos_type_params.specs.Generics.{type_of, generics_of, no_concrete_type, and_type, and_fault, concrete_types, missing_types, between_brackets};
-ghost use Rattle.logos_type_params.specs.inside.Checks.{CopiesName};
+ghost use Rattle.logos_type_params.specs.Words.{type_tree};
+ghost use Rattle.logos_type_params.specs.Views.{named_of, given_of, type_of, generics_of, no_concrete_type, and_type, and_fault, concrete_types, missing_types, between_brackets, CopiesName};
 
 use super::TypeParams;
 use crate::reporting::report_about;
@@ -120,16 +120,15 @@ fn bracketed<'s>(lifetime: bool, types: Vec<TypeExpr<'s>>) -> Option<Generics<'s
 
 impl<'s> TypeParams<'s> {
     ghost use Rattle.std.specs.Prelude.{◌≡◌, ◌++◌, [], IfOk, OnOk, OnErr, option_map};
-    ghost use Rattle.logos_type.specs.TypeTrees.{type_tree};
-    ghost use Rattle.logos_type_params.specs.TypeParams.{value_of};
-    ghost use Rattle.logos_type_params.specs.Generics.{type_at, generics, generics_of, missing_types};
+    ghost use Rattle.logos_type_params.specs.Words.{type_tree};
+    ghost use Rattle.logos_type_params.specs.Views.{value_of, type_at, generics, generics_of, missing_types};
 
     /// Returns a copy of the type given to the parameter that this path names. `None` if the path
     /// is more than a name, or if no type is given to the name.
     ///
     /// # Errors
     ///
-    /// `Memory` if there is not enough memory.
+    /// Returns `Memory` if memory runs out.
     pub fn find(&self, path: &TypeExpr<'s>) -> Result<Option<TypeExpr<'s>>, Memory>
         ensures { IfOk result (λ found. option_map type_tree found ≡
             type_at (value_of self.now).types (type_tree path.now)) }
@@ -147,7 +146,7 @@ impl<'s> TypeParams<'s> {
     ///
     /// # Errors
     ///
-    /// `Memory` if there is not enough memory. The faults are then unchanged.
+    /// Returns `Memory` if memory runs out. The faults are then unchanged.
     pub fn generics(&self, errors: &mut Errors) -> Result<Option<Generics<'s>>, Memory>
         ensures value { IfOk result (λ made. option_map generics_of made ≡
             generics (value_of self.now)) }

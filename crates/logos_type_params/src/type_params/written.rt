@@ -1,10 +1,9 @@
-//! Replaces parameters in written types, and finds the names that are left in place there.
+//! Replaces parameters in written types, and finds the names that are left in place there. It runs
+//! for each field, once all types are given.
+
 ghost use Rattle.std.specs.Prelude.{◌≡◌, ◌++◌, ◌∷◌, [], map, IfOk, OnOk, OnErr};
-ghost use Rattle.logos_type.specs.TypeTrees.{type_tree};
-ghost use Rattle.logos_type_params.specs.SelfReference.{texts};
-ghost use Rattle.logos_type_params.specs.TypeParams.{limit_type_nesting};
-ghost use Rattle.logos_type_params.specs.Substitution.{param_value};
-ghost use Rattle.logos_type_params.specs.inside.Checks.{AsksName};
+ghost use Rattle.logos_type_params.specs.Words.{type_tree};
+ghost use Rattle.logos_type_params.specs.Views.{texts, limit_type_nesting, param_value, AsksName};
 
 use super::TypeParams;
 use crate::reporting::report_depth;
@@ -49,16 +48,15 @@ fn leave_written<'s>(
 
 impl<'s> TypeParams<'s> {
     ghost use Rattle.std.specs.Prelude.{◌≡◌, IfOk, OnErr};
-    ghost use Rattle.logos_type.specs.TypeTrees.{type_tree};
-    ghost use Rattle.logos_type_params.specs.SelfReference.{texts};
-    ghost use Rattle.logos_type_params.specs.WrittenTypes.{types_of, params_with, AreHeld, GetsType};
+    ghost use Rattle.logos_type_params.specs.Words.{type_tree};
+    ghost use Rattle.logos_type_params.specs.Views.{texts, types_of, params_with, AreHeld, GetsType};
 
     /// Returns the names of the parameters whose types lead back to them. `get_type` leaves these
     /// in place. This takes time linear in the sizes of all types.
     ///
     /// # Errors
     ///
-    /// `Memory` if there is not enough memory.
+    /// Returns `Memory` if memory runs out.
     pub fn held_names(&self) -> Result<IndexSet<&'s str>, Memory>
         ensures { IfOk result (λ held. AreHeld (types_of self.now) (texts held.keys)) }
     {
@@ -80,7 +78,7 @@ impl<'s> TypeParams<'s> {
     ///
     /// # Errors
     ///
-    /// `Memory` if there is not enough memory. The faults are then unchanged.
+    /// Returns `Memory` if memory runs out. The faults are then unchanged.
     pub fn get_type(
         &self,
         held: &IndexSet<&'s str>,

@@ -18,7 +18,7 @@ use Rattle.logos_type_reader.specs.declared.table.place.Stop.TheVariants as stop
 use Rattle.logos_type_reader.specs.Table.{Spot, Move, ends, takes, bars, asks, keeps_type, keeps, nests, stops, First, starts, refused, first_span, unsupported, mismatch, mismatches, to, opens, closes, after_two, after_three}
 use Rattle.logos_type.specs.Parts.{Sign, word, mark, colons, arrow, value, opening, reference, lifetime, other_lifetime}
 
--- a run begins so
+-- A run begins so.
 abbrev pub Looks : Look → TokenList → Type 0
 Looks look.Nothing run = run ≡ none
 Looks look.Word run = (text : List ℕ) × (span : Span) × (rest : TokenList) × (run ≡ also (identifier text span) rest)
@@ -27,18 +27,18 @@ Looks look.Literal run = (text : List ℕ) × (span : Span) × (rest : TokenList
 Looks look.Doc run = (text : List ℕ) × (span : Span) × (rest : TokenList) × (run ≡ also (doc text span) rest)
 Looks (look.Group delimiter) run = (span : Span) × (inside : TokenList) × (rest : TokenList) × (run ≡ also (group delimiter span inside) rest)
 
--- whether this name comes first
+-- Whether this name comes first.
 abbrev pub begins_word : List ℕ → TokenList → Bool
 begins_word wanted (also (identifier text span) rest) = bytes_eq text wanted
 begins_word wanted run = false
 
--- the text of the first token if it is a name or a literal
+-- The text of the first token if it is a name or a literal.
 abbrev pub first_text : TokenList → List ℕ
 first_text (also (identifier text span) rest) = text
 first_text (also (literal text span) rest) = text
 first_text run = []
 
--- the token that a lead takes from the front of a run
+-- The token that a lead takes from the front of a run.
 abbrev pub lead_sign : Lead → TokenList → Sign
 lead_sign lead.Word run = word (first_text run)
 lead_sign (lead.Mark c) run = mark c
@@ -52,7 +52,7 @@ lead_sign lead.Lifetime run = lifetime (first_text (rest_of run))
 lead_sign lead.OtherLifetime run = other_lifetime (first_text (rest_of run))
 lead_sign (lead.Group delimiter) run = opening delimiter
 
--- the run after that token
+-- The run after that token.
 abbrev pub after_lead : Lead → TokenList → TokenList
 after_lead lead.Colons run = after_two run
 after_lead lead.Arrow run = after_two run
@@ -62,12 +62,12 @@ after_lead lead.Lifetime run = rest_of (rest_of run)
 after_lead lead.OtherLifetime run = rest_of (rest_of run)
 after_lead other run = rest_of run
 
--- the group is opened; only one can be open at a time
+-- The group is opened; only one can be open at a time.
 abbrev pub opens_first : Place → TokenList → Option TokenList → Move
 opens_first place (also (group delimiter span inside) rest) outside = opens delimiter span place inside rest outside
 opens_first place run outside = mismatches run
 
--- the next step for an action and the run that is left
+-- The next step for an action and the run that is left.
 abbrev pub acts : Action → TokenList → Option TokenList → Move
 acts action.End run outside = ends
 acts (action.Take l place) run outside = takes (lead_sign l run) (to place (after_lead l run) outside)
@@ -79,7 +79,7 @@ acts (action.Nest l place next) run outside = nests (lead_sign l run) (to place 
 acts (action.Open place) run outside = opens_first place run outside
 acts (action.Close delimiter place) run outside = closes delimiter place outside
 
--- whether the place is in a bound, in `for<..>` or in the type of a function
+-- Whether the place is in a bound, in `for<..>` or in the type of a function.
 abbrev pub is_in_bounds : Place → Bool
 is_in_bounds (place.Bound plus) = true
 is_in_bounds (place.Question plus) = true
@@ -104,23 +104,23 @@ is_in_bounds place.Variadic = true
 is_in_bounds place.VariadicEnd = true
 is_in_bounds other = false
 
--- the action leads to this step
+-- The action leads to this step.
 abbrev pub IsAction : Result Action Stop → Spot → Move → Type 0
 IsAction (Ok action) spot next = next ≡ acts action spot.run spot.outside
 IsAction (Err (stop.Unsupported span)) spot next = next ≡ stops (unsupported span)
 IsAction (Err (stop.Mismatch span)) spot next = next ≡ stops (mismatch span)
 
--- the group with which a type begins is opened
+-- The group with which a type begins is opened.
 abbrev pub opens_type : Place → TokenList → First
 opens_type place (also (group delimiter span inside) rest) = starts false (opening delimiter) (to place inside (Some rest))
 opens_type place run = refused (mismatch (first_span run))
 
--- the beginning of a type that begins so
+-- The beginning of a type that begins so.
 abbrev pub begun : Start → TokenList → First
 begun (start.Lead barred l place) run = starts barred (lead_sign l run) (to place (after_lead l run) None)
 begun (start.Open place) run = opens_type place run
 
--- the same for the first token
+-- The same for the first token.
 abbrev pub IsStart : Result Start Stop → TokenList → First → Type 0
 IsStart (Ok found) run first = first ≡ begun found run
 IsStart (Err (stop.Unsupported span)) run first = first ≡ refused (unsupported span)

@@ -1,11 +1,8 @@
 //! Bounds, and the lifetimes in `for<..>`.
+
 ghost use Rattle.std.specs.Prelude.{◌≡◌};
-ghost use Rattle.logos_token.specs.Tokens.{rest_of};
-ghost use Rattle.logos_token.specs.Views.{tokens_of};
-ghost use Rattle.logos_type_reader.specs.Table.{after_bound, bound_lifetime_move, trait_move, question_move, bound_move, bound_end_move, further_move, enclosed_end_move, after_for, for_move, for_lifetime_move, for_list_move, for_end_move, path_move};
-ghost use Rattle.logos_type_reader.specs.declared.table.place.PathKind.TheVariants.{OfBound};
-ghost use Rattle.logos_type_reader.specs.ReadingViews.{outside_of, spot_of};
-ghost use Rattle.logos_type_reader.specs.inside.Actions.{IsAction};
+ghost use Rattle.logos_type_reader.specs.Words.{rest_of, tokens_of};
+ghost use Rattle.logos_type_reader.specs.Views.{after_bound, bound_lifetime_move, trait_move, question_move, bound_move, bound_end_move, further_move, enclosed_end_move, after_for, for_move, for_lifetime_move, for_list_move, for_end_move, path_move, OfBound, outside_of, spot_of, IsAction};
 
 use crate::table::paths::path_step;
 use crate::table::place::{Action, Binder, BoundKind, Lead, Look, Next, PathKind, Place, Spot};

@@ -1,8 +1,7 @@
 //! Function types.
-ghost use Rattle.logos_token.specs.Views.{tokens_of};
-ghost use Rattle.logos_type_reader.specs.Table.{linked_move, unsafe_move, qualified_move, extern_move, function_move, taken_value, taken_move, typed_move, one_taken_move, variadic_move, variadic_end_move};
-ghost use Rattle.logos_type_reader.specs.ReadingViews.{outside_of, spot_of};
-ghost use Rattle.logos_type_reader.specs.inside.Actions.{IsAction};
+
+ghost use Rattle.logos_type_reader.specs.Words.{tokens_of};
+ghost use Rattle.logos_type_reader.specs.Views.{linked_move, unsafe_move, qualified_move, extern_move, function_move, taken_value, taken_move, typed_move, one_taken_move, variadic_move, variadic_end_move, outside_of, spot_of, IsAction};
 
 use crate::table::place::{Action, Lead, Look, Next, Place, Spot};
 use crate::table::tokens::{begins_dots, begins_word, is_typing, look, mismatch};

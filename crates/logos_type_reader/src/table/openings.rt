@@ -1,10 +1,8 @@
 //! The beginnings of types.
+
 ghost use Rattle.std.specs.Prelude.{◌≡◌, Some, None, MatchOption};
-ghost use Rattle.logos_token.specs.Tokens.{rest_of};
-ghost use Rattle.logos_token.specs.Views.{tokens_of};
-ghost use Rattle.logos_type_reader.specs.Table.{first_span, reference_first, reference_lifetime_first, word_place, word_first, mark_first, begin, is_reserved, name_of};
-ghost use Rattle.logos_type_reader.specs.ReadingViews.{IsFirst};
-ghost use Rattle.logos_type_reader.specs.inside.Actions.{first_text, IsStart};
+ghost use Rattle.logos_type_reader.specs.Words.{rest_of, tokens_of};
+ghost use Rattle.logos_type_reader.specs.Views.{first_span, reference_first, reference_lifetime_first, word_place, word_first, mark_first, begin, is_reserved, name_of, IsFirst, first_text, IsStart};
 
 use crate::table::acting::begin_by;
 use crate::table::place::{Binder, First, Lead, Look, Opening, PathKind, Place, Start, Stop};
@@ -119,7 +117,7 @@ fn is_reserved(text: &str) -> bool
         | (((text == "fn") | (text == "unsafe")) | (text == "extern"))
 }
 
-/// Returns the name and the tokens after it if the type is just a name.
+/// Returns the name and the tokens after it if the type is exactly a name.
 pub(crate) fn read_name<'t, 's>(tokens: Tokens<'t, 's>) -> Option<(&'s str, Tokens<'t, 's>)>
     ensures { MatchOption result (name_of (tokens_of tokens.entry) ≡ None)
         (λ read. (name_of (tokens_of tokens.entry) ≡ Some read.0.now)

@@ -1,10 +1,8 @@
 //! Paths, and their arguments.
+
 ghost use Rattle.std.specs.Prelude.{◌≡◌};
-ghost use Rattle.logos_token.specs.Tokens.{rest_of};
-ghost use Rattle.logos_token.specs.Views.{tokens_of};
-ghost use Rattle.logos_type_reader.specs.Table.{argued, name_end, segments_move, named_move, macro_move, output_move, inputs_move, input_end_move, colons_move, lifetime_move, argument_word, arguments_move, braced_move, equals_move, constrained_move, argument_end_move, path_move};
-ghost use Rattle.logos_type_reader.specs.ReadingViews.{outside_of, spot_of};
-ghost use Rattle.logos_type_reader.specs.inside.Actions.{first_text, IsAction};
+ghost use Rattle.logos_type_reader.specs.Words.{rest_of, tokens_of};
+ghost use Rattle.logos_type_reader.specs.Views.{argued, name_end, segments_move, named_move, macro_move, output_move, inputs_move, input_end_move, colons_move, lifetime_move, argument_word, arguments_move, braced_move, equals_move, constrained_move, argument_end_move, path_move, outside_of, spot_of, first_text, IsAction};
 
 use crate::table::place::{Action, Lead, Look, Next, PathKind, Place, Spot};
 use crate::table::tokens::{

@@ -1,6 +1,6 @@
 use Rattle.std.proofs.Common.{◌≡◌, ◌<◌, ◌∙◌, [], length, sym, arith, eqb-true, rules}
 use Rattle.std.proofs.lemmas.List.{nil_from_length}
-use Rattle.logos_cli.proofs.GatherLemmas.{expanded_all, faulty_file, some_left}
+use Rattle.logos_cli.proofs.GatherLemmas.{expanded_all, lexers_refused, some_left}
 use Rattle.logos_cli.proofs.expanding.expand_enums.Goals as goal
 
 pub returns-then-is_empty-clause-done : goal.returns-then-is_empty-clause-done
@@ -8,11 +8,11 @@ returns-then-is_empty-clause-done c =
     let gathered = c.in_ok-gathered.gathered in
     let none : gathered.refused.items ≡ [] =
     nil_from_length gathered.refused.items (omega (arith, gathered.refused.ok.0, eqb-true _ _ (sym c.is_empty.ensures ∙ c.if-is_empty.true))) in
-    expanded_all c.args.shape c.args.file.text.now _ c.args.found.now gathered c.requires.enums c.in_ok-gathered.ensures.gathers none
-    (rw c.deref.ensures.value at c.in_ok-replace.ensures)
+    expanded_all c.args.shape c.args.source.now.text _ c.args.found.now gathered c.requires.enums (rw c.text.ensures at c.in_ok-gathered.ensures.gathers) none
+    (rw c.text-then-is_empty.ensures at (rw c.deref.ensures.value at c.in_ok-replace.ensures))
 
-pub refused_file-requires : goal.refused_file-requires
-refused_file-requires c =
+pub returns-clause-denied : goal.returns-clause-denied
+returns-clause-denied c =
     let gathered = c.in_ok-gathered.gathered in
-    faulty_file c.args.shape c.args.file.text.now c.args.found.now gathered c.requires.enums c.in_ok-gathered.ensures.gathers
-    (some_left gathered.refused.items gathered.refused.ok.0 (sym c.is_empty.ensures ∙ c.if-is_empty.false))
+    c.refused_file.ensures c.args.shape (rw c.deref-2.ensures.value (lexers_refused c.args.shape c.args.source.now.text c.args.found.now gathered c.requires.enums (rw c.text.ensures at c.in_ok-gathered.ensures.gathers)
+    (some_left gathered.refused.items gathered.refused.ok.0 (sym c.is_empty.ensures ∙ c.if-is_empty.false))))

@@ -2,7 +2,7 @@ use Rattle.std.proofs.Common.{refl}
 use Rattle.std.proofs.lemmas.List.Elements.{All-get_or}
 use Rattle.logos_cli.specs.declared.expanding.Gathered.{Gathered}
 use Rattle.logos_cli.proofs.GatherLemmas.{begun, ended_at, further_at, ordered_at, ordered_parts}
-use Rattle.logos_files.specs.Replacing.{IsFoundCut}
+use Rattle.logos_rust_file.specs.Replacing.{IsFoundCut}
 use Rattle.logos_cli.proofs.expanding.gather.Goals as goal
 
 pub loop-one-init : goal.loop-one-init

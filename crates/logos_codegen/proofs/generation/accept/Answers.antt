@@ -1,7 +1,7 @@
 use Rattle.std.proofs.Common.{[], refl, sym, subst}
 use Rattle.logos_definition.specs.ParserViews.{parser_view}
-use Rattle.logos_source.specs.Analyses.{AnalysisView, HasItsType}
-use Rattle.logos_source.specs.AnalysisViews.{analysis_view}
+use Rattle.logos_parser.specs.Analyses.{AnalysisView, HasItsType}
+use Rattle.logos_parser.specs.AnalysisViews.{analysis_view}
 use Rattle.logos_codegen.specs.inside.Steps.{IsGraphMade}
 use Rattle.logos_codegen.proofs.RefusalLemmas.{ends_refuses}
 use Rattle.logos_codegen.proofs.GraphLemmas.{graph_refuses, graph_made}

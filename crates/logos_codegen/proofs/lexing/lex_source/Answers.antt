@@ -1,6 +1,7 @@
 use Rattle.logos_graph.specs.View.{rules_of}
 use Rattle.logos_machine.specs.LexerValue.{answers_of}
-use Rattle.logos_codegen.proofs.LexLemmas.{memory_no_refusal, are_bytes, items_of_result, order_of_result, parts_of_result, cut_of_result, shapes_of_result, unlexed_just, unlexed_no_refusal}
+use Rattle.logos_generator.proofs.InputLemmas.{are_bytes}
+use Rattle.logos_codegen.proofs.LexLemmas.{memory_no_refusal, items_of_result, order_of_result, parts_of_result, cut_of_result, shapes_of_result, unlexed_just, unlexed_no_refusal}
 use Rattle.logos_codegen.proofs.lexing.lex_source.Goals as goal
 
 pub returns-in-Err-clause-accepted : goal.returns-in-Err-clause-accepted

@@ -1,6 +1,6 @@
 use Rattle.std.proofs.Common.{◌<◌, arith, length, false}
 use Rattle.std.proofs.lemmas.List.{length-map, get_or_read}
-use Rattle.logos_cycles.specs.inside.Places.{graph}
+use Rattle.logos_cycles.specs.inside.Memberships.{graph}
 use Rattle.logos_cycles.proofs.WalkLemmas.{walk_begun, walk_on, walk_ends, walk_smaller, none_found, nil_if_empty}
 use Rattle.logos_cycles.proofs.plain.leads_back.Goals as goal
 

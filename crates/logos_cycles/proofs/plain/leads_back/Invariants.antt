@@ -1,4 +1,4 @@
-use Rattle.logos_cycles.specs.inside.Places.{graph}
+use Rattle.logos_cycles.specs.inside.Memberships.{graph}
 use Rattle.logos_cycles.specs.inside.Traversals.{left_in}
 use Rattle.logos_cycles.proofs.WalkLemmas.{Walking}
 use Rattle.logos_cycles.proofs.plain.leads_back.Given as goal

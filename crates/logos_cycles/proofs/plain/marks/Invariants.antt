@@ -1,5 +1,5 @@
 use Rattle.std.proofs.Common.{◌≡◌, vec_len}
-use Rattle.logos_cycles.specs.inside.Places.{graph}
+use Rattle.logos_cycles.specs.inside.Memberships.{graph}
 use Rattle.logos_cycles.proofs.MarkLemmas.{AreMarked}
 use Rattle.logos_cycles.proofs.plain.marks.Given as goal
 

@@ -18,7 +18,7 @@ returns-in-Ok-clause-leaves c =
       given = sym (param_values c.args.parser.now.types.types.entries);
       checked = c.in_ok-check.ensures.ok;
       held = c.in_ok-held.ensures;
-      subpatterns = rw (c.utf8_mode-mode.ensures, c.as_slice-list.ensures.value) at c.in-Ok.ensures.ok;
+      subpatterns = rw (c.is_utf8-mode.ensures, c.as_slice-list.ensures.value) at c.in-Ok.ensures.ok;
       skips_add = made.skips_add;
       variants_add = made.variants_add;
     }) c.leaves_with.ensures.made

@@ -1,6 +1,6 @@
 use Rattle.std.proofs.Common.{◌≡◌, ◌∙◌, ◌∷◌, ◌+◌, map, drop, ap, sym}
 use Rattle.std.proofs.lemmas.List.{at_drop_more, at_drop_all}
-use Rattle.logos_item.specs.Values.{parameter_value}
+use Rattle.logos_enum.specs.Values.{parameter_value}
 use Rattle.logos_leaf.specs.Sources.{no_parameter, one_parameter}
 use Rattle.logos_leaf.proofs.source.read_parameters.Goals as goal
 

@@ -1,7 +1,7 @@
 use Rattle.std.proofs.Common.{◌≡◌, ◌∙◌, ◌∷◌, ◌+◌, map, drop, ap, sym}
 use Rattle.std.proofs.lemmas.List.{at_drop_more, at_drop_all}
 use Rattle.logos_type_params.specs.SelfReference.{texts}
-use Rattle.logos_item.specs.EnumValues.{variant_value}
+use Rattle.logos_enum.specs.EnumValues.{variant_value}
 use Rattle.logos_leaf.specs.Variants.{no_variant, one_variant}
 use Rattle.logos_leaf.proofs.VariantLemmas.{same_params}
 use Rattle.logos_leaf.proofs.variant.add_variants.Goals as goal

@@ -1,4 +1,4 @@
-use Rattle.std.proofs.Common.{drop}
+use Rattle.std.proofs.Common.{◌≡◌, drop}
 use Rattle.logos_token.specs.FaultView.{faults_of}
 use Rattle.logos_report.specs.Faults.{faults_texts}
 use Rattle.logos_report.specs.Pages.{PageValue, Shows}
@@ -6,6 +6,8 @@ use Rattle.logos_report.proofs.faults.push_all.Given as goal
 
 -- with the faults that are left the page shows all of them
 abbrev pub invariant-loop-fault : goal.invariant-loop-fault
-invariant-loop-fault l =
-    (new : PageValue) → Shows (faults_texts l.part.source.now l.part.offset (faults_of (drop l.fault-index l.faults))) l.page new →
-    Shows (faults_texts l.part.source.now l.part.offset (faults_of l.faults)) l.initial.page new
+invariant-loop-fault l = record {
+  colored : l.page.is_colored ≡ l.initial.page.is_colored;
+  rest : (new : PageValue) → Shows (faults_texts l.initial.page.is_colored l.part.source.now l.part.offset (faults_of (drop l.fault-index l.faults))) l.page new →
+      Shows (faults_texts l.initial.page.is_colored l.part.source.now l.part.offset (faults_of l.faults)) l.initial.page new;
+}

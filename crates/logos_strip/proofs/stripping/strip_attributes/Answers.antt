@@ -1,5 +1,5 @@
 use Rattle.logos_token.specs.Views.{stream_tokens}
-use Rattle.logos_source.proofs.RefusalLemmas.{result_ends}
+use Rattle.logos_parser.proofs.RefusalLemmas.{result_ends}
 use Rattle.logos_strip.proofs.CompleteLemmas.{not_refused, result_not_refused}
 use Rattle.logos_strip.proofs.stripping.strip_attributes.Goals as goal
 

@@ -1,8 +1,8 @@
-//! Makes buffers tree by tree.
+//! Makes buffers tree by tree. Stripping and copies of types and callbacks make buffers.
+
 ghost use Rattle.std.specs.Prelude.{◌≡◌, ◌++◌, List, map, IfOk, OnOk};
-ghost use Rattle.logos_token.specs.Flat.{value_of, flat_token};
-ghost use Rattle.logos_token.specs.Tokens.{group, none, also, append};
-ghost use Rattle.logos_token.specs.Views.{stream_tokens, tree_of, inside_of};
+ghost use Rattle.logos_token.specs.Words.{group, none, also, append};
+ghost use Rattle.logos_token.specs.ViewWords.{value_of, flat_token, stream_tokens, tree_of, inside_of};
 
 use crate::error::Memory;
 use crate::token::entry::Entry;
@@ -46,7 +46,7 @@ impl<'s> TokenStream<'s> {
     ///
     /// # Errors
     ///
-    /// `Memory` if there is not enough memory. The buffer is then lost.
+    /// Returns `Memory` if memory runs out. The buffer is then lost.
     pub fn with_tree(self, tree: TokenTree<'_, 's>) -> Result<TokenStream<'s>, Memory>
         ensures { IfOk result (λ stream. stream_tokens stream ≡
             append (stream_tokens self.entry) (also (tree_of tree.entry) none)) }

@@ -3,7 +3,7 @@ use Rattle.std.proofs.lemmas.List.{map-append}
 use Rattle.logos_machine.specs.LexerValue.{item_of}
 use Rattle.logos_codegen.specs.Language.{LanguageValue, IsLanguage}
 use Rattle.logos_codegen.specs.Tokenizing.{token_value}
-use Rattle.logos_codegen.proofs.LexLemmas.{are_bytes}
+use Rattle.logos_generator.proofs.InputLemmas.{are_bytes}
 use Rattle.logos_codegen.proofs.ExprLemmas.{begins, error_outcome, token_more, tokenized_bad, tokenized_all, outcome_is}
 use Rattle.logos_codegen.proofs.expr.Language.tokens.Goals as goal
 

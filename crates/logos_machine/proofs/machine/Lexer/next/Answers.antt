@@ -40,7 +40,7 @@ returns-in-Emits-clause-item g c =
 pub matched_item-requires-clause-callable : goal.matched_item-requires-clause-callable
 matched_item-requires-clause-callable g c =
     let e : c.self-in-Asks.inside.callback ≡ c.args.self.now.callback = ap (λ (l : LexerValue g.row.C.Denot). l.callback) (c.self-in-Asks.view_is ∙ c.loop-to.invariant.same) in
-    rw e c.requires
+    rw e (λ asks shown same. c.requires.at (c.in-Asks.leaf, (shown, tt)))
 
 pub stand_after-requires-in-Some-clause-within : goal.stand_after-requires-in-Some-clause-within
 stand_after-requires-in-Some-clause-within g c =

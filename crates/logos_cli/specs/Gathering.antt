@@ -1,0 +1,62 @@
+-- What the enums of a file give, one after another, and what is shown of their faults.
+use Rattle.std.specs.Prelude.{◌≡◌, ◌≢◌, ◌⊎◌, ℕ, Bool, List, [], ◌∷◌, true, false, string_bytes}
+use Rattle.std.specs.List.{flat_map}
+use Rattle.logos_cli.specs.declared.options.Shape.{Shape}
+use Rattle.logos_codegen.specs.Source.{IsRefused}
+use Rattle.logos_cli.specs.declared.expanding.Gathered.{Gathered}
+use Rattle.logos_cli.specs.declared.expanding.Refused.{Refused}
+use Rattle.logos_cli.specs.Expanding.{IsExpansion, IsUnreadable, text_at}
+use Rattle.logos_rust_file.specs.declared.finding.FoundEnum.{FoundEnum}
+use Rattle.logos_rust_file.specs.declared.replacing.Replacement.{Replacement}
+use Rattle.logos_rust_file.specs.Files.{AreEnumsOf}
+use Rattle.logos_host.specs.declared.failure.Failure.{Failure}
+use Rattle.logos_host.specs.declared.failure.Failure.TheVariants as failures
+use Rattle.logos_host.specs.Failures.{status_of}
+use Rattle.logos_report.specs.Faults.{faults_texts}
+use Rattle.logos_report.specs.Pages.{StandInOrder}
+use Rattle.logos_report.specs.Places.{SourceValue}
+
+-- each enum that derives `Logos` gives a part or has faults, in order, and no other one does
+pub data Gathers (shape : Shape) (text : List ℕ) : List FoundEnum → List Replacement → List Refused → Type 0 where
+  ended : Gathers shape text [] [] []
+  stays : {one : FoundEnum} {rest : List FoundEnum} {parts : List Replacement} {refused : List Refused} →
+      one.derives ≡ false → Gathers shape text rest parts refused → Gathers shape text (one ∷ rest) parts refused
+  gives : {one : FoundEnum} {part : Replacement} {rest : List FoundEnum} {parts : List Replacement} {refused : List Refused} →
+      one.derives ≡ true → part.span ≡ one.span → IsExpansion shape (text_at text one) (string_bytes part.text) → Gathers shape text rest parts refused →
+      Gathers shape text (one ∷ rest) (part ∷ parts) refused
+  refuses : {one : FoundEnum} {bad : Refused} {rest : List FoundEnum} {parts : List Replacement} {refused : List Refused} →
+      one.derives ≡ true → bad.offset ≡ one.span.from → IsRefused (text_at text one) bad.errors → Gathers shape text rest parts refused →
+      Gathers shape text (one ∷ rest) parts (bad ∷ refused)
+
+-- all these enums were gathered
+abbrev pub GathersAll : Shape → List ℕ → List FoundEnum → Gathered → Type 0
+GathersAll shape text found gathered = Gathers shape text found gathered.parts.items gathered.refused.items
+
+-- what is shown of faults, in order
+abbrev pub refused_texts : Bool → SourceValue → List Refused → List (List ℕ)
+refused_texts is_colored source refused = flat_map (λ one. faults_texts is_colored source one.offset one.errors) refused
+
+-- These are the refusals of a file: the one of a file that cannot be read into tokens, or those of all lexers that have faults, of which there are some.
+pub data AreRefused (shape : Shape) (text : List ℕ) (refused : List Refused) : Type 0 where
+  whole : {bad : Refused} → refused ≡ bad ∷ [] → bad.offset ≡ 0 → IsUnreadable text bad.errors → AreRefused shape text refused
+  lexers : {found : List FoundEnum} {parts : List Replacement} → AreEnumsOf text found → Gathers shape text found parts refused → refused ≢ [] → AreRefused shape text refused
+
+-- this text shows all faults of a file, in order, with or without colors
+pub record ShowsFaults (shape : Shape) (source : SourceValue) (shown : List ℕ) : Type 0 where
+  pub is_colored : Bool
+  pub refused : List Refused
+  pub are : AreRefused shape source.text refused
+  pub stand : StandInOrder (refused_texts is_colored source refused) shown
+
+-- what was asked for was refused, for a reason, or a file or memory failed
+abbrev pub FailsBy : (Failure → Type 0) → Failure → Type 0
+FailsBy Reason failure = (status_of failure ≡ 3) ⊎ ((status_of failure ≡ 1) × Reason failure)
+
+-- the text of a refusal, of which this holds
+abbrev pub IsRefusedFor : (List ℕ → Type 0) → Failure → Type 0
+IsRefusedFor Shown (failures.Refused text) = Shown (string_bytes text)
+IsRefusedFor Shown failure = ⊥
+
+-- a file is refused for its faults, which the text shows, or memory ran out
+abbrev pub FailsFor : Shape → SourceValue → Failure → Type 0
+FailsFor shape source = FailsBy (IsRefusedFor (ShowsFaults shape source))

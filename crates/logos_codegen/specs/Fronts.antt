@@ -1,0 +1,56 @@
+-- The texts around the body of a lexer, by the options of its source.
+use Rattle.std.specs.Prelude.{ℕ, Bool, List, [], ◌++◌, codes, Option, Some, None, if◌then◌else◌, length}
+use Rattle.logos_token.specs.Printing.{printed}
+use Rattle.logos_token.specs.Tokens.{TokenList}
+use Rattle.logos_type.specs.Printed.{printed_type}
+use Rattle.logos_type.specs.TypeTrees.{type_tree}
+use Rattle.logos_definition.specs.ErrorTypes.{ErrorView, error_text, run_text}
+use Rattle.logos_definition.specs.Options.{OptionsView}
+use Rattle.logos_definition.specs.ParserViews.{parser_view}
+use Rattle.logos_text.specs.Fronts.{AroundValue, BeginsWith, IsFront, opening_text}
+use Rattle.logos_text.specs.Gaps.{gap_after}
+use Rattle.logos_codegen.specs.declared.generation.Generated.{Generated}
+
+-- The gap after tokens, or after `( )` where there are none.
+abbrev pub gap_after_run : Option TokenList → List ℕ
+gap_after_run (Some run) = gap_after [] run
+gap_after_run None = codes " "
+
+-- The path of the library, with the gap after it.
+abbrev pub library_text : Option TokenList → List ℕ
+library_text (Some run) = printed run ++ gap_after [] run
+library_text None = codes ":: logos "
+
+-- The type of errors, with the gap after it.
+abbrev pub error_type_text : Option ErrorView → List ℕ
+error_type_text (Some error) = error_text error ++ gap_after_run error.type_run
+error_type_text None = codes "( ) "
+
+-- The type of extras, with the gap after it.
+abbrev pub extras_text : Option TokenList → List ℕ
+extras_text run = run_text run ++ gap_after_run run
+
+-- The type of inputs, with the gap after it.
+abbrev pub input_text : Bool → List ℕ
+input_text utf8 = if utf8 then codes "str " else codes "[ u8 ] "
+
+-- The texts around a body, by the options of a source and its mode.
+abbrev pub around_of : OptionsView → Bool → AroundValue
+around_of options utf8 = record {
+  logos = library_text options.logos_path;
+  error = error_type_text options.error_type;
+  extras = extras_text options.extras;
+  source = input_text utf8;
+}
+
+-- The texts around the body of what was made of a source.
+abbrev pub around_made : Generated → AroundValue
+around_made made = around_of (parser_view made.options) made.graph.utf8
+
+-- The text begins an implementation of `Logos` for the type of the enum: its head and the imports of its function.
+abbrev pub BeginsImplementation : Generated → List ℕ → Type 0
+BeginsImplementation made = BeginsWith (opening_text (around_made made) (printed_type (type_tree made.code.header.this)))
+
+-- The text is the beginning of that implementation, up to the enum of the leaves.
+abbrev pub IsFrontOf : Generated → List ℕ → Type 0
+IsFrontOf made = IsFront (around_made made) (printed_type (type_tree made.code.header.this)) (length made.code.code_leaves)

@@ -1,0 +1,19 @@
+use Rattle.std.proofs.Common.{inr, map, Ok}
+use Rattle.logos_token.specs.Tokens.{none}
+use Rattle.logos_enum.specs.EnumValues.{variant_value}
+use Rattle.logos_enum.specs.Groups.{opened_value}
+use Rattle.std.proofs.lemmas.Result.{err_from_is_err_and}
+use Rattle.logos_enum.specs.Enum.Body.{braced, lacking}
+use Rattle.logos_enum.proofs.FieldLemmas.{body-fails}
+use Rattle.logos_enum.proofs.item.read_body.Goals as goal
+
+pub returns-in_default-clause-err : goal.returns-in_default-clause-err
+returns-in_default-clause-err c = rw c.grammar_at.ensures (inr (lacking c.in_default.ensures))
+
+pub returns-in_err-list-clause-err : goal.returns-in_err-list-clause-err
+returns-in_err-list-clause-err c =
+    let p = err_from_is_err_and c.from_residual.result c.from_residual.ensures.1 in
+    rw (p.1, p.2) (body-fails _ _ _ c.in-Some.ensures.0 c.in_err-list.ensures.err)
+
+pub returns-clause-ok : goal.returns-clause-ok
+returns-clause-ok c = braced (opened_value c.in-Some.braced) (Ok (map variant_value c.in_ok-list.list.items, none)) c.in-Some.ensures.0 c.in_ok-list.ensures.ok

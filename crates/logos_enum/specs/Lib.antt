@@ -1,0 +1,12 @@
+pub mod AttributeValues
+pub mod Attributes
+pub mod Enum
+pub mod EnumValues
+pub mod Extents
+pub mod Generics
+pub mod Groups
+pub mod Marks
+pub mod Rules
+pub mod Values
+pub mod Words
+pub mod Views

@@ -1,0 +1,51 @@
+//! Takes the attributes of a run one by one. Whoever reads the attributes of an enum or a variant
+//! calls it, here and in the crates above.
+
+ghost use Rattle.std.specs.Prelude.{◌≡◌, ◌<◌, Some, None, MatchOption};
+ghost use Rattle.logos_enum.specs.Words.{count_of, tokens_of};
+ghost use Rattle.logos_enum.specs.Views.{attribute_in, split_value};
+
+use crate::groups::open_bracket;
+use crate::tokens::split;
+use logos_token::token::{Span, TokenTree, Tokens};
+
+/// An attribute of an enum, a variant or a field.
+#[derive(Clone, Copy)]
+pub struct Attribute<'t, 's> {
+    /// The span from `#` to the end of the brackets, or that of the documentation comment.
+    pub span: Span,
+    /// The tokens inside the brackets. `None` for a documentation comment.
+    pub inside: Option<Tokens<'t, 's>>,
+}
+
+/// Returns the first attribute of a run of attributes, and the tokens after it. `None` if the run
+/// is empty.
+pub fn split_attribute<'t, 's>(
+    tokens: Tokens<'t, 's>,
+) -> Option<(Attribute<'t, 's>, Tokens<'t, 's>)>
+    ensures { MatchOption result (attribute_in (tokens_of tokens.entry) ≡ None)
+        (λ read. (attribute_in (tokens_of tokens.entry) ≡ Some (split_value read))
+        × (count_of (tokens_of read.1) < count_of (tokens_of tokens.entry))) }
+{
+    match split(tokens)? {
+        (TokenTree::Doc(doc), rest) => {
+            let attribute = Attribute {
+                span: doc.span,
+                inside: None,
+            };
+            Some((attribute, rest))
+        }
+        (TokenTree::Punct(punct), rest) => {
+            let opened = open_bracket(rest)?;
+            let attribute = Attribute {
+                span: Span {
+                    from: punct.span.from,
+                    to: opened.span.to,
+                },
+                inside: Some(opened.inside),
+            };
+            Some((attribute, opened.rest))
+        }
+        _ => None,
+    }
+}

@@ -1,0 +1,51 @@
+//! The reasons why a run of tokens is not an enum.
+
+use logos_token::token::Span;
+use std::alloc::{AllocError, AllocFailed};
+
+/// The reason why a run of tokens is not an enum: its first fault from the left.
+#[derive(Clone, Copy, Debug, PartialEq, Eq)]
+pub enum ReadError {
+    /// The run does not begin with well-formed attributes, an optional visibility, and `enum`. The
+    /// span is that of the whole run.
+    NotAnEnum { span: Span },
+    /// The run begins so, but a token after `enum` does not fit. The span is that of the first such
+    /// token, or of the whole group if it is a group. It is `0..0` at the end of the tokens, also
+    /// inside a group.
+    Grammar { span: Span },
+    /// The type of a field is not supported. The span is that of the innermost type that is not.
+    TypeUnsupported { span: Span },
+    /// In the type of a field more types stand inside one another than are allowed. The span is
+    /// that of the whole type.
+    LimitTypeNesting { span: Span },
+    /// There is not enough memory.
+    Memory,
+}
+
+impl From<AllocError> for ReadError {
+    ghost use Rattle.std.specs.Prelude.{◌≡◌};
+    ghost use Rattle.logos_enum.specs.Views.{Memory};
+
+    ghost from_gives = { λ _ error. error ≡ Memory };
+
+    fn from(_error: AllocError) -> ReadError {
+        ReadError::Memory
+    }
+}
+
+impl<T: Drop> From<AllocFailed<T>> for ReadError {
+    ghost use Rattle.std.specs.Prelude.{◌≡◌};
+    ghost use Rattle.logos_enum.specs.Views.{Memory};
+
+    ghost from_gives = { λ _ error. error ≡ Memory };
+
+    fn from(_error: AllocFailed<T>) -> ReadError {
+        ReadError::Memory
+    }
+}
+
+/// The first token that does not fit stands at this span.
+#[derive(Clone, Copy)]
+pub(crate) struct Mismatch {
+    pub span: Span,
+}

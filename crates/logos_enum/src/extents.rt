@@ -1,0 +1,146 @@
+//! Finds how far bounds, defaults and types reach. Parameters and fields are cut with it before
+//! their types are read.
+
+ghost use Rattle.std.specs.Prelude.{◌≡◌, ◌+◌, ◌<◌, ◌≤◌, MatchOption};
+ghost use Rattle.logos_enum.specs.Words.{TokenList, also, punctuation, count_of, append, IsRestOf, tokens_of};
+ghost use Rattle.logos_enum.specs.Views.{ends, begins_arrow, depth_after, is_end, after_from, after_extent, after_generics, IsStep};
+
+use crate::tokens::{after_mark, split};
+use logos_token::token::{Punct, Spacing, TokenTree, Tokens};
+
+/// The things that have an extent.
+#[derive(Clone, Copy)]
+pub(crate) enum End {
+    /// Bounds, or the type of a constant. They reach up to a comma, `=` or `>`.
+    OfBounds,
+    /// A default, or a whole parameter. It reaches up to a comma or `>`.
+    OfDefault,
+    /// The type of a field. It reaches up to a comma.
+    OfField,
+    /// All generic parameters. They reach up to `>`.
+    OfParameters,
+}
+
+/// How many angle brackets are open, and whether a `-` comes before that can begin `->`.
+#[derive(Clone, Copy)]
+struct Angles {
+    depth: usize,
+    arrow: bool,
+}
+
+/// Returns whether a character ends an extent where no angle bracket is open.
+pub(crate) fn ends(end: End, character: char) -> bool
+    ensures { result ≡ ends end character }
+{
+    match end {
+        End::OfBounds => (character == ',') | (character == '>') | (character == '='),
+        End::OfDefault => (character == ',') | (character == '>'),
+        End::OfField => character == ',',
+        End::OfParameters => character == '>',
+    }
+}
+
+/// Returns whether this punctuation can be the first character of `->`.
+fn begins_arrow(punct: Punct) -> bool
+    ensures { result ≡ begins_arrow punct.character punct.spacing }
+{
+    match punct.spacing {
+        Spacing::Joint => punct.character == '-',
+        Spacing::Alone => false,
+    }
+}
+
+/// Returns whether a character ends an extent.
+fn is_end(end: End, angles: Angles, character: char) -> bool
+    ensures { result ≡ is_end end angles.arrow angles.depth character }
+{
+    (angles.depth == 0) & (ends(end, character) & !(angles.arrow & (character == '>')))
+}
+
+/// Returns how many angle brackets are open after a character.
+fn depth_after(angles: Angles, character: char) -> usize
+    requires { angles.depth < 18446744073709551615 }
+    ensures value { result ≡ depth_after angles.arrow angles.depth character }
+    ensures bound { result ≤ angles.depth + 1 }
+{
+    if character == '<' {
+        return angles.depth + 1;
+    }
+    if (character == '>') & !angles.arrow {
+        return angles.depth.saturating_sub(1);
+    }
+    angles.depth
+}
+
+/// Returns the tokens after one token of an extent, with the angle brackets that are open there.
+/// `None` where the extent ends.
+fn skip_token<'t, 's>(
+    end: End,
+    angles: Angles,
+    tokens: Tokens<'t, 's>,
+) -> Option<(Angles, Tokens<'t, 's>)>
+    requires { angles.depth + count_of (tokens_of tokens) < 18446744073709551616 }
+    ensures { MatchOption result
+        (after_from end angles.arrow angles.depth (tokens_of tokens.entry)
+        ≡ tokens_of tokens.entry)
+        (λ read. IsStep end angles (tokens_of tokens.entry) read.0 (tokens_of read.1)) }
+{
+    match split(tokens)? {
+        (TokenTree::Punct(punct), rest) => {
+            if is_end(end, angles, punct.character) {
+                return None;
+            }
+            let depth = depth_after(angles, punct.character);
+            let arrow = begins_arrow(punct);
+            Some((Angles { depth, arrow }, rest))
+        }
+        (_, rest) => Some((
+            Angles {
+                depth: angles.depth,
+                arrow: false,
+            },
+            rest,
+        )),
+    }
+}
+
+/// Returns the tokens after an extent.
+pub(crate) fn skip_extent<'t, 's>(end: End, tokens: Tokens<'t, 's>) -> Tokens<'t, 's>
+    ensures value { tokens_of result ≡ after_extent end (tokens_of tokens.entry) }
+    ensures shorter { count_of (tokens_of result) ≤ count_of (tokens_of tokens.entry) }
+    ensures front { IsRestOf (tokens_of tokens.entry) (tokens_of result) }
+{
+    // At most this many angle brackets can be open, so a `usize` counts them.
+    if tokens.count() == 0 {
+        return tokens;
+    }
+    let mut angles = Angles {
+        depth: 0,
+        arrow: false,
+    };
+    let mut rest = tokens;
+    while let Some((next, after)) = skip_token(end, angles, rest) {
+        angles = next;
+        rest = after;
+    }
+    rest
+}
+
+/// Returns the tokens from the `>` on that closes the generic parameters, if `<` comes first, or
+/// else all tokens.
+pub fn skip_generics<'t, 's>(tokens: Tokens<'t, 's>) -> Tokens<'t, 's>
+    ensures { tokens_of result ≡ after_generics (tokens_of tokens.entry) }
+{
+    match after_mark('<', tokens) {
+        Some(rest) => skip_extent(End::OfParameters, rest),
+        None => tokens,
+    }
+}
+
+/// Returns the tokens of an extent.
+pub(crate) fn extent<'t, 's>(end: End, tokens: Tokens<'t, 's>) -> Tokens<'t, 's>
+    ensures { tokens_of tokens.entry ≡
+        append (tokens_of result) (after_extent end (tokens_of tokens.entry)) }
+{
+    tokens.before(skip_extent(end, tokens))
+}

@@ -1,0 +1,181 @@
+//! Reads a whole enum. `logos_parser`, `logos_strip` and the finder of enums in files call it.
+
+ghost use Rattle.std.specs.Prelude.{◌≡◌, ◌<◌, ◌≤◌, List, map, Ok, Err, Result, Some, None, MatchOption, MatchResult, IfOk, IfErr};
+ghost use Rattle.logos_enum.specs.Words.{TokenList, none, count_of, tokens_of};
+ghost use Rattle.logos_enum.specs.Views.{ReadError as ReadErrorValue, Memory, announced_in, IsFront, from_brace, where_in, Body, end_in, NoFront, item, Reads, EnumValue, variant_value, enum_value, Stands};
+
+use crate::attributes::{read_attributes, skip_keyword, skip_visibility};
+use crate::error::ReadError;
+use crate::generics::{Parameter, read_generics};
+use crate::groups::open_brace;
+use crate::tokens::{grammar_at, read_name, split};
+use crate::variants::{Variant, read_variants};
+use logos_token::token::{Delimiter, Ident, TokenTree, Tokens};
+use std::alloc::Global;
+
+/// An enum. The runs are views of the tokens that it was read from.
+#[derive(Drop)]
+pub struct ItemEnum<'t, 's> {
+    /// The attributes of the enum: each is `#` and brackets, or a documentation comment.
+    pub attributes: Tokens<'t, 's>,
+    pub name: Ident<'s>,
+    /// The generic parameters, in source order.
+    pub parameters: Vec<Parameter<'t, 's>>,
+    /// The variants, in source order.
+    pub variants: Vec<Variant<'t, 's>>,
+}
+
+/// Returns the tokens after the first one, unless that is a brace.
+fn skip_other<'t, 's>(tokens: Tokens<'t, 's>) -> Option<Tokens<'t, 's>>
+    ensures { MatchOption result (from_brace (tokens_of tokens.entry) ≡ tokens_of tokens.entry)
+        (λ rest. (from_brace (tokens_of tokens.entry) ≡ from_brace (tokens_of rest))
+        × (count_of (tokens_of rest) < count_of (tokens_of tokens.entry))) }
+{
+    match split(tokens)? {
+        (TokenTree::Group(group), _) if group.delimiter == Delimiter::Brace => None,
+        (_, rest) => Some(rest),
+    }
+}
+
+/// Returns the tokens from the first brace on.
+fn skip_to_brace<'t, 's>(tokens: Tokens<'t, 's>) -> Tokens<'t, 's>
+    ensures { tokens_of result ≡ from_brace (tokens_of tokens.entry) }
+{
+    let mut rest = tokens;
+    while let Some(next) = skip_other(rest) {
+        rest = next;
+    }
+    rest
+}
+
+/// Returns the tokens after a where clause if one comes first, or else all tokens.
+fn skip_where<'t, 's>(tokens: Tokens<'t, 's>) -> Tokens<'t, 's>
+    ensures { where_in (tokens_of tokens.entry) ≡ Ok (tt, tokens_of result) }
+{
+    match split(tokens) {
+        Some((TokenTree::Ident(word), rest)) if word.text == "where" => skip_to_brace(rest),
+        _ => tokens,
+    }
+}
+
+/// Returns the variants in the braces that must come first, and the tokens after the braces.
+fn read_body<'t, 's>(
+    alloc: Global,
+    tokens: Tokens<'t, 's>,
+) -> Result<(Vec<Variant<'t, 's>>, Tokens<'t, 's>), ReadError>
+    ensures ok { IfOk result
+        (λ read. Body (tokens_of tokens.entry)
+        (Ok (map variant_value read.0.items, tokens_of read.1))) }
+    ensures err { IfErr result (Stands (λ error. Body (tokens_of tokens.entry) (Err error))) }
+{
+    let Some(braced) = open_brace(tokens) else {
+        return Err(grammar_at(tokens));
+    };
+    let list = read_variants(alloc, braced.inside)?;
+    Ok((list, braced.rest))
+}
+
+/// Checks that no token is left.
+fn read_end(tokens: Tokens<'_, '_>) -> Result<(), ReadError>
+    ensures { MatchResult result (λ _. end_in (tokens_of tokens.entry) ≡ Ok (tt, none))
+        (λ error. end_in (tokens_of tokens.entry) ≡ Err error) }
+{
+    match split(tokens) {
+        None => Ok(()),
+        Some(_) => Err(grammar_at(tokens)),
+    }
+}
+
+/// Returns the attributes and the tokens after `enum`, if an optional visibility and `enum` follow
+/// the attributes.
+fn announced<'t, 's>(
+    attributes: Tokens<'t, 's>,
+    middle: Tokens<'t, 's>,
+) -> Option<(Tokens<'t, 's>, Tokens<'t, 's>)>
+    ensures { MatchOption result (announced_in (tokens_of middle.entry) ≡ None)
+        (λ read. (tokens_of read.0 ≡ tokens_of attributes.entry)
+        × (announced_in (tokens_of middle.entry) ≡ Some (tokens_of read.1))) }
+{
+    let rest = skip_keyword(skip_visibility(middle))?;
+    Some((attributes, rest))
+}
+
+/// Returns the attributes before `enum` and the tokens after it. `None` if well-formed attributes,
+/// an optional visibility and `enum` do not come first.
+fn read_front<'t, 's>(tokens: Tokens<'t, 's>) -> Option<(Tokens<'t, 's>, Tokens<'t, 's>)>
+    ensures { MatchOption result (NoFront (tokens_of tokens.entry))
+        (λ read. IsFront (tokens_of tokens.entry) (tokens_of read.0) (tokens_of read.1)) }
+{
+    match read_attributes(tokens) {
+        Ok((attributes, middle)) => announced(attributes, middle),
+        Err(_) => None,
+    }
+}
+
+/// Returns the enum with these attributes. The tokens are those after its `enum`.
+fn read_item<'t, 's>(
+    alloc: Global,
+    attributes: Tokens<'t, 's>,
+    tokens: Tokens<'t, 's>,
+) -> Result<ItemEnum<'t, 's>, ReadError>
+    ensures ok { IfOk result
+        (λ read. item (tokens_of attributes.entry) (tokens_of tokens.entry)
+        (Ok (enum_value read, none))) }
+    ensures err { IfErr result (Stands
+        (λ error. item (tokens_of attributes.entry) (tokens_of tokens.entry) (Err error))) }
+{
+    let (name, after_name) = read_name(tokens)?;
+    let (parameters, after_generics) = read_generics(alloc, after_name)?;
+    let (variants, rest) = read_body(alloc, skip_where(after_generics))?;
+    read_end(rest)?;
+    Ok(ItemEnum {
+        attributes,
+        name,
+        parameters,
+        variants,
+    })
+}
+
+/// Reads an enum: attributes, an optional visibility, `enum`, a name, optional generic parameters
+/// and an optional where clause, and braces with variants between commas, the last of which can
+/// have a comma too. Nothing can follow the braces. Only the shape of the enum and the runs of
+/// tokens are returned; attributes are not interpreted.
+///
+/// An attribute is `#` and brackets with a path, which can be followed by a group or by `=` and
+/// tokens; or it is a documentation comment of what follows it. A visibility is `pub` with at most
+/// one group in parentheses. Any identifier can be a name. A generic parameter is a lifetime, a
+/// type, or `const` and a name; attributes can come before it, and its bounds and default stay
+/// tokens. A where clause is everything up to the first brace that is not inside another group. A
+/// variant is attributes, a name, then nothing, fields in parentheses, or fields with names in
+/// braces, and optionally `=` and tokens. At most 128 types can stand inside one another in the
+/// type of a field.
+///
+/// # Errors
+///
+/// Returns `NotAnEnum` if well-formed attributes, an optional visibility and `enum` do not come
+/// first. If they do, the first fault from the left: `Grammar` at a token that does not fit,
+/// `TypeUnsupported` at a type that is not supported, or `LimitTypeNesting` at a type that passes
+/// the limit. `Memory` if memory runs out.
+pub fn read_enum<'t, 's>(
+    alloc: Global,
+    tokens: Tokens<'t, 's>,
+) -> Result<ItemEnum<'t, 's>, ReadError>
+    ensures ok { IfOk result (λ read. Reads (tokens_of tokens.entry) (Ok (enum_value read))) }
+    ensures err { IfErr result (Stands (λ error. Reads (tokens_of tokens.entry) (Err error))) }
+    ensures complete { (value : EnumValue) → Reads (tokens_of tokens.entry) (Ok value) →
+        IfErr result (λ error. error ≡ Memory) }
+{
+    let Some((attributes, rest)) = read_front(tokens) else {
+        return Err(ReadError::NotAnEnum {
+            span: tokens.span(),
+        });
+    };
+    let item = read_item(alloc, attributes, rest)?;
+    Ok(item)
+}
+
+/// A run of tokens is at most one enum and has at most one fault, and never both.
+pub fn reads_once()
+    ensures { (run : TokenList) (one other : Result EnumValue ReadErrorValue) → Reads run one →
+        Reads run other → one ≡ other }
+{}

@@ -1,0 +1,25 @@
+//! Reads an enum: its attributes, generic parameters and variants, with the runs of tokens that
+//! other crates read on.
+
+#![tactic(auto)]
+
+mod attribute_run;
+mod attributes;
+mod error;
+mod extents;
+mod fields;
+mod generics;
+mod groups;
+mod item;
+mod tokens;
+mod variants;
+
+pub use attribute_run::{Attribute, split_attribute};
+pub use attributes::skip_visibility;
+pub use error::ReadError;
+pub use extents::skip_generics;
+pub use fields::{Field, Fields};
+pub use generics::{Parameter, ParameterKind};
+pub use item::{ItemEnum, read_enum, reads_once};
+pub use tokens::is_outer;
+pub use variants::Variant;

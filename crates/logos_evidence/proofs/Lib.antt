@@ -1,0 +1,15 @@
+pub mod AliveLemmas
+pub mod CompareLemmas
+pub mod ErrorLemmas
+pub mod ExampleLemmas
+pub mod FoundLemmas
+pub mod InputLemmas
+pub mod LastLemmas
+pub mod ListFacts
+pub mod ListedLemmas
+pub mod LossLemmas
+pub mod MatchingLemmas
+pub mod MeetingLemmas
+pub mod ShownLemmas
+pub mod VerdictLemmas
+pub mod WindowLemmas

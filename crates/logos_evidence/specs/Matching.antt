@@ -1,0 +1,28 @@
+-- The matches from an offset of an input.
+use Rattle.std.specs.Prelude.{◌≡◌, ◌↔◌, ◌⊎◌, ◌<◌, ◌≤◌, ℕ, List, Contains}
+use Rattle.std.specs.List.{AllPairs}
+use Rattle.logos_automaton.specs.Munch.{Rule, RuleMatches, priority_of}
+use Rattle.logos_evidence.specs.declared.matching.Match.{Match}
+
+-- A leaf matches from the point up to an end, with its priority.
+pub record IsMatch (rules : List Rule) (bytes : List ℕ) (from : ℕ) (m : Match) : Type 0 where
+  pub matches : RuleMatches rules m.leaf bytes from m.end
+  pub priority : m.priority ≡ priority_of rules m.leaf
+
+-- Lower ends first, and at the same end lower leaves.
+abbrev pub IsBefore : Match → Match → Type 0
+IsBefore a b = (a.end < b.end) ⊎ ((a.end ≡ b.end) × (a.leaf < b.leaf))
+
+-- These are all matches from the point.
+pub record AreMatches (rules : List Rule) (bytes : List ℕ) (from : ℕ) (matches : List Match) : Type 0 where
+  pub in_order : AllPairs IsBefore matches
+  pub exactly : (m : Match) → Contains matches m ↔ IsMatch rules bytes from m
+
+-- The second match is longer, or as long with no lower priority.
+abbrev pub IsAtMost : Match → Match → Type 0
+IsAtMost a b = (a.end < b.end) ⊎ ((a.end ≡ b.end) × (a.priority ≤ b.priority))
+
+-- The longest of the matches, and at its end one of the highest priority.
+pub record IsWinner (matches : List Match) (m : Match) : Type 0 where
+  pub one : Contains matches m
+  pub best : (other : Match) → Contains matches other → IsAtMost other m

@@ -1,0 +1,94 @@
+//! What a leaf finds.
+
+ghost use Rattle.std.specs.Prelude.{◌≡◌, [], IfOk, MatchOption};
+ghost use Rattle.logos_graph.specs.GraphOf.{IsGraphOf};
+ghost use Rattle.logos_graph.specs.View.{rules_of};
+ghost use Rattle.logos_evidence.specs.Examples.{HasNoExample, IsShortestExample};
+ghost use Rattle.logos_evidence.specs.inside.Machines as machines;
+
+use crate::walking::{next_at_end, next_by, seen_by, states_of};
+use logos_graph::graph::{Graph, StateData};
+use logos_search::{Machine, Point, shortest};
+use std::alloc::{AllocError, Global};
+
+/// A machine that follows a graph, and looks for inputs whose last match on the way is one of a
+/// leaf.
+#[derive(Clone, Copy)]
+struct Examples<'g> {
+    states: &'g [&'g StateData],
+    leaf: usize,
+}
+
+/// Returns whether the last match is one of the leaf, after one more or none.
+pub(crate) fn is_last(leaf: usize, mark: Option<usize>, before: bool) -> bool
+    ensures { result ≡ machines.is_last leaf mark before }
+{
+    match mark {
+        Some(mark) => mark == leaf,
+        None => before,
+    }
+}
+
+/// Returns the point before the first byte, at a state.
+pub(crate) fn point_from(here: usize) -> Point
+    ensures { result ≡ machines.point_from here }
+{
+    Point {
+        here,
+        there: 0,
+        begun: false,
+        met: false,
+        last: false,
+    }
+}
+
+impl Machine for Examples<'_> {
+    ghost use Rattle.logos_evidence.specs.inside.Machines.{example_next, example_goal};
+    ghost use Rattle.logos_evidence.specs.inside.Shown.{shown};
+
+    ghost leads = { λ it. example_next (shown it.states.now) it.leaf };
+
+    ghost goal = { λ it. example_goal (shown it.states.now) it.leaf };
+
+    fn next(&self, at: Point, byte: u8) -> Option<Point> {
+        let next = next_by(self.states, at.here, byte);
+        let mark = seen_by(self.states, at.here, next);
+        Some(Point {
+            here: next.unwrap_or(self.states.len()),
+            there: 0,
+            begun: false,
+            met: false,
+            last: is_last(self.leaf, mark, at.last),
+        })
+    }
+
+    fn is_goal(&self, at: Point) -> bool {
+        let next = next_at_end(self.states, at.here);
+        let mark = seen_by(self.states, at.here, next);
+        is_last(self.leaf, mark, at.last)
+    }
+}
+
+/// Returns a shortest input on which a lexer finds a match of a leaf first, or `None` exactly if
+/// there is none. Of inputs of the same length it is the one with letters, digits and punctuation
+/// first.
+///
+/// The graph must have no faults.
+///
+/// # Errors
+///
+/// Returns `AllocError` if memory runs out.
+pub fn example(alloc: Global, graph: &Graph<'_>, leaf: usize) -> Result<Option<Vec<u8>>, AllocError>
+    ensures { IfOk result (λ found. IsGraphOf graph.now.leaves graph.now.utf8 graph.now →
+        graph.now.faults ≡ [] → MatchOption found
+        (HasNoExample (rules_of graph.now.leaves) graph.now.utf8 leaf)
+        (λ bytes. IsShortestExample (rules_of graph.now.leaves) graph.now.utf8 leaf bytes.items)) }
+{
+    let states = states_of(alloc, graph)?;
+    let machine = Examples {
+        states: &states,
+        leaf,
+    };
+    let found = shortest(alloc, &machine, graph.utf8_mode(), point_from(0))?;
+    Ok(found)
+}

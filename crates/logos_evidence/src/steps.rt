@@ -1,0 +1,45 @@
+//! Steps of an automaton, and the leaves that its states list.
+
+ghost use Rattle.std.specs.Prelude.{◌≡◌, option_map, slice_get};
+ghost use Rattle.logos_automaton.specs.DfaView.{dfa_of};
+ghost use Rattle.logos_evidence.specs.inside.Steps as steps;
+
+use logos_automaton::dfa::Dfa;
+use logos_automaton::dfa::parts::{end_at, leaves_at, row_at, state_count};
+
+/// Returns the state to which a byte leads, if the automaton has the state.
+pub(crate) fn step_by(dfa: &Dfa, state: usize, byte: u8) -> Option<usize>
+    ensures { result ≡ steps.step_by (dfa_of dfa.now) state byte }
+{
+    if state >= state_count(dfa) {
+        return None;
+    }
+    Some(row_at(dfa, state)[byte as usize] as usize)
+}
+
+/// Returns the state to which the end leads, if the automaton has the state.
+fn step_at_end(dfa: &Dfa, state: usize) -> Option<usize>
+    ensures { result ≡ steps.step_at_end (dfa_of dfa.now) state }
+{
+    if state >= state_count(dfa) {
+        return None;
+    }
+    Some(end_at(dfa, state) as usize)
+}
+
+/// Returns the leaves that a state lists, if the automaton has the state.
+pub(crate) fn listed(dfa: &Dfa, state: usize) -> Option<&[usize]>
+    ensures { option_map (λ leaves. leaves.now) result ≡ slice_get (dfa_of dfa.now).matches state }
+{
+    if state >= state_count(dfa) {
+        return None;
+    }
+    Some(leaves_at(dfa, state))
+}
+
+/// Returns the leaves that the state after the end lists, if there is one.
+pub(crate) fn listed_at_end(dfa: &Dfa, state: usize) -> Option<&[usize]>
+    ensures { option_map (λ leaves. leaves.now) result ≡ steps.listed_at_end (dfa_of dfa.now) state }
+{
+    listed(dfa, step_at_end(dfa, state)?)
+}

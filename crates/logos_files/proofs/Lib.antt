@@ -1,5 +1,0 @@
-mod FrontLemmas
-mod FindLemmas
-mod OrderLemmas
-mod ReplaceLemmas
-mod CutLemmas

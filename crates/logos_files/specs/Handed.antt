@@ -1,6 +1,0 @@
--- Words of the crates below that contracts of the crates above need.
-pub use Rattle.logos_source.specs.Endings.{EndsReading}
-pub use Rattle.logos_source.specs.Refusals.{Refuses}
-pub use Rattle.logos_source.specs.declared.refusal.Refusal.{Refusal}
-pub use Rattle.logos_source.specs.declared.refusal.Refusal.TheVariants.{Errors, Memory}
-pub use Rattle.logos_strip.specs.Results.{IsStripped}

@@ -1,6 +1,0 @@
-pub mod Handed
-pub mod Derives
-pub mod Fronts
-pub mod Files
-pub mod Replacing
-pub mod inside

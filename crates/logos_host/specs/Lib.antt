@@ -1,0 +1,7 @@
+pub mod Colors
+pub mod Failures
+pub mod Messages
+pub mod Options
+pub mod Reading
+pub mod WordSteps
+pub mod Writers

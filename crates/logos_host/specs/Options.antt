@@ -1,0 +1,52 @@
+-- The options of a command line.
+use Rattle.std.specs.Prelude.{ℕ, List, Bool, true, false, Option, Some, None, if◌then◌else◌, bytes_eq, codes}
+use Rattle.logos_host.specs.declared.options.OptionName.{OptionName}
+use Rattle.logos_host.specs.declared.options.OptionName.TheVariants.{Check, Color, Derive, Enum, Help, MessageFormat, Output, Shape, Version}
+
+-- the options with a word of one letter
+abbrev pub letter_named : List ℕ → Option OptionName
+letter_named word =
+    if bytes_eq word (codes "-c") then Some Check
+    else (if bytes_eq word (codes "-h") then Some Help
+    else (if bytes_eq word (codes "-o") then Some Output
+    else (if bytes_eq word (codes "-V") then Some Version
+    else None)))
+
+-- the last options of the alphabet
+abbrev pub later_named : List ℕ → Option OptionName
+later_named word =
+    if bytes_eq word (codes "--output") then Some Output
+    else (if bytes_eq word (codes "--shape") then Some Shape
+    else (if bytes_eq word (codes "--version") then Some Version
+    else None))
+
+-- the options, by their long words
+abbrev pub long_named : List ℕ → Option OptionName
+long_named word =
+    if bytes_eq word (codes "--check") then Some Check
+    else (if bytes_eq word (codes "--color") then Some Color
+    else (if bytes_eq word (codes "--derive") then Some Derive
+    else (if bytes_eq word (codes "--enum") then Some Enum
+    else (if bytes_eq word (codes "--help") then Some Help
+    else (if bytes_eq word (codes "--message-format") then Some MessageFormat
+    else later_named word)))))
+
+abbrev pub first_named : Option OptionName → List ℕ → Option OptionName
+first_named (Some option) word = Some option
+first_named None word = long_named word
+
+-- the option with a word, as `--output` or `-o`
+abbrev pub option_named : List ℕ → Option OptionName
+option_named word = first_named (letter_named word) word
+
+-- whether an option has a value
+abbrev pub takes_value : OptionName → Bool
+takes_value Check = false
+takes_value Color = true
+takes_value Derive = false
+takes_value Enum = true
+takes_value Help = false
+takes_value MessageFormat = true
+takes_value Output = true
+takes_value Shape = true
+takes_value Version = false

@@ -1,0 +1,43 @@
+//! When a text has colors.
+ghost use Rattle.std.specs.Prelude.{◌≡◌};
+ghost use Rattle.logos_host.specs.Colors.{color_named, has_colors};
+
+/// When a text has colors.
+#[derive(Clone, Copy, Debug, PartialEq, Eq)]
+pub enum Color {
+    /// Always.
+    Always,
+    /// Never.
+    Never,
+    /// On a terminal.
+    Auto,
+}
+
+impl Color {
+    /// Returns whether a text has colors that goes to a terminal or not.
+    pub fn is_on(self, is_terminal: bool) -> bool
+        ensures { result ≡ has_colors self is_terminal }
+    {
+        match self {
+            Color::Always => true,
+            Color::Never => false,
+            Color::Auto => is_terminal,
+        }
+    }
+}
+
+/// Returns what a value of `--color` stands for: `always`, `never` or `auto`.
+pub fn color_by_name(name: &str) -> Option<Color>
+    ensures { result ≡ color_named name.now }
+{
+    if name == "always" {
+        return Some(Color::Always);
+    }
+    if name == "never" {
+        return Some(Color::Never);
+    }
+    if name == "auto" {
+        return Some(Color::Auto);
+    }
+    None
+}

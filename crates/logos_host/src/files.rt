@@ -1,0 +1,43 @@
+//! Files by their paths.
+
+ghost use Rattle.std.specs.Prelude.{ℕ, List, ⊤, IfOk, OnOk};
+
+use crate::reason::Reason;
+
+/// Why a call on a file failed.
+#[derive(Clone, Copy, Debug, PartialEq, Eq)]
+pub enum FileError {
+    /// The file was not read or written, for this reason.
+    Failed(Reason),
+    /// The file was to be a text, and is UTF-8 up to this byte alone.
+    NotText { valid_up_to: usize },
+    /// Memory ran out.
+    Memory,
+}
+
+/// Files by their paths.
+pub trait Files {
+    // Holds of the files before a read, the path, all bytes that are read, and the files after it.
+    ghost read_gives: { Self → List ℕ → List ℕ → Self → Type 0 } = { λ _ _ _ _. ⊤ };
+
+    // Holds of the files before a write, the path, all bytes of the file there from then on, and the files after it.
+    ghost write_makes: { Self → List ℕ → List ℕ → Self → Type 0 } = { λ _ _ _ _. ⊤ };
+
+    /// Returns all bytes of the file at this path.
+    ///
+    /// # Errors
+    ///
+    /// Returns `Failed` if the file cannot be read, and `Memory` if memory runs out.
+    fn read(&mut self, path: &str) -> Result<Vec<u8>, FileError>
+        ensures { IfOk result (λ bytes. read_gives self.old path.now bytes.items self.new) };
+
+    /// Writes these bytes to the file at this path, in place of what the file has, and makes the
+    /// folders of the path that are missing.
+    ///
+    /// # Errors
+    ///
+    /// Returns `Failed` if a folder or the file cannot be made or written, and `Memory` if memory runs
+    /// out. The folders that were made stay.
+    fn write(&mut self, path: &str, bytes: &[u8]) -> Result<(), FileError>
+        ensures { OnOk result (write_makes self.old path.now bytes.now self.new) };
+}

@@ -1,0 +1,33 @@
+//! What the programs share: files, the words of a command line, failures and their messages, and
+//! what is written.
+
+#![tactic(auto)]
+
+mod color;
+mod command_line;
+mod comparing;
+mod failure;
+mod files;
+mod message;
+mod nearest;
+mod options;
+mod reading;
+mod reason;
+mod system;
+mod whole;
+mod word_steps;
+mod writing;
+
+pub use color::{Color, color_by_name};
+pub use command_line::words;
+pub use comparing::{ComparableFiles, Standing};
+pub use failure::Failure;
+pub use files::{FileError, Files};
+pub use message::{refuse_words, report};
+pub use nearest::with_nearest;
+pub use options::OptionName;
+pub use reading::read_text;
+pub use reason::Reason;
+pub use system::Disk;
+pub use word_steps::{Progress, Step, Use, next_step};
+pub use writing::{write_block, write_full, write_through};

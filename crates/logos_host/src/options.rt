@@ -1,0 +1,124 @@
+//! The options of a command line. A program takes some of them.
+
+ghost use Rattle.std.specs.Prelude.{◌≡◌};
+ghost use Rattle.logos_host.specs.Options.{later_named, letter_named, long_named};
+
+/// An option, by its name.
+#[derive(Clone, Copy, Debug, PartialEq, Eq)]
+pub enum OptionName {
+    Check,
+    Color,
+    Derive,
+    Enum,
+    Help,
+    MessageFormat,
+    Output,
+    Shape,
+    Version,
+}
+
+impl OptionName {
+    ghost use Rattle.std.specs.Prelude.{◌≡◌, Some};
+    ghost use Rattle.logos_host.specs.Options.{option_named, takes_value};
+
+    /// Returns the option with this word, as `--output` or `-o`.
+    pub fn by_word(word: &str) -> Option<OptionName>
+        ensures { result ≡ option_named word.now }
+    {
+        match by_letter(word) {
+            Some(option) => Some(option),
+            None => by_long(word),
+        }
+    }
+
+    /// Returns the word of the option, as `--output`.
+    pub fn word(self) -> &'static str
+        ensures { option_named result.now ≡ Some self }
+    {
+        match self {
+            OptionName::Check => "--check",
+            OptionName::Color => "--color",
+            OptionName::Derive => "--derive",
+            OptionName::Enum => "--enum",
+            OptionName::Help => "--help",
+            OptionName::MessageFormat => "--message-format",
+            OptionName::Output => "--output",
+            OptionName::Shape => "--shape",
+            OptionName::Version => "--version",
+        }
+    }
+
+    /// Returns whether the option has a value.
+    pub fn takes_value(self) -> bool
+        ensures { result ≡ takes_value self }
+    {
+        matches!(
+            self,
+            OptionName::Color
+                | OptionName::Enum
+                | OptionName::MessageFormat
+                | OptionName::Output
+                | OptionName::Shape
+        )
+    }
+}
+
+/// Returns the option with this word of one letter, as `-o`.
+fn by_letter(word: &str) -> Option<OptionName>
+    ensures { result ≡ letter_named word.now }
+{
+    if word == "-c" {
+        return Some(OptionName::Check);
+    }
+    if word == "-h" {
+        return Some(OptionName::Help);
+    }
+    if word == "-o" {
+        return Some(OptionName::Output);
+    }
+    if word == "-V" {
+        return Some(OptionName::Version);
+    }
+    None
+}
+
+/// Returns the option with this word, as `--output`.
+fn by_long(word: &str) -> Option<OptionName>
+    ensures { result ≡ long_named word.now }
+{
+    if word == "--check" {
+        return Some(OptionName::Check);
+    }
+    if word == "--color" {
+        return Some(OptionName::Color);
+    }
+    if word == "--derive" {
+        return Some(OptionName::Derive);
+    }
+    if word == "--enum" {
+        return Some(OptionName::Enum);
+    }
+    if word == "--help" {
+        return Some(OptionName::Help);
+    }
+    if word == "--message-format" {
+        return Some(OptionName::MessageFormat);
+    }
+    by_later_long(word)
+}
+
+/// Returns the option with this word, if it is one of the last in the alphabet.
+fn by_later_long(word: &str) -> Option<OptionName>
+    ensures { result ≡ later_named word.now }
+{
+    if word == "--output" {
+        return Some(OptionName::Output);
+    }
+    if word == "--shape" {
+        return Some(OptionName::Shape);
+    }
+    if word == "--version" {
+        return Some(OptionName::Version);
+    }
+    None
+}

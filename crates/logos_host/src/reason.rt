@@ -1,0 +1,74 @@
+//! Why a file is not read or written.
+
+ghost use Rattle.std.specs.Prelude.{◌≡◌};
+ghost use Rattle.logos_host.specs.Messages.{reason_text};
+
+use std::io::ErrorKind;
+
+/// Why a file is not read or written.
+#[derive(Clone, Copy, Debug, PartialEq, Eq)]
+pub enum Reason {
+    /// There is no such file.
+    Missing,
+    /// The path is that of a folder.
+    Folder,
+    /// A part of the path is not a folder.
+    NoFolder,
+    /// The system does not allow it.
+    Permission,
+    /// The links of the path lead round, or are too many.
+    Links,
+    /// A name of the path is too long.
+    LongName,
+    /// The disk is full, or a quota is used up.
+    Full,
+    /// The file would be larger than the system allows.
+    TooLarge,
+    /// The file system is read-only.
+    ReadOnly,
+    /// All names for a new file beside the old one are taken.
+    Taken,
+    /// The system gives another reason.
+    Other,
+}
+
+impl Reason {
+    ghost use Rattle.std.specs.Prelude.{◌≡◌};
+    ghost use Rattle.logos_host.specs.Messages.{reason_text};
+
+    /// Returns the reason that the system gives.
+    pub fn of_kind(kind: ErrorKind) -> Reason {
+        match kind {
+            ErrorKind::NotFound => Reason::Missing,
+            ErrorKind::IsADirectory => Reason::Folder,
+            ErrorKind::NotADirectory => Reason::NoFolder,
+            ErrorKind::PermissionDenied => Reason::Permission,
+            ErrorKind::FilesystemLoop => Reason::Links,
+            ErrorKind::InvalidFilename => Reason::LongName,
+            ErrorKind::StorageFull | ErrorKind::QuotaExceeded => Reason::Full,
+            ErrorKind::FileTooLarge => Reason::TooLarge,
+            ErrorKind::ReadOnlyFilesystem => Reason::ReadOnly,
+            ErrorKind::AlreadyExists => Reason::Taken,
+            _ => Reason::Other,
+        }
+    }
+
+    /// Returns what a message says after the path.
+    pub fn text(self) -> &'static str
+        ensures { result.now ≡ reason_text self }
+    {
+        match self {
+            Reason::Missing => ": there is no such file",
+            Reason::Folder => ": it is a folder",
+            Reason::NoFolder => ": a part of the path is not a folder",
+            Reason::Permission => ": permission denied",
+            Reason::Links => ": its links lead round",
+            Reason::LongName => ": the name is too long",
+            Reason::Full => ": no space is left",
+            Reason::TooLarge => ": the file is too large",
+            Reason::ReadOnly => ": the file system is read-only",
+            Reason::Taken => ": all names for a new file beside it are taken",
+            Reason::Other => "",
+        }
+    }
+}

@@ -1,0 +1,73 @@
+//! The files of the system.
+
+use crate::comparing::{ComparableFiles, Standing};
+use crate::files::{FileError, Files};
+use crate::reason::Reason;
+use crate::whole::write_whole;
+use std::alloc::AllocError;
+use std::fs::Metadata;
+use std::io::ErrorKind;
+use std::os::unix::fs::MetadataExt;
+use std::rt::Files as Runtime;
+use std::{fs, io};
+
+/// The files that a runtime reaches.
+#[derive(Drop)]
+pub struct Disk<'r, R> {
+    /// The runtime.
+    pub rt: &'r R,
+}
+
+impl<R: Runtime + AllocGlobal + Clone + Drop> Files for Disk<'_, R> {
+    fn read(&mut self, path: &str) -> Result<Vec<u8>, FileError> {
+        match fs::read(self.rt, path) {
+            Ok(bytes) => Ok(bytes),
+            Err(error) => Err(file_error(&error)),
+        }
+    }
+
+    fn write(&mut self, path: &str, bytes: &[u8]) -> Result<(), FileError> {
+        match write_whole(self.rt, path, bytes) {
+            Ok(()) => Ok(()),
+            Err(error) => Err(file_error(&error)),
+        }
+    }
+}
+
+impl<R: Runtime + AllocGlobal + Clone + Drop> ComparableFiles for Disk<'_, R> {
+    fn compare(&mut self, path: &str, bytes: &[u8]) -> Result<Standing, AllocError> {
+        let size = match fs::metadata(self.rt, path) {
+            Ok(found) if found.is_file() => found.len(),
+            Ok(_) => return Ok(Standing::Differs),
+            Err(_) => return Ok(Standing::Missing),
+        };
+        if size != bytes.len() as u64 {
+            return Ok(Standing::Differs);
+        }
+        match self.read(path) {
+            Ok(found) if found.as_slice() == bytes => Ok(Standing::Same),
+            Err(FileError::Memory) => Err(AllocError),
+            _ => Ok(Standing::Differs),
+        }
+    }
+
+    fn is_same_file(&self, one: &str, other: &str) -> bool {
+        match (fs::metadata(self.rt, one), fs::metadata(self.rt, other)) {
+            (Ok(one), Ok(other)) => is_same(&one, &other),
+            _ => false,
+        }
+    }
+}
+
+/// Returns whether two files are one regular file.
+fn is_same(one: &Metadata, other: &Metadata) -> bool {
+    one.is_file() && one.dev() == other.dev() && one.ino() == other.ino()
+}
+
+/// Returns why a call on a file failed.
+fn file_error(error: &io::Error) -> FileError {
+    match error.kind() {
+        ErrorKind::OutOfMemory => FileError::Memory,
+        kind => FileError::Failed(Reason::of_kind(kind)),
+    }
+}

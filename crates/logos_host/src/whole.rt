@@ -1,0 +1,195 @@
+//! Writing a file of the system whole or not at all: to a new file beside it, which then takes its
+//! name.
+
+use std::fs::Metadata;
+use std::io::{ErrorKind, Write};
+use std::os::unix::fs::{MetadataExt, PermissionsExt};
+use std::rt::Files;
+use std::{fs, io};
+
+/// How many links, one after another, lead to a file.
+const LINKS: usize = 40;
+
+/// The bits of a file's mode that say who may read, write and run it.
+const RIGHTS: u32 = 0o777;
+
+/// Writes a file whole or not at all, and first makes the folders on the way to it.
+///
+/// Where links lead to a file, that file is replaced; where they lead to none, it is made. A device or
+/// a pipe is written in place.
+pub(crate) fn write_whole<R: Files + AllocGlobal + Clone + Drop>(
+    rt: &R,
+    path: &str,
+    bytes: &[u8],
+) -> io::Result<()> {
+    match fs::metadata(rt, path) {
+        Ok(old) if old.is_file() => replace_file(rt, path, &old, bytes),
+        Ok(_) => fs::write(rt, path, bytes),
+        Err(error) if error.kind() == ErrorKind::NotFound => {
+            let target = target_of(rt, path)?;
+            create_file(rt, target.as_str(), bytes)
+        }
+        Err(error) => Err(error),
+    }
+}
+
+/// Returns where the links at a path lead, at which there is no file.
+fn target_of<R: Files + AllocGlobal>(rt: &R, path: &str) -> io::Result<String> {
+    let mut target = String::from_str(rt.alloc(), path)?;
+    for _ in 0..LINKS {
+        match fs::read_link(rt, target.as_str()) {
+            Ok(link) => target = joined(rt, target.as_str(), link.into_string().as_str())?,
+            Err(_) => return Ok(target),
+        }
+    }
+    Err(io::Error::from(ErrorKind::FilesystemLoop))
+}
+
+/// Returns where a link at a path leads.
+fn joined<R: AllocGlobal>(rt: &R, path: &str, link: &str) -> io::Result<String> {
+    let mut target = String::new(rt.alloc());
+    if !link.starts_with('/') && path.contains('/') {
+        target.push_str(folder_of(path))?;
+        target.push('/')?;
+    }
+    target.push_str(link)?;
+    Ok(target)
+}
+
+/// Replaces the content of a file, and keeps who owns it and its mode.
+fn replace_file<R: Files + AllocGlobal + Clone + Drop>(
+    rt: &R,
+    path: &str,
+    old: &Metadata,
+    bytes: &[u8],
+) -> io::Result<()> {
+    let target = fs::canonicalize(rt, path)?.into_string();
+    let beside = write_beside(rt, target.as_str(), bytes)?;
+    let done = match keep_owner(rt, beside.as_str(), old) {
+        Ok(()) => fs::rename(rt, beside.as_str(), target.as_str()),
+        Err(error) => Err(error),
+    };
+    remove_after_error(rt, beside.as_str(), done)
+}
+
+/// Gives a file the owner, the group and the mode of another one. Where the system does not allow the
+/// owner, the file runs as nobody else.
+fn keep_owner<R: Files>(rt: &R, path: &str, old: &Metadata) -> io::Result<()> {
+    let mut permissions = old.permissions();
+    let new = fs::metadata(rt, path)?;
+    let is_owned = new.uid() == old.uid() && new.gid() == old.gid();
+    if !is_owned && rt.chown(path, Some(old.uid()), Some(old.gid())).is_err() {
+        permissions.set_mode(old.mode() & RIGHTS);
+    }
+    fs::set_permissions(rt, path, permissions)
+}
+
+/// Makes a file that is not there.
+fn create_file<R: Files + AllocGlobal + Clone + Drop>(
+    rt: &R,
+    path: &str,
+    bytes: &[u8],
+) -> io::Result<()> {
+    fs::create_dir_all(rt, folder_of(path))?;
+    let beside = write_beside(rt, path, bytes)?;
+    let done = fs::rename(rt, beside.as_str(), path);
+    remove_after_error(rt, beside.as_str(), done)
+}
+
+/// Writes a new file beside another one, and returns its path. Its name has the number of the process.
+/// What processes that have ended left beside the file is removed first.
+fn write_beside<R: Files + AllocGlobal + Clone + Drop>(
+    rt: &R,
+    path: &str,
+    bytes: &[u8],
+) -> io::Result<String> {
+    let process = own_number(rt)?;
+    let beside = format!(in rt.alloc(); "{path}.{process}.new")?;
+    remove_leftovers(rt, path)?;
+    let file = fs::File::create_new(rt, beside.as_str())?;
+    let done = write_all(file, bytes);
+    remove_after_error(rt, beside.as_str(), done)?;
+    Ok(beside)
+}
+
+/// Returns the number of the process, or 0 where the system does not say it.
+fn own_number<R: Files + AllocGlobal>(rt: &R) -> io::Result<String> {
+    match fs::read_link(rt, "/proc/self") {
+        Ok(number) => Ok(number.into_string()),
+        Err(_) => Ok(String::from_str(rt.alloc(), "0")?),
+    }
+}
+
+/// Removes the new files that processes which have ended left beside a file.
+fn remove_leftovers<R: Files + AllocGlobal + Clone + Drop>(rt: &R, path: &str) -> io::Result<()> {
+    let folder = match folder_of(path) {
+        "" => ".",
+        folder => folder,
+    };
+    for entry in fs::read_dir(rt, folder)? {
+        if let Ok(entry) = entry {
+            remove_leftover(rt, name_of(path), entry.file_name(), folder)?;
+        }
+    }
+    Ok(())
+}
+
+/// Removes a file of a folder if it was left beside the file `name`.
+fn remove_leftover<R: Files + AllocGlobal>(
+    rt: &R,
+    name: &str,
+    other: &str,
+    folder: &str,
+) -> io::Result<()> {
+    let Some(process) = process_of(name, other) else {
+        return Ok(());
+    };
+    let running = format!(in rt.alloc(); "/proc/{process}")?;
+    if let Err(error) = fs::metadata(rt, running.as_str()) {
+        if error.kind() == ErrorKind::NotFound {
+            let left = format!(in rt.alloc(); "{folder}/{other}")?;
+            let _ = fs::remove_file(rt, left.as_str());
+        }
+    }
+    Ok(())
+}
+
+/// Returns the number of the process that made a new file beside the file `name`, by the new one's name.
+fn process_of<'n>(name: &str, other: &'n str) -> Option<&'n str> {
+    let process = other
+        .strip_prefix(name)?
+        .strip_prefix('.')?
+        .strip_suffix(".new")?;
+    let is_number = !process.is_empty() && process.bytes().all(|byte| byte.is_ascii_digit());
+    if is_number { Some(process) } else { None }
+}
+
+/// Writes all bytes to a file, and closes it.
+fn write_all<F: Write + Drop>(mut file: F, bytes: &[u8]) -> io::Result<()> {
+    file.write_all(bytes)?;
+    file.flush()
+}
+
+/// Removes a file if a step failed, and returns what the step answered.
+fn remove_after_error<R: Files>(rt: &R, path: &str, done: io::Result<()>) -> io::Result<()> {
+    if done.is_err() {
+        let _ = fs::remove_file(rt, path);
+    }
+    done
+}
+
+/// Returns the folder of a file: its path up to the last `/`, or nothing if there is none.
+fn folder_of(path: &str) -> &str {
+    match path.rsplit_once('/') {
+        Some((folder, _)) => folder,
+        None => "",
+    }
+}
+
+/// Returns the name of a file: what follows the last `/` of its path.
+fn name_of(path: &str) -> &str {
+    match path.rsplit_once('/') {
+        Some((_, name)) => name,
+        None => path,
+    }
+}

@@ -1,0 +1,12 @@
+-- What a lexer costs.
+use Rattle.std.specs.Prelude.{length}
+use Rattle.logos_code.specs.Code.{CodeValue}
+use Rattle.logos_inspect.specs.declared.costs.Costs.{Costs}
+
+-- the numbers of states, of tables of bits and of jump tables of a code
+abbrev pub costs : CodeValue → Costs
+costs code = record {
+  states = length code.states;
+  bit_tables = length code.bit_tables;
+  jump_tables = length code.jump_tables;
+}

@@ -1,0 +1,127 @@
+//! The rows of leaves in a table.
+ghost use Rattle.std.specs.Prelude.{◌≡◌, ◌↔◌, IsTrue, IfOk, Some, option_map, option_copied};
+ghost use Rattle.logos_inspect.specs.Words.{place_at, held};
+ghost use Rattle.logos_inspect.specs.Views.{IsRowOf, IsTextAt, ShowsCallback, default_priority, held_priority, moved, variant_name};
+
+use logos_lines::LineIndex;
+use logos_pattern::leaf::{Callback, Leaf, VariantKind};
+use logos_pattern::pattern::Pattern;
+use logos_token::error::Memory;
+use logos_token::token::{Literal, LiteralValue, Span};
+use std::alloc::Global;
+
+/// What a table shows of a leaf.
+#[derive(Clone, Copy)]
+pub struct LeafRow<'l> {
+    /// The name of its variant, or `None` for a skip.
+    pub variant: Option<&'l str>,
+    /// Whether it is a `token`, not a `regex` or a `skip`.
+    pub is_token: bool,
+    /// Its literal as it is written, with the quotes.
+    pub pattern: &'l str,
+    pub priority: usize,
+    /// Whether the priority is the one that the leaf has when none is given.
+    pub is_default: bool,
+    /// Its callback as it is written, if it has one.
+    pub callback: Option<&'l str>,
+    /// The line of the file on which the literal begins, counted from 1.
+    pub line: usize,
+}
+
+/// Returns the row of a leaf.
+///
+/// `lines` are those of the whole file. The enum begins in it at `offset`, in bytes, and `text` is
+/// its text. The spans of the leaf count from there.
+///
+/// # Errors
+/// Returns `Memory` when memory runs out.
+pub fn row_of<'l>(
+    alloc: Global,
+    lines: &LineIndex<'_>,
+    offset: usize,
+    text: &'l str,
+    leaf: &'l Leaf<'_>,
+) -> Result<LeafRow<'l>, Memory>
+    ensures { IfOk result (IsRowOf lines.now offset text.now leaf.now) }
+{
+    let is_default = has_default_priority(alloc, &leaf.pattern, leaf.priority)?;
+    Ok(LeafRow {
+        variant: variant_name(&leaf.kind),
+        is_token: leaf.pattern.is_literal(),
+        pattern: leaf.pattern.source(),
+        priority: leaf.priority,
+        is_default,
+        callback: callback_text(text, leaf.callback.as_ref()),
+        line: line_at(lines, offset, leaf.span.from),
+    })
+}
+
+/// Returns the name of the variant of a leaf, unless it is a skip.
+fn variant_name<'l>(kind: &'l VariantKind<'_>) -> Option<&'l str>
+    ensures { option_copied result ≡ variant_name kind.now }
+{
+    match kind {
+        VariantKind::Unit(name) => Some(name.text),
+        VariantKind::Value(name, _) => Some(name.text),
+        VariantKind::Skip => None,
+    }
+}
+
+/// Returns whether a leaf with this pattern has this priority when none is given.
+fn has_default_priority(
+    alloc: Global,
+    pattern: &Pattern<'_>,
+    priority: usize,
+) -> Result<bool, Memory>
+    ensures { IfOk result (λ has. IsTrue has ↔ (default_priority pattern.now ≡ Some priority)) }
+{
+    let default = if pattern.is_literal() {
+        token_priority(alloc, pattern.source())?
+    } else {
+        pattern.priority()
+    };
+    Ok(default == Some(priority))
+}
+
+/// Returns the priority of a `token` with this literal when none is given.
+fn token_priority(alloc: Global, text: &str) -> Result<Option<usize>, Memory>
+    ensures { IfOk result (λ priority. priority ≡ option_map held_priority (held text.now)) }
+{
+    let span = Span {
+        from: 0,
+        to: text.len(),
+    };
+    let literal = Literal { text, span };
+    match literal.value(alloc)? {
+        Some(LiteralValue::Text(value)) => Ok(Some(2 * value.len())),
+        Some(LiteralValue::Bytes(value)) => Ok(Some(2 * value.len())),
+        None => Ok(None),
+    }
+}
+
+/// Returns the text of a callback as it is written, if there is a callback.
+fn callback_text<'l>(text: &'l str, callback: Option<&Callback<'_>>) -> Option<&'l str>
+    ensures { ShowsCallback text.now (option_copied callback.entry) (option_copied result) }
+{
+    match callback {
+        Some(callback) => Some(text_at(text, callback.span())),
+        None => None,
+    }
+}
+
+/// Returns the text at a span.
+fn text_at(text: &str, span: Span) -> &str
+    ensures { IsTextAt text.now span result.now }
+{
+    match text.get(span.from..span.to) {
+        Some(slice) => slice,
+        None => "",
+    }
+}
+
+/// Returns the line of the file at an offset that counts from another one.
+fn line_at(lines: &LineIndex<'_>, offset: usize, from: usize) -> usize
+    ensures { result ≡ (place_at lines.now (moved offset from)).line }
+{
+    lines.line_column(offset.saturating_add(from)).line
+}

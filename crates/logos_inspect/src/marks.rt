@@ -1,0 +1,48 @@
+//! The leaves that a graph marks.
+ghost use Rattle.std.specs.Prelude.{◌≡◌, ℕ, ◌<◌, ◌⊎◌, ◌↔◌, IfOk, length, option_map};
+ghost use Rattle.logos_inspect.specs.Words.{leaf_number, state_type_of, AreMarks, IsSet, Marks, AddsMark};
+
+use logos_graph::graph::{Graph, StateType};
+use logos_hir::leaf::LeafId;
+use std::alloc::{AllocError, Global};
+
+/// Returns for each leaf of a graph, by its number, whether a state marks it.
+///
+/// Where a graph without faults does not mark a leaf, maximal munch never finds it, in no input:
+/// wherever it matches, another leaf matches more, or as much with a higher priority. A leaf that is
+/// marked, but late alone, may never be found either: wherever its match ends, a longer one follows.
+///
+/// # Errors
+/// Returns `AllocError` when memory runs out.
+pub fn marked_leaves(alloc: Global, graph: &Graph<'_>) -> Result<Vec<bool>, AllocError>
+    ensures { IfOk result (λ flags. AreMarks graph.now flags.items) }
+{
+    let mut flags = vec![in alloc; false; graph.leaves().len()]?;
+    for state in graph.iter_states() {
+        add_marks(&mut flags, graph.get_state(state).state_type);
+    }
+    Ok(flags)
+}
+
+/// Sets the flags of the leaves that a state marks.
+fn add_marks(flags: &mut Vec<bool>, state_type: StateType)
+    ensures count { length flags.new.items ≡ length flags.old.items }
+    ensures each { (k : ℕ) → k < length flags.old.items → IsSet flags.new.items k
+        ↔ (IsSet flags.old.items k ⊎ Marks (state_type_of state_type) k) }
+{
+    add_mark(flags, state_type.accept);
+    add_mark(flags, state_type.early);
+}
+
+/// Sets the flag of a leaf.
+fn add_mark(flags: &mut Vec<bool>, leaf: Option<LeafId>)
+    ensures { AddsMark flags.old.items (option_map leaf_number leaf) flags.new.items }
+{
+    let Some(leaf) = leaf else {
+        return;
+    };
+    let number = leaf.0;
+    if number < flags.len() {
+        flags[number] = true;
+    }
+}

@@ -1,6 +1,0 @@
-pub mod RuleLemmas
-pub mod GenericLemmas
-pub mod Once
-pub mod FieldLemmas
-pub mod TypeLaws
-pub mod EnumOnce

@@ -1,9 +1,0 @@
-use Rattle.logos_item.specs.Enum.NoFront.{malformed}
-use Rattle.logos_item.proofs.Once.{front-match}
-use Rattle.logos_item.proofs.item.read_front.Goals as goal
-
-pub returns-in-Ok : goal.returns-in-Ok
-returns-in-Ok c = front-match _ _ _ _ c.in-Ok.ensures.ok c.announced.ensures
-
-pub returns-in-Err : goal.returns-in-Err
-returns-in-Err c = malformed _ c.in-Err.ensures.err

@@ -1,0 +1,5 @@
+-- Definitions that clauses cite, and that name types of this crate.
+pub use Rattle.logos_machine.specs.LexerValue.{Ends, Gives, Keeps, LexerValue, MatchGives, Takes, answers_of, begun, item_of}
+pub use Rattle.logos_machine.specs.Loops.{EndIsRun, NextAddsItem, RunsGoOver}
+pub use Rattle.logos_machine.specs.inside.Attempts.{context_of, found_of, stand_of, turn_of}
+pub use Rattle.logos_machine.specs.inside.Looks.{IsOutcome, LooksAhead, Reaches, StopsAt}

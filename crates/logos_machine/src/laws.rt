@@ -1,0 +1,24 @@
+//! Laws of the definitions. The contract of each function is a law. To use one in a proof, call its function: the call does nothing.
+
+ghost use Rattle.logos_machine.specs.Views.{answers_of, EndIsRun, NextAddsItem, RunsGoOver};
+
+use crate::machine::Action;
+use logos_hir::leaf::LeafId;
+
+/// In a loop over `next`, each item is added to those that the lexer has given.
+pub fn next_adds_its_item<C: Fn(LeafId, &[u8]) -> Action>(_callback: &C)
+    ensures { NextAddsItem C.Fn }
+{}
+
+/// After a loop over `next`, what the lexer has given is a run of its code.
+pub fn items_given_are_a_run<C: Fn(LeafId, &[u8]) -> Action>(_callback: &C)
+    ensures { EndIsRun C.Fn }
+{}
+
+/// The runs by a callback are runs by each callback that may answer as much or more.
+pub fn runs_go_over<C: Fn(LeafId, &[u8]) -> Action, D: Fn(LeafId, &[u8]) -> Action>(
+    callback: &C,
+    other: &D,
+)
+    ensures { RunsGoOver (answers_of C.Fn callback.now) (answers_of D.Fn other.now) }
+{}

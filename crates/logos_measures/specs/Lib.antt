@@ -1,3 +1,0 @@
-pub mod Priority
-pub mod Measure
-pub mod inside

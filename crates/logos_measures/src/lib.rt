@@ -1,6 +1,0 @@
-//! Measures of the trees of patterns, and their laws.
-
-#![tactic(auto)]
-
-pub mod laws;
-pub mod measure;

@@ -1,0 +1,120 @@
+//! The analysis of a source. `generate` of `logos_codegen` calls `analyze` first.
+
+ghost use Rattle.std.specs.Prelude.{◌≡◌, ◌<◌, ◌≤◌, ◌∷◌, ◌++◌, [], length, map, option_map, IfOk, IfErr, IsErrAnd, OnOk};
+ghost use Rattle.logos_parser.specs.Words.{source_limit, Fault, run_span, stream_tokens, tokens_of, enum_value, generics_of, generics, parser_view, leaf_view, utf8_mode, IsShallow, too_long, EndsReading, EndsTokens, type_faults, IsEnumAnalysis, IsTokenAnalysis, IsAnalysis, utf8_faults};
+ghost use Rattle.logos_parser.specs.Views.{Refuses, analysis_view};
+
+use crate::enum_type::enum_type;
+use crate::mode::report_not_utf8;
+use crate::reading::{misread, unreadable};
+use crate::refusal::Refusal;
+use logos_definition::parser::Parser;
+use logos_enum::{ItemEnum, read_enum};
+use logos_leaf::source::read_leaves;
+use logos_pattern::leaf::Leaf;
+use logos_token::error::Memory;
+use logos_token::token::{Ident, Span, TokenStream, tokenize};
+use logos_type::TypeExpr;
+use logos_type_params::Generics;
+use std::alloc::Global;
+
+/// The result of analyzing a source: the enum's name and type, its leaves, its options, and all
+/// faults but those of its graph.
+#[derive(Drop)]
+pub struct Analysis<'s> {
+    /// The name of the enum.
+    pub name: Ident<'s>,
+    /// The span of the enum, from its first token to its last.
+    pub span: Span,
+    /// The type that the enum is: its name, and the generic arguments that follow it.
+    pub this: TypeExpr<'s>,
+    /// The leaves: those of the skips first, then those of the variants, in source order.
+    pub leaves: Vec<Leaf<'s>>,
+    /// The options without the skips, which are leaves, and the faults, in order.
+    pub parser: Parser<'s>,
+}
+
+/// Reports each leaf that can match invalid UTF-8 when inputs are UTF-8, and each type parameter
+/// without a type. Returns the generic arguments that follow the enum's name.
+fn check_leaves<'s>(
+    leaves: &[Leaf<'s>],
+    parser: &mut Parser<'s>,
+) -> Result<Option<Generics<'s>>, Memory>
+    ensures faults { OnOk result (parser.new.errors ≡ (parser.old.errors
+        ++ utf8_faults (utf8_mode (parser_view parser.old)) (map leaf_view leaves.now))
+        ++ type_faults (parser_view parser.old)) }
+    ensures given { IfOk result (λ made. option_map generics_of made
+        ≡ generics (parser_view parser.old).types) }
+    ensures unchanged { OnOk result (parser_view parser.new ≡ parser_view parser.old) }
+{
+    let mode = parser.is_utf8();
+    report_not_utf8(mode, leaves, &mut parser.errors)?;
+    parser.types.generics(&mut parser.errors)
+}
+
+/// Analyzes an enum whose tokens have this span. Faults do not stop it.
+///
+/// # Errors
+///
+/// Returns `Memory` if memory runs out.
+pub fn analyze_enum<'s>(
+    alloc: Global,
+    item: &ItemEnum<'_, 's>,
+    span: Span,
+) -> Result<Analysis<'s>, Memory>
+    ensures { IfOk result (λ analysis.
+        IsEnumAnalysis (enum_value item.now) span (analysis_view analysis)) }
+{
+    let mut parser = Parser::new(alloc);
+    let leaves = read_leaves(item, &mut parser)?;
+    let generics = check_leaves(leaves.as_slice(), &mut parser)?;
+    let this = enum_type(alloc, item.name.text, generics)?;
+    Ok(Analysis {
+        name: item.name,
+        span,
+        this,
+        leaves,
+        parser,
+    })
+}
+
+/// Analyzes the tokens of a source.
+fn analyze_tokens<'s>(alloc: Global, stream: &TokenStream<'s>) -> Result<Analysis<'s>, Refusal>
+    ensures ok { IfOk result (λ analysis.
+        IsTokenAnalysis (stream_tokens stream.now) (analysis_view analysis)) }
+    ensures err { IfErr result (Refuses (EndsTokens (stream_tokens stream.now))) }
+{
+    let tokens = stream.run();
+    let item = match read_enum(alloc, tokens) {
+        Ok(item) => item,
+        Err(error) => return Err(misread(alloc, error)),
+    };
+    match analyze_enum(alloc, &item, tokens.span()) {
+        Ok(analysis) => Ok(analysis),
+        Err(Memory) => Err(Refusal::Memory),
+    }
+}
+
+/// Analyzes a source: reads its enum, and finds its leaves, its options, and all faults but those
+/// of its graph. Faults do not stop it.
+///
+/// # Errors
+///
+/// Returns `Errors` with the one fault that ends the reading: `LimitSource` when the source is
+/// longer than 16 MiB; `Lexical` or `LimitTokenNesting` when it has no tokens; `NotAnEnum`,
+/// `Grammar`, `TypeUnsupported` or `LimitTypeNesting` when its tokens are not an enum. Returns
+/// `Memory` if memory runs out.
+pub fn analyze<'s>(alloc: Global, src: &'s str) -> Result<Analysis<'s>, Refusal>
+    ensures ok { IfOk result (λ analysis. IsAnalysis src.now (analysis_view analysis)) }
+    ensures short { IfOk result (λ analysis. length src.now ≤ source_limit) }
+    ensures shallow { IfOk result (λ analysis. IsShallow src.now) }
+    ensures err { IfErr result (Refuses (λ faults. (ending : Fault) × EndsReading src.now ending
+        × (faults ≡ ending ∷ []))) }
+    ensures long { source_limit < length src.now →
+        IsErrAnd result (Refuses (λ faults. faults ≡ too_long src.now ∷ [])) }
+{
+    match tokenize(alloc, src) {
+        Ok(stream) => analyze_tokens(alloc, &stream),
+        Err(error) => Err(unreadable(alloc, src, error)),
+    }
+}

@@ -1,0 +1,102 @@
+//! The type that an enum is. `analyze` calls it last.
+
+ghost use Rattle.std.specs.Prelude.{◌≡◌, ◌∷◌, ◌++◌, [], IfOk, OnOk, map, option_map};
+ghost use Rattle.logos_parser.specs.Words.{tree_of, type_tree, generics_of, argument, arguments, lifetime_argument, bracketed, enum_type};
+
+use logos_type::{Leaf, Part, TypeExpr};
+use logos_type_params::Generics;
+use std::alloc::{AllocError, Global};
+
+/// Adds a part at the end.
+fn push_part<'s>(parts: &mut Vec<Part<'s>>, part: Part<'s>) -> Result<(), AllocError>
+    ensures { OnOk result (map tree_of parts.new.items
+        ≡ map tree_of parts.old.items ++ tree_of part.entry ∷ []) }
+{
+    parts.push(part)?;
+    Ok(())
+}
+
+/// Adds an argument of a type, with a comma before it unless it is the first one.
+fn push_argument<'s>(
+    parts: &mut Vec<Part<'s>>,
+    is_first: bool,
+    part: Part<'s>,
+) -> Result<(), AllocError>
+    ensures { OnOk result (map tree_of parts.new.items
+        ≡ map tree_of parts.old.items ++ argument is_first (tree_of part.entry)) }
+{
+    if !is_first {
+        parts.push(Part::Leaf(Leaf::Mark(',')))?;
+    }
+    parts.push(part)?;
+    Ok(())
+}
+
+/// Adds types as arguments, with a comma before each unless it is the first one.
+fn push_arguments<'s>(
+    parts: &mut Vec<Part<'s>>,
+    is_first: bool,
+    types: Vec<TypeExpr<'s>>,
+) -> Result<(), AllocError>
+    ensures { OnOk result (map tree_of parts.new.items
+        ≡ map tree_of parts.old.items ++ arguments is_first (map type_tree types.entry.items)) }
+{
+    let mut is_first = is_first;
+    for argument in types {
+        push_argument(parts, is_first, argument.part)?;
+        is_first = false;
+    }
+    Ok(())
+}
+
+/// Adds the lifetime `'s`, if the enum has one.
+fn push_lifetime<'s>(parts: &mut Vec<Part<'s>>, lifetime: bool) -> Result<(), AllocError>
+    ensures { OnOk result (map tree_of parts.new.items
+        ≡ map tree_of parts.old.items ++ lifetime_argument lifetime) }
+{
+    if lifetime {
+        parts.push(Part::Leaf(Leaf::Lifetime("s")))?;
+    }
+    Ok(())
+}
+
+/// Returns the type with this name and these generic arguments.
+fn bracketed<'s>(
+    alloc: Global,
+    name: &'s str,
+    lifetime: bool,
+    types: Vec<TypeExpr<'s>>,
+) -> Result<TypeExpr<'s>, AllocError>
+    ensures { IfOk result (λ made. type_tree made ≡ bracketed name.now
+        (record { lifetime = lifetime; types = map type_tree types.entry.items })) }
+{
+    let mut parts = Vec::new(alloc);
+    push_part(&mut parts, Part::Leaf(Leaf::Word(name)))?;
+    push_part(&mut parts, Part::Leaf(Leaf::Mark('<')))?;
+    push_lifetime(&mut parts, lifetime)?;
+    push_arguments(&mut parts, !lifetime, types)?;
+    push_part(&mut parts, Part::Leaf(Leaf::Mark('>')))?;
+    let part = Part::Whole(parts);
+    Ok(TypeExpr { part })
+}
+
+/// Returns the type that an enum is: its name, and the generic arguments that follow it.
+///
+/// # Errors
+///
+/// Returns an error if memory runs out.
+pub fn enum_type<'s>(
+    alloc: Global,
+    name: &'s str,
+    generics: Option<Generics<'s>>,
+) -> Result<TypeExpr<'s>, AllocError>
+    ensures { IfOk result (λ made. type_tree made
+        ≡ enum_type name.now (option_map generics_of generics.entry)) }
+{
+    match generics {
+        Some(Generics { lifetime, types }) => bracketed(alloc, name, lifetime, types),
+        None => Ok(TypeExpr {
+            part: Part::Name(name),
+        }),
+    }
+}

@@ -1,0 +1,6 @@
+mod DeriveLemmas
+mod FrontLemmas
+mod FindLemmas
+mod OrderLemmas
+mod ReplaceLemmas
+mod CutLemmas

@@ -1,0 +1,37 @@
+-- The enums of a file, by its tokens.
+use Rattle.std.specs.Prelude.{◌≡◌, ◌↔◌, ℕ, List, [], ◌∷◌, ◌++◌, IsTrue, Ok}
+use Rattle.logos_token.specs.Tokens.{Token, TokenList, also, append, run_span}
+use Rattle.logos_token.specs.Spelling.{Spells}
+use Rattle.logos_enum.specs.Enum.{Reads}
+use Rattle.logos_enum.specs.EnumValues.{EnumValue}
+use Rattle.logos_rust_file.specs.declared.finding.FoundEnum.{FoundEnum}
+use Rattle.logos_rust_file.specs.Derives.{derives}
+use Rattle.logos_rust_file.specs.Fronts.{kind_of, ends, is_enum, is_module, is_other}
+
+-- The tokens are an enum.
+pub record IsEnum (run : TokenList) : Type 0 where
+  pub value : EnumValue
+  pub reads : Reads run (Ok value)
+
+-- This is an item with these tokens.
+pub record Describes (item : TokenList) (found : FoundEnum) : Type 0 where
+  pub span : found.span ≡ run_span item
+  pub derives : found.derives ≡ derives item
+  pub well_formed : IsTrue found.is_well_formed ↔ IsEnum item
+
+-- These are the enums among the items of a run, in order, and inside its modules that have a body.
+-- An enum begins with what stands before its `enum`, and other tokens are skipped, groups as a
+-- whole.
+pub data Finds : TokenList → List FoundEnum → Type 0 where
+  done : {run : TokenList} → kind_of run ≡ ends → Finds run []
+  finds : {run : TokenList} {token : Token} {tail rest : TokenList} {found : FoundEnum} {more : List FoundEnum} →
+      kind_of run ≡ is_enum rest → run ≡ append (also token tail) rest → Describes (also token tail) found → Finds rest more → Finds run (found ∷ more)
+  enters : {run inside rest : TokenList} {within more : List FoundEnum} →
+      kind_of run ≡ is_module inside rest → Finds inside within → Finds rest more → Finds run (within ++ more)
+  passes : {run rest : TokenList} {more : List FoundEnum} → kind_of run ≡ is_other rest → Finds rest more → Finds run more
+
+-- These are the enums of a text.
+pub record AreEnumsOf (text : List ℕ) (found : List FoundEnum) : Type 0 where
+  pub tokens : TokenList
+  pub spelled : Spells text tokens
+  pub finds : Finds tokens found

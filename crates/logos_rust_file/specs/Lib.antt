@@ -1,0 +1,8 @@
+pub mod Handed
+pub mod Derives
+pub mod Fronts
+pub mod Files
+pub mod Replacing
+pub mod inside
+pub mod Words
+pub mod Views

@@ -1,0 +1,91 @@
+//! Whether an enum derives `Logos`.
+
+ghost use Rattle.std.specs.Prelude.{◌≡◌, ◌<◌, ◌||◌, false, true, MatchOption};
+ghost use Rattle.logos_rust_file.specs.Words.{count_of, tokens_of, begins_list, derives, derives_after, derives_in, lists_macro};
+
+use logos_strip::helpers::{is_comma, is_macro_entry};
+use logos_token::token::{Delimiter, TokenTree, Tokens};
+use logos_token::util::after_word;
+
+/// Returns whether one of the attributes that come first is a `derive` that lists `Logos`,
+/// `logos::Logos` or `::logos::Logos`: an entry that `strip_attributes` takes away.
+pub(crate) fn derives(tokens: Tokens<'_, '_>) -> bool
+    ensures { result ≡ derives (tokens_of tokens.entry) }
+{
+    let mut rest = tokens;
+    while let Some((found, next)) = first_attribute(rest) {
+        if found {
+            return true;
+        }
+        rest = next;
+    }
+    false
+}
+
+/// Returns whether the attribute that comes first derives `Logos`, and what follows it; `None` if
+/// no attribute comes first.
+fn first_attribute<'t, 's>(tokens: Tokens<'t, 's>) -> Option<(bool, Tokens<'t, 's>)>
+    ensures { MatchOption result (derives (tokens_of tokens.entry) ≡ false)
+        (λ read. (derives (tokens_of tokens.entry) ≡ (read.0 || derives (tokens_of read.1)))
+        × (count_of (tokens_of read.1) < count_of (tokens_of tokens.entry))) }
+{
+    match tokens.first() {
+        Some(TokenTree::Doc(_)) => Some((false, tokens.rest())),
+        Some(TokenTree::Punct(punct)) if punct.character == '#' => bracketed(tokens.rest()),
+        _ => None,
+    }
+}
+
+/// Returns whether the brackets that come after the `#` of an attribute derive `Logos`, and what
+/// follows them; `None` if no brackets come first.
+fn bracketed<'t, 's>(tokens: Tokens<'t, 's>) -> Option<(bool, Tokens<'t, 's>)>
+    ensures { MatchOption result (derives_after (tokens_of tokens.entry) ≡ false)
+        (λ read. (derives_after (tokens_of tokens.entry)
+        ≡ (read.0 || derives (tokens_of read.1)))
+        × (count_of (tokens_of read.1) < count_of (tokens_of tokens.entry))) }
+{
+    match tokens.first() {
+        Some(TokenTree::Group(group)) if group.delimiter == Delimiter::Bracket => {
+            Some((derives_in(group.run()), tokens.rest()))
+        }
+        _ => None,
+    }
+}
+
+/// Returns whether the brackets of an attribute hold a `derive` that lists `Logos`.
+fn derives_in(tokens: Tokens<'_, '_>) -> bool
+    ensures { result ≡ derives_in (tokens_of tokens.entry) }
+{
+    match after_word("derive", tokens) {
+        Some(rest) => begins_list(rest),
+        None => false,
+    }
+}
+
+/// Returns whether a parenthesis comes first that lists `Logos`.
+fn begins_list(tokens: Tokens<'_, '_>) -> bool
+    ensures { result ≡ begins_list (tokens_of tokens.entry) }
+{
+    match tokens.first() {
+        Some(TokenTree::Group(group)) if group.delimiter == Delimiter::Parenthesis => {
+            lists_macro(group.run())
+        }
+        _ => false,
+    }
+}
+
+/// Returns whether one of these entries is `Logos`.
+fn lists_macro(tokens: Tokens<'_, '_>) -> bool
+    ensures { result ≡ lists_macro true (tokens_of tokens.entry) }
+{
+    let mut begins = true;
+    let mut rest = tokens;
+    while let Some(tree) = rest.first() {
+        if begins & is_macro_entry(rest) {
+            return true;
+        }
+        begins = is_comma(tree);
+        rest = rest.rest();
+    }
+    false
+}

@@ -1,0 +1,152 @@
+//! What comes before an item, and which kind of item it is.
+
+ghost use Rattle.std.specs.Prelude.{◌≡◌, ◌<◌, MatchOption};
+ghost use Rattle.logos_rust_file.specs.Words.{Token, also, count_of, tokens_of, tree_of};
+ghost use Rattle.logos_rust_file.specs.Views.{after_attributes, after_body, after_hash, after_head, braced_in, ends_body, kind_at, kind_of, kind_value, module_in};
+
+use logos_enum::{is_outer, skip_generics, skip_visibility};
+use logos_token::token::{Delimiter, TokenTree, Tokens};
+
+/// What a run of items begins with, after attributes and a visibility.
+#[derive(Clone, Copy)]
+pub(crate) enum Kind<'t, 's> {
+    /// Nothing.
+    End,
+    /// An enum. `rest` follows it.
+    Enum {
+        rest: Tokens<'t, 's>,
+    },
+    /// A module with a body. `inside` is in the body, and `rest` follows it.
+    Module {
+        inside: Tokens<'t, 's>,
+        rest: Tokens<'t, 's>,
+    },
+    /// Another token. `rest` follows it.
+    Other {
+        rest: Tokens<'t, 's>,
+    },
+}
+
+/// Returns the kind of the item that comes first.
+pub(crate) fn kind_of<'t, 's>(tokens: Tokens<'t, 's>) -> Kind<'t, 's>
+    ensures { kind_value result ≡ kind_of (tokens_of tokens.entry) }
+{
+    kind_at(skip_visibility(skip_attributes(tokens)))
+}
+
+/// Returns what follows a documentation comment or an attribute, if one comes first.
+fn skip_attribute<'t, 's>(tokens: Tokens<'t, 's>) -> Option<Tokens<'t, 's>>
+    ensures { MatchOption result
+        (after_attributes (tokens_of tokens.entry) ≡ tokens_of tokens.entry)
+        (λ rest. (after_attributes (tokens_of tokens.entry) ≡ after_attributes (tokens_of rest))
+        × (count_of (tokens_of rest) < count_of (tokens_of tokens.entry))) }
+{
+    match tokens.first() {
+        Some(TokenTree::Doc(doc)) if is_outer(doc.text) => Some(tokens.rest()),
+        Some(TokenTree::Punct(punct)) if punct.character == '#' => skip_brackets(tokens.rest()),
+        _ => None,
+    }
+}
+
+/// Returns what follows brackets, if they come first.
+fn skip_brackets<'t, 's>(tokens: Tokens<'t, 's>) -> Option<Tokens<'t, 's>>
+    ensures { MatchOption result ((sign : Token) →
+        after_hash sign (tokens_of tokens.entry) ≡ also sign (tokens_of tokens.entry))
+        (λ rest. ((sign : Token) → after_hash sign (tokens_of tokens.entry)
+        ≡ after_attributes (tokens_of rest))
+        × (count_of (tokens_of rest) < count_of (tokens_of tokens.entry))) }
+{
+    match tokens.first() {
+        Some(TokenTree::Group(group)) if group.delimiter == Delimiter::Bracket => {
+            Some(tokens.rest())
+        }
+        _ => None,
+    }
+}
+
+/// Returns what follows all attributes that come first.
+fn skip_attributes<'t, 's>(tokens: Tokens<'t, 's>) -> Tokens<'t, 's>
+    ensures { tokens_of result ≡ after_attributes (tokens_of tokens.entry) }
+{
+    let mut rest = tokens;
+    while let Some(next) = skip_attribute(rest) {
+        rest = next;
+    }
+    rest
+}
+
+/// Returns the kind of an item by what follows its visibility.
+fn kind_at<'t, 's>(tokens: Tokens<'t, 's>) -> Kind<'t, 's>
+    ensures { kind_value result ≡ kind_at (tokens_of tokens.entry) }
+{
+    let Some(tree) = tokens.first() else {
+        return Kind::End;
+    };
+    let rest = tokens.rest();
+    match tree {
+        TokenTree::Ident(word) if word.text == "enum" => Kind::Enum {
+            rest: skip_body(skip_head(rest)),
+        },
+        TokenTree::Ident(word) if word.text == "mod" => module_at(rest),
+        _ => Kind::Other { rest },
+    }
+}
+
+/// Returns a module after its `mod`, if a name and braces come first.
+fn module_at<'t, 's>(tokens: Tokens<'t, 's>) -> Kind<'t, 's>
+    ensures { kind_value result ≡ module_in (tokens_of tokens.entry) }
+{
+    match tokens.first() {
+        Some(TokenTree::Ident(_)) => braced_module(tokens, tokens.rest()),
+        _ => Kind::Other { rest: tokens },
+    }
+}
+
+/// Returns a module after its name, if braces come first. Without them `tokens` are left.
+fn braced_module<'t, 's>(tokens: Tokens<'t, 's>, after: Tokens<'t, 's>) -> Kind<'t, 's>
+    ensures { kind_value result ≡ braced_in (tokens_of tokens.entry) (tokens_of after.entry) }
+{
+    match after.first() {
+        Some(TokenTree::Group(group)) if group.delimiter == Delimiter::Brace => Kind::Module {
+            inside: group.run(),
+            rest: after.rest(),
+        },
+        _ => Kind::Other { rest: tokens },
+    }
+}
+
+/// Returns what follows the name and the generic parameters of an enum, which may have braces in
+/// them.
+fn skip_head<'t, 's>(tokens: Tokens<'t, 's>) -> Tokens<'t, 's>
+    ensures { tokens_of result ≡ after_head (tokens_of tokens.entry) }
+{
+    match tokens.first() {
+        Some(TokenTree::Ident(_)) => skip_generics(tokens.rest()),
+        _ => tokens,
+    }
+}
+
+/// Returns what follows the first braces or the first `;`.
+fn skip_body<'t, 's>(tokens: Tokens<'t, 's>) -> Tokens<'t, 's>
+    ensures { tokens_of result ≡ after_body (tokens_of tokens.entry) }
+{
+    let mut rest = tokens;
+    while let Some(tree) = rest.first() {
+        rest = rest.rest();
+        if ends_body(tree) {
+            return rest;
+        }
+    }
+    rest
+}
+
+/// Returns whether a token ends an item.
+fn ends_body(tree: TokenTree<'_, '_>) -> bool
+    ensures { result ≡ ends_body (tree_of tree.entry) }
+{
+    match tree {
+        TokenTree::Group(group) => group.delimiter == Delimiter::Brace,
+        TokenTree::Punct(punct) => punct.character == ';',
+        _ => false,
+    }
+}

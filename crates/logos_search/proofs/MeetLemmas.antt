@@ -1,0 +1,44 @@
+-- A set that has a stand already stays as it is.
+use Rattle.std.proofs.Common.{◌≡◌, ℕ, Bool, true, false, not, ◌&&◌, if◌then◌else◌, List, refl, sym, ◌∙◌, arith}
+use Rattle.std.proofs.lemmas.Bool.{and_parts}
+use Rattle.std.proofs.lemmas.Bool.Decides.{nat_tests}
+use mathlib.Core.Bool.{beq}
+use lib.Dec.{eqb}
+use Rattle.logos_search.specs.declared.visits.Stand.{Stand}
+
+equal : (m n : ℕ) → eqb m n ≡ true → n ≡ m
+equal m n e = grind (arith, nat_tests)
+
+alike : (a b : Bool) → beq a b ≡ true → b ≡ a
+alike true true e = refl
+alike true false e = cc
+alike false true e = cc
+alike false false e = refl
+
+pub same_stand : (a b : Stand) →
+    ((eqb a.point.here b.point.here && (eqb a.point.there b.point.there && (beq a.point.begun b.point.begun && (beq a.point.met b.point.met && beq a.point.last b.point.last))))
+    && (eqb a.rest.low b.rest.low && (eqb a.rest.high b.rest.high && eqb a.rest.count b.rest.count))) ≡ true → b ≡ a
+same_stand a b e =
+    let both = and_parts _ _ e in
+    let p = and_parts _ _ both.0 in
+    let q = and_parts _ _ p.1 in
+    let r = and_parts _ _ q.1 in
+    let s = and_parts _ _ r.1 in
+    let t = and_parts _ _ both.1 in
+    let u = and_parts _ _ t.1 in
+    let here = equal a.point.here b.point.here p.0 in
+    let there = equal a.point.there b.point.there q.0 in
+    let begun = alike a.point.begun b.point.begun r.0 in
+    let met = alike a.point.met b.point.met s.0 in
+    let last = alike a.point.last b.point.last s.1 in
+    let low = equal a.rest.low b.rest.low t.0 in
+    let high = equal a.rest.high b.rest.high u.0 in
+    let count = equal a.rest.count b.rest.count u.1 in
+    λ i. record {
+      point = record { here = here i; there = there i; begun = begun i; met = met i; last = last i };
+      rest = record { low = low i; high = high i; count = count i };
+    }
+
+pub stays : {A : Type 0} (found : Bool) (ks ms more : List A) (is_new : Bool) → is_new ≡ not found → is_new ≡ false → ms ≡ (if found then ks else more) → ms ≡ ks
+stays true ks ms more is_new e f m = m
+stays false ks ms more is_new e f m = let clash : true ≡ false = sym e ∙ f in cc

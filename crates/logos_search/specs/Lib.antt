@@ -1,0 +1,4 @@
+pub mod Machines
+pub mod Rests
+pub mod Shortest
+pub mod inside

@@ -1,0 +1,47 @@
+//! The search for a shortest input.
+ghost use Rattle.std.specs.Prelude.{◌≡◌, IfOk, MatchOption};
+ghost use Rattle.logos_search.specs.Shortest.{IsShortest, NoneLeads};
+ghost use Rattle.logos_search.specs.inside.Stands as stands;
+
+use crate::point::{Machine, Point};
+use crate::visits::{Stand, first_stand, first_visits, meet_all, stand_of, way_to};
+use std::alloc::{AllocError, Global};
+
+/// Returns whether an input can end at a stand whose point is looked for.
+fn is_goal<M: Machine>(machine: &M, stand: Stand) -> bool
+    ensures { result ≡ stands.stand_goal (M.goal machine.now) stand }
+{
+    machine.is_goal(stand.point) & (stand.rest.count == 0)
+}
+
+/// Returns a shortest input that leads a machine from a point to one that is looked for, or `None` if no
+/// input does. Of inputs of the same length it is the one with letters, digits and punctuation first.
+///
+/// Where `utf8` is set, inputs are UTF-8, and else any bytes. Each point that is met is stored, with what leads
+/// to it.
+///
+/// # Errors
+///
+/// Returns `AllocError` when memory runs out.
+pub fn shortest<M: Machine>(
+    alloc: Global,
+    machine: &M,
+    utf8: bool,
+    start: Point,
+) -> Result<Option<Vec<u8>>, AllocError>
+    ensures { IfOk result (λ found. MatchOption found
+        (NoneLeads (M.leads machine.now) (M.goal machine.now) utf8 start)
+        (λ bytes. IsShortest (M.leads machine.now) (M.goal machine.now) utf8 start bytes.items)) }
+{
+    let mut visits = first_visits(alloc, first_stand(start))?;
+    let mut number = 0;
+    while number < visits.stands.len() {
+        if is_goal(machine, stand_of(&visits, number)) {
+            let bytes = way_to(alloc, &visits, number)?;
+            return Ok(Some(bytes));
+        }
+        meet_all(machine, utf8, &mut visits, number)?;
+        number += 1;
+    }
+    Ok(None)
+}

@@ -1,0 +1,6 @@
+-- Definitions that clauses cite, and that name types of this crate.
+pub use Rattle.logos_strip.specs.Results.{AreStripped, IsStripped, SpellsEnum}
+pub use Rattle.logos_strip.specs.Spots.{after_attributed, after_hash, after_in_attribute, after_in_enum, after_part, after_start, begins_gone, goes, scope_inside, scope_of, spot_after}
+pub use Rattle.logos_strip.specs.Stripping.{left, sorted, stripped, thinned}
+pub use Rattle.logos_strip.specs.declared.spots.TokenSpot.TheVariants.{Open}
+pub use Rattle.logos_strip.specs.inside.Writing.{completed, group_token, rank}

@@ -1,0 +1,177 @@
+//! The spots of tokens in an enum, and which tokens go.
+
+ghost use Rattle.std.specs.Prelude.{◌≡◌, ◌<◌, Some, None, MatchOption};
+ghost use Rattle.logos_strip.specs.Words.{tokens_of, tree_of, is_none};
+ghost use Rattle.logos_strip.specs.Views.{begins_gone, goes, after_part, after_start, after_hash, after_attributed, after_in_enum, after_in_attribute, spot_after, scope_of, rank};
+
+use crate::helpers::{begins_helper, is_comma, is_macro_entry};
+use logos_token::token::{Delimiter, TokenTree, Tokens};
+
+/// The part of an enum that a run of tokens is.
+#[derive(Clone, Copy)]
+pub enum Scope {
+    /// The whole enum.
+    Enum,
+    /// The tokens in the brackets of an attribute of the enum.
+    Attribute,
+    /// The entries of `derive` in such an attribute.
+    Derives,
+    /// The variants of the enum.
+    Variants,
+    /// The fields of a variant.
+    Fields,
+}
+
+/// The spot of the next token in a run.
+#[derive(Clone, Copy)]
+pub enum TokenSpot {
+    /// Where an attribute, a path or an entry may begin.
+    Open,
+    /// After the `#` of an attribute that stays.
+    Hash,
+    /// Inside what goes.
+    Gone,
+    /// After the name of a variant, or after `derive`.
+    Named,
+    /// Inside what stays.
+    Within,
+}
+
+/// Returns whether the run begins with what goes, where an attribute or an entry may begin.
+fn begins_gone(scope: Scope, tokens: Tokens<'_, '_>) -> bool
+    ensures { result ≡ begins_gone scope (tokens_of tokens.entry) }
+{
+    match scope {
+        Scope::Enum | Scope::Variants | Scope::Fields => begins_helper(tokens),
+        Scope::Attribute => false,
+        Scope::Derives => is_macro_entry(tokens),
+    }
+}
+
+/// Returns whether the first token goes, by its spot.
+pub(crate) fn goes(scope: Scope, spot: TokenSpot, tokens: Tokens<'_, '_>) -> bool
+    ensures { result ≡ goes scope spot (tokens_of tokens.entry) }
+{
+    match spot {
+        TokenSpot::Open => begins_gone(scope, tokens),
+        TokenSpot::Gone => true,
+        TokenSpot::Hash | TokenSpot::Named | TokenSpot::Within => false,
+    }
+}
+
+/// Returns the spot after a token of a part, where commas of either spacing separate parts: after
+/// a comma the next part begins.
+fn after_part(other: TokenSpot, tree: TokenTree<'_, '_>) -> TokenSpot
+    ensures { result ≡ after_part other (tree_of tree.entry) }
+{
+    if is_comma(tree) {
+        TokenSpot::Open
+    } else {
+        other
+    }
+}
+
+/// Returns the spot after a token that stays, where an attribute may begin.
+fn after_start(other: TokenSpot, tree: TokenTree<'_, '_>) -> TokenSpot
+    ensures { result ≡ after_start other (tree_of tree.entry) }
+{
+    match tree {
+        TokenTree::Punct(punct) if punct.character == '#' => TokenSpot::Hash,
+        TokenTree::Doc(_) => TokenSpot::Open,
+        _ => other,
+    }
+}
+
+/// Returns the spot after the token that follows the `#` of an attribute that stays.
+fn after_hash(tree: TokenTree<'_, '_>) -> TokenSpot
+    ensures { result ≡ after_hash (tree_of tree.entry) }
+{
+    match tree {
+        TokenTree::Group(_) => TokenSpot::Open,
+        _ => TokenSpot::Within,
+    }
+}
+
+/// Returns the spot after a token that stays or goes, in a run whose parts may begin with
+/// attributes. `first` is the spot after the first token of a part that is in no attribute.
+fn after_attributed(
+    first: TokenSpot,
+    spot: TokenSpot,
+    gone: bool,
+    tree: TokenTree<'_, '_>,
+) -> TokenSpot
+    ensures { result ≡
+        after_attributed first spot gone (tree_of tree.entry) }
+{
+    match spot {
+        TokenSpot::Open if gone => TokenSpot::Gone,
+        TokenSpot::Open => after_start(first, tree),
+        TokenSpot::Hash => after_hash(tree),
+        TokenSpot::Gone => TokenSpot::Open,
+        TokenSpot::Named | TokenSpot::Within => after_part(TokenSpot::Within, tree),
+    }
+}
+
+/// Returns the spot after a token of an enum, which may begin with attributes.
+fn after_in_enum(spot: TokenSpot, gone: bool, tree: TokenTree<'_, '_>) -> TokenSpot
+    ensures { result ≡ after_in_enum spot gone (tree_of tree.entry) }
+{
+    match spot {
+        TokenSpot::Within => TokenSpot::Within,
+        _ => after_attributed(TokenSpot::Within, spot, gone, tree),
+    }
+}
+
+/// Returns the spot after a token in the brackets of an attribute.
+fn after_in_attribute(spot: TokenSpot, tree: TokenTree<'_, '_>) -> TokenSpot
+    ensures { result ≡ after_in_attribute spot (tree_of tree.entry) }
+{
+    match (spot, tree) {
+        (TokenSpot::Open, TokenTree::Ident(name)) if name.text == "derive" => TokenSpot::Named,
+        _ => TokenSpot::Within,
+    }
+}
+
+/// Returns the spot after a token that stays or goes.
+pub(crate) fn spot_after(
+    scope: Scope,
+    spot: TokenSpot,
+    gone: bool,
+    tree: TokenTree<'_, '_>,
+) -> TokenSpot
+    ensures { result ≡
+        spot_after scope spot gone (tree_of tree.entry) }
+{
+    match scope {
+        Scope::Enum => after_in_enum(spot, gone, tree),
+        Scope::Attribute => after_in_attribute(spot, tree),
+        Scope::Derives if gone => after_part(TokenSpot::Gone, tree),
+        Scope::Derives => after_part(TokenSpot::Within, tree),
+        Scope::Variants => after_attributed(TokenSpot::Named, spot, gone, tree),
+        Scope::Fields => after_attributed(TokenSpot::Within, spot, gone, tree),
+    }
+}
+
+/// Returns the part of an enum that a group holds which stays, by its delimiter and the tokens
+/// after it; `None` where nothing in the group may go.
+pub(crate) fn scope_of(
+    scope: Scope,
+    spot: TokenSpot,
+    delimiter: Delimiter,
+    rest: Tokens<'_, '_>,
+) -> Option<Scope>
+    ensures { MatchOption result
+        (scope_of scope spot delimiter (is_none (tokens_of rest.entry)) ≡ None)
+        (λ inner. (scope_of scope spot delimiter (is_none (tokens_of rest.entry)) ≡ Some inner)
+        × (rank inner < rank scope)) }
+{
+    match (scope, spot, delimiter) {
+        (Scope::Enum, TokenSpot::Hash, Delimiter::Bracket) => Some(Scope::Attribute),
+        (Scope::Enum, TokenSpot::Within, Delimiter::Brace) if rest.is_empty() => Some(
+            Scope::Variants,
+        ),
+        (Scope::Attribute, TokenSpot::Named, Delimiter::Parenthesis) => Some(Scope::Derives),
+        (Scope::Variants, TokenSpot::Named, _) => Some(Scope::Fields),
+        _ => None,
+    }
+}

@@ -1,6 +1,0 @@
-pub mod Costs
-pub mod Helpers
-pub mod Leaves
-pub mod Marks
-pub mod Warnings
-pub mod inside

@@ -1,6 +1,0 @@
-use Rattle.std.proofs.Common.{string_bytes}
-use Rattle.logos_text.specs.Standing.{Grows}
-use Rattle.logos_text.proofs.leaves.push_leaf_names.Given as goal
-
-abbrev pub invariant-loop-leaf : goal.invariant-loop-leaf
-invariant-loop-leaf l = Grows (string_bytes l.initial.text) (string_bytes l.text)

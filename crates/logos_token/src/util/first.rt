@@ -1,0 +1,61 @@
+//! Tests the first tokens of a run, and takes them from it. The readers of enums, `logos_strip` and
+//! `logos_rust_file` use it.
+
+ghost use Rattle.std.specs.Prelude.{◌≡◌, None, Some, MatchOption};
+ghost use Rattle.logos_token.specs.Words.{begins_with, after_word, is_path_mark, after_colon, after_path_mark};
+ghost use Rattle.logos_token.specs.ViewWords.{tokens_of};
+
+use crate::token::{Punct, Spacing, TokenTree, Tokens};
+
+/// Returns whether a run begins with this punctuation, of either spacing.
+pub fn begins_with(mark: char, tokens: Tokens<'_, '_>) -> bool
+    ensures { result ≡ begins_with mark (tokens_of tokens.entry) }
+{
+    match tokens.first() {
+        Some(TokenTree::Punct(punct)) => punct.character == mark,
+        _ => false,
+    }
+}
+
+/// Returns the tokens after a word, if the run begins with it.
+pub fn after_word<'t, 's>(word: &str, tokens: Tokens<'t, 's>) -> Option<Tokens<'t, 's>>
+    ensures { MatchOption result (after_word word.now (tokens_of tokens.entry) ≡ None)
+        (λ rest. after_word word.now (tokens_of tokens.entry) ≡ Some (tokens_of rest)) }
+{
+    match tokens.first() {
+        Some(TokenTree::Ident(ident)) if ident.text == word => Some(tokens.rest()),
+        _ => None,
+    }
+}
+
+/// Returns whether punctuation is the first `:` of `::`, by its spacing.
+pub fn is_path_mark(punct: Punct) -> bool
+    ensures { result ≡ is_path_mark punct.character punct.spacing }
+{
+    match punct.spacing {
+        Spacing::Joint => punct.character == ':',
+        Spacing::Alone => false,
+    }
+}
+
+/// Returns the tokens after `:`, if the run begins with it.
+fn after_colon<'t, 's>(tokens: Tokens<'t, 's>) -> Option<Tokens<'t, 's>>
+    ensures { MatchOption result (after_colon (tokens_of tokens.entry) ≡ None)
+        (λ rest. after_colon (tokens_of tokens.entry) ≡ Some (tokens_of rest)) }
+{
+    match tokens.first() {
+        Some(TokenTree::Punct(punct)) if punct.character == ':' => Some(tokens.rest()),
+        _ => None,
+    }
+}
+
+/// Returns the tokens after `::`, if the run begins with it.
+pub fn after_path_mark<'t, 's>(tokens: Tokens<'t, 's>) -> Option<Tokens<'t, 's>>
+    ensures { MatchOption result (after_path_mark (tokens_of tokens.entry) ≡ None)
+        (λ rest. after_path_mark (tokens_of tokens.entry) ≡ Some (tokens_of rest)) }
+{
+    match tokens.first() {
+        Some(TokenTree::Punct(punct)) if is_path_mark(punct) => after_colon(tokens.rest()),
+        _ => None,
+    }
+}
