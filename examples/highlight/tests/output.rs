@@ -39,7 +39,7 @@ fn each_part_has_its_kind() {
 
 #[test]
 fn the_page_has_all_of_the_source() {
-    for path in ["data/sample.rs.txt", "src/paint.rs", "src/token.rs", "build.rs", "tests/output.rs"] {
+    for path in ["data/sample.rs.txt", "src/paint.rs", "src/lexer.rs", "tests/output.rs"] {
         assert_eq!(plain(body(&highlight(&[path]))), fs::read_to_string(path).unwrap(), "{path}");
     }
 }
@@ -88,7 +88,7 @@ fn without_its_colours_a_terminal_has_all_of_the_source() {
 
 #[test]
 fn no_source_of_this_example_has_a_wrong_part() {
-    for path in ["src/paint.rs", "src/main.rs", "src/lexer.rs", "build.rs", "tests/output.rs"] {
+    for path in ["src/paint.rs", "src/main.rs", "tests/output.rs"] {
         assert!(!body(&highlight(&[path])).contains("class=\"wrong\""), "{path}");
     }
 }

@@ -1,6 +1,61 @@
-//! The lexer: `token.rs` with its derive expanded by the build.
+//! The lexer.
 
-// Printed text names things that not every enum needs.
-#![allow(unused_variables, unused_parens, unused_imports, unused_macros, unreachable_code, dead_code)]
+use logos::Logos;
 
-include!(concat!(env!("OUT_DIR"), "/token.rs"));
+/// The tokens of JSON with comments, and what is close to one, so that the parser can say what is wrong.
+#[derive(Logos, Clone, Copy, Debug, PartialEq)]
+#[logos(skip r"[ \t\r\n]+")]
+#[logos(skip(r"//[^\n]*", allow_greedy = true))]
+#[logos(skip r"/\*([^*]|\*+[^*/])*\*+/")]
+#[logos(subpattern whole = r"0|[1-9][0-9]*")]
+#[logos(subpattern fraction = r"\.[0-9]+")]
+#[logos(subpattern exponent = r"[eE][+\-]?[0-9]+")]
+#[logos(subpattern piece = r#"[^"\\\x00-\x1F]|\\["\\/bfnrt]|\\u[0-9a-fA-F]{4}"#)]
+pub enum Token {
+    #[token("{")]
+    BraceOpen,
+    #[token("}")]
+    BraceClose,
+    #[token("[")]
+    BracketOpen,
+    #[token("]")]
+    BracketClose,
+    #[token(":")]
+    Colon,
+    #[token(",")]
+    Comma,
+    #[token("null")]
+    Null,
+    #[token("true", |_| true)]
+    #[token("false", |_| false)]
+    Boolean(bool),
+    #[regex(r"-?(?&whole)")]
+    Integer,
+    #[regex(r"-?(?&whole)(?&fraction)")]
+    Decimal,
+    #[regex(r"-?(?&whole)(?&fraction)?(?&exponent)")]
+    Scientific,
+    #[regex(r#""(?&piece)*""#)]
+    String,
+
+    // What is close to a token.
+    #[regex(r"-?0[0-9]+")]
+    LeadingZero,
+    #[regex(r"-?(?&whole)\.")]
+    #[regex(r"-?(?&fraction)")]
+    LonePoint,
+    #[regex(r"\+[0-9]+(?&fraction)?")]
+    PlusSign,
+    #[regex(r#""(?&piece)*"#)]
+    UnclosedString,
+    #[regex(r#""(?&piece)*\\[^"\\/bfnrtu\n]"#)]
+    BadEscape,
+    #[regex(r#""(?&piece)*\\u[0-9a-fA-F]{0,3}"#)]
+    ShortEscape,
+    #[regex(r"'[^'\n]*'")]
+    SingleQuoted,
+    #[regex(r"/\*([^*]|\*+[^*/])*\**")]
+    UnclosedComment,
+    #[regex(r"[a-zA-Z_][a-zA-Z0-9_]*")]
+    Word,
+}

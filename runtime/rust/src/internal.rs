@@ -1,26 +1,7 @@
 //! What printed texts call. Programs have no need of it.
 
+use crate::source::Chunk;
 use crate::{Filter, FilterResult, Lexer, Logos, Skip, Source};
-
-/// What a text reads at once: a byte, or a block of bytes.
-pub trait Chunk<'source>: Sized {
-    /// Returns the bytes at the offset, if so many are there.
-    fn read(bytes: &'source [u8], offset: usize) -> Option<Self>;
-}
-
-impl<'source> Chunk<'source> for u8 {
-    #[inline]
-    fn read(bytes: &'source [u8], offset: usize) -> Option<u8> {
-        bytes.get(offset).copied()
-    }
-}
-
-impl<'source, const N: usize> Chunk<'source> for &'source [u8; N] {
-    #[inline]
-    fn read(bytes: &'source [u8], offset: usize) -> Option<Self> {
-        bytes.get(offset..)?.first_chunk()
-    }
-}
 
 /// What a text calls on its lexer.
 pub trait LexerInternal<'source> {
@@ -43,7 +24,7 @@ pub trait LexerInternal<'source> {
 impl<'source, Token: Logos<'source>> LexerInternal<'source> for Lexer<'source, Token> {
     #[inline]
     fn read<C: Chunk<'source>>(&self, offset: usize) -> Option<C> {
-        C::read(self.source().as_bytes(), offset)
+        self.source().read(offset)
     }
 
     #[inline]
@@ -82,7 +63,9 @@ pub enum SkipResult<'source, Token: Logos<'source>> {
     Error(Token::Error),
 }
 
-impl<'source, Token: Logos<'source>> From<SkipResult<'source, Token>> for CallbackResult<'source, Token> {
+impl<'source, Token: Logos<'source>> From<SkipResult<'source, Token>>
+    for CallbackResult<'source, Token>
+{
     fn from(result: SkipResult<'source, Token>) -> Self {
         match result {
             SkipResult::Skip => CallbackResult::Skip,
@@ -94,12 +77,18 @@ impl<'source, Token: Logos<'source>> From<SkipResult<'source, Token>> for Callba
 /// What a callback may return whose token has such a value.
 pub trait CallbackRetVal<'source, Value, Token: Logos<'source>> {
     /// Returns what becomes of the match; `constructor` makes the token of its value.
-    fn construct<Constructor: FnOnce(Value) -> Token>(self, constructor: Constructor) -> CallbackResult<'source, Token>;
+    fn construct<Constructor: FnOnce(Value) -> Token>(
+        self,
+        constructor: Constructor,
+    ) -> CallbackResult<'source, Token>;
 }
 
 impl<'source, Value, Token: Logos<'source>> CallbackRetVal<'source, Value, Token> for Value {
     #[inline]
-    fn construct<C: FnOnce(Value) -> Token>(self, constructor: C) -> CallbackResult<'source, Token> {
+    fn construct<C: FnOnce(Value) -> Token>(
+        self,
+        constructor: C,
+    ) -> CallbackResult<'source, Token> {
         CallbackResult::Emit(constructor(self))
     }
 }
@@ -111,9 +100,14 @@ impl<'source, Token: Logos<'source>> CallbackRetVal<'source, (), Token> for bool
     }
 }
 
-impl<'source, Value, Token: Logos<'source>> CallbackRetVal<'source, Value, Token> for Option<Value> {
+impl<'source, Value, Token: Logos<'source>> CallbackRetVal<'source, Value, Token>
+    for Option<Value>
+{
     #[inline]
-    fn construct<C: FnOnce(Value) -> Token>(self, constructor: C) -> CallbackResult<'source, Token> {
+    fn construct<C: FnOnce(Value) -> Token>(
+        self,
+        constructor: C,
+    ) -> CallbackResult<'source, Token> {
         match self {
             Some(value) => CallbackResult::Emit(constructor(value)),
             None => CallbackResult::DefaultError,
@@ -127,7 +121,10 @@ where
     Token: Logos<'source>,
 {
     #[inline]
-    fn construct<C: FnOnce(Value) -> Token>(self, constructor: C) -> CallbackResult<'source, Token> {
+    fn construct<C: FnOnce(Value) -> Token>(
+        self,
+        constructor: C,
+    ) -> CallbackResult<'source, Token> {
         match self {
             Ok(value) => CallbackResult::Emit(constructor(value)),
             Err(error) => CallbackResult::Error(error.into()),
@@ -156,9 +153,14 @@ where
     }
 }
 
-impl<'source, Value, Token: Logos<'source>> CallbackRetVal<'source, Value, Token> for Filter<Value> {
+impl<'source, Value, Token: Logos<'source>> CallbackRetVal<'source, Value, Token>
+    for Filter<Value>
+{
     #[inline]
-    fn construct<C: FnOnce(Value) -> Token>(self, constructor: C) -> CallbackResult<'source, Token> {
+    fn construct<C: FnOnce(Value) -> Token>(
+        self,
+        constructor: C,
+    ) -> CallbackResult<'source, Token> {
         match self {
             Filter::Emit(value) => CallbackResult::Emit(constructor(value)),
             Filter::Skip => CallbackResult::Skip,
@@ -166,13 +168,17 @@ impl<'source, Value, Token: Logos<'source>> CallbackRetVal<'source, Value, Token
     }
 }
 
-impl<'source, Value, Error, Token> CallbackRetVal<'source, Value, Token> for FilterResult<Value, Error>
+impl<'source, Value, Error, Token> CallbackRetVal<'source, Value, Token>
+    for FilterResult<Value, Error>
 where
     Error: Into<Token::Error>,
     Token: Logos<'source>,
 {
     #[inline]
-    fn construct<C: FnOnce(Value) -> Token>(self, constructor: C) -> CallbackResult<'source, Token> {
+    fn construct<C: FnOnce(Value) -> Token>(
+        self,
+        constructor: C,
+    ) -> CallbackResult<'source, Token> {
         match self {
             FilterResult::Emit(value) => CallbackResult::Emit(constructor(value)),
             FilterResult::Skip => CallbackResult::Skip,

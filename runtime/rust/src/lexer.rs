@@ -7,7 +7,8 @@ use core::ops::{Deref, DerefMut, Range};
 /// A part of an input, in byte offsets.
 pub type Span = Range<usize>;
 
-/// A run of a lexer over an input. As an iterator it yields each token, or the error that stands in its place.
+/// A run of a lexer over an input. As an iterator it yields each token, or the error that stands in
+/// its place.
 pub struct Lexer<'source, Token: Logos<'source>> {
     source: &'source Token::Source,
     start: usize,
@@ -27,7 +28,12 @@ impl<'source, Token: Logos<'source>> Lexer<'source, Token> {
 
     /// Returns a lexer at the start of an input, with these extras.
     pub fn with_extras(source: &'source Token::Source, extras: Token::Extras) -> Self {
-        Lexer { source, start: 0, end: 0, extras }
+        Lexer {
+            source,
+            start: 0,
+            end: 0,
+            extras,
+        }
     }
 
     /// Returns the whole input.
@@ -57,7 +63,7 @@ impl<'source, Token: Logos<'source>> Lexer<'source, Token> {
     /// Panics where the token would end after the input, or inside a character.
     pub fn bump(&mut self, n: usize) {
         self.end += n;
-        assert!(self.source.is_boundary(self.end), "a bump to a place that ends no token");
+        assert!(self.source.is_boundary(self.end), "Invalid Lexer bump");
     }
 
     /// Returns a lexer for another enum at the same place of the same input.
@@ -66,7 +72,12 @@ impl<'source, Token: Logos<'source>> Lexer<'source, Token> {
         Other: Logos<'source, Source = Token::Source>,
         Token::Extras: Into<Other::Extras>,
     {
-        Lexer { source: self.source, start: self.start, end: self.end, extras: self.extras.into() }
+        Lexer {
+            source: self.source,
+            start: self.start,
+            end: self.end,
+            extras: self.extras.into(),
+        }
     }
 
     /// Returns an iterator over tokens with their places.
@@ -89,7 +100,9 @@ impl<'source, Token: Logos<'source>> Lexer<'source, Token> {
 
     fn part(&self, range: Span) -> <Token::Source as Source>::Slice<'source> {
         let source: &'source Token::Source = self.source;
-        source.slice(range).expect("tokens end where a part of the input can")
+        source
+            .slice(range)
+            .expect("tokens end where a part of the input can")
     }
 }
 
@@ -107,16 +120,26 @@ where
     Token::Extras: Clone,
 {
     fn clone(&self) -> Self {
-        Lexer { source: self.source, start: self.start, end: self.end, extras: self.extras.clone() }
+        Lexer {
+            source: self.source,
+            start: self.start,
+            end: self.end,
+            extras: self.extras.clone(),
+        }
     }
 }
 
 impl<'source, Token: Logos<'source>> fmt::Debug for Lexer<'source, Token>
 where
+    Token::Source: fmt::Debug,
     Token::Extras: fmt::Debug,
 {
     fn fmt(&self, f: &mut fmt::Formatter<'_>) -> fmt::Result {
-        f.debug_struct("Lexer").field("span", &self.span()).field("extras", &self.extras).finish_non_exhaustive()
+        let source: &dyn fmt::Debug = &self.source;
+        let extras: &dyn fmt::Debug = &self.extras;
+        f.debug_map()
+            .entries([("source", source), ("extras", extras)])
+            .finish()
     }
 }
 
@@ -131,6 +154,29 @@ impl<'source, Token: Logos<'source>> Iterator for SpannedIter<'source, Token> {
     fn next(&mut self) -> Option<Self::Item> {
         let item = self.lexer.next()?;
         Some((item, self.lexer.span()))
+    }
+}
+
+impl<'source, Token: Logos<'source>> Clone for SpannedIter<'source, Token>
+where
+    Token::Extras: Clone,
+{
+    fn clone(&self) -> Self {
+        SpannedIter {
+            lexer: self.lexer.clone(),
+        }
+    }
+}
+
+impl<'source, Token: Logos<'source>> fmt::Debug for SpannedIter<'source, Token>
+where
+    Token::Source: fmt::Debug,
+    Token::Extras: fmt::Debug,
+{
+    fn fmt(&self, f: &mut fmt::Formatter<'_>) -> fmt::Result {
+        f.debug_struct("SpannedIter")
+            .field("lexer", &self.lexer)
+            .finish()
     }
 }
 

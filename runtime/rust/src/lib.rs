@@ -1,9 +1,20 @@
-//! The runtime of lexers that the program `logos` prints: what such a text asks of the crate `logos`.
+//! Lexers from enums: `#[derive(Logos)]`, and the runtime of the lexers that it makes.
 //!
-//! An enum implements [`Logos`] by a printed text; [`Logos::lexer`] begins a run over an input, and the run is an iterator over tokens.
+//! An enum implements [`Logos`] by the derive macro, or by a text that the program `logos_cli`
+//! prints. [`Logos::lexer`] begins a run over an input, and the run is an iterator over tokens.
+//!
+//! # Features
+//!
+//! - `export_derive`, on by default: the derive macro, which asks the program `logos_cli`.
+//! - `std`, on by default, changes nothing: this crate asks for `core` alone.
+//! - `state_machine_codegen`: the derive macro prints the shape `state_machine`, not `tables`.
+//! - `debug`: the derive macro says on standard error which program it asks, and prints the
+//!   implementations.
+//! - `forbid_unsafe`: [`Source`] has no unsafe methods. This crate has no unsafe code either way.
 
 #![no_std]
-#![forbid(unsafe_code)]
+#![cfg_attr(feature = "forbid_unsafe", forbid(unsafe_code))]
+#![cfg_attr(not(feature = "forbid_unsafe"), deny(unsafe_code))]
 #![warn(missing_docs)]
 
 #[allow(missing_docs)]
@@ -12,6 +23,8 @@ mod lexer;
 pub mod source;
 
 pub use lexer::{Lexer, Span, SpannedIter};
+#[cfg(feature = "export_derive")]
+pub use logos_derive::Logos;
 pub use source::Source;
 
 /// An enum whose variants are tokens.
@@ -37,9 +50,18 @@ pub trait Logos<'source>: Sized {
     }
 
     /// Returns a lexer at the start of an input, with these extras.
-    fn lexer_with_extras(source: &'source Self::Source, extras: Self::Extras) -> Lexer<'source, Self> {
+    fn lexer_with_extras(
+        source: &'source Self::Source,
+        extras: Self::Extras,
+    ) -> Lexer<'source, Self> {
         Lexer::with_extras(source, extras)
     }
+}
+
+/// A callback that leaves the match out, as in `#[regex(" +", logos::skip)]`.
+#[inline]
+pub fn skip<'source, Token: Logos<'source>>(_lexer: &mut Lexer<'source, Token>) -> Skip {
+    Skip
 }
 
 /// The answer of a callback: the match is left out.

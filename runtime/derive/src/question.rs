@@ -1,0 +1,220 @@
+//! The enum as a text, and where its tokens stand there.
+
+use crate::callbacks::Pieces;
+use crate::fill::Filling;
+use proc_macro::{Delimiter, Group, Ident, Literal, Spacing, Span, TokenStream, TokenTree};
+use std::collections::HashMap;
+
+/// The enum as a text, with its tokens.
+#[derive(Default)]
+pub struct Question {
+    pub text: String,
+    nodes: Vec<Node>,
+    tokens: Vec<Token>,
+    /// The last span of what each placeholder stands for.
+    ends: HashMap<String, Span>,
+    /// Whether the text is one line.
+    is_line: bool,
+}
+
+/// A token tree of the enum, with its byte range in the text.
+struct Node {
+    from: usize,
+    to: usize,
+    tree: TokenTree,
+    inner: Vec<Node>,
+}
+
+/// A token of the enum, with its byte range in the text. Delimiters are tokens, too.
+struct Token {
+    from: usize,
+    to: usize,
+    span: Span,
+    /// The last span of what a placeholder stands for, else the token's own.
+    last: Span,
+    is_literal: bool,
+}
+
+/// The tokens over which a byte range reaches.
+pub struct Place {
+    pub first: Span,
+    pub last: Span,
+    /// The byte range of the literal in which the place lies, if it is a part of one.
+    pub literal: Option<(usize, usize)>,
+}
+
+impl Question {
+    /// Prints an item.
+    pub fn new(item: TokenStream) -> Question {
+        let mut question = Question::default();
+        question.nodes = question.print(item);
+        question.text.push('\n');
+        question
+    }
+
+    /// Prints an item with placeholders on one line.
+    pub fn with_placeholders(item: TokenStream, pieces: &Pieces) -> Question {
+        let end = |filling: &Filling| filling.tokens.clone().into_iter().last();
+        let ends = pieces
+            .fillings
+            .iter()
+            .filter_map(|(name, filling)| Some((name.clone(), end(filling)?.span())));
+        let mut question = Question {
+            ends: ends.collect(),
+            is_line: true,
+            ..Question::default()
+        };
+        question.nodes = question.print(item);
+        question.text.push('\n');
+        question
+    }
+
+    /// Returns the token trees between two byte offsets, if each of them lies there as a whole.
+    pub fn cut(&self, from: usize, to: usize) -> Option<TokenStream> {
+        if from == to {
+            return Some(TokenStream::new());
+        }
+        cut(&self.nodes, from, to)
+    }
+
+    /// Returns whether a byte offset lies in an attribute.
+    pub fn is_in_attribute(&self, at: usize) -> bool {
+        is_in_attribute(&self.nodes, at)
+    }
+
+    /// Returns the place of the enum's name.
+    pub fn name(&self) -> Option<Place> {
+        let is_enum = |node: &Node| {
+            matches!(&node.tree, TokenTree::Ident(_)) && node.tree.to_string() == "enum"
+        };
+        let name = self.nodes.get(self.nodes.iter().position(is_enum)? + 1)?;
+        self.place(name.from, name.to)
+    }
+
+    /// Returns the place of the tokens that a byte range meets.
+    pub fn place(&self, from: usize, to: usize) -> Option<Place> {
+        let to = to.max(from + 1);
+        let start = self.tokens.partition_point(|token| token.to <= from);
+        let end = self.tokens.partition_point(|token| token.from < to);
+        let met = self.tokens.get(start..end)?;
+        let (first, last) = (met.first()?, met.last()?);
+        let is_part =
+            first.is_literal && first.from == last.from && (first.from < from || to < first.to);
+        Some(Place {
+            first: first.span,
+            last: last.last,
+            literal: is_part.then_some((first.from, first.to)),
+        })
+    }
+
+    /// Appends token trees to the text.
+    fn print(&mut self, trees: TokenStream) -> Vec<Node> {
+        trees
+            .into_iter()
+            .map(|tree| self.print_tree(tree))
+            .collect()
+    }
+
+    fn print_tree(&mut self, tree: TokenTree) -> Node {
+        let from = self.text.len();
+        let mut inner = Vec::new();
+        let to;
+        match &tree {
+            TokenTree::Group(group) => (inner, to) = self.print_group(group),
+            TokenTree::Ident(name) => to = self.push(&printed(name), name.span()),
+            TokenTree::Literal(literal) => to = self.push_literal(literal),
+            TokenTree::Punct(punct) => {
+                to = self.push(punct.as_char().encode_utf8(&mut [0; 4]), punct.span());
+                if punct.spacing() == Spacing::Joint {
+                    self.text.pop();
+                }
+            }
+        }
+        Node {
+            from,
+            to,
+            tree,
+            inner,
+        }
+    }
+
+    /// Appends a group, and returns what is in it and where it ends.
+    fn print_group(&mut self, group: &Group) -> (Vec<Node>, usize) {
+        let Some((open, close)) = delimiters(group.delimiter()) else {
+            // What a macro hands on of its argument has no delimiters.
+            let inner = self.print(group.stream());
+            let to = inner.last().map_or(self.text.len(), |node| node.to);
+            return (inner, to);
+        };
+        self.push(open, group.span_open());
+        let inner = self.print(group.stream());
+        (inner, self.push(close, group.span_close()))
+    }
+
+    /// Appends a token, and returns where it ends. A blank follows it, or a line end where that
+    /// keeps lines short.
+    fn push(&mut self, text: &str, span: Span) -> usize {
+        let from = self.text.len();
+        let to = from + text.len();
+        self.text.push_str(text);
+        self.text
+            .push(if matches!(text, "," | "]") && !self.is_line {
+                '\n'
+            } else {
+                ' '
+            });
+        self.tokens.push(Token {
+            from,
+            to,
+            span,
+            last: self.ends.get(text).copied().unwrap_or(span),
+            is_literal: false,
+        });
+        to
+    }
+
+    fn push_literal(&mut self, literal: &Literal) -> usize {
+        let to = self.push(&literal.to_string(), literal.span());
+        if let Some(token) = self.tokens.last_mut() {
+            token.is_literal = true;
+        }
+        to
+    }
+}
+
+/// Returns how a name is printed. `$crate` is no name that a source can hold.
+fn printed(name: &Ident) -> String {
+    name.to_string().trim_start_matches('$').into()
+}
+
+fn delimiters(delimiter: Delimiter) -> Option<(&'static str, &'static str)> {
+    match delimiter {
+        Delimiter::Parenthesis => Some(("(", ")")),
+        Delimiter::Brace => Some(("{", "}")),
+        Delimiter::Bracket => Some(("[", "]")),
+        Delimiter::None => None,
+    }
+}
+
+/// Returns the trees of a range that begins and ends where trees do, on one level.
+fn cut(nodes: &[Node], from: usize, to: usize) -> Option<TokenStream> {
+    let first = nodes.partition_point(|node| node.to <= from);
+    let end = nodes.partition_point(|node| node.from < to);
+    match nodes.get(first..end)? {
+        run @ [head, ..] if head.from == from && run[run.len() - 1].to == to => {
+            Some(run.iter().map(|node| node.tree.clone()).collect())
+        }
+        [node] => cut(&node.inner, from, to),
+        _ => None,
+    }
+}
+
+fn is_in_attribute(nodes: &[Node], at: usize) -> bool {
+    let found = nodes.partition_point(|node| node.to <= at);
+    let Some(node) = nodes.get(found) else {
+        return false;
+    };
+    let is_hash = |node: &Node| matches!(&node.tree, TokenTree::Punct(p) if p.as_char() == '#');
+    let is_attribute = found > 0 && is_hash(&nodes[found - 1]);
+    is_attribute || is_in_attribute(&node.inner, at)
+}
