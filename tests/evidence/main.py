@@ -1,0 +1,152 @@
+"""Makes small sets of patterns, asks the program of evidence about each in both modes, and compares its answers with those of the reader."""
+
+import subprocess
+import sys
+from concurrent.futures import ProcessPoolExecutor
+from os import path
+from random import Random
+
+HERE = path.dirname(path.realpath(__file__))
+sys.path.insert(0, path.join(path.dirname(HERE), 'generated'))
+from automata import rules_of
+from main import PATTERNS, WORDS, made
+from matching import Matching, TooLarge
+from patterns import Faulty, compiled
+from reader import Evidence, first_difference
+
+# So long are the texts with which a comparison is made anew.
+MOST = 3
+
+
+def hexadecimal(text):
+    return '-' if text is None else 'x' + text.hex()
+
+
+def read_rules(rules):
+    """The trees and the priorities of rules."""
+    pairs = [rule.split(' ', 1) for rule in rules.split(' ¦ ')]
+    return [compiled(text.replace('⟨27E8⟩', '⟨'), True, False) for _, text in pairs], [int(priority) for priority, _ in pairs]
+
+
+def meetings(evidence):
+    """The answers about where leaves meet."""
+    alone = [(leaf,) for leaf in range(len(evidence.matching.priorities))]
+    return ''.join(f' M,{",".join(map(str, leaves))} {hexadecimal(evidence.meeting(leaves))}' for leaves in evidence.matching.ambiguous() + alone)
+
+
+def leaves_found(evidence):
+    return ''.join(f' E {hexadecimal(evidence.example(leaf))} L {hexadecimal(evidence.loses(leaf))}' for leaf in range(len(evidence.matching.priorities)))
+
+
+def matches_found(evidence, text):
+    lines = ''
+    for start in range(len(text)):
+        found = evidence.matches(text, start)
+        lines += f' F{start}' + ''.join(f' {leaf},{end},{priority}' for leaf, end, priority in found)
+        if found:
+            end = max(end for _, end, _ in found)
+            top = max(priority for _, at, priority in found if at == end)
+            lines += f' W {next(leaf for leaf, at, priority in found if at == end and priority == top)},{end}'
+    return lines
+
+
+def changed(rules, seed):
+    """Other rules: the same in other words, or with one that is changed."""
+    pairs = [rule.split(' ', 1) for rule in rules.split(' ¦ ')]
+    number = seed % len(pairs)
+    if seed % 3 == 0:
+        return ' ¦ '.join(f'{priority} (?:{text}|{text})' for priority, text in pairs)
+    if seed % 3 == 1:
+        pairs[number][1] = f'(?:{pairs[number][1]})a?'
+    else:
+        pairs[number][0] = str(int(pairs[number][0]) + 1)
+    return ' ¦ '.join(' '.join(pair) for pair in pairs)
+
+
+def questions(seed):
+    """The lines that are asked about the rules of a seed, and the wanted answers, where None leaves a comparison open."""
+    try:
+        _, reading, inputs = made(seed)
+    except TooLarge:
+        return []
+    rules = None if any(code not in ('Disambiguation',) for code in codes(reading)) else rules_of(reading)
+    if rules is None or '⟨' in rules:
+        return []
+    asked = []
+    for mode in ('TEXT', 'BYTES'):
+        evidence = Evidence(reading.matching, mode == 'TEXT')
+        front = meetings(evidence)
+        text = Random(seed).choice(inputs)[:12] if inputs else b'ab'
+        asked.append((f'{mode}\t{rules}\t@{text.hex()}', front + matches_found(evidence, text), None))
+        if reading.matching.ambiguous():
+            asked.append((f'{mode}\t{rules}', front, None))
+            continue
+        other, twin = changed(rules, seed), None
+        try:
+            matching = Matching(*read_rules(other))
+            twin = None if matching.ambiguous() or matching.live == set() else Evidence(matching, mode == 'TEXT')
+        except (Faulty, TooLarge):
+            pass
+        asked.append((f'{mode}\t{rules}' + (f'\t{other}' if twin else ''), front + leaves_found(evidence), (evidence, twin) if twin else None))
+    return asked
+
+
+def codes(reading):
+    return {code for code, _, _ in reading.faults.list}
+
+
+def is_right(answer, wanted, pair):
+    """Whether an answer is the wanted one, and a comparison is right."""
+    if pair is None:
+        return answer == wanted
+    front, mark, told = answer.rpartition(' C ')
+    if not mark or front != wanted:
+        return False
+    one, other = pair
+    shorter = first_difference(one, other, MOST)
+    if shorter is not None:
+        return told == hexadecimal(shorter)
+    if told == '-':
+        return True
+    text = bytes.fromhex(told[1:])
+    return len(text) > MOST and one.first(text) != other.first(text)
+
+
+def judge(job):
+    """How many answers about a seed are right, and the first that is not."""
+    program, seed = job
+    asked = questions(seed)
+    if not asked:
+        return 0, None, []
+    done = subprocess.run([program], input='\n'.join(line for line, _, _ in asked).encode(), capture_output=True, check=False)
+    answers = done.stdout.decode().split('\n')[:-1]
+    if len(answers) != len(asked):
+        return 0, f'{seed}: {len(answers)} answers to {len(asked)} lines', []
+    met = [word for answer in answers for word in answer.split()]
+    for answer, (line, wanted, pair) in zip(answers, asked):
+        if not is_right(answer, wanted, pair):
+            return 0, f'{seed}: {line!r}\nwanted {wanted}\nfound  {answer}', []
+    return len(asked), None, met
+
+
+def main():
+    program, seeds = sys.argv[1], [int(word) for word in sys.argv[2:]] or [*PATTERNS[::7], *WORDS[::8]]
+    good, bad, met = 0, 0, {}
+    with ProcessPoolExecutor() as pool:
+        for count, fault, words in pool.map(judge, [(program, seed) for seed in seeds], chunksize=8):
+            good += count
+            bad += fault is not None
+            for sign in 'ELMC':
+                for at, word in enumerate(words[:-1]):
+                    if word[:1] == sign and not word[1:2].isalnum():
+                        key = sign + ('-' if words[at + 1] == '-' else 'x')
+                        met[key] = met.get(key, 0) + 1
+            if fault and bad < 4:
+                print(fault)
+    print('evidence: ' + ', '.join(f'{key} {count}' for key, count in sorted(met.items())))
+    print(f'{good} passed, {bad} failed')
+    sys.exit(1 if bad or not good else 0)
+
+
+if __name__ == '__main__':
+    main()

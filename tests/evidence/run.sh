@@ -1,0 +1,17 @@
+#!/usr/bin/env bash
+# Asks the program of evidence about more than a hundred small sets of patterns, in both modes, and compares its answers with those of a plain reader.
+#
+# Of each leaf the reader finds the first of the shortest inputs whose first item it is, and of those on which it loses a match; of each set of
+# ambiguous leaves and of each leaf alone, where they meet; and all matches from each place of an input. The program must give the same texts, and
+# none where there are none. Where two lexers are compared, each text of up to three letters is tried on both: the program must give the first on
+# which they differ, or a longer one on which they do.
+#
+# It needs Python 3 without packages, and the program in out/quick, where `tests/quick.sh` leaves it, or the first argument. Seeds after it ask for
+# those sets alone.
+set -euo pipefail
+
+here=$(cd "$(dirname "${BASH_SOURCE[0]}")" && pwd)
+program=$(realpath "${1:-$here/../../out/quick/evidence}")
+shift $(($# < 1 ? $# : 1))
+export PYTHONDONTWRITEBYTECODE=1
+python3 "$here/main.py" "$program" "$@"

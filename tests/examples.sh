@@ -1,0 +1,38 @@
+#!/usr/bin/env bash
+# Runs the examples: `cargo test` in each Cargo package of examples/, of runtime/rust and of runtime/build, without a network.
+#
+# The program `logos_cli` is the one that the gate has built, or the first argument. Where cargo is missing, that is printed, and nothing is tested. The
+# last line is `examples: N passed, M failed`, with the number of tests that passed, and that of packages that failed.
+set -uo pipefail
+
+root=$(cd "$(dirname "${BASH_SOURCE[0]}")/.." && pwd)
+LOGOS_CLI=${1:-$root/crates/logos_cli/out/logos_cli}
+if [ ! -x "$LOGOS_CLI" ]; then
+    echo "examples: the program $LOGOS_CLI is missing"
+    echo "examples: 0 passed, 1 failed"
+    exit 1
+fi
+LOGOS_CLI=$(realpath "$LOGOS_CLI")
+export LOGOS_CLI
+packages=(runtime/rust runtime/build examples/json examples/template examples/highlight examples/ini)
+room=$(mktemp -d)
+trap 'rm -rf "$room"' EXIT
+passed=0
+failed=0
+
+if ! command -v cargo > /dev/null; then
+    echo "examples: there is no cargo here, so ${#packages[@]} packages were not tested"
+    exit 0
+fi
+for package in "${packages[@]}"; do
+    if CARGO_TARGET_DIR="$room/target" cargo test --quiet --offline --manifest-path "$root/$package/Cargo.toml" > "$room/output" 2>&1; then
+        tests=$(awk '/^test result: ok\. [0-9]+ passed/ { all += $4 } END { print all + 0 }' "$room/output")
+        passed=$((passed + tests))
+    else
+        failed=$((failed + 1))
+        printf 'examples: %s failed\n' "$package"
+        tail -40 "$room/output"
+    fi
+done
+echo "examples: $passed passed, $failed failed"
+[ "$failed" -eq 0 ]

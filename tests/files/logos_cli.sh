@@ -1,0 +1,228 @@
+#!/usr/bin/env bash
+# Runs `logos_cli` where files and outputs fail: words and files that are not UTF-8, outputs that are full, closed or read no more, and
+# results that cannot be written, or not whole. A result is written whole or not at all: what stood in its place stays, and no other file
+# is left. Links, permissions and devices stay what they are.
+#
+# It needs the program as `rt ci` or `rt run` leaves it in crates/logos_cli/out, or the first argument.
+set -euo pipefail
+
+program=$(realpath -m "${1:-$(dirname "${BASH_SOURCE[0]}")/../../crates/logos_cli/out/logos_cli}")
+room=$(mktemp -d)
+trap 'rm -rf "$room"' EXIT
+cd "$room"
+printf 'use logos::Logos;\n#[derive(Logos)]\nenum T { #[token("a")] A }\n' > source.rs
+printf '#[derive(Logos)]\nenum T { #[token] A }\n' > faulty.rs
+printf 'enum \xff' > torn.rs
+mkdir folder
+usage='usage: logos_cli INPUT [-o FILE] [-c] [--shape tables|tailcall|state_machine]
+                 [--color always|never|auto]'
+met=0
+
+fail() {
+    echo "files_logos_cli: $1" >&2
+    echo "$met passed, 1 failed"
+    exit 1
+}
+
+[ -x "$program" ] || fail "the program $program is missing"
+
+# Fails unless the command that just ran with this status wrote these lines.
+wants() {
+    local status=$1 wanted=$2 err=$3
+    if [ "$status" != "$wanted" ] || ! { [ -z "$err" ] || printf '%s\n' "$err"; } | cmp -s - err; then
+        od -c err >&2
+        fail "run $((met + 1)) ends with status $status and these messages, wanted status $wanted and '$err'"
+    fi
+    met=$((met + 1))
+}
+
+# Runs the program with the words after the status and the message that it must give.
+gives() {
+    local wanted=$1 err=$2 status=0
+    shift 2
+    "$program" "$@" > out 2> err || status=$?
+    wants "$status" "$wanted" "$err"
+}
+
+# Fails unless a file has the content of another one.
+same() {
+    cmp -s "$1" "$2" || fail "$1 is not as $2"
+    met=$((met + 1))
+}
+
+# Fails unless just these files are in a folder.
+only() {
+    local folder=$1 found
+    shift
+    found=$(ls -A "$folder" | sort | tr '\n' ' ')
+    [ "$found" = "$(printf '%s\n' "$@" | sort | tr '\n' ' ')" ] || fail "$folder has $found"
+    met=$((met + 1))
+}
+
+gives 0 '' source.rs
+cp out whole
+[ "$(wc -c < whole)" -gt 1024 ]
+
+# Words and files.
+gives 2 $'error: a word is not UTF-8\n'"$usage" $'\xff'
+gives 2 $'error: a word is not UTF-8\n'"$usage" source.rs --output $'\xff'
+gives 3 'error: cannot read torn.rs: it is not UTF-8 at byte 5' torn.rs
+gives 3 'error: cannot read none.rs: there is no such file' none.rs --output out.rs
+gives 3 'error: cannot read folder: it is a folder' folder
+gives 3 'error: cannot read source.rs/a: a part of the path is not a folder' source.rs/a
+gives 3 'error: cannot read : there is no such file' ''
+ln -s round.rs round.rs
+gives 3 'error: cannot read round.rs: its links lead round' round.rs
+long=$(printf 'a%.0s' {1..300})
+gives 3 "error: cannot read $long: the name is too long" "$long"
+if [ "$(id -u)" != 0 ]; then
+    printf 'fn f() {}' > shut.rs
+    chmod 0 shut.rs
+    gives 3 'error: cannot read shut.rs: permission denied' shut.rs
+fi
+cat source.rs | gives 0 '' /dev/stdin
+same out whole
+cat source.rs | gives 0 '' -
+same out whole
+gives 0 '' - < source.rs
+same out whole
+
+# A file is not its own output, by whatever path or link.
+mkdir own
+cp source.rs own/source.rs
+ln -s source.rs own/link.rs
+ln own/source.rs own/hard.rs
+for path in own/source.rs ./own/../own/source.rs own/link.rs own/hard.rs; do
+    gives 2 "error: $path is the input and the output" own/source.rs -o "$path"
+    gives 2 "error: own/source.rs is the input and the output" "$path" -o own/source.rs
+    same own/source.rs source.rs
+done
+gives 2 "error: own/source.rs is the input and the output" - -o own/source.rs < own/source.rs
+only own source.rs link.rs hard.rs
+
+# A new file, one that is there, and one with the same content, which is not touched.
+gives 0 '' source.rs --output new/deep/out.rs
+same new/deep/out.rs whole
+only new/deep out.rs
+touch -d 2001-01-01 new/deep/out.rs
+gives 0 '' source.rs --output new/deep/out.rs
+[ "$(stat -c %Y new/deep/out.rs)" = "$(date -d 2001-01-01 +%s)" ] || fail "a file with the same content was written"
+gives 0 '' source.rs --output new/deep/out.rs --check
+printf old > new/deep/out.rs
+chmod 640 new/deep/out.rs
+gives 1 'error: new/deep/out.rs is not what source.rs gives' source.rs --output new/deep/out.rs --check
+gives 0 '' source.rs --output new/deep/out.rs
+same new/deep/out.rs whole
+[ "$(stat -c %a new/deep/out.rs)" = 640 ] || fail "the permissions have changed"
+only new/deep out.rs
+
+# A link stays a link, and what it leads to is written.
+mkdir links
+printf old > links/real.rs
+ln -s real.rs links/link.rs
+gives 0 '' source.rs --output links/link.rs
+[ -L links/link.rs ] || fail "a link was replaced"
+same links/real.rs whole
+only links link.rs real.rs
+
+# So does one that leads to no file yet, which is made, also over several links and folders.
+mkdir links/deep
+ln -s to.rs links/dangling.rs
+gives 0 '' source.rs --output links/dangling.rs
+[ -L links/dangling.rs ] || fail "a dangling link was replaced"
+same links/to.rs whole
+ln -s deep/b.rs links/a.rs
+ln -s ../new/c.rs links/deep/b.rs
+gives 0 '' source.rs --output links/deep/../a.rs
+[ -L links/a.rs ] && [ -L links/deep/b.rs ] || fail "a dangling link was replaced"
+same links/new/c.rs whole
+ln -s "$room/links/last.rs" links/whole.rs
+gives 0 '' source.rs --output links/whole.rs
+same links/last.rs whole
+gives 3 'error: cannot write round.rs: its links lead round' source.rs --output round.rs
+[ -L round.rs ] || fail "a link that leads round was replaced"
+
+# What runs that were killed left beside is removed, but not what a running one writes, nor other files.
+mkdir beside
+process=$(bash -c 'echo $$')
+printf left > "beside/out.rs.$process.new"
+printf left > "beside/out.rs.$$.new"
+printf other > beside/out.rs.new
+printf other > beside/out.rs.a1.new
+gives 0 '' source.rs --output beside/out.rs
+same beside/out.rs whole
+only beside out.rs "out.rs.$$.new" out.rs.new out.rs.a1.new
+rm "beside/out.rs.$$.new"
+
+# What cannot be written, or not whole: what was there stays, and nothing else is left.
+gives 3 'error: cannot write folder: it is a folder' source.rs --output folder
+gives 3 'error: cannot write source.rs/out.rs: a part of the path is not a folder' source.rs --output source.rs/out.rs
+gives 3 'error: cannot write /dev/full: no space is left' source.rs --output /dev/full
+[ -c /dev/full ] || fail "a device was replaced"
+gives 1 'error: /dev/full is not what source.rs gives' source.rs --output /dev/full --check
+mkdir full
+for old in yes no; do
+    rm -f full/out.rs
+    [ "$old" = no ] || printf old > full/out.rs
+    status=0
+    (trap '' XFSZ; ulimit -f 1; exec "$program" source.rs --output full/out.rs 2> err) || status=$?
+    wants "$status" 3 'error: cannot write full/out.rs: the file is too large'
+    if [ "$old" = yes ]; then
+        printf old | same full/out.rs -
+        only full out.rs
+    else
+        [ -z "$(ls -A full)" ] || fail "a part of the result was left"
+    fi
+done
+mkfifo pipe
+cat pipe > out &
+status=0
+"$program" source.rs --output pipe 2> err || status=$?
+wait
+wants "$status" 0 ''
+same out whole
+[ -p pipe ] || fail "a pipe was replaced"
+
+# Faults write nothing.
+printf old > kept.rs
+status=0
+"$program" faulty.rs --output kept.rs > out 2> err || status=$?
+[ "$status" = 1 ] && [ ! -s out ] && grep -q '^error\[TokenForm\]' err || fail "faults end with status $status"
+printf old | same kept.rs -
+
+# Standard output is full, closed, read slowly, or read no more.
+status=0
+"$program" source.rs > /dev/full 2> err || status=$?
+wants "$status" 3 'error: cannot write standard output'
+status=0
+"$program" source.rs >&- 2> err || status=$?
+wants "$status" 3 'error: cannot write standard output'
+"$program" source.rs 2> err | { sleep 0.2; cat; } > out
+same out whole
+: < pipe &
+exec 3> pipe
+wait
+status=0
+"$program" source.rs >&3 2> err || status=$?
+exec 3>&-
+wants "$status" 3 ''
+
+# Nobody reads the messages: the status stays.
+: > err
+for case in '1 faulty.rs' '3 none.rs' '2 source.rs more.rs' '2 --check source.rs' '2 --shpe'; do
+    status=0
+    # shellcheck disable=SC2086
+    "$program" ${case#* } > out 2> /dev/full || status=$?
+    wants "$status" "${case%% *}" ''
+done
+
+# Messages have colors on a terminal.
+if command -v script > /dev/null; then
+    script -qec "'$program' faulty.rs" /dev/null > out || true
+    grep -q $'\x1b\\[1;31m' out || fail "no colors on a terminal"
+    script -qec "'$program' faulty.rs --color never" /dev/null > out || true
+    ! grep -q $'\x1b' out || fail "colors though none are asked for"
+    met=$((met + 2))
+fi
+echo "files_logos_cli: links, permissions and devices stay, and results are whole"
+echo "$met passed, 0 failed"

@@ -1,0 +1,197 @@
+"""Makes sources, reads each with the plain reader, runs the program on it, and compares what both find.
+
+The words are the program's path and, where just these sources are wanted, their seeds.
+"""
+
+import os
+import subprocess
+import sys
+import tempfile
+from collections import Counter
+from concurrent.futures import ProcessPoolExecutor
+from itertools import zip_longest
+from random import Random
+from byte_sets import partners, runs_of_categories
+from charts import judge_chart
+from faults import SHAPES, TEXTS
+from inputs import make_input
+from kept import KEPT
+from matching import TooLarge
+from patterns import FORMS, LOOKS, MET
+from reading import Reading
+from small_sets import SmallSetMaker, inputs_of_patterns, inputs_of_words
+from sources import SourceMaker
+
+SOURCES, INPUTS = 600, 2
+# Seeds from here on make small sets of patterns, and then of words; so many of their inputs stand alone.
+PATTERNS, WORDS, ALONE = range(1000, 1700), range(2000, 2200), 8
+# So many charts are met of each look at least, and so many accepted sources of each form.
+CHARTS, ACCEPTED = 20, 2
+# The share of pieces that are wrong, by turns.
+WRONG = [0, 0.1, 0.25, 0, 0.5]
+
+
+class Difference(Exception):
+    """What the program answered in place of what the reader found."""
+
+
+def run(program, room, *words):
+    """The status, the lines of output and those of complaints."""
+    done = subprocess.run([program, *words], cwd=room, capture_output=True, check=False)
+    return done.returncode, done.stdout.decode().split('\n'), done.stderr.decode().split('\n')
+
+
+def is_alike(line, found):
+    """Whether a line is the wanted one. What `Regex` says behind its place is left open."""
+    return line == found or ' Regex: ' in line and found.startswith(line)
+
+
+def expect(what, wanted, found):
+    """Raises where the answer is another one, with the first lines that differ."""
+    if wanted[0] != found[0]:
+        raise Difference(f'{what}: status {found[0]} in place of {wanted[0]}, with {found[1][:1]} and {found[2]}\nwanted {wanted[2]}')
+    for lines, others in zip(wanted[1:], found[1:]):
+        for line, other in zip_longest(lines, others):
+            if line is None or other is None or not is_alike(line, other):
+                raise Difference(f'{what}\nwanted {line}\nfound  {other}')
+
+
+def ended(lines):
+    """Lines as they stand in a text where each has its end."""
+    return list(lines) + ['']
+
+
+def write(path, content):
+    with open(path, 'wb') as file:
+        file.write(content)
+
+
+def compare(program, room, source, reading, inputs):
+    """Compares all that the program says of a source and these inputs, which it lexes in both shapes by turns. Gives the number of comparisons."""
+    write(f'{room}/source', source.encode())
+    faults = reading.lines()
+    if faults:
+        expect('mermaid', (1, [''], ended(faults)), run(program, room, 'mermaid', 'source'))
+        return 1
+    compare_chart(reading, run(program, room, 'mermaid', 'source'))
+    for number, text in enumerate(inputs):
+        write(f'{room}/input', text)
+        items, wanted = reading.items(text), None
+        if items is None:
+            wanted = 1, [''], [f'NotUtf8 {valid_up_to(text)}', '']
+        shape = ['--shape', 'tailcall'] if number % 2 else []
+        expect(f'lex of {text}', wanted or (0, ended(items), ['']), run(program, room, 'lex', 'source', 'input', *shape))
+    return len(inputs) + 1
+
+
+def compare_chart(reading, found):
+    """Compares the chart: where no pattern looks it is the one that the reader draws, and else one that fits all that the leaves match."""
+    if not reading.looks():
+        return expect('mermaid', (0, ended(reading.matching.chart()), ['']), found)
+    expect('mermaid', (0, found[1], ['']), found)
+    wrong = judge_chart(found[1][:-1], reading.matching, [leaf.tree for leaf in reading.leaves])
+    if wrong:
+        raise Difference(f'mermaid: {wrong}\n' + '\n'.join(found[1]))
+    return None
+
+
+def valid_up_to(text):
+    try:
+        text.decode()
+    except UnicodeDecodeError as fault:
+        return fault.start
+    return len(text)
+
+
+def made_small(seed):
+    """The small set of a seed, what the reader finds in it, and its inputs."""
+    random = Random(seed)
+    for _ in range(12):
+        maker = SmallSetMaker(random, seed)
+        source = maker.words() if seed in WORDS else maker.patterns()
+        MET.clear()
+        try:
+            reading = Reading(source)
+        except TooLarge:
+            continue
+        if seed in WORDS:
+            return source, reading, inputs_of_words(random, ALONE)
+        return source, reading, inputs_of_patterns(random, ALONE, reading.utf8)
+    raise TooLarge(f'seed {seed}')
+
+
+def made(seed):
+    """The source of a seed, what the reader finds in it, and inputs. One that is meant to be right is made anew while it is not."""
+    if seed >= PATTERNS.start:
+        return made_small(seed)
+    random = Random(seed)
+    wrong = WRONG[seed % len(WRONG)]
+    for left in range(11, -1, -1):
+        source = SourceMaker(random, wrong, seed).source()
+        MET.clear()
+        try:
+            reading = Reading(source)
+        except TooLarge:
+            continue
+        if wrong or not reading.faults.list or not left:
+            return source, reading, [make_input(reading.leaves, random, reading.utf8) for _ in range(0 if reading.faults.list else INPUTS)]
+    raise TooLarge(f'seed {seed}')
+
+
+def judge(program, seed):
+    """What came of a source: its faults' codes, the number of comparisons, the forms of an accepted one, and the difference or None."""
+    source, reading, inputs = made(seed)
+    forms = [] if reading.faults.list else [form for form in FORMS if MET[form]]
+    with tempfile.TemporaryDirectory() as room:
+        try:
+            compared = compare(program, room, source, reading, inputs)
+        except Difference as difference:
+            return [], 0, [], f'seed {seed}: {difference}\n{source}'
+    return [code for code, _, _ in reading.faults.list], compared, forms, None
+
+
+def judge_kept(program):
+    """Compares the program with the lines that are written down, and the reader with them too."""
+    with tempfile.TemporaryDirectory() as room:
+        for source, faults in KEPT:
+            write(f'{room}/source', source.encode())
+            found = run(program, room, 'mermaid', 'source')
+            expect(source, (1, [''], ended(faults)), found)
+            expect(f'{source} as the reader has it', (1, [''], ended(Reading(source).lines())), found)
+
+
+def main(program, seeds):
+    try:
+        judge_kept(program)
+    except Difference as difference:
+        print(f'generated: {difference}', file=sys.stderr)
+        return 1
+    codes, forms, refused, accepted, compared = Counter(), Counter(), 0, 0, 0
+    # What is looked up once for all sources is there before the workers are.
+    partners()
+    runs_of_categories()
+    with ProcessPoolExecutor(len(os.sched_getaffinity(0))) as workers:
+        for found, comparisons, met, difference in workers.map(judge, [program] * len(seeds), seeds, chunksize=4):
+            if difference:
+                workers.shutdown(cancel_futures=True)
+                print(f'generated: {difference}', file=sys.stderr)
+                return 1
+            codes.update(found)
+            forms.update(met)
+            refused, accepted, compared = refused + bool(found), accepted + (not found), compared + comparisons
+    print('generated:', ', '.join(f'{code} {codes[code]}' for code in sorted(codes)))
+    print('generated: accepted sources with', ', '.join(f'{form} {forms[form]}' for form in FORMS))
+    missed = [code for code in (*TEXTS, *SHAPES) if code not in codes]
+    missed += [form for form in FORMS if forms[form] < (CHARTS if form in LOOKS else ACCEPTED)]
+    if missed and len(seeds) == len(ALL):
+        print('generated: too few sources had', ', '.join(missed), file=sys.stderr)
+        return 1
+    print(f'generated: {refused} sources are refused and {accepted} accepted as the plain reader has it, in {compared} comparisons')
+    print(f'{refused + accepted} passed, 0 failed')
+    return 0
+
+
+ALL = [*range(SOURCES), *PATTERNS, *WORDS]
+
+if __name__ == '__main__':
+    sys.exit(main(sys.argv[1], [int(seed) for seed in sys.argv[2:]] or ALL))

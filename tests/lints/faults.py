@@ -1,0 +1,114 @@
+#!/usr/bin/env python3
+"""Runs each source of docs/FAULTS.md, and compares what is printed with the lines below it.
+
+  faults.py [PROGRAM]
+
+PROGRAM is `logos` as the gate has built it, if it is not given. Every code of the library needs an entry, and every kind a row of its table.
+Every code also needs a row of `logos_cli` that is named after it and shows how the program prints it. The last line is
+`faults: N passed, M failed`."""
+import os
+import re
+import subprocess
+import sys
+import tempfile
+
+ROOT = os.path.dirname(os.path.dirname(os.path.dirname(os.path.realpath(__file__))))
+PAGE = f"{ROOT}/docs/FAULTS.md"
+SHOWN = f"{ROOT}/tests/rows/logos_cli/faults.rows"
+# The enums that list the codes and kinds, each with the level of its names on the page.
+CODES = f"{ROOT}/crates/logos_token/src/error/fault_code.rt", "FaultCode"
+KINDS = [(f"{ROOT}/crates/logos_lexeme/src/lexeme.rt", "LexicalKind"), (f"{ROOT}/crates/logos_pattern_tokens/src/error.rt", "Kind")]
+
+
+def variants(path, name):
+    """Returns the names of an enum's variants."""
+    with open(path, encoding="utf-8") as source:
+        body = re.search(rf"pub enum {name} \{{\n(.*?)\n\}}", source.read(), re.S)
+    return re.findall(r"^    ([A-Z]\w*)", body.group(1), re.M) if body else []
+
+
+def written_out(source):
+    """Returns the source with each `⟨a×n⟩` as n times a."""
+    return re.sub(r"⟨(.+?)×(\d+)⟩", lambda it: it.group(1) * int(it.group(2)), source)
+
+
+def printed(program, room, source, given):
+    """Returns what the program prints for the source: its items of the input, or else its faults."""
+    with open(f"{room}/enum.rs", "w", encoding="utf-8") as out:
+        out.write(source)
+    words = ["gen", "enum.rs"]
+    if given is not None:
+        with open(f"{room}/input", "w", encoding="utf-8") as out:
+            out.write(given)
+        words = ["lex", "enum.rs", "input"]
+    ran = subprocess.run([program, *words], cwd=room, capture_output=True, text=True, check=False)
+    return ran.stderr if given is None else ran.stdout + ran.stderr
+
+
+def entries(page):
+    """Yields the heading of each entry, its source, its input or None, and the lines wanted."""
+    heading = source = given = None
+    for mark, name, body in re.findall(r"^(?:### ([^\n]+)|```(\w+)\n(.*?)^```)$", page, re.M | re.S):
+        if mark:
+            heading, source, given = mark, None, None
+        elif name == "rust":
+            source = written_out(body.removesuffix("\n"))
+        elif name == "input":
+            given = body
+        elif name == "text" and source is not None:
+            yield heading, source, given, body
+            source = given = None
+
+
+def rows(page):
+    """Yields the name of each kind in the tables, a source that has it, and the beginning of the line wanted."""
+    for kind, shown, place in re.findall(r"^\| `(\w+)` \| `+ ?(.+?) ?`+ \| ([\d.]+) \|", page, re.M):
+        if ".." in place:
+            yield kind, shown, f"{place} Lexical: unreadable source: {kind}"
+        else:
+            yield kind, f'enum E {{ #[regex(r"{shown}")] A }}', f"17..{len(shown) + 20} Regex: regex fault at byte {place}: {kind}"
+
+
+def shown():
+    """Returns the codes that a row of `logos_cli` shows: it is named after the code, and its messages have a line for it."""
+    with open(SHOWN, encoding="utf-8") as it:
+        rows = it.read().split("\n=== the fault ")[1:]
+    found = set()
+    for row in rows:
+        code, _, rest = row.partition("\n")
+        messages = rest.partition("\n--- stderr\n")[2]
+        # The place of an earlier text is a note of the fault in front of it.
+        line = r"^note: Previous" if code == "Previous" else rf"^error\[{code}\]: "
+        if re.search(line, messages, re.M):
+            found.add(code)
+    return found
+
+
+def main():
+    program = os.path.realpath((sys.argv[1:] or [f"{ROOT}/crates/logos_program/out/logos_program"])[0])
+    if not os.access(program, os.X_OK):
+        print(f"faults: the program {program} is missing\nfaults: 0 passed, 1 failed")
+        sys.exit(1)
+    with open(PAGE, encoding="utf-8") as it:
+        page = it.read()
+    asked = [*entries(page), *[(kind, source, None, line + "\n") for kind, source, line in rows(page)]]
+    printed_by_cli = shown()
+    met = {it[0].strip("`") for it in asked}
+    wanted = [*variants(*CODES), *[name for kind in KINDS for name in variants(*kind)]]
+    failed = [f"{name} has no entry" for name in wanted if name not in met]
+    failed += [f"{name} has no row in tests/rows/logos_cli/faults.rows" for name in variants(*CODES) if name not in printed_by_cli]
+    passed = 0
+    with tempfile.TemporaryDirectory() as room:
+        for heading, source, given, lines in asked:
+            found = printed(program, room, source, given)
+            if found == lines:
+                passed += 1
+            else:
+                failed.append(f"{heading}: wanted\n{lines}but this is printed:\n{found}")
+    for line in failed:
+        print(f"faults: {line}")
+    print(f"faults: {passed} passed, {len(failed)} failed")
+    sys.exit(1 if failed or not passed else 0)
+
+
+main()

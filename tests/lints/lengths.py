@@ -1,0 +1,100 @@
+#!/usr/bin/env python3
+"""Counts the lines of code of each function and each file. Contracts, ghost lines, comments and blank lines are not code.
+
+  lengths.py           prints for each crate how many lines its longest function and its longest file have
+  lengths.py --names   prints the ten longest functions of each crate too
+
+A function has at most 40 lines, from its name to its last brace, and a file at most 400. A block of `ghost use` lines, at the top of a file or of an `impl`,
+has at most four. Each bound counts once for each crate; the blocks of the crates in `WALLS_NOT_YET` are only counted. All blocks together have at most 900
+lines, once no crate is left there. The last line is `lengths: N passed, M failed`."""
+import glob
+import os
+import re
+import sys
+
+ROOT = os.path.dirname(os.path.dirname(os.path.dirname(os.path.realpath(__file__))))
+OF_A_FUNCTION = 40
+OF_A_FILE = 400
+OF_A_BLOCK = 4
+OF_ALL_BLOCKS = 900
+# The crates whose blocks of `ghost use` lines are still longer.
+WALLS_NOT_YET = """
+logos_automaton logos_byte_class logos_cli logos_commands logos_places logos_reduce logos_report logos_show logos_derive logos_evidence
+logos_expansion logos_host logos_layout logos_messages logos_pieces logos_placeholder logos_spelling logos_written logos_search
+""".split()
+GHOST = re.compile(r"\s*(ghost\b|ensures\b|requires\b|invariant\b|decreases\b|#!?\[tactic)")
+FUNCTION = re.compile(r"\s*(?:pub(?:\([a-z]+\))? )?(?:const )?(?:unsafe )?fn (\w+)")
+
+
+def lines_of_code(path):
+    """Yields the lines of a file that are code. Braces of contracts can stand on several lines."""
+    depth = 0
+    with open(path, encoding="utf-8") as lines:
+        for line in lines:
+            if depth > 0:
+                depth += line.count("{") - line.count("}")
+            elif GHOST.match(line):
+                depth = max(0, line.count("{") - line.count("}"))
+            elif line.strip() and not line.strip().startswith("//"):
+                yield line.rstrip("\n")
+
+
+def functions(lines):
+    """Yields the name and the number of lines of each function. As `rt fmt` lays files out, its last brace stands as far right as its first word."""
+    for at, line in enumerate(lines):
+        found = FUNCTION.match(line)
+        if not found:
+            continue
+        margin = line[: len(line) - len(line.lstrip())]
+        for end in range(at, len(lines)):
+            if lines[end].startswith(margin + "}") or (end == at and line.endswith(("}", ";"))):
+                yield found[1], end - at + 1
+                break
+
+
+def blocks(path):
+    """Yields the number of the first line of each block of `ghost use` lines of a file, and how many lines it has."""
+    count = 0
+    with open(path, encoding="utf-8") as lines:
+        for number, line in enumerate([*lines, ""], 1):
+            if line.strip().startswith("ghost use "):
+                count += 1
+            elif count:
+                yield number - count, count
+                count = 0
+
+
+def main():
+    names = sys.argv[1:] == ["--names"]
+    if sys.argv[1:] and not names:
+        sys.exit(__doc__)
+    passed, failed, of_blocks = 0, [], 0
+    for folder in [*sorted(glob.glob(f"{ROOT}/crates/*/src")), f"{ROOT}/tests/calls/src"]:
+        crate = os.path.relpath(folder, ROOT).removeprefix("crates/").removesuffix("/src")
+        files = {path: list(lines_of_code(path)) for path in sorted(glob.glob(f"{folder}/**/*.rt", recursive=True))}
+        found = sorted(((count, name, path) for path, lines in files.items() for name, count in functions(lines)), reverse=True)
+        longest = max((len(lines), path) for path, lines in files.items())
+        print(f"{crate:22} {len(found):5} functions, the longest {found[0][0] if found else 0:3}; the longest file {longest[0]:4}")
+        if names:
+            print("".join(f"    {count:3} {name} ({os.path.relpath(path, folder)})\n" for count, name, path in found[:10]), end="")
+        long = [f"{crate}: {name} in {os.path.relpath(path, folder)} has {count} lines" for count, name, path in found if count > OF_A_FUNCTION]
+        walls = [(path, *block) for path in files for block in blocks(path)]
+        of_blocks += sum(count for _, _, count in walls)
+        high = [f"{os.path.relpath(path, ROOT)}:{line}: {count} lines of ghost use" for path, line, count in walls if count > OF_A_BLOCK]
+        if high and crate in WALLS_NOT_YET:
+            high = []
+        elif crate in WALLS_NOT_YET:
+            print(f"lengths: {crate} has no long block of ghost use left, and leaves the list WALLS_NOT_YET")
+        for faults in high, long, [f"{os.path.relpath(path, ROOT)} has {len(lines)} lines" for path, lines in files.items() if len(lines) > OF_A_FILE]:
+            passed += not faults
+            failed += faults
+    print(f"all blocks of ghost use: {of_blocks} lines")
+    if not WALLS_NOT_YET and of_blocks > OF_ALL_BLOCKS:
+        failed.append(f"all blocks of ghost use have {of_blocks} lines")
+    for line in failed:
+        print(f"lengths: {line}")
+    print(f"lengths: {passed} passed, {len(failed)} failed")
+    sys.exit(1 if failed or not passed else 0)
+
+
+main()

@@ -1,0 +1,101 @@
+#!/usr/bin/env python3
+"""Looks at the pages: their widths and lengths, and whether what they name is there.
+
+  pages.py
+
+A line of prose has at most 100 columns; rows of tables, blocks of code and lines of one long word are left out. `LINES`
+and `WORDS` say how long a page may be. Each path of a crate in backticks has to be there, and each function of the walk
+in `docs/MAP.md` has to stand in its file, once on that page. Each page counts as one, and so does each path and each
+function. The last line is `pages: N passed, M failed`."""
+import os
+import re
+import subprocess
+import sys
+
+ROOT = os.path.dirname(os.path.dirname(os.path.dirname(os.path.realpath(__file__))))
+WIDTH = 100
+# With fewer that pass, pages or rows were lost, or are no longer read.
+LEAST = 200
+# The most lines of a page.
+LINES = {"README.md": 110, "docs/MAP.md": 200}
+# The most functions of the walk.
+WALK = 48
+
+
+def pages():
+    """Returns the pages of the repository."""
+    listed = subprocess.run(["git", "ls-files", "--cached", "--others", "--exclude-standard", "*.md"], cwd=ROOT, stdout=subprocess.PIPE,
+                            text=True, check=True)
+    return [path for path in listed.stdout.split("\n") if path and os.path.exists(f"{ROOT}/{path}") and "/must-fail/" not in path]
+
+
+def prose(text):
+    """Yields the number and the text of each line outside of tables and of blocks of code."""
+    fenced = False
+    for number, line in enumerate(text.split("\n"), 1):
+        if line.lstrip().startswith("```"):
+            fenced = not fenced
+        elif not fenced and not line.startswith("|"):
+            yield number, line
+
+
+def width_faults(path, text):
+    """Yields the lines of a page that are too wide."""
+    for number, line in prose(text):
+        if len(line) > WIDTH and " " in line.strip().lstrip("-*# "):
+            yield f"{path}:{number}: {len(line)} columns"
+
+
+def length_faults(path, text):
+    """Yields what is too long about a page."""
+    lines = text.count("\n")
+    if lines > LINES.get(path, lines):
+        yield f"{path}: {lines} lines, at most {LINES[path]}"
+
+
+def path_faults(path, text):
+    """Yields, for each path of a crate that a page names, the fault if it is not there, and else None."""
+    for name in sorted(set(re.findall(r"`((?:crates/)?logos_\w+/[\w./]+)`", text))):
+        place = f"{ROOT}/crates/{name.removeprefix('crates/')}"
+        if not re.search(r"/out(/|$)", place):
+            yield None if os.path.exists(place) else f"{path}: {name} is not there"
+
+
+def walk_faults(text):
+    """Yields, for each function of the walk, the fault if it is not in its file, and else None."""
+    walk = text.split("## From `main` to the first item")[1].split("\n## ")[0]
+    count = 0
+    for names, place in re.findall(r"^\| (`[^|]+`) \| `([^`]+)` \|$", walk, re.M):
+        with open(f"{ROOT}/crates/{place}", encoding="utf-8") as it:
+            code = it.read()
+        for name in re.findall(r"`(\w+)`", names):
+            count += 1
+            yield None if re.search(rf"\bfn {name}\b", code) else f"docs/MAP.md: {place} has no function {name}"
+    if not 0 < count <= WALK:
+        yield f"docs/MAP.md: the walk has {count} functions, at most {WALK}"
+
+
+def main():
+    if sys.argv[1:]:
+        sys.exit(__doc__)
+    passed, faults = 0, []
+    for path in pages():
+        with open(f"{ROOT}/{path}", encoding="utf-8") as it:
+            text = it.read()
+        found = [*width_faults(path, text), *length_faults(path, text)]
+        passed += not found
+        faults += found
+        for fault in path_faults(path, text):
+            passed += fault is None
+            faults += [fault] if fault else []
+        if path == "docs/MAP.md":
+            for fault in walk_faults(text):
+                passed += fault is None
+                faults += [fault] if fault else []
+    for fault in faults:
+        print(f"pages: {fault}")
+    print(f"pages: {passed} passed, {len(faults)} failed")
+    sys.exit(1 if faults or passed < LEAST else 0)
+
+
+main()

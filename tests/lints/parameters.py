@@ -1,0 +1,96 @@
+#!/usr/bin/env python3
+"""Counts the functions with many parameters, `self` included.
+
+  parameters.py           prints for each crate how many functions it has, and how many of them have five parameters or more and six
+  parameters.py --names   prints those functions too
+
+No function may have more than six parameters, no crate more than ten functions with five or more, and the library as a whole no more than
+four in a hundred. The program of tests/calls, which only answers rows, is not counted in the whole. Each bound that holds for a crate counts as one, and so does
+that of the whole. The last line is `parameters: N passed, M failed`."""
+import glob
+import os
+import re
+import sys
+
+ROOT = os.path.dirname(os.path.dirname(os.path.dirname(os.path.realpath(__file__))))
+MANY = 5
+MOST = 6
+IN_A_CRATE = 10
+IN_A_HUNDRED = 4
+TESTS = "tests/calls"
+
+
+def after_generics(text, at):
+    """Returns where the generic parameters end that begin there, or the same place where none do."""
+    depth = 0
+    while at < len(text):
+        depth += (text[at] == "<") - (text[at] == ">" and text[at - 1] != "-")
+        if depth == 0:
+            return at + (text[at] == ">")
+        at += 1
+    return at
+
+
+def parameters(text, at):
+    """Returns how many parameters the list has whose parenthesis opens there."""
+    depth = angles = count = 0
+    is_begun = False
+    for at in range(at, len(text)):
+        c = text[at]
+        depth += (c in "([{") - (c in ")]}")
+        angles += (c == "<") - (c == ">" and text[at - 1] != "-")
+        if depth == 0:
+            break
+        if c == "," and depth == 1 and angles == 0:
+            count += is_begun
+            is_begun = False
+        elif not c.isspace() and not (c == "(" and depth == 1):
+            is_begun = True
+    return count + is_begun
+
+
+def functions(path):
+    """Yields the name of each function of a file, and its number of parameters."""
+    with open(path, encoding="utf-8") as it:
+        text = re.sub(r"//[^\n]*", "", it.read())
+    for found in re.finditer(r"\bfn\s+(\w+)", text):
+        at = after_generics(text, found.end())
+        if at < len(text) and text[at] == "(":
+            yield found[1], parameters(text, at)
+
+
+def main():
+    names = sys.argv[1:] == ["--names"]
+    if sys.argv[1:] and not names:
+        sys.exit(__doc__)
+    passed, failed = 0, []
+    whole = whole_many = 0
+    for folder in [*sorted(glob.glob(f"{ROOT}/crates/*/src")), f"{ROOT}/{TESTS}/src"]:
+        crate = os.path.relpath(folder, ROOT).removeprefix("crates/").removesuffix("/src")
+        found = [it for path in sorted(glob.glob(f"{folder}/**/*.rt", recursive=True)) for it in functions(path)]
+        many = [it for it in found if it[1] >= MANY]
+        six = sum(count >= MOST for _, count in many)
+        print(f"{crate:22} {len(found):5} functions  {MANY} or more {len(many):3}  {MOST} {six:3}")
+        if names:
+            print("".join(f"    {name} {count}\n" for name, count in many), end="")
+        for bound in (
+            max((count for _, count in found), default=0) <= MOST or f"{crate} has a function with more than {MOST} parameters",
+            len(many) <= IN_A_CRATE or crate == TESTS or f"{crate} has {len(many)} functions with {MANY} parameters or more",
+        ):
+            passed += bound is True
+            failed += [] if bound is True else [bound]
+        whole += len(found) * (crate != TESTS)
+        whole_many += len(many) * (crate != TESTS)
+    share = 100 * whole_many / max(whole, 1)
+    print(f"the library: {whole} functions, {whole_many} with {MANY} parameters or more, {share:.1f} in a hundred")
+    if share <= IN_A_HUNDRED:
+        passed += 1
+    else:
+        failed.append(f"{share:.1f} in a hundred functions have {MANY} parameters or more")
+    for line in failed:
+        print(f"parameters: {line}")
+    print(f"parameters: {passed} passed, {len(failed)} failed")
+    sys.exit(1 if failed or not whole else 0)
+
+
+main()

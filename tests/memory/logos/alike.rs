@@ -1,0 +1,1 @@
+enum T { #[token("z")] Z, #[regex("[a-z]")] L }

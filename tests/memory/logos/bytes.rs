@@ -1,0 +1,2 @@
+#[logos(utf8 = false)]
+enum T { #[regex(b"\xFF+")] A }

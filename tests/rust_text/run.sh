@@ -1,0 +1,204 @@
+#!/usr/bin/env bash
+# Compiles the Rust texts that `logos gen` prints, and those that `logos_cli --shape tables` does, and compares what they find with `logos lex`.
+#
+# Each source of tests/rust_text/sources, and some from elsewhere in the repository, is stripped, and printed in all three shapes; and it stands
+# there as it is, for the derive macro. rustc compiles all texts at once over runtime/rust, and what comes of each input of
+# tests/rust_text/inputs is compared, item by item; a source with inputs of its own in tests/rust_text/own, NAME or NAME.ANYTHING, reads these
+# alone. The lines of tests/rust_text/rows are small sources: a name, an enum, and inputs, parted by tabs. A source has at most one attribute
+# on a variant, so that a variant's place gives its leaf, and each skip on a line of its own. A source with callbacks, values or parameters may
+# have more; beside it stands a file of this name in tests/rust_text/beside, with the Rust items that it names, the type of its tokens and the
+# leaf of each. Its callbacks keep what they match, as `logos lex` does. Derives that rustc does not know do nothing.
+#
+# Callbacks of skips, callbacks that refuse what they match or leave it out, and the one that makes errors are shown too. Of a source with a
+# file of its name in tests/rust_text/skips the skips stand in `skip(..)`, and `logos lex` is asked with each of them as a variant in front of the
+# others, so that it gives all matches in order, by the same leaves. The file, in sed's language, says what becomes of these lines: `token`
+# where a skip's callback has to say that it was called, `made` in front of `error` where the callback that makes errors has to say so. Each prints
+# where the lexer stands, and `told`, in the file beside, looks at the value of each error.
+#
+# The tables of a source have to find in each beginning of an input, up to 512 bytes of it, what its code finds there.
+#
+# An input that is not UTF-8 has to be refused by each source that does not read bytes, and is then compared no further. Which inputs and
+# sources these are, and how many comparisons and refusals there have to be, is stated here.
+#
+# It needs rustc, and the programs as `rt ci` leaves them in crates/logos_program/out and crates/logos_cli/out, or the two arguments.
+set -euo pipefail
+
+comparisons=768
+refusals=120
+# The inputs that are not UTF-8, with the length of their longest beginning that is, and the sources that read bytes.
+declare -A not_utf8=([bytes]=2 [marks]=31 [records]=0 [program]=97)
+of_bytes=' bytes marks program records '
+root=$(cd "$(dirname "${BASH_SOURCE[0]}")/../.." && pwd)
+here=$root/tests/rust_text
+logos=$(realpath "${1:-$root/crates/logos_program/out/logos_program}")
+cli=$(realpath "${2:-$root/crates/logos_cli/out/logos_cli}")
+shapes=(state_machine tailcall tables derived)
+. "$root/tests/kept.sh"
+room=$(mktemp -d)
+trap 'rm -rf "$room"' EXIT
+exec 3>&1
+compared=0
+refused=0
+
+fail() {
+    echo "rust_text: $1" >&2
+    echo "$((compared + refused)) passed, 1 failed" >&3
+    exit 1
+}
+
+# Lays out all sources, and the inputs of each, in two folders.
+lay_out() {
+    local source name row n
+    mkdir "$room/sources" "$room/inputs"
+    cp "$here"/sources/*.rs "$root"/bench/lexer/rules/{json,log,program,prose}.rs "$root"/docs/guide/{color,expr}.rs "$room/sources"
+    cp "$root/crates/logos_program/data/t.rs" "$room/sources/first_enum.rs"
+    for source in "$room"/sources/*.rs; do
+        name=$(basename "$source" .rs)
+        mkdir "$room/inputs/$name"
+        cp "$here/own/$name"{,.*} "$room/inputs/$name" 2> /dev/null \
+            || [ -n "$(ls "$room/inputs/$name")" ] || cp "$here"/inputs/* "$room/inputs/$name"
+    done
+    while IFS=$'\t' read -r -a row; do
+        mkdir "$room/inputs/${row[0]}"
+        printf '%s\n' "${row[1]}" > "$room/sources/${row[0]}.rs"
+        for ((n = 2; n < ${#row[@]}; n++)); do
+            printf '%b' "${row[n]}" > "$room/inputs/${row[0]}/$n"
+        done
+    done < "$here/rows"
+}
+
+# Prints the source with each skip as a variant, in front of the others.
+with_skips_shown() {
+    awk '/^#\[logos\(skip\(/ { sub(/^#\[logos\(skip/, "#[regex"); sub(/\)\)\]$/, ")]"); shown = shown "    " $0 " Skip" count++ ",\n"; next }
+         { print }
+         /^enum / { printf "%s", shown }' "$1"
+}
+
+# Prints the function that lexes an input by the text of a source.
+lines_function() {
+    local name=$1 source=$room/sources/$1.rs enum skips told='|_, _| ()'
+    [ ! -e "$here/skips/$name.sed" ] || told=told
+    if [ -e "$here/beside/$name.rs" ]; then
+        cat "$here/beside/$name.rs"
+        echo "pub fn lines(input: &[u8]) { super::lines::<Tokens>(super::Input::of(input), leaf, $told) }"
+        return
+    fi
+    enum=$(sed -n 's/^\(.* \)\{0,1\}enum \([A-Za-z]*\) {.*/\2/p' "$source")
+    skips=$(grep -c '^#\[logos(skip' "$source" || true)
+    if [ "$name" = nothing ]; then
+        echo "pub fn lines(input: &[u8]) { super::lines::<$enum>(super::Input::of(input), |_, token| match token {}, $told) }"
+    else
+        echo "pub fn lines(input: &[u8]) { super::lines::<$enum>(super::Input::of(input), |_, token| token as usize + $skips, $told) }"
+    fi
+}
+
+# Prints a source without what belongs to the derive, and its lexer in a shape.
+lexer_text() {
+    local source=$1 shape=$2 name
+    name=$(basename "$source" .rs)
+    if [ "$shape" = derived ]; then
+        grep -q 'derive(.*Logos' "$source" || echo '#[derive(::logos::Logos)]'
+        sed '/derive(/s/\([( ]\)Logos/\1::logos::Logos/' "$source"
+        return
+    fi
+    if [ "$shape" = tables ]; then
+        { grep -q 'derive(.*Logos' "$source" || echo '#[derive(Logos)]'; cat "$source"; } > "$room/derived.rs"
+        "$cli" "$room/derived.rs" --shape tables || fail "$name is not expanded"
+        return
+    fi
+    "$logos" strip "$source" || fail "$name is not stripped"
+    "$logos" gen "$source" --shape "$shape" || fail "$name is not printed in the shape $shape"
+}
+
+# Has rustc compile the program.
+compile() {
+    rustc --edition 2021 --crate-type proc-macro --crate-name logos_derive --extern proc_macro -o "$room/liblogos_derive.so" "$root/runtime/derive/src/lib.rs"
+    rustc --edition 2021 --crate-type rlib --crate-name logos --cfg 'feature="export_derive"' --extern "logos_derive=$room/liblogos_derive.so" \
+        -o "$room/liblogos.rlib" "$root/runtime/rust/src/lib.rs"
+    rustc --edition 2021 --crate-type proc-macro --crate-name serde -o "$room/libserde.so" "$here/serde.rs"
+    LOGOS_CLI=$cli rustc --edition 2021 -L "$room" --extern "logos=$room/liblogos.rlib" --extern "serde=$room/libserde.so" -o "$room/rust_text" "$room/main.rs"
+}
+
+# Writes a program with a module for each source and shape, and an arm for each in `main`.
+write_program() {
+    local source name shape arms=
+    cp "$here/main.rs.in" "$room/main.rs"
+    for source in "$room"/sources/*.rs; do
+        name=$(basename "$source" .rs)
+        [ ! -e "$here/skips/$name.sed" ] || with_skips_shown "$source" > "$room/$name.shown.rs"
+        for shape in "${shapes[@]}"; do
+            { echo "mod ${name}_$shape {"
+              lexer_text "$source" "$shape"
+              lines_function "$name"
+              echo "}"; } >> "$room/main.rs"
+            arms+="(\"$name\", \"$shape\") => ${name}_$shape::lines(input), "
+        done
+    done
+    { echo "fn main() {"
+      echo "let words: Vec<String> = std::env::args().collect();"
+      echo "let whole = std::fs::read(&words[3]).expect(\"an input\");"
+      echo "for input in inputs(&whole, words.get(4)) {"
+      echo "match (words[1].as_str(), words[2].as_str()) { $arms _ => panic!(\"no such text\") }"
+      echo "} }"; } >> "$room/main.rs"
+}
+
+# Runs `logos lex`, and makes of its output the lines that an input has to give.
+ask_lexer() {
+    local name=$1 input=$2 shape=$3
+    [ "$shape" != tables ] && [ "$shape" != derived ] || shape=state_machine
+    if [ ! -e "$here/skips/$name.sed" ]; then
+        "$logos" lex "$room/sources/$name.rs" "$input" --shape "$shape" > "$room/wanted" 2> "$room/complaint"
+        return
+    fi
+    "$logos" lex "$room/$name.shown.rs" "$input" --shape "$shape" > "$room/matches" 2> "$room/complaint" || return
+    sed -f "$here/skips/$name.sed" "$room/matches" > "$room/wanted"
+}
+
+# Compares what the text of a source in a shape finds in an input with the lines of the lexer.
+compare() {
+    local name=$1 input=$2 shape=$3 what status=0
+    what="the $shape text of $name on $(basename "$input")"
+    ask_lexer "$name" "$input" "$shape" || status=$?
+    if [ -n "${not_utf8[$(basename "$input")]:-}" ] && [[ $of_bytes != *" $name "* ]]; then
+        if [ "$status" != 1 ] || [ "$(< "$room/complaint")" != "NotUtf8 ${not_utf8[$(basename "$input")]}" ]; then
+            fail "$what: status $status and $(< "$room/complaint"), where bytes that are not UTF-8 have to be refused"
+        fi
+        refused=$((refused + 1))
+        return
+    fi
+    [ "$status" = 0 ] || fail "$what: the lexer ends with status $status and $(< "$room/complaint")"
+    "$room/rust_text" "$name" "$shape" "$input" > "$room/found" || fail "$what: the compiled text does not end well"
+    if ! cmp -s "$room/wanted" "$room/found"; then
+        diff "$room/wanted" "$room/found" >&2 || true
+        fail "$what finds other items"
+    fi
+    [ "$shape" != tables ] || compare_cuts "$name" "$input"
+    compared=$((compared + 1))
+}
+
+# Compares what the tables of a source find in each beginning of an input with what its code finds there.
+compare_cuts() {
+    local name=$1 input=$2 kind=text shape
+    [[ $of_bytes != *" $name "* ]] || kind=bytes
+    for shape in state_machine tables; do
+        "$room/rust_text" "$name" "$shape" "$input" "$kind" > "$room/cuts.$shape" || fail "the $shape text of $name on beginnings of $(basename "$input") does not end well"
+    done
+    cmp -s "$room/cuts.state_machine" "$room/cuts.tables" || fail "the tables of $name find other items in a beginning of $(basename "$input")"
+    grep -q '^cut 0$' "$room/cuts.tables" || fail "$name on $(basename "$input") was not cut"
+}
+
+command -v rustc > /dev/null || fail "rustc is missing"
+lay_out
+write_program
+{ of_runtime "$root"; cat "$root"/runtime/derive/src/*.rs "$here/serde.rs" "$room/main.rs" "$cli"; } | kept "$room/rust_text" compile || fail "rustc refuses the printed texts"
+for inputs in "$room"/inputs/*; do
+    for input in "$inputs"/*; do
+        for shape in "${shapes[@]}"; do
+            compare "$(basename "$inputs")" "$input" "$shape"
+        done
+    done
+done
+[ "$compared $refused" = "$comparisons $refusals" ] \
+    || fail "$compared comparisons and $refused refusals, where $comparisons and $refusals are stated"
+echo "rust_text: the compiled texts find what the lexer finds, in $compared comparisons, and $refused inputs are refused"
+echo "$((compared + refused)) passed, 0 failed"

@@ -1,0 +1,6 @@
+enum T {
+    #[token("abcd")]
+    A,
+    #[token("a")]
+    B,
+}

@@ -1,0 +1,4 @@
+enum Jumps {
+    #[regex("a*(b|cd)")]
+    Jump,
+}

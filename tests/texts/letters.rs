@@ -1,0 +1,4 @@
+enum Letters {
+    #[regex("[a-z]+")]
+    Word,
+}

@@ -1,0 +1,6 @@
+enum Marks {
+    #[regex("a$", priority = 3)]
+    Last,
+    #[token("a")]
+    A,
+}

@@ -1,0 +1,5 @@
+#[logos(skip "[a-zA-Z]+")]
+enum Shared {
+    #[token(";")]
+    End,
+}

@@ -1,0 +1,22 @@
+enum Tables {
+    #[regex("0a*")]
+    Zero,
+    #[regex("1b*")]
+    One,
+    #[regex("2c*")]
+    Two,
+    #[regex("3d*")]
+    Three,
+    #[regex("4e*")]
+    Four,
+    #[regex("5f*")]
+    Five,
+    #[regex("6g*")]
+    Six,
+    #[regex("7h*")]
+    Seven,
+    #[regex("8i*")]
+    Eight,
+    #[regex("9[j-z]*")]
+    Nine,
+}

@@ -1,0 +1,4 @@
+#[logos(crate =)]
+#[logos(error =)]
+#[logos(extras =)]
+enum Nothing {}
