@@ -7,7 +7,7 @@ set -euo pipefail
 
 . "$(dirname "${BASH_SOURCE[0]}")/program.sh"
 copy_crates
-add_crate attributes "logos_definition logos_pattern logos_source logos_token"
+add_crate attributes "logos_definition logos_pattern logos_parser logos_token"
 python3 "$bench/attributes/source.py" pieces 1 > "$copy/source"
 build "$crate" "$copy/source"
 

@@ -8,7 +8,7 @@ set -euo pipefail
 
 . "$(dirname "${BASH_SOURCE[0]}")/program.sh"
 copy_crates
-add_crate reading "logos_item logos_token"
+add_crate reading "logos_enum logos_token"
 build "$crate" "enum E {" "A," "}" 1
 
 # NAME FRONT REPEATED BACK MOST: a row of the table.

@@ -1,1 +1,0 @@
-enum T { #[token("z")] Z, #[regex("[a-z]")] L }

@@ -1,2 +1,0 @@
-#[logos(utf8 = false)]
-enum T { #[regex(b"\xFF+")] A }

@@ -1,1 +1,0 @@
-#[logos(type T = Vec<T>)] enum E<T> { #[regex("x")] A(), #[regex("a*")] B(T) }

@@ -1,6 +1,0 @@
-enum T {
-    #[token("abcd")]
-    A,
-    #[token("a")]
-    B,
-}

@@ -1,4 +1,0 @@
-enum Jumps {
-    #[regex("a*(b|cd)")]
-    Jump,
-}

@@ -1,4 +1,0 @@
-enum Letters {
-    #[regex("[a-z]+")]
-    Word,
-}

@@ -1,6 +1,0 @@
-enum Marks {
-    #[regex("a$", priority = 3)]
-    Last,
-    #[token("a")]
-    A,
-}

@@ -1,5 +1,0 @@
-#[logos(skip "[a-zA-Z]+")]
-enum Shared {
-    #[token(";")]
-    End,
-}

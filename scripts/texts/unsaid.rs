@@ -1,4 +1,0 @@
-#[logos(crate =)]
-#[logos(error =)]
-#[logos(extras =)]
-enum Nothing {}

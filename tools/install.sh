@@ -1,0 +1,93 @@
+#!/usr/bin/env bash
+# Puts the programs `logos_cli`, `logos_show` and `logos` into PREFIX/bin: tools/install.sh [--proved | --built FOLDER] [--only NAME] [PREFIX]
+#
+# PREFIX is ~/.local if it is not given. Without --proved the programs are built from the same sources, optimised and unproved, in a few minutes:
+# without checks at run time where the crates are those of proved.sums, which the gate compares with what it proved, and with them else.
+# With --proved, every crate is proved first, which takes about an hour, and the programs are those that the gate builds. With --built they
+# are taken from a folder in which they were built. With --only just the program with this name is installed.
+set -euo pipefail
+
+root=$(cd "$(dirname "${BASH_SOURCE[0]}")/.." && pwd)
+proved=no
+built=
+names=(logos_cli logos_show logos)
+while [[ ${1-} = -* ]]; do
+    case $1 in
+        --proved) proved=yes ;;
+        --built)
+            shift
+            built=$(realpath -m "${1-}") ;;
+        --only)
+            shift
+            names=("${1-}") ;;
+        *)
+            echo 'usage: tools/install.sh [--proved | --built FOLDER] [--only NAME] [PREFIX]' >&2
+            exit 2 ;;
+    esac
+    shift
+done
+bin=${1:-$HOME/.local}/bin
+
+# Builds the program with this name.
+build() {
+    local name=$1 crate=$1 words=(--version)
+    case $name in
+        logos_cli | logos_show) ;;
+        logos) crate=logos_program words=(lex data/t.rs data/input) ;;
+        *)
+            echo "install: no program has the name $name" >&2
+            return 1 ;;
+    esac
+    if [ -n "$built" ]; then
+        cp "$built/$name" "$room/$name"
+    elif [ "$proved" = yes ]; then
+        (cd "$root/crates/$crate" && rt run -- "${words[@]}") > /dev/null
+        cp "$root/crates/$crate/out/$crate" "$room/$name"
+    elif ! python3 "$root/tools/build.py" "$room/$name" "$crate" > "$room/$name.said"; then
+        echo "install: this toolchain does not build $name without proofs as this script knows it." >&2
+        echo 'Build the proved programs in their place: bash tools/install.sh --proved' >&2
+        return 1
+    fi
+}
+
+# Builds the programs: those without proofs side by side.
+build_all() {
+    local name job jobs=() status=0
+    for name in "${names[@]}"; do
+        if [ "$proved" = yes ]; then
+            build "$name" || return 1
+        else
+            build "$name" &
+            jobs+=($!)
+        fi
+    done
+    for job in "${jobs[@]}"; do
+        wait "$job" || status=1
+    done
+    return "$status"
+}
+
+room=$(mktemp -d)
+trap 'rm -rf "$room"' EXIT
+build_all || exit 1
+mkdir -p "$bin"
+for name in "${names[@]}"; do
+    cp "$room/$name" "$bin/$name.part"
+    mv "$bin/$name.part" "$bin/$name"
+done
+
+if [ -x "$bin/logos_show" ]; then
+    echo 'The items of docs/guide/greeting, by docs/guide/words.rs:'
+    "$bin/logos_show" "$root/docs/guide/words.rs" "$root/docs/guide/greeting"
+fi
+if [ "$proved" = yes ]; then
+    echo "Installed in $bin, proved: ${names[*]}"
+elif [ -n "$built" ]; then
+    echo "Installed in $bin, as built in $built: ${names[*]}"
+else
+    echo "Installed in $bin: ${names[*]}. This build itself proved nothing: --proved does."
+    for name in "${names[@]}"; do
+        echo "  $name: $(tail -n 1 "$room/$name.said")"
+    done
+fi
+case :$PATH: in *:$bin:*) ;; *) echo "$bin is not on your PATH: add it, or call the programs by their paths." ;; esac
