@@ -100,7 +100,7 @@ prove_all() {
 
 : > "$room/failures"
 [ "$mode" = run ] || make_repository
-take first "$root/docs/guide/first.txt" < "$root/docs/guide/first.rt"
+take first "$root/docs/guide/first.txt" < "$root/docs/guide/first.rt.in"
 while read -r name words; do
     # (the words are parted by blanks)
     take "$name" "$root/examples/$name/data/expected" $words < "$root/examples/$name/main.rt.in"

@@ -71,7 +71,7 @@ def main():
     passed, failed, of_blocks = 0, [], 0
     for folder in [*sorted(glob.glob(f"{ROOT}/crates/*/src")), f"{ROOT}/tests/calls/src"]:
         crate = os.path.relpath(folder, ROOT).removeprefix("crates/").removesuffix("/src")
-        files = {path: list(lines_of_code(path)) for path in sorted(glob.glob(f"{folder}/**/*.rt", recursive=True))}
+        files = {path: list(lines_of_code(path)) for path in sorted(glob.glob(f"{folder}/**/*.rt*", recursive=True))}
         found = sorted(((count, name, path) for path, lines in files.items() for name, count in functions(lines)), reverse=True)
         longest = max((len(lines), path) for path, lines in files.items())
         print(f"{crate:22} {len(found):5} functions, the longest {found[0][0] if found else 0:3}; the longest file {longest[0]:4}")

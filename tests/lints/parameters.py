@@ -67,7 +67,7 @@ def main():
     whole = whole_many = 0
     for folder in [*sorted(glob.glob(f"{ROOT}/crates/*/src")), f"{ROOT}/{TESTS}/src"]:
         crate = os.path.relpath(folder, ROOT).removeprefix("crates/").removesuffix("/src")
-        found = [it for path in sorted(glob.glob(f"{folder}/**/*.rt", recursive=True)) for it in functions(path)]
+        found = [it for path in sorted(glob.glob(f"{folder}/**/*.rt*", recursive=True)) for it in functions(path)]
         many = [it for it in found if it[1] >= MANY]
         six = sum(count >= MOST for _, count in many)
         print(f"{crate:22} {len(found):5} functions  {MANY} or more {len(many):3}  {MOST} {six:3}")

@@ -100,7 +100,7 @@ def in_sentence(text):
 def in_code(path, listing):
     """Yields the line and the entry of each place in a file of a crate."""
     text = read(path)
-    form = RATTLE if path.endswith(".rt") else DEFINITION
+    form = RATTLE if path.endswith((".rt", ".rt.in")) else DEFINITION
     at = 0
     for it in [*form.finditer(text), None]:
         line = text.count("\n", 0, at) + 1
@@ -149,7 +149,7 @@ def units():
     found = {}
     for name in sorted(os.listdir(f"{ROOT}/crates")):
         found[name] = below(f"crates/{name}/src", ".rt") + below(f"crates/{name}/specs", ".antt")
-    found["tests/calls"] = below("tests/calls/src", ".rt")
+    found["tests/calls"] = below("tests/calls/src", ".rt.in")
     for path in ["README.md", *below("docs", ".md")]:
         found[path] = [path]
     return found
@@ -161,14 +161,14 @@ def places(path, listing):
         yield from in_page(path, listing)
     else:
         for name in path.split("/")[2:]:
-            yield from ((0, entry) for entry in in_name(name.rsplit(".", 1)[0], listing))
+            yield from ((0, entry) for entry in in_name(name.split(".")[0], listing))
         yield from in_code(path, listing)
 
 
 def comment_faults(path):
     """Yields the line of each comment of a file of a crate that has not the form, and why."""
     lines = read(path).split("\n")
-    mark = "//" if path.endswith(".rt") else "--"
+    mark = "//" if path.endswith((".rt", ".rt.in")) else "--"
     first = next((at for at, line in enumerate(lines) if not line.startswith("//!")), 0)
     if mark == "//" and 0 < first < len(lines) and lines[first]:
         yield first + 1, "no blank line after the first comment"
@@ -210,7 +210,7 @@ def main():
     if sys.argv[1:] and not show:
         sys.exit(__doc__)
     found = units()
-    listing = {name for paths in found.values() for path in paths if path.endswith(".rt") for name in LISTS_A_FAULT.findall(read(path))}
+    listing = {name for paths in found.values() for path in paths if path.endswith((".rt", ".rt.in")) for name in LISTS_A_FAULT.findall(read(path))}
     passed = failed = 0
     for unit, paths in found.items():
         counts = collections.Counter()

@@ -129,7 +129,7 @@ def of_runs(refuse, runs):
 
 def calls():
     """Returns the names in the table of the program of calls."""
-    with open(f"{HERE}/../calls/src/answering.rt", encoding="utf-8") as it:
+    with open(f"{HERE}/../calls/src/answering.rt.in", encoding="utf-8") as it:
         return re.findall(r'"([^"]+)"', re.search(r"^const CALLS.*?^\];", it.read(), re.M | re.S)[0])
 
 
