@@ -80,12 +80,14 @@ if [ "$(id -u)" != 0 ]; then
     chmod 0 shut.rs
     gives 3 'error: cannot read shut.rs: permission denied' shut.rs
 fi
+# The first line of a result names the file.
+sed '1s/ from source.rs,/ from stdin,/' whole > whole_of_stdin
 cat source.rs | gives 0 '' /dev/stdin
-same out whole
+same out whole_of_stdin
 cat source.rs | gives 0 '' -
-same out whole
+same out whole_of_stdin
 gives 0 '' - < source.rs
-same out whole
+same out whole_of_stdin
 
 # A file is not its own output, by whatever path or link.
 mkdir own

@@ -1,4 +1,5 @@
 pub mod Orders
+pub mod Heads
 pub mod Expanding
 pub mod Gathering
 pub mod Runs

@@ -3,6 +3,7 @@
 #![tactic(auto)]
 
 mod expanding;
+mod head;
 mod options;
 mod running;
 
