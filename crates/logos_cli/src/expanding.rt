@@ -3,6 +3,7 @@
 ghost use Rattle.std.specs.Prelude.{◌≡◌, ◌≤◌, ◌++◌, All, IfErr, IfOk, OnOk, length, map, string_bytes};
 ghost use Rattle.logos_token.specs.Views.{tokens_of};
 ghost use Rattle.logos_codegen.specs.Source.{IsRefused};
+ghost use Rattle.logos_layout.specs.Layout.{IsLaidOut};
 ghost use Rattle.logos_rust_file.specs.Replacing.{AreInOrder, IsFoundCut, found_span, part_span};
 ghost use Rattle.logos_rust_file.specs.Files.{AreEnumsOf};
 ghost use Rattle.logos_report.specs.Pages.{Shows, StandInOrder};
@@ -257,12 +258,20 @@ fn printed_with(
         (string_bytes text)) }
 {
     let lexer = lexer_text(alloc, shape, made)?;
-    let whole = under(alloc, left, lexer.as_str())?;
-    let laid = lay_out(alloc, whole.as_str())?;
+    let laid = laid_under(alloc, left, lexer.as_str())?;
     let mut text = write_left(alloc, source, left)?;
     text.push('\n')?;
     text.push_str(laid.as_str())?;
     Ok(text)
+}
+
+/// Returns the text of a lexer with its attributes, under the conditions of the enum with these
+/// tokens, laid out.
+fn laid_under(alloc: Global, left: Tokens<'_, '_>, lexer: &str) -> Result<String, Memory>
+    ensures { IfOk result (λ laid. IsLaidOut (under (tokens_of left.entry) lexer.now) (string_bytes laid)) }
+{
+    let whole = under(alloc, left, lexer)?;
+    lay_out(alloc, whole.as_str())
 }
 
 /// Returns the text of a lexer with its attributes. It stands under the conditions of the enum with
