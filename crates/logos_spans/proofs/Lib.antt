@@ -1,0 +1,5 @@
+pub mod TokenParts
+pub mod EnumParts
+pub mod PieceParts
+pub mod DefinitionParts
+pub mod LeafParts
