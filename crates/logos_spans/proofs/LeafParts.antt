@@ -7,9 +7,9 @@ use Rattle.logos_lexeme.specs.declared.lexeme.Span.{Span}
 use Rattle.logos_token.specs.Faults.{Fault}
 use Rattle.logos_token.specs.Spans.{IsSpanOf}
 use Rattle.logos_token.specs.Spelling.{Spells}
-use Rattle.logos_token.specs.Tokens.{TokenList, run_span}
+use Rattle.logos_token.specs.Tokens.{TokenList, literal, none, also, run_span}
 use Rattle.logos_token.specs.PrintedAgain.{IsRunOf}
-use Rattle.logos_token.proofs.reading.SpanLemmas.{Each, run-spans}
+use Rattle.logos_token.proofs.reading.SpanLemmas.{Each, spelled_fits, fits_of, span_fits, run-spans}
 use Rattle.logos_pattern.specs.Leaf.{KindValue, skipped}
 use Rattle.logos_hir.specs.Hir.{literal_tree}
 use Rattle.logos_hir.specs.Tree.{Tree}
@@ -46,18 +46,18 @@ leaf_if tokens false one other p q = q
 
 module _ (tokens : TokenList) (d : DefinitionView) (p : DefinitionParts tokens d) (kind : KindValue) where
   folded_parts : (reading : Reading) → IfLeaf tokens (folded_report d kind reading).value
-  folded_parts (spelled tree) = record { literal = p.literal; callback = p.callback }
+  folded_parts (spelled tree) = record { token = p.literal; callback = p.callback }
   folded_parts (broken cause at) = tt
   folded_parts too_deep = tt
 
   token_parts : (reading : Reading) → IfLeaf tokens (token_report d kind reading).value
-  token_parts reading = leaf_if tokens d.ignore_case (folded_report d kind reading) (without_faults (Some (token_leaf d kind (literal_tree (bytes_of d.literal.held))))) (folded_parts reading) (record { literal = p.literal; callback = p.callback })
+  token_parts reading = leaf_if tokens d.ignore_case (folded_report d kind reading) (without_faults (Some (token_leaf d kind (literal_tree (bytes_of d.literal.held))))) (folded_parts reading) (record { token = p.literal; callback = p.callback })
 
   token_leaf_parts : {leaf : Option LeafView} {old new : List Fault} → IsTokenLeaf d kind leaf old new → IfLeaf tokens leaf
   token_leaf_parts l = subst (IfLeaf tokens) (sym l.reports.0) (token_parts l.reading)
 
   fitted_parts : (tree : Tree) (priority : Option ℕ) → IfLeaf tokens (fitted_report d kind tree priority).value
-  fitted_parts tree (Some priority) = record { literal = p.literal; callback = p.callback }
+  fitted_parts tree (Some priority) = record { token = p.literal; callback = p.callback }
   fitted_parts tree None = tt
 
   reading_parts : (reading : Reading) → IfLeaf tokens (reading_report d kind reading).value
@@ -158,7 +158,10 @@ module _ (tokens : TokenList) (enum : EnumValue) (leaves : List LeafView) (other
 
     each_spans : (list : List LeafView) → Each (StandsIn tokens) list → Each (HasSpansOf source) list
     each_spans [] e = tt
-    each_spans (leaf ∷ rest) e = (record { literal = span_of_run leaf.span e.0.literal; callback = callback_spans leaf.callback e.0.callback }, each_spans rest e.1)
+    each_spans (leaf ∷ rest) e =
+        let run = also (literal leaf.source leaf.span) none in
+        let stands = fits_of source run tokens e.0.token (spelled_fits source tokens utf8 spells) in
+        (record { span = span_fits source run utf8 stands; text = stands.stands.0.2; callback = callback_spans leaf.callback e.0.callback }, each_spans rest e.1)
 
     pub leaves_have_spans : All (HasSpansOf source) leaves
     leaves_have_spans = all_each (HasSpansOf source) leaves (each_spans leaves each_stands)

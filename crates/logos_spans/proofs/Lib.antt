@@ -1,4 +1,6 @@
 pub mod TokenParts
+pub mod RuleParts
+pub mod GenericParts
 pub mod EnumParts
 pub mod PieceParts
 pub mod DefinitionParts

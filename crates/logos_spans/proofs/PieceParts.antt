@@ -217,20 +217,20 @@ pub callback_set_parts : (tokens : TokenList) (name : Slice) (run : TokenList) (
     CallbackParts tokens (callback_set name run former).value
 callback_set_parts tokens name run former r f = set_parts tokens name run former (callback_in run) f (callback_parts tokens run r)
 
--- the span of a literal is one of the whole
+-- a literal is a token of the whole
 abbrev pub LiteralParts : TokenList → LiteralView → Type 0
-LiteralParts tokens view = IsRunSpan tokens view.token.span
+LiteralParts tokens view = IsRunOf (also (literal view.token.text view.token.span) none) tokens
 
 abbrev pub IfLiteral : TokenList → Option LiteralView → Type 0
 IfLiteral tokens view = IfSome view (LiteralParts tokens)
 
-text_parts : (tokens : TokenList) (token : Slice) (value : Option Held) → IsRunSpan tokens token.span → IfLiteral tokens (text_or_fault token (text_by token value)).value
-text_parts tokens token (Some value) s = s
-text_parts tokens token None s = tt
+text_parts : (tokens : TokenList) (token : Slice) (value : Option Held) → IsRunOf (also (literal token.text token.span) none) tokens → IfLiteral tokens (text_or_fault token (text_by token value)).value
+text_parts tokens token (Some value) r = r
+text_parts tokens token None r = tt
 
 -- a literal token by itself
 pub text_report_parts : (tokens : TokenList) (token : Slice) → IsRunOf (also (literal token.text token.span) none) tokens → IfLiteral tokens (text_report token).value
-text_report_parts tokens token r = text_parts tokens token (held token.text) (record { run = also (literal token.text token.span) none; is_run = r; whole = refl })
+text_report_parts tokens token r = text_parts tokens token (held token.text) r
 
 pub literal_report_parts : (tokens run : TokenList) → IsRunOf run tokens → IfLiteral tokens (literal_report run).value
 literal_report_parts tokens none r = tt
