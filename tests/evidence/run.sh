@@ -7,7 +7,9 @@
 # which they differ, or a longer one on which they do.
 #
 # It needs Python 3 without packages, and the program in out/quick, where `tests/quick.sh` leaves it, or the first argument. Seeds after it ask for
-# those sets alone.
+# those sets alone. By hand it is asked about 2,000 sets, in about three minutes of one processor:
+#
+#   bash tests/evidence/run.sh out/quick/evidence $(seq 1000 2999)
 set -euo pipefail
 
 here=$(cd "$(dirname "${BASH_SOURCE[0]}")" && pwd)
