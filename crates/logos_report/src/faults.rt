@@ -12,11 +12,12 @@ ghost use Rattle.logos_report.specs.Pages.{Gains, Shows, painted};
 use crate::frame::{push_frame, push_place};
 use crate::help::help_for;
 use crate::page::{Page, Style};
+use crate::sight::sight_at;
 use crate::source::Part;
 use logos_token::error::{Errors, FaultCode, SpannedError};
 
-/// Pushes the faults of a part of a file, in order. For each, a line with the name of its code and the
-/// first line of its message, and one with its place in the file stand in what is pushed.
+/// Pushes the faults of a part of a file, in order. For each, a line with the name of its code and
+/// the first line of its message, and one with its place in the file stand in what is pushed.
 pub fn push_faults(page: &mut Page, part: Part<'_, '_>, errors: &Errors)
     ensures { Shows (faults_texts page.old.is_colored part.entry.source.now part.entry.offset
         errors.now) page.old page.new }
@@ -34,8 +35,8 @@ fn push_all(page: &mut Page, part: Part<'_, '_>, faults: &[SpannedError])
     }
 }
 
-/// Returns how many of these faults are errors. `Previous` is the place of an earlier definition that
-/// an error speaks of.
+/// Returns how many of these faults are errors. `Previous` is the place of an earlier definition
+/// that an error speaks of.
 pub fn count_errors(errors: &Errors) -> usize
     ensures { result ≡ count_by is_fault_error errors.now }
 {
@@ -227,7 +228,8 @@ fn push_other_place(page: &mut Page, shown: Shown<'_, '_, '_>)
 fn push_help(page: &mut Page, shown: Shown<'_, '_, '_>)
     ensures { Shows [] page.old page.new }
 {
-    if let Some(help) = help_for(shown.fault.code) {
+    let sight = sight_at(shown.part, shown.fault.span);
+    if let Some(help) = help_for(shown.fault, sight) {
         push_note(page, shown.width, "help", help);
         page.push("\n");
     }
@@ -244,8 +246,8 @@ fn push_other_lines(page: &mut Page, shown: Shown<'_, '_, '_>)
     }
 }
 
-/// Pushes a line of a message. Faults from `next` on may be those of other patterns of an ambiguity.
-/// Returns where to look for the next one.
+/// Pushes a line of a message. Faults from `next` on may be those of other patterns of an
+/// ambiguity. Returns where to look for the next one.
 fn push_other_line(page: &mut Page, shown: Shown<'_, '_, '_>, line: &str, next: usize) -> usize
     ensures { Shows [] page.old page.new }
 {
@@ -285,8 +287,8 @@ fn find_pattern(shown: Shown<'_, '_, '_>, name: &str, from: usize) -> usize {
     shown.faults.len()
 }
 
-/// Returns whether a fault is at another place than `own`, and an ambiguity of the pattern with this
-/// name.
+/// Returns whether a fault is at another place than `own`, and an ambiguity of the pattern with
+/// this name.
 fn is_other_ambiguity(fault: &SpannedError, own: &SpannedError, name: &str) -> bool {
     let is_other = fault.span.from != own.span.from;
     let is_ambiguity = matches!(fault.code, FaultCode::Disambiguation);

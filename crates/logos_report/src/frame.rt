@@ -23,8 +23,8 @@ struct Frame<'p, 't> {
     style: Style,
 }
 
-/// Pushes where a span begins, the lines at which it begins and ends, and carets of this style under
-/// it. Returns how many digits the number of the last line has.
+/// Pushes where a span begins, the lines at which it begins and ends, and carets of this style
+/// under it. Returns how many digits the number of the last line has.
 pub fn push_frame(page: &mut Page, part: Part<'_, '_>, span: Span, style: Style) -> usize
     ensures { Shows (place_line page.old.is_colored part.entry.source.now part.entry.offset span.from
         ∷ []) page.old page.new }
