@@ -1,3 +1,4 @@
 pub mod PageLemmas
+pub mod ShownLemmas
 pub mod FaultLemmas
 pub mod DigitLemmas

@@ -8,6 +8,7 @@ use Rattle.logos_token.specs.declared.error.fault_code.FaultCode.{FaultCode}
 use Rattle.logos_report.specs.declared.page.Style.TheVariants.{Error, Frame, Strong}
 use Rattle.logos_report.specs.Pages.{painted}
 use Rattle.logos_report.specs.Places.{SourceValue, place_line}
+use Rattle.logos_report.specs.Shown.{shown_text}
 
 -- a text up to its first LF
 abbrev pub first_line : List ℕ → List ℕ
@@ -19,10 +20,10 @@ code_text is_colored code =
     if is_error code then painted is_colored Error (codes "error[" ++ (name_of code ++ codes "]"))
     else painted is_colored Frame (codes "note")
 
--- the line of a fault: its code, and the first line of its message
+-- the line of a fault: its code, and the first line of its message, as it is shown
 abbrev pub head_line : Bool → Fault → List ℕ
 head_line is_colored fault =
-    code_text is_colored fault.code ++ (painted is_colored Strong (codes ": " ++ first_line fault.message) ++ codes "\n")
+    code_text is_colored fault.code ++ (painted is_colored Strong (codes ": " ++ shown_text (first_line fault.message)) ++ codes "\n")
 
 -- the line of a fault, and the one that names its place in the file
 abbrev pub fault_texts : Bool → SourceValue → ℕ → Fault → List (List ℕ)

@@ -1,6 +1,6 @@
 //! The faults of a file.
 
-ghost use Rattle.std.specs.Prelude.{◌≡◌, ◌++◌, ◌==◌, [], codes, if◌then◌else◌};
+ghost use Rattle.std.specs.Prelude.{◌≡◌, ◌++◌, ◌==◌, ◌∷◌, [], codes, if◌then◌else◌};
 ghost use Rattle.std.specs.List.{count_by};
 ghost use Rattle.logos_token.specs.FaultNames.{name_of};
 ghost use Rattle.logos_token.specs.FaultView.{fault_of, faults_of};
@@ -8,9 +8,12 @@ ghost use Rattle.logos_report.specs.Codes.{is_error};
 ghost use Rattle.logos_report.specs.Faults.{code_text, count_text, fault_texts, faults_texts};
 ghost use Rattle.logos_report.specs.Faults.{first_line, head_line, is_fault_error, summary_line};
 ghost use Rattle.logos_report.specs.Pages.{Gains, Shows, painted};
+ghost use Rattle.logos_report.specs.Places.{place_line};
+ghost use Rattle.logos_report.specs.Shown.{shown_text};
 
-use crate::frame::{push_frame, push_place};
+use crate::frame::{push_frame_with, push_offset, push_place};
 use crate::help::help_for;
+use crate::inner::caret_span;
 use crate::page::{Page, Style};
 use crate::sight::sight_at;
 use crate::source::Part;
@@ -98,7 +101,7 @@ fn push_fault(page: &mut Page, part: Part<'_, '_>, faults: &[SpannedError], faul
         (fault_of fault.now)) page.old page.new }
 {
     push_head(page, fault);
-    let width = push_frame(page, part, fault.span, style_of(fault.code));
+    let width = push_span(page, part, fault);
     push_notes(
         page,
         Shown {
@@ -108,6 +111,20 @@ fn push_fault(page: &mut Page, part: Part<'_, '_>, faults: &[SpannedError], faul
             width,
         },
     );
+}
+
+/// Pushes where a fault begins, and its lines with carets, but no line of a source that is too
+/// long. Returns how wide the column of line numbers is.
+fn push_span(page: &mut Page, part: Part<'_, '_>, fault: &SpannedError) -> usize
+    ensures { Shows (place_line page.old.is_colored part.entry.source.now part.entry.offset
+        fault.now.span.from ∷ []) page.old page.new }
+{
+    if matches!(fault.code, FaultCode::LimitSource) {
+        push_offset(page, part, fault.span.from, 1);
+        return 1;
+    }
+    let carets = caret_span(part, fault);
+    push_frame_with(page, part, fault.span.from, carets, style_of(fault.code))
 }
 
 /// Pushes the code of a fault and the first line of its message.
@@ -121,12 +138,12 @@ fn push_head(page: &mut Page, fault: &SpannedError)
 
 /// Pushes the first line of a message, and what parts it from the code.
 fn push_message(page: &mut Page, line: &str)
-    ensures { Gains (painted page.old.is_colored Style.Strong (codes ": " ++ line.now)) page.old
-        page.new }
+    ensures { Gains (painted page.old.is_colored Style.Strong (codes ": " ++ shown_text line.now))
+        page.old page.new }
 {
     page.begin(Style::Strong);
     page.push(": ");
-    page.push(line);
+    page.push_shown(line);
     page.end();
 }
 
@@ -201,7 +218,7 @@ fn push_note(page: &mut Page, width: usize, kind: &str, text: &str)
     push_note_mark(page, width);
     page.paint(Style::Strong, kind);
     page.push(": ");
-    page.push(text);
+    page.push_shown(text);
 }
 
 /// Pushes the mark of a line under a fault.

@@ -7,9 +7,12 @@ mod frame;
 mod help;
 mod help_by_sight;
 mod help_for_pattern;
+mod inner;
 mod page;
+mod shown;
 mod sight;
 mod source;
+mod window;
 
 pub use faults::{count_errors, push_faults, push_summary};
 pub use frame::{digits, push_frame, push_place};
