@@ -5,8 +5,8 @@ ghost use Rattle.std.specs.List.{count_by};
 ghost use Rattle.logos_token.specs.FaultNames.{name_of};
 ghost use Rattle.logos_token.specs.FaultView.{fault_of, faults_of};
 ghost use Rattle.logos_report.specs.Codes.{is_error};
-ghost use Rattle.logos_report.specs.Faults.{code_text, count_text, fault_texts, faults_texts};
-ghost use Rattle.logos_report.specs.Faults.{first_line, head_line, is_fault_error, summary_line};
+ghost use Rattle.logos_report.specs.Faults.{code_text, count_text, counted_texts, fault_texts, faults_texts};
+ghost use Rattle.logos_report.specs.Faults.{first_line, has_name, head_line, is_fault_error, rest_line, rest_text, seen_of, summary_line};
 ghost use Rattle.logos_report.specs.Pages.{Gains, Shows, painted};
 ghost use Rattle.logos_report.specs.Places.{place_line};
 ghost use Rattle.logos_report.specs.Shown.{shown_text};
@@ -18,6 +18,9 @@ use crate::page::{Page, Style};
 use crate::sight::sight_at;
 use crate::source::Part;
 use logos_token::error::{Errors, FaultCode, SpannedError};
+
+/// How many faults of one code are shown of a part of a file.
+const MOST: usize = 50;
 
 /// Pushes the faults of a part of a file, in order. For each, a line with the name of its code and
 /// the first line of its message, and one with its place in the file stand in what is pushed.
@@ -33,9 +36,98 @@ fn push_all(page: &mut Page, part: Part<'_, '_>, faults: &[SpannedError])
     ensures { Shows (faults_texts page.old.is_colored part.entry.source.now part.entry.offset
         (faults_of faults.now)) page.old page.new }
 {
+    let mut number = 0;
     for fault in faults {
-        push_fault(page, part, faults, fault);
+        push_counted(page, part, faults, &faults[..number], fault);
+        number += 1;
     }
+}
+
+/// Pushes a fault, which is one of `faults`, after those in front of it. Of the faults of one code 50
+/// are shown. In place of the next one stands how many are left out.
+fn push_counted(
+    page: &mut Page,
+    part: Part<'_, '_>,
+    faults: &[SpannedError],
+    front: &[SpannedError],
+    fault: &SpannedError,
+)
+    ensures { Shows (counted_texts page.old.is_colored part.entry.source.now part.entry.offset
+        (faults_of faults.now) (faults_of front.now) (fault_of fault.now)) page.old page.new }
+{
+    let seen = seen_of(front, fault.code);
+    if seen < MOST {
+        push_fault(page, part, faults, fault);
+    } else if seen == MOST {
+        push_rest(
+            page,
+            fault.code,
+            count_code(faults, fault.code).saturating_sub(MOST),
+        );
+    }
+}
+
+/// Pushes how many faults of a code are left out, and an empty line.
+fn push_rest(page: &mut Page, code: FaultCode, count: usize)
+    ensures { Shows (rest_line page.old.is_colored code count ∷ []) page.old page.new }
+{
+    push_rest_line(page, code, count);
+    page.push("\n");
+}
+
+/// Pushes the line that says how many faults of a code are left out.
+fn push_rest_line(page: &mut Page, code: FaultCode, count: usize)
+    ensures { Gains (rest_line page.old.is_colored code count) page.old page.new }
+{
+    push_code(page, code);
+    push_rest_text(page, count);
+    page.push("\n");
+}
+
+/// Pushes what follows the code of faults that are left out.
+fn push_rest_text(page: &mut Page, count: usize)
+    ensures { Gains (painted page.old.is_colored Style.Strong (rest_text count)) page.old page.new }
+{
+    page.begin(Style::Strong);
+    page.push(": ");
+    page.push_number(count);
+    page.push(" more are not shown");
+    page.end();
+}
+
+/// Returns how many of these faults have a code.
+fn count_code(faults: &[SpannedError], code: FaultCode) -> usize
+    ensures { result ≡ count_by (has_name (name_of code)) (faults_of faults.now) }
+{
+    let mut count = 0;
+    for fault in faults {
+        count += usize::from(has_code(fault, code));
+    }
+    count
+}
+
+/// Returns how many of these faults have a code, but no more than one above the number that is shown. It
+/// looks from the last one on, so that the time of all these calls is linear in the number of faults.
+fn seen_of(faults: &[SpannedError], code: FaultCode) -> usize
+    ensures { result ≡ seen_of code (faults_of faults.now) }
+{
+    let mut left = faults.len();
+    let mut count = 0;
+    while left > 0 {
+        if count > MOST {
+            return count;
+        }
+        left -= 1;
+        count += usize::from(has_code(&faults[left], code));
+    }
+    count
+}
+
+/// Returns whether a fault has a code.
+fn has_code(fault: &SpannedError, code: FaultCode) -> bool
+    ensures { result ≡ has_name (name_of code) (fault_of fault.now) }
+{
+    fault.code.name() == code.name()
 }
 
 /// Returns how many of these faults are errors. `Previous` is the place of an earlier definition
