@@ -1,9 +1,8 @@
 -- The least bytes that may follow complete a character.
-use Rattle.std.proofs.Common.{◌≡◌, ℕ, zero, suc, ◌-◌, ◌<◌, ◌≤◌, ◌==◌, Bool, true, false, ◌&&◌, List, [], ◌∷◌, ◌++◌, All, Option, Some, None, option_and_then, if◌then◌else◌, nat_le, refl, sym, ap, ◌∙◌, subst, inl, inr, arith}
+use Rattle.std.proofs.Common.{◌≡◌, ℕ, zero, suc, ◌-◌, ◌<◌, ◌≤◌, ◌==◌, Bool, true, false, ◌&&◌, List, [], ◌∷◌, ◌++◌, All, Option, Some, None, option_and_then, if◌then◌else◌, nat_le, refl, sym, ap, ◌∙◌, subst, inl, inr, append_assoc, arith}
 use Rattle.std.proofs.lemmas.Bool.{cases_lt}
 use Rattle.std.proofs.lemmas.List.Elements.{All-nil, All-cons}
 use Rattle.std.proofs.lemmas.Option.{same_Some}
-use Rattle.simdutf8.specs.Steps.{least_after, most_after}
 use Rattle.simdutf8.proofs.Chars.{least_is, most_is}
 use Rattle.logos_search.specs.Rests.{more, begun, rest_after, rest_by, rest_over, leasts, completion}
 use Rattle.logos_search.specs.declared.rest.Rest.{Rest}
@@ -86,6 +85,20 @@ leasts_done (suc n) low high l = on_rest _ (more n) (leasts 0x80 n) (inside low 
 pub completes : (m : Bool) (r : Rest) → IsOpen m r → (q : Rest) × (rest_over m r (completion r) ≡ Some q) × (q.count ≡ 0)
 completes false r h = (r, bytes_are_done r (completion r), h.any refl)
 completes true r h = leasts_done r.count r.low r.high h.bounds
+
+-- ---- Byte after byte
+
+one_of_leasts : (n low : ℕ) → 0 < n → leasts low n ≡ low ∷ leasts 0x80 (n - 1)
+one_of_leasts zero low l = absurd (omega (arith, l))
+one_of_leasts (suc n) low l =
+    let less : suc n - 1 ≡ n = omega arith in
+    ap (λ (k : ℕ). low ∷ leasts 0x80 k) (sym less)
+
+pub completion_pushed : (bytes longer whole : List ℕ) (r next : Rest) → 0 < r.count → longer ≡ bytes ++ r.low ∷ [] → next ≡ more (r.count - 1) →
+    bytes ++ completion r ≡ whole → longer ++ completion next ≡ whole
+completion_pushed bytes longer whole r next l e f w =
+    ap (λ (xs : List ℕ). xs ++ completion next) e ∙ append_assoc bytes (r.low ∷ []) (completion next) ∙
+    ap (λ (q : Rest). bytes ++ r.low ∷ completion q) f ∙ ap (λ (xs : List ℕ). bytes ++ xs) (sym (one_of_leasts r.count r.low l)) ∙ w
 
 leasts_are_bytes : (n low : ℕ) → low < 256 → All (λ b. b < 256) (leasts low n)
 leasts_are_bytes zero low l = All-nil (λ b. b < 256)

@@ -1,5 +1,5 @@
 -- Inputs that take the steps from all stands.
-use Rattle.std.proofs.Common.{◌≡◌, ◌⊎◌, ℕ, ◌<◌, ◌==◌, Bool, true, List, [], ◌∷◌, ◌++◌, All, length, Option, Some, None, IsSomeAnd, IsTrue, option_and_then, option_map, slice_get, refl, sym, ap, ◌∙◌, subst, inl, inr, ⊎_elim, arith, eq-eqb}
+use Rattle.std.proofs.Common.{◌≡◌, ◌⊎◌, ℕ, ◌<◌, ◌==◌, Bool, true, false, ◌&&◌, List, [], ◌∷◌, ◌++◌, All, Option, Some, None, IsSomeAnd, IsTrue, option_and_then, slice_get, refl, sym, ap, ◌∙◌, subst, inl, inr, ⊎_elim, eq-eqb}
 use Rattle.std.specs.Prelude.{Contains}
 use Rattle.std.proofs.lemmas.List.Elements.{All-append, All-cons, All-head, All-tail, Contains-append_left, Contains-push, Contains-push_cases}
 use Rattle.std.proofs.lemmas.Option.{same_Some, slice_get_within}
@@ -17,7 +17,7 @@ use Rattle.logos_search.specs.declared.visits.Visit.{Visit}
 use Rattle.logos_search.proofs.CompletionLemmas.{over_append, over_open, first_open, completes, completion_is_bytes}
 use Rattle.logos_search.proofs.RestLemmas.{utf8_is_done, done_is_utf8}
 use Rattle.logos_search.proofs.StandLemmas.{joined, joined_is, both_go, both_true, rests, texts, is_zero}
-use Rattle.logos_search.proofs.StepLemmas.{takes_here, takes_later, takes_after, takes_end}
+use Rattle.logos_search.proofs.StepLemmas.{takes_here, takes_after, takes_end}
 
 module _ (next : Point → ℕ → Option Point) (is_goal : Point → Bool) (utf8 : Bool) (start : Point) where
   -- bytes after which nothing has to follow are an input
@@ -97,11 +97,14 @@ module _ (next : Point → ℕ → Option Point) (is_goal : Point → Bool) (utf
               let met = explored.closed i b at (slice_get_within ks i at there) there byte (stand_at to r) (leads to r e f) in
               ih step met.number (stand_at to r) (All-tail (λ x. x < 256) b bytes are) met.stands_there (done.0, d, done.2) t wanted
 
-      all_on : (bytes : List ℕ) → AllOn bytes
-      all_on [] step i at are there done takes wanted =
+      at_end : AllOn []
+      at_end step i at are there done takes wanted =
           let goal : is_goal at.point ≡ true = subst Wanted takes wanted refl in
           let rest : at.rest.count ≡ 0 = ap (λ (r : Rest). r.count) (same_Some _ _ done.1) ∙ done.2 in
           subst (Contains steps) (sym takes) ((covered i at there).end (both_true _ _ goal (eq-eqb _ _ rest)))
+
+      all_on : (bytes : List ℕ) → AllOn bytes
+      all_on [] = at_end
       all_on (b ∷ bytes) = one_more b bytes (all_on bytes)
 
       pub covers_all : (inputs : List (List ℕ)) → IsCover next utf8 start steps inputs → AreCovering next is_goal utf8 start inputs

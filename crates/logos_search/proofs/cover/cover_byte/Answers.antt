@@ -1,4 +1,4 @@
-use Rattle.std.proofs.Common.{◌≡◌, ℕ, ◌<◌, Some, None, List, length, map, sym, ◌∙◌, subst, arith}
+use Rattle.std.proofs.Common.{◌≡◌, Some, None, List, map, sym, ◌∙◌, subst, arith}
 use Rattle.std.specs.Prelude.{Contains}
 use Rattle.std.proofs.lemmas.Option.{same_Some}
 use Rattle.logos_search.specs.Covering.{step_to}
@@ -39,8 +39,8 @@ returns-then-not-is_new-clause-covered g c = λ at there to leads.
     let same : c.stand_of-at.result ≡ at = same_Some _ _ (sym c.stand_of-at.ensures ∙ there) in
     let led : next at c.args.reading.byte ≡ Some c.in-Some.next = subst (λ (s : Stand). next s c.args.reading.byte ≡ Some c.in-Some.next) same (sym c.in-Some.ensures) in
     let to_is : c.in-Some.next ≡ to = same_Some _ _ (sym led ∙ leads) in
-    subst (λ (t : Stand). Contains _ (step_to at.point t.point)) to_is
-    (subst (λ (s : Stand). Contains _ (step_to s.point c.in-Some.next.point)) same c.in_ok-is_new.ensures.has)
+    subst (λ (t : Stand). Contains c.add_step.new.steps.keys (step_to at.point t.point)) to_is
+    (subst (λ (s : Stand). Contains c.add_step.new.steps.keys (step_to s.point c.in-Some.next.point)) same c.in_ok-is_new.ensures.has)
 
 pub returns-clause-cover : goal.returns-clause-cover
 returns-clause-cover g c =
@@ -62,5 +62,5 @@ returns-clause-covered g c = λ at there to leads.
     let same : c.stand_of-at.result ≡ at = same_Some _ _ (sym c.stand_of-at.ensures ∙ there) in
     let led : next at c.args.reading.byte ≡ Some c.in-Some.next = subst (λ (s : Stand). next s c.args.reading.byte ≡ Some c.in-Some.next) same (sym c.in-Some.ensures) in
     let to_is : c.in-Some.next ≡ to = same_Some _ _ (sym led ∙ leads) in
-    subst (λ (t : Stand). Contains _ (step_to at.point t.point)) to_is
-    (subst (λ (s : Stand). Contains _ (step_to s.point c.in-Some.next.point)) same (c.in_ok-add_input.ensures.adds.grows _ c.in_ok-is_new.ensures.has))
+    subst (λ (t : Stand). Contains c.add_input.new.cover.steps.keys (step_to at.point t.point)) to_is
+    (subst (λ (s : Stand). Contains c.add_input.new.cover.steps.keys (step_to s.point c.in-Some.next.point)) same (c.in_ok-add_input.ensures.adds.grows _ c.in_ok-is_new.ensures.has))

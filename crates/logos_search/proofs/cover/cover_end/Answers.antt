@@ -1,4 +1,4 @@
-use Rattle.std.proofs.Common.{◌≡◌, ◌<◌, Bool, true, false, Some, List, length, map, sym, ◌∙◌, subst, arith}
+use Rattle.std.proofs.Common.{◌≡◌, true, false, List, map, sym, ◌∙◌, subst, arith}
 use Rattle.std.specs.Prelude.{Contains}
 use Rattle.std.proofs.lemmas.Option.{same_Some}
 use Rattle.logos_search.specs.Covering.{end_at}
@@ -36,7 +36,7 @@ returns-then-not-is_new-clause-cover g c =
 pub returns-then-not-is_new-clause-covered : goal.returns-then-not-is_new-clause-covered
 returns-then-not-is_new-clause-covered g c = λ at there is.
     let same : c.stand_of-at.result ≡ at = same_Some _ _ (sym c.stand_of-at.ensures ∙ there) in
-    subst (λ (s : Stand). Contains _ (end_at s.point)) same c.in_ok-is_new.ensures.has
+    subst (λ (s : Stand). Contains c.add_step.new.steps.keys (end_at s.point)) same c.in_ok-is_new.ensures.has
 
 pub returns-clause-cover : goal.returns-clause-cover
 returns-clause-cover g c =
@@ -57,4 +57,4 @@ returns-clause-grows g c = λ step h. c.in_ok-add_input.ensures.adds.grows step 
 pub returns-clause-covered : goal.returns-clause-covered
 returns-clause-covered g c = λ at there is.
     let same : c.stand_of-at.result ≡ at = same_Some _ _ (sym c.stand_of-at.ensures ∙ there) in
-    subst (λ (s : Stand). Contains _ (end_at s.point)) same (c.in_ok-add_input.ensures.adds.grows _ c.in_ok-is_new.ensures.has)
+    subst (λ (s : Stand). Contains c.add_input.new.cover.steps.keys (end_at s.point)) same (c.in_ok-add_input.ensures.adds.grows _ c.in_ok-is_new.ensures.has)

@@ -1,4 +1,4 @@
-use Rattle.std.proofs.Common.{◌≡◌, ◌<◌, ℕ, Some, inl, inr, subst, arith}
+use Rattle.std.proofs.Common.{◌≡◌, ℕ, Some, inl, inr, subst, arith}
 use Rattle.std.proofs.lemmas.Bool.{cases_lt}
 use Rattle.logos_search.specs.inside.Order.{IsByteAt}
 use Rattle.logos_search.specs.inside.Stands.{stand_next}

@@ -1,4 +1,4 @@
-use Rattle.std.proofs.Common.{◌≡◌, ◌-◌, ◌<◌, ◌≤◌, Bool, ℕ, List, map, slice_get, Some, ap, sym, inl, inr, subst, arith}
+use Rattle.std.proofs.Common.{◌≡◌, ◌-◌, Bool, map, slice_get, ap, sym, ◌∙◌, inl, inr, subst, arith}
 use Rattle.std.proofs.lemmas.Bool.{cases_lt}
 use Rattle.logos_search.specs.Covering.{AreCovering}
 use Rattle.logos_search.specs.declared.point.Point.{Point}

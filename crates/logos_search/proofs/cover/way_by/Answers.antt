@@ -1,4 +1,4 @@
-use Rattle.std.proofs.Common.{◌≡◌, ◌∷◌, ◌++◌, [], List, ℕ, ap, ◌∙◌, append_assoc}
+use Rattle.std.proofs.Common.{◌∷◌, ◌++◌, [], List, ℕ, ap, ◌∙◌, append_assoc}
 use Rattle.logos_search.specs.Rests.{completion}
 use Rattle.logos_search.proofs.cover.way_by.Goals as goal
 

@@ -1,4 +1,4 @@
-use Rattle.std.proofs.Common.{◌≡◌, ◌<◌, ◌≤◌, length, drop, sym, subst, inl, inr, ⊎_elim, arith}
+use Rattle.std.proofs.Common.{◌≤◌, length, drop, sym, subst, inl, inr, ⊎_elim, arith}
 use Rattle.std.specs.Prelude.{Contains}
 use Rattle.logos_search.specs.Covering.{Takes}
 use Rattle.logos_search.specs.declared.steps.Step.{Step}
@@ -16,7 +16,7 @@ loop-byte-preserved g c =
       grows = λ step h. made.grows step (i.grows step h);
       whole = λ step h. i.whole step (one.later step h);
       rest = λ step h.
-          ⊎_elim (λ old. inl (made.grows step old)) (λ left. ⊎_elim (λ same. inl (subst (λ (s : Step). Contains _ s) (sym same) made.has)) (λ on. inr on) (one.cases step left)) (i.rest step h);
+          ⊎_elim (λ old. inl (made.grows step old)) (λ left. ⊎_elim (λ same. inl (subst (λ (s : Step). Contains c.add_step.new.steps.keys s) (sym same) made.has)) (λ on. inr on) (one.cases step left)) (i.rest step h);
     }
 
 pub returns-in_default : goal.returns-in_default
@@ -43,5 +43,5 @@ returns g c =
       grows = λ step h. made.grows step (i.grows step h);
       all = λ step h.
           ⊎_elim (λ old. made.grows step old)
-          (λ left. subst (λ (s : Step). Contains _ s) (sym (last_step next c.args.input.now c.loop-byte.byte-index c.loop-byte.at step past left)) made.has) (i.rest step h);
+          (λ left. subst (λ (s : Step). Contains c.add_step-2.new.steps.keys s) (sym (last_step next c.args.input.now c.loop-byte.byte-index c.loop-byte.at step past left)) made.has) (i.rest step h);
     }
