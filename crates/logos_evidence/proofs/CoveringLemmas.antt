@@ -1,17 +1,12 @@
 -- The steps of a machine over the edges of a graph are the edges that inputs pass.
-use Rattle.std.proofs.Common.{◌≡◌, ◌⊎◌, ℕ, zero, suc, Bool, true, false, List, [], ◌∷◌, take, Option, None, Some, is_some, IsSomeAnd, option_map, option_and_then, slice_get, refl, sym, ap, ◌∙◌, subst, inl, inr}
-use Rattle.std.specs.Prelude.{Contains}
+use Rattle.std.proofs.Common.{◌≡◌, ◌⊎◌, ℕ, zero, suc, Bool, false, List, [], ◌∷◌, take, Option, None, Some, is_some, IsSomeAnd, option_map, option_and_then, slice_get, refl, sym, ap, ◌∙◌, subst, inl, inr}
 use Rattle.std.proofs.lemmas.Option.{same_Some}
-use Rattle.logos_graph.specs.Graph.{GraphState, next_by, next_at_end, walk}
+use Rattle.logos_graph.specs.Graph.{GraphState, next_by, walk}
 use Rattle.logos_search.specs.Covering.{Takes, AreCovering, step_to, end_at}
 use Rattle.logos_search.specs.declared.point.Point.{Point}
-use Rattle.logos_search.specs.declared.steps.Step.{Step}
-use Rattle.logos_search.proofs.StepLemmas.{takes_here, takes_later}
-use Rattle.logos_evidence.specs.Covering.{PassesEdge, PassesEnd, AreCoveringInputs}
+use Rattle.logos_search.proofs.StepLemmas.{not_end, same_points, same_end, takes_here, takes_later}
+use Rattle.logos_evidence.specs.Covering.{AreCoveringInputs}
 use Rattle.logos_evidence.specs.inside.Machines.{point_from, edge_next, edge_goal}
-
-abbrev pub step_by : ℕ → ℕ → Step
-step_by from to = step_to (point_from from) (point_from to)
 
 module _ (graph : List GraphState) where
   abbrev Next : Point → ℕ → Option Point
@@ -22,33 +17,34 @@ module _ (graph : List GraphState) where
   Passed s bytes from to =
       (count b : ℕ) × (walk graph s (take count bytes) false ≡ Some from) × (slice_get bytes count ≡ Some b) × (next_by graph from b ≡ Some to)
 
-  passed_here : (s c : ℕ) (bytes : List ℕ) (from to b : ℕ) → s ≡ from → c ≡ b → next_by graph from b ≡ Some to → Takes Next (point_from s) (c ∷ bytes) (step_by from to)
+  passed_here : (s c : ℕ) (bytes : List ℕ) (from to b : ℕ) → s ≡ from → c ≡ b → next_by graph from b ≡ Some to → Takes Next (point_from s) (c ∷ bytes) (step_to (point_from from) (point_from to))
   passed_here s c bytes from to b e f leads =
-      subst (λ (p : ℕ). Takes Next (point_from p) (c ∷ bytes) (step_by from to)) (sym e)
-      (subst (λ (x : ℕ). Takes Next (point_from from) (x ∷ bytes) (step_by from to)) (sym f)
+      subst (λ (p : ℕ). Takes Next (point_from p) (c ∷ bytes) (step_to (point_from from) (point_from to))) (sym e)
+      (subst (λ (x : ℕ). Takes Next (point_from from) (x ∷ bytes) (step_to (point_from from) (point_from to))) (sym f)
       (takes_here Next (point_from from) (point_from to) b bytes (ap (option_map point_from) leads)))
 
   passed_takes : (bytes : List ℕ) (count s from to b : ℕ) → walk graph s (take count bytes) false ≡ Some from → slice_get bytes count ≡ Some b →
-      next_by graph from b ≡ Some to → Takes Next (point_from s) bytes (step_by from to)
+      next_by graph from b ≡ Some to → Takes Next (point_from s) bytes (step_to (point_from from) (point_from to))
   passed_takes [] count s from to b way reads leads = cc
   passed_takes (c ∷ bytes) zero s from to b way reads leads = passed_here s c bytes from to b (same_Some _ _ way) (same_Some _ _ reads) leads
   passed_takes (c ∷ bytes) (suc count) s from to b way reads leads = go (λ n e. passed_takes bytes count n from to b e reads leads) (next_by graph s c) refl way
     where
-      go : ((n : ℕ) → walk graph n (take count bytes) false ≡ Some from → Takes Next (point_from n) bytes (step_by from to)) → (o : Option ℕ) → next_by graph s c ≡ o →
-          option_and_then (λ n. walk graph n (take count bytes) false) o ≡ Some from → Takes Next (point_from s) (c ∷ bytes) (step_by from to)
+      go : ((n : ℕ) → walk graph n (take count bytes) false ≡ Some from → Takes Next (point_from n) bytes (step_to (point_from from) (point_from to))) → (o : Option ℕ) → next_by graph s c ≡ o →
+          option_and_then (λ n. walk graph n (take count bytes) false) o ≡ Some from → Takes Next (point_from s) (c ∷ bytes) (step_to (point_from from) (point_from to))
       go ih None is e = cc
-      go ih (Some n) is e = takes_later Next (point_from s) (point_from n) c bytes (step_by from to) (ap (option_map point_from) is) (ih n e)
+      go ih (Some n) is e = takes_later Next (point_from s) (point_from n) c bytes (step_to (point_from from) (point_from to)) (ap (option_map point_from) is) (ih n e)
 
-  takes_passed : (bytes : List ℕ) (s from to : ℕ) → Takes Next (point_from s) bytes (step_by from to) → Passed s bytes from to
-  takes_passed [] s from to t = absurd (let clash : false ≡ true = ap (λ (x : Step). x.ends) t in cc)
+  takes_passed : (bytes : List ℕ) (s from to : ℕ) → Takes Next (point_from s) bytes (step_to (point_from from) (point_from to)) → Passed s bytes from to
+  takes_passed [] s from to t = absurd (not_end (point_from from) (point_from to) (point_from s) t)
   takes_passed (c ∷ bytes) s from to t = go (λ n. takes_passed bytes n from to) (next_by graph s c) refl t
     where
-      go : ((n : ℕ) → Takes Next (point_from n) bytes (step_by from to) → Passed n bytes from to) → (o : Option ℕ) → next_by graph s c ≡ o →
-          IsSomeAnd (option_map point_from o) (λ q. (step_by from to ≡ step_to (point_from s) q) ⊎ Takes Next q bytes (step_by from to)) → Passed s (c ∷ bytes) from to
+      go : ((n : ℕ) → Takes Next (point_from n) bytes (step_to (point_from from) (point_from to)) → Passed n bytes from to) → (o : Option ℕ) → next_by graph s c ≡ o →
+          IsSomeAnd (option_map point_from o) (λ q. (step_to (point_from from) (point_from to) ≡ step_to (point_from s) q) ⊎ Takes Next q bytes (step_to (point_from from) (point_from to))) → Passed s (c ∷ bytes) from to
       go ih None is h = absurd h
       go ih (Some n) is (inl same) =
-          let from_is : from ≡ s = ap (λ (x : Step). x.from.here) same in
-          let to_is : to ≡ n = ap (λ (x : Step). x.to.here) same in
+          let points = same_points (point_from from) (point_from to) (point_from s) (point_from n) same in
+          let from_is : from ≡ s = ap (λ (p : Point). p.here) points.0 in
+          let to_is : to ≡ n = ap (λ (p : Point). p.here) points.1 in
           (0, c, ap Some (sym from_is), refl, subst (λ (p : ℕ). next_by graph p c ≡ Some to) (sym from_is) (is ∙ ap Some (sym to_is)))
       go ih (Some n) is (inr h) =
           let rest = ih n h in
@@ -64,21 +60,21 @@ module _ (graph : List GraphState) where
       go ih (Some n) is e = takes_later Next (point_from s) (point_from n) c bytes (end_at (point_from from)) (ap (option_map point_from) is) (ih n e)
 
   takes_walk : (bytes : List ℕ) (s from : ℕ) → Takes Next (point_from s) bytes (end_at (point_from from)) → walk graph s bytes false ≡ Some from
-  takes_walk [] s from t = ap (λ (x : Step). Some x.from.here) (sym t)
+  takes_walk [] s from t = ap (λ (p : Point). Some p.here) (sym (same_end (point_from from) (point_from s) t))
   takes_walk (c ∷ bytes) s from t = go (λ n. takes_walk bytes n from) (next_by graph s c) refl t
     where
       go : ((n : ℕ) → Takes Next (point_from n) bytes (end_at (point_from from)) → walk graph n bytes false ≡ Some from) → (o : Option ℕ) → next_by graph s c ≡ o →
           IsSomeAnd (option_map point_from o) (λ q. (end_at (point_from from) ≡ step_to (point_from s) q) ⊎ Takes Next q bytes (end_at (point_from from))) →
           walk graph s (c ∷ bytes) false ≡ Some from
       go ih None is h = absurd h
-      go ih (Some n) is (inl same) = absurd (let clash : true ≡ false = ap (λ (x : Step). x.ends) same in cc)
+      go ih (Some n) is (inl same) = absurd (not_end (point_from s) (point_from n) (point_from from) (sym same))
       go ih (Some n) is (inr h) = ap (option_and_then (λ (k : ℕ). walk graph k bytes false)) is ∙ ih n h
 
   covers : (utf8 : Bool) (inputs : List (List ℕ)) → AreCovering Next (edge_goal graph) utf8 (point_from 0) inputs → AreCoveringInputs graph utf8 inputs
   covers utf8 inputs made = record {
     are_inputs = made.are_inputs;
     edges = λ bytes from to input passes.
-        let one = made.all bytes (step_by from to) input (passed_takes bytes passes.count 0 from to passes.byte passes.way passes.reads passes.leads) (λ t. cc) in
+        let one = made.all bytes (step_to (point_from from) (point_from to)) input (passed_takes bytes passes.count 0 from to passes.byte passes.way passes.reads passes.leads) (λ t. cc) in
         let passed = takes_passed one.0 0 from to one.2 in
         (one.0, one.1, record { count = passed.0; byte = passed.1; way = passed.2; reads = passed.3; leads = passed.4 });
     ends = λ bytes from to input passes.

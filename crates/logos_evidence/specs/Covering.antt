@@ -1,5 +1,5 @@
 -- Inputs that together pass all edges of a graph.
-use Rattle.std.specs.Prelude.{◌≡◌, ℕ, Bool, false, List, Contains, Option, Some, slice_get, take}
+use Rattle.std.specs.Prelude.{◌≡◌, ℕ, Bool, false, List, Contains, Some, slice_get, take}
 use Rattle.logos_automaton.specs.Munch.{IsInput}
 use Rattle.logos_graph.specs.Graph.{GraphState, next_by, next_at_end, walk}
 

@@ -22,6 +22,17 @@ pub grows_added : {A : Type 0} (found : Bool) (ks ms : List A) (y x : A) → ms 
 grows_added true ks ms y x e h = subst (λ l. Contains l x) (sym e) h
 grows_added false ks ms y x e h = subst (λ l. Contains l x) (sym e) (Contains-append_left ks (y ∷ []) x h)
 
+-- ---- Steps that are the same
+
+pub not_end : (from to last : Point) → step_to from to ≡ end_at last → ⊥
+not_end from to last e = let clash : false ≡ true = ap (λ (x : Step). x.ends) e in cc
+
+pub same_points : (from to at next : Point) → step_to from to ≡ step_to at next → (from ≡ at) × (to ≡ next)
+same_points from to at next e = (ap (λ (x : Step). x.from) e, ap (λ (x : Step). x.to) e)
+
+pub same_end : (at last : Point) → end_at at ≡ end_at last → at ≡ last
+same_end at last e = ap (λ (x : Step). x.from) e
+
 -- ---- One more byte
 
 module _ (next : Point → ℕ → Option Point) where
