@@ -12,10 +12,9 @@ ghost use Rattle.logos_report.specs.Places.{place_line};
 ghost use Rattle.logos_report.specs.Shown.{shown_text};
 
 use crate::frame::{push_frame_with, push_offset, push_place};
-use crate::help::help_for;
+use crate::help::help_of;
 use crate::inner::caret_span;
 use crate::page::{Page, Style};
-use crate::sight::sight_at;
 use crate::source::Part;
 use logos_token::error::{Errors, FaultCode, SpannedError};
 
@@ -150,7 +149,7 @@ fn count_all(faults: &[SpannedError]) -> usize
 }
 
 /// Returns whether a fault with this code is an error.
-fn is_error(code: FaultCode) -> bool
+pub fn is_error(code: FaultCode) -> bool
     ensures { result ≡ is_error code }
 {
     !matches!(code, FaultCode::Previous)
@@ -188,7 +187,12 @@ fn errors_text(count: usize) -> &'static str
 }
 
 /// Pushes a fault, which is one of `faults`.
-fn push_fault(page: &mut Page, part: Part<'_, '_>, faults: &[SpannedError], fault: &SpannedError)
+pub fn push_fault(
+    page: &mut Page,
+    part: Part<'_, '_>,
+    faults: &[SpannedError],
+    fault: &SpannedError,
+)
     ensures { Shows (fault_texts page.old.is_colored part.entry.source.now part.entry.offset
         (fault_of fault.now)) page.old page.new }
 {
@@ -272,7 +276,7 @@ fn style_of(code: FaultCode) -> Style {
 }
 
 /// Returns a text up to its first LF.
-fn first_line(text: &str) -> &str
+pub fn first_line(text: &str) -> &str
     ensures { result.now ≡ first_line text.now }
 {
     match text.split_once('\n') {
@@ -337,8 +341,7 @@ fn push_other_place(page: &mut Page, shown: Shown<'_, '_, '_>)
 fn push_help(page: &mut Page, shown: Shown<'_, '_, '_>)
     ensures { Shows [] page.old page.new }
 {
-    let sight = sight_at(shown.part, shown.fault.span);
-    if let Some(help) = help_for(shown.fault, sight) {
+    if let Some(help) = help_of(shown.part, shown.fault) {
         push_note(page, shown.width, "help", help);
         page.push("\n");
     }

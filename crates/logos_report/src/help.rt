@@ -6,8 +6,14 @@ use crate::help_by_sight::{
     help_for_nested, help_for_source,
 };
 use crate::help_for_pattern::{help_for_dot, help_for_kind};
-use crate::sight::Sight;
+use crate::sight::{Sight, sight_at};
+use crate::source::Part;
 use logos_token::error::{FaultCode, SpannedError};
+
+/// Returns what to do about a fault of a part of a file, if there is something to say.
+pub fn help_of(part: Part<'_, '_>, fault: &SpannedError) -> Option<&'static str> {
+    help_for(fault, sight_at(part, fault.span))
+}
 
 const TWICE: &str = "keep one of them";
 
@@ -16,7 +22,7 @@ const NEST: &str = "nest less deep";
 const RENAME: &str = "rename it: a name has ASCII letters, digits and `_`";
 
 /// Returns what to do about a fault, by what stands at its place.
-pub(crate) fn help_for(fault: &SpannedError, sight: Sight<'_>) -> Option<&'static str> {
+fn help_for(fault: &SpannedError, sight: Sight<'_>) -> Option<&'static str> {
     let help = match fault.code {
         FaultCode::Previous => return None,
         FaultCode::Lexical => help_for_lexical(fault.message.as_str(), sight),

@@ -14,7 +14,8 @@ mod sight;
 mod source;
 mod window;
 
-pub use faults::{count_errors, push_faults, push_summary};
+pub use faults::{count_errors, first_line, is_error, push_fault, push_faults, push_summary};
 pub use frame::{digits, push_frame, push_place};
+pub use help::help_of;
 pub use page::{Page, Style};
 pub use source::{Part, Source};
