@@ -1,5 +1,6 @@
 pub mod Orders
 pub mod Expanding
 pub mod Gathering
+pub mod Deriving
 pub mod Runs
 pub mod inside

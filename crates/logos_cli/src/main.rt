@@ -2,6 +2,8 @@
 
 #![tactic(auto)]
 
+mod answering;
+mod deriving;
 mod expanding;
 mod options;
 mod running;
