@@ -12,7 +12,7 @@ use crate::expanding::{config_of, lexer_text};
 use crate::options::{MessageFormat, Shape};
 use logos_codegen::error::{Errors, Memory};
 use logos_codegen::{Generated, Refusal, generate};
-use logos_derive::{Answer, answer};
+use logos_derive::{Answer, make_answer};
 use logos_messages::{Piece, push_messages, push_pieces, push_version};
 use logos_report::{Page, Part, Source, count_errors, push_faults, push_summary};
 use std::alloc::{AllocError, Global};
@@ -44,7 +44,7 @@ fn derived_by(
     ensures { IfOk result (IsDerivedBy shape made.now.code source.now) }
 {
     let text = lexer_text(alloc, shape, made)?;
-    answer(alloc, source, &made.code, text)
+    make_answer(alloc, source, &made.code, text)
 }
 
 /// Returns what standard error gets with an answer.

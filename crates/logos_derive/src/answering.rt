@@ -35,13 +35,13 @@ pub struct Answer {
 /// # Errors
 ///
 /// Returns `Memory` if memory runs out.
-pub fn answer(
+pub fn make_answer(
     alloc: Global,
     source: &str,
     code: &Code<'_>,
     text: String,
 ) -> Result<Answer, Memory>
-    ensures { IfOk result (IsAnswer source.now (string_bytes text.entry)) }
+    ensures { IfOk result (IsAnswer source.now (string_bytes text)) }
 {
     let spots = spots_of(alloc, source, code)?;
     match marked(alloc, source, text.as_str(), &spots) {
@@ -56,12 +56,7 @@ pub fn answer(
 }
 
 /// Returns an implementation with placeholders, if the pieces can be put back.
-fn marked(
-    alloc: Global,
-    source: &str,
-    text: &str,
-    spots: &[Spot],
-) -> Result<Option<Answer>, Memory>
+fn marked(alloc: Global, source: &str, text: &str, spots: &[Spot]) -> Result<Option<Answer>, Memory>
     ensures { IfOk result (λ found. IfSome found (IsAnswer source.now text.now)) }
 {
     let Some(prefix) = new_prefix(alloc, source, text)? else {

@@ -1,7 +1,7 @@
 //! Checks that an implementation with placeholders is the implementation, once the pieces are put
 //! back. So nothing has to be believed of how the placeholders came into it.
 
-ghost use Rattle.std.specs.Prelude.{◌≡◌, ◌<◌, IfSome, IsTrue, length, string_bytes};
+ghost use Rattle.std.specs.Prelude.{◌≡◌, ◌<◌, ◌+◌, IfSome, IsTrue, length, string_bytes};
 ghost use Rattle.logos_derive.specs.Words.{IsCharBoundary, StandsAt};
 ghost use Rattle.logos_derive.specs.Views.{IsPutBack, GoesOn};
 

@@ -13,5 +13,5 @@ mod placing;
 mod prefix;
 mod spots;
 
-pub use answering::{Answer, answer};
+pub use answering::{Answer, make_answer};
 pub use piece::Piece;

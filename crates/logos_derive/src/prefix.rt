@@ -14,11 +14,7 @@ const TRIES: usize = 64;
 
 /// Returns a beginning of identifiers that stands neither in a source nor in an implementation.
 /// `None` if all that are tried stand there.
-pub(crate) fn new_prefix(
-    alloc: Global,
-    source: &str,
-    text: &str,
-) -> Result<Option<String>, Memory>
+pub(crate) fn new_prefix(alloc: Global, source: &str, text: &str) -> Result<Option<String>, Memory>
     ensures { IfOk result (λ found. IfSome found
         (λ prefix. IsNew source.now text.now (string_bytes prefix))) }
 {

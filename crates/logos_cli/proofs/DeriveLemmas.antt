@@ -1,0 +1,19 @@
+-- The implementation of an enum, with placeholders.
+use Rattle.std.proofs.Common.{ℕ, List, Option}
+use Rattle.logos_code.specs.Code.{CodeValue}
+use Rattle.logos_cli.specs.Deriving.{IsDerived, IsDerivedBy}
+use Rattle.logos_cli.specs.Expanding.{config_of}
+use Rattle.logos_cli.specs.declared.options.Shape.{Shape}
+use Rattle.logos_codegen.specs.Given.{IsGiven}
+use Rattle.logos_derive.specs.declared.answering.Answer.{Answer}
+use Rattle.logos_enum.specs.Values.{Slice}
+use Rattle.logos_graph.specs.View.{GraphValue}
+
+-- an implementation that is printed from the code of a source is that of the source
+pub derived_all : {shape : Shape} {source : List ℕ} {graph : GraphValue} {code : CodeValue} {name : Slice} {export : Option (List ℕ)} (answer : Answer) →
+    IsGiven source (config_of shape) graph code name export → IsDerivedBy shape code source answer → IsDerived shape source answer
+derived_all {shape} {source} {graph} {code} {name} {export} answer g d = record {
+  text = d.text;
+  lexer = record { graph = graph; code = code; name = name; export = export; given = g; stand = d.shown };
+  is = d.is;
+}
