@@ -1,1 +1,1 @@
-mod BackLemmas
+pub mod BackLemmas

@@ -31,6 +31,7 @@ struct Progress {
 }
 
 /// Returns whether a text with each piece put back, in order, is the other text.
+#[tactic(auto, using(crate::proofs::BackLemmas::all_back))]
 pub(crate) fn puts_back(shown: &str, text: &str, pieces: &[Piece]) -> bool
     ensures { IsTrue result → IsPutBack shown.now text.now pieces.now 0 0 }
 {
@@ -54,6 +55,7 @@ pub(crate) fn puts_back(shown: &str, text: &str, pieces: &[Piece]) -> bool
 }
 
 /// Compares one more lexeme, or puts a piece back. `None` if the texts differ there.
+#[tactic(auto, using(crate::proofs::BackLemmas::stays_on, crate::proofs::BackLemmas::fills_on))]
 fn step(compared: Compared<'_>, progress: Progress) -> Option<Progress>
     requires inside { progress.shown < length compared.shown.now }
     requires boundary { IsCharBoundary compared.shown.now progress.shown }
