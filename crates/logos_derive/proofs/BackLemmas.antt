@@ -1,5 +1,5 @@
 -- Putting pieces back, lexeme by lexeme.
-use Rattle.std.proofs.Common.{◌≡◌, ◌≤◌, ◌<◌, ◌+◌, ℕ, List, [], ◌∷◌, Option, Some, None, IfSome, IsUtf8, ap, arith, drop, length, refl, slice_range, string_bytes, subst, sym, ◌∙◌}
+use Rattle.std.proofs.Common.{◌≡◌, ◌≤◌, ◌+◌, ℕ, List, [], ◌∷◌, Option, Some, None, IfSome, IsUtf8, ap, arith, drop, length, slice_range, string_bytes, subst, sym, ◌∙◌}
 use Rattle.std.proofs.lemmas.List.{drop_all, drop_more}
 use Rattle.std.specs.Slice.{IsItemAt}
 use Rattle.std.specs.Str.{IsCharBoundary}

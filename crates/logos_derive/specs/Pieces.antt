@@ -1,5 +1,5 @@
 -- Pieces of a source, and an implementation in which placeholders stand for them.
-use Rattle.std.specs.Prelude.{◌≡◌, ℕ, List, [], ◌∷◌, ◌++◌, All, length, slice_range, string_bytes}
+use Rattle.std.specs.Prelude.{◌≡◌, ℕ, List, [], ◌∷◌, ◌++◌, length, slice_range, string_bytes}
 use Rattle.std.specs.Fmt.{decimal}
 use Rattle.logos_lexeme.specs.Lexemes.{IsNext}
 use Rattle.logos_lexeme.specs.declared.lexeme.Kind.{Kind}

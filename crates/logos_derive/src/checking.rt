@@ -9,16 +9,6 @@ use crate::parts::after_part;
 use crate::piece::Piece;
 use logos_lexeme::lexeme::{Kind, lexeme_at};
 
-/// What is compared: two texts, and the pieces.
-#[derive(Clone, Copy)]
-struct Compared<'t> {
-    /// The implementation with placeholders.
-    shown: &'t str,
-    /// The implementation.
-    text: &'t str,
-    pieces: &'t [Piece],
-}
-
 /// How far the comparison is.
 #[derive(Clone, Copy)]
 struct Progress {
@@ -35,18 +25,13 @@ struct Progress {
 pub(crate) fn puts_back(shown: &str, text: &str, pieces: &[Piece]) -> bool
     ensures { IsTrue result → IsPutBack shown.now text.now pieces.now 0 0 }
 {
-    let compared = Compared {
-        shown,
-        text,
-        pieces,
-    };
     let mut progress = Progress {
         shown: 0,
         text: 0,
         count: 0,
     };
     while progress.shown < shown.len() {
-        let Some(next) = step(compared, progress) else {
+        let Some(next) = step(shown, text, pieces, progress) else {
             return false;
         };
         progress = next;
@@ -55,23 +40,21 @@ pub(crate) fn puts_back(shown: &str, text: &str, pieces: &[Piece]) -> bool
 }
 
 /// Compares one more lexeme, or puts a piece back. `None` if the texts differ there.
-#[tactic(auto, using(crate::proofs::BackLemmas::stays_on, crate::proofs::BackLemmas::fills_on))]
-fn step(compared: Compared<'_>, progress: Progress) -> Option<Progress>
-    requires inside { progress.shown < length compared.shown.now }
-    requires boundary { IsCharBoundary compared.shown.now progress.shown }
-    ensures { IfSome result (GoesOn compared.entry.shown.now compared.entry.text.now
-        compared.entry.pieces.now progress) }
+fn step(shown: &str, text: &str, pieces: &[Piece], progress: Progress) -> Option<Progress>
+    requires inside { progress.shown < length shown.now }
+    requires boundary { IsCharBoundary shown.now progress.shown }
+    ensures { IfSome result (GoesOn shown.now text.now pieces.now progress) }
 {
-    let (kind, end) = match lexeme_at(compared.shown, progress.shown) {
+    let (kind, end) = match lexeme_at(shown, progress.shown) {
         Ok(next) => next,
         Err(_) => return None,
     };
-    let lexeme = compared.shown.get(progress.shown..end)?;
-    match compared.pieces.get(progress.count) {
+    let lexeme = shown.get(progress.shown..end)?;
+    match pieces.get(progress.count) {
         Some(piece) if is_placeholder(kind, lexeme, piece) => {
-            put_back(compared.text, piece, end, progress)
+            put_back(text, piece, end, progress)
         }
-        _ => stay(compared.text, lexeme, end, progress),
+        _ => stay(text, lexeme, end, progress),
     }
 }
 
