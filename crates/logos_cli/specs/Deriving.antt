@@ -1,5 +1,5 @@
 -- The answer to the derive macro.
-use Rattle.std.specs.Prelude.{◌≡◌, ℕ, List, Bool, codes}
+use Rattle.std.specs.Prelude.{◌≡◌, ◌++◌, ℕ, List, Bool, codes}
 use Rattle.logos_code.specs.Code.{CodeValue}
 use Rattle.logos_cli.specs.Expanding.{IsLexerText, IsShown}
 use Rattle.logos_cli.specs.declared.options.MessageFormat.{MessageFormat}
@@ -7,6 +7,9 @@ use Rattle.logos_cli.specs.declared.options.MessageFormat.TheVariants.{Human, Js
 use Rattle.logos_cli.specs.declared.options.Shape.{Shape}
 use Rattle.logos_derive.specs.Answers.{IsAnswer}
 use Rattle.logos_derive.specs.declared.answering.Answer.{Answer}
+use Rattle.logos_messages.specs.Answers.{version_tokens}
+use Rattle.logos_messages.specs.Lines.{IsLine}
+use Rattle.logos_messages.specs.Messages.{AreMessages}
 use Rattle.logos_report.specs.Faults.{faults_texts}
 use Rattle.logos_report.specs.Pages.{StandInOrder}
 use Rattle.logos_report.specs.Places.{SourceValue}
@@ -28,7 +31,15 @@ pub record IsDerivedBy (shape : Shape) (code : CodeValue) (source : List ℕ) (a
   pub shown : IsShown shape code text
   pub is : IsAnswer source text answer
 
--- What is shown of the faults of an enum. A report shows all of them, in order, with or without colors.
+-- These are the line that names the protocol and the program, and a line of JSON for each fault, in order.
+pub record AreFaultLines (source : SourceValue) (faults : List Fault) (lines : List ℕ) : Type 0 where
+  pub version : List ℕ
+  pub messages : List ℕ
+  pub is : lines ≡ version ++ messages
+  pub line : IsLine (version_tokens (codes "logos_cli 0.1.0")) version
+  pub are : AreMessages source 0 faults messages
+
+-- What is shown of the faults of an enum: a report of all of them, in order, with or without colors, or lines of JSON.
 abbrev pub ShowsErrors : MessageFormat → SourceValue → List Fault → List ℕ → Type 0
 ShowsErrors Human source faults shown = (is_colored : Bool) × StandInOrder (faults_texts is_colored source 0 faults) shown
-ShowsErrors Json source faults shown = Unit {0}
+ShowsErrors Json source faults shown = AreFaultLines source faults shown

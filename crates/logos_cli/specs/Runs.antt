@@ -26,6 +26,16 @@ pub record IsRewritten {F : Type 0} (makes : F → List ℕ → List ℕ → F �
   pub other : IsOther finds path bytes files between
   pub made : makes between path bytes after
 
+-- the enum on standard input has no faults, and its implementation is at the end of standard output, with placeholders
+abbrev pub IsAnswered : {F : Type 0} → (F → List ℕ → List ℕ → F → Type 0) → DeriveOrder → F → F → Option (List ℕ) → Option (List ℕ) → Type 0
+IsAnswered gives order files after old new =
+    Reads gives files (codes "/dev/stdin") (λ text read. (after ≡ read) × ((answer : Answer) × IsDerived order.shape text answer × Appends old new (string_bytes answer.text)))
+
+-- the enum on standard input has faults, which this text shows
+abbrev pub IsDeniedAnswer : {F : Type 0} → (F → List ℕ → List ℕ → F → Type 0) → DeriveOrder → F → F → List ℕ → Type 0
+IsDeniedAnswer gives order files after shown =
+    Reads gives files (codes "/dev/stdin") (λ text read. (after ≡ read) × ((faults : List Fault) × IsRefused text faults × ShowsErrors order.format (standard_input text) faults shown))
+
 module _ {F : Type 0} (gives makes : F → List ℕ → List ℕ → F → Type 0) (finds : F → List ℕ → List ℕ → Standing → F → Type 0) where
   -- a file has these bytes, and was not written
   abbrev pub IsThere : List ℕ → List ℕ → F → F → Type 0
@@ -45,22 +55,12 @@ module _ {F : Type 0} (gives makes : F → List ℕ → List ℕ → F → Type 
   IsCarriedOut order files after old new =
       Reads gives files order.input (λ text read. (bytes : List ℕ) × IsExpanded order.shape text bytes × IsDelivered order order.output bytes read after old new)
 
-  -- the enum on standard input has no faults, and its implementation is at the end of standard output, with placeholders
-  abbrev pub IsAnswered : DeriveOrder → F → F → Option (List ℕ) → Option (List ℕ) → Type 0
-  IsAnswered order files after old new =
-      Reads gives files (codes "/dev/stdin") (λ text read. (after ≡ read) × ((answer : Answer) × IsDerived order.shape text answer × Appends old new (string_bytes answer.text)))
-
-  -- the enum on standard input has faults, which this text shows
-  abbrev pub IsDeniedAnswer : DeriveOrder → F → F → List ℕ → Type 0
-  IsDeniedAnswer order files after shown =
-      Reads gives files (codes "/dev/stdin") (λ text read. (after ≡ read) × ((faults : List Fault) × IsRefused text faults × ShowsErrors order.format (standard_input text) faults shown))
-
   -- what is asked for is done
   abbrev pub IsDone : Asked → F → F → Option (List ℕ) → Option (List ℕ) → Type 0
   IsDone asks_help files after old new = after ≡ files
   IsDone asks_version files after old new = after ≡ files
   IsDone (asks_expansion order) files after old new = IsCarriedOut order files after old new
-  IsDone (asks_derive order) files after old new = IsAnswered order files after old new
+  IsDone (asks_derive order) files after old new = IsAnswered gives order files after old new
 
   -- the file is read, and has faults, which this text shows; or its expansion was only to be compared, and is not what the other file has. No file is written.
   abbrev pub IsDeniedOrder : OrderValue → F → F → List ℕ → Type 0
@@ -73,7 +73,7 @@ module _ {F : Type 0} (gives makes : F → List ℕ → List ℕ → F → Type 
   IsDenied asks_help files after shown = ⊥
   IsDenied asks_version files after shown = ⊥
   IsDenied (asks_expansion order) files after shown = IsDeniedOrder order files after shown
-  IsDenied (asks_derive order) files after shown = IsDeniedAnswer order files after shown
+  IsDenied (asks_derive order) files after shown = IsDeniedAnswer gives order files after shown
 
 -- the file for the result is the file that is read; `same` holds of files, two paths, and whether these lead to one file
 abbrev pub IsOwnOutput : {F : Type 0} → (F → List ℕ → List ℕ → Bool → Type 0) → Asked → F → Type 0

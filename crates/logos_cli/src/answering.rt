@@ -9,7 +9,7 @@ ghost use Rattle.logos_derive.specs.declared.answering.Answer.{Answer as AnswerV
 ghost use Rattle.logos_cli.specs.Deriving.{IsDerived, ShowsErrors, standard_input};
 ghost use Rattle.logos_cli.specs.Runs.{IsAnswered, IsDeniedAnswer};
 
-use crate::deriving::{answer_lines, derived, refusal_lines};
+use crate::implementation::{answer_lines, derived, refusal_lines};
 use crate::options::{DeriveOrder, MessageFormat, STANDARD_INPUT};
 use crate::running::{Ending, failed, print_bytes};
 use logos_codegen::Refusal;
@@ -67,7 +67,7 @@ fn answer_source<O: Write, E: Write + IsTerminal>(
 {
     match derived(alloc, order.shape, source) {
         Ok(answer) => print_answer(alloc, order.format, &answer, out, err),
-        Err(Refusal::Errors(errors)) => refuse(alloc, order, source, &errors, err),
+        Err(Refusal::Errors(errors)) => refuse(order, source, &errors, err),
         Err(Refusal::Memory) => failed(&Failure::Memory, err),
     }
 }
@@ -96,7 +96,6 @@ fn print_answer<O: Write, E: Write>(
 
 /// Writes what is wrong with an enum.
 fn refuse<E: Write + IsTerminal>(
-    alloc: Global,
     order: DeriveOrder,
     source: &str,
     errors: &Errors,
@@ -109,7 +108,7 @@ fn refuse<E: Write + IsTerminal>(
     ensures known { (result.status ≡ 1) ⊎ (result.status ≡ 3) }
 {
     let is_colored = order.color.is_on(err.is_terminal());
-    match lines_of(alloc, order.format, is_colored, source, errors) {
+    match lines_of(order.format, is_colored, source, errors) {
         Ok(lines) => end_with(1, &lines, err),
         Err(Memory) => failed(&Failure::Memory, err),
     }
@@ -117,7 +116,6 @@ fn refuse<E: Write + IsTerminal>(
 
 /// Returns what is written of the faults of an enum.
 fn lines_of(
-    alloc: Global,
     format: MessageFormat,
     is_colored: bool,
     source: &str,
@@ -126,8 +124,8 @@ fn lines_of(
     ensures { IfOk result (λ lines.
         ShowsErrors format (standard_input source.now) errors.now lines.items) }
 {
-    match Source::new(alloc, INPUT_NAME, source) {
-        Ok(source) => refusal_lines(alloc, format, &source, is_colored, errors),
+    match Source::new(errors.alloc(), INPUT_NAME, source) {
+        Ok(source) => refusal_lines(format, &source, is_colored, errors),
         Err(AllocError) => Err(Memory),
     }
 }

@@ -3,8 +3,8 @@
 #![tactic(auto)]
 
 mod answering;
-mod deriving;
 mod expanding;
+mod implementation;
 mod options;
 mod running;
 

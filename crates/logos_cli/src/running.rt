@@ -293,10 +293,7 @@ fn deliver<'w, F: ComparableFiles, O: Write>(
 }
 
 /// Prints bytes.
-pub(crate) fn print_bytes<'w, O: Write>(
-    bytes: &[u8],
-    out: &mut O,
-) -> Result<(), Failure<'w>>
+pub(crate) fn print_bytes<'w, O: Write>(bytes: &[u8], out: &mut O) -> Result<(), Failure<'w>>
     ensures done { OnOk result (Appends (O.contents out.old) (O.contents out.new) bytes.now) }
     ensures failed { IfErr result (λ failure. status_of failure ≡ 3) }
 {

@@ -6,7 +6,7 @@ ghost use Rattle.logos_codegen.specs.Source.{IsRefused};
 ghost use Rattle.logos_report.specs.Faults.{faults_texts};
 ghost use Rattle.logos_report.specs.Pages.{StandInOrder};
 ghost use Rattle.logos_rust_file.specs.Handed.{Refuses};
-ghost use Rattle.logos_cli.specs.Deriving.{IsDerived, IsDerivedBy, ShowsErrors};
+ghost use Rattle.logos_cli.specs.Deriving.{AreFaultLines, IsDerived, IsDerivedBy, ShowsErrors};
 
 use crate::expanding::{config_of, lexer_text};
 use crate::options::{MessageFormat, Shape};
@@ -26,16 +26,29 @@ pub(crate) fn derived(alloc: Global, shape: Shape, source: &str) -> Result<Answe
     ensures refused { IfErr result (Refuses (IsRefused source.now)) }
 {
     match generate(alloc, source, config_of(shape)) {
-        Ok(made) => match derived_by(alloc, shape, source, &made) {
-            Ok(answer) => Ok(answer),
-            Err(Memory) => Err(Refusal::Memory),
-        },
+        Ok(made) => derived_by(alloc, shape, source, &made),
         Err(refusal) => Err(refusal),
     }
 }
 
 /// Returns the text of a lexer, with placeholders for the pieces of its source.
 fn derived_by(
+    alloc: Global,
+    shape: Shape,
+    source: &str,
+    made: &Generated<'_>,
+) -> Result<Answer, Refusal>
+    ensures done { IfOk result (IsDerivedBy shape made.now.code source.now) }
+    ensures refused { IfErr result (Refuses (IsRefused source.now)) }
+{
+    match answer_of(alloc, shape, source, made) {
+        Ok(answer) => Ok(answer),
+        Err(Memory) => Err(Refusal::Memory),
+    }
+}
+
+/// Returns the same, which fails for memory alone.
+fn answer_of(
     alloc: Global,
     shape: Shape,
     source: &str,
@@ -77,7 +90,6 @@ fn piece_list(alloc: Global, answer: &Answer) -> Result<Vec<Piece>, Memory> {
 
 /// Returns what standard error gets of an enum that is refused.
 pub(crate) fn refusal_lines(
-    alloc: Global,
     format: MessageFormat,
     source: &Source<'_>,
     is_colored: bool,
@@ -86,13 +98,16 @@ pub(crate) fn refusal_lines(
     ensures { IfOk result (λ lines. ShowsErrors format source.now errors.now lines.items) }
 {
     match format {
-        MessageFormat::Human => report_lines(alloc, source, is_colored, errors),
-        MessageFormat::Json => message_lines(alloc, source, errors),
+        MessageFormat::Human => report_lines(source, is_colored, errors),
+        MessageFormat::Json => message_lines(source, errors),
     }
 }
 
 /// Returns the faults of an enum as lines of JSON, after the line that names the protocol.
-fn message_lines(alloc: Global, source: &Source<'_>, errors: &Errors) -> Result<Vec<u8>, Memory> {
+fn message_lines(source: &Source<'_>, errors: &Errors) -> Result<Vec<u8>, Memory>
+    ensures { IfOk result (λ lines. AreFaultLines source.now errors.now lines.items) }
+{
+    let alloc = errors.alloc();
     let mut lines = Vec::new(alloc);
     push_version(alloc, &mut lines, PROGRAM)?;
     push_messages(alloc, &mut lines, Part { source, offset: 0 }, errors)?;
@@ -100,32 +115,22 @@ fn message_lines(alloc: Global, source: &Source<'_>, errors: &Errors) -> Result<
 }
 
 /// Returns the faults of an enum as a report.
-fn report_lines(
-    alloc: Global,
-    source: &Source<'_>,
-    is_colored: bool,
-    errors: &Errors,
-) -> Result<Vec<u8>, Memory>
+fn report_lines(source: &Source<'_>, is_colored: bool, errors: &Errors) -> Result<Vec<u8>, Memory>
     ensures { IfOk result (λ lines. StandInOrder
         (faults_texts is_colored source.now 0 errors.now) lines.items) }
 {
-    match report_text(alloc, source, is_colored, errors) {
+    match report_text(source, is_colored, errors) {
         Ok(text) => Ok(text.into_bytes()),
         Err(AllocError) => Err(Memory),
     }
 }
 
 /// Returns the report of the faults of an enum, with their number.
-fn report_text(
-    alloc: Global,
-    source: &Source<'_>,
-    is_colored: bool,
-    errors: &Errors,
-) -> Result<String, AllocError>
+fn report_text(source: &Source<'_>, is_colored: bool, errors: &Errors) -> Result<String, AllocError>
     ensures { IfOk result (λ text. StandInOrder
         (faults_texts is_colored source.now 0 errors.now) (string_bytes text)) }
 {
-    let mut page = Page::new(alloc, is_colored);
+    let mut page = Page::new(errors.alloc(), is_colored);
     push_faults(&mut page, Part { source, offset: 0 }, errors);
     push_summary(&mut page, count_errors(errors));
     page.finish()
