@@ -15,7 +15,8 @@ printf '#[derive(Logos)]\nenum T { #[token] A }\n' > faulty.rs
 printf 'enum \xff' > torn.rs
 mkdir folder
 usage='usage: logos_cli INPUT [-o FILE] [-c] [--shape tables|tailcall|state_machine]
-                 [--color always|never|auto]'
+                 [--color always|never|auto]
+       logos_cli --derive [--shape SHAPE] [--message-format human|json] -'
 met=0
 
 fail() {

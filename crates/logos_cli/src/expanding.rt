@@ -188,7 +188,7 @@ fn push_refusal(refused: &mut Vec<Refused>, offset: usize, refusal: Refusal) -> 
 }
 
 /// Returns the shape of the code that a lexer is made of.
-fn config_of(shape: Shape) -> Config
+pub(crate) fn config_of(shape: Shape) -> Config
     ensures { result ≡ config_of shape }
 {
     match shape {
@@ -200,7 +200,11 @@ fn config_of(shape: Shape) -> Config
 }
 
 /// Returns the text of a lexer.
-fn lexer_text(alloc: Global, shape: Shape, made: &Generated<'_>) -> Result<String, Memory>
+pub(crate) fn lexer_text(
+    alloc: Global,
+    shape: Shape,
+    made: &Generated<'_>,
+) -> Result<String, Memory>
     ensures { IfOk result (λ text. IsShown shape made.now.code (string_bytes text)) }
 {
     match shape {
