@@ -66,7 +66,7 @@ fn answer_source<O: Write, E: Write + IsTerminal>(
     ensures known { (result.status ≤ 3) × (result.status ≢ 2) }
 {
     match derived(alloc, order.shape, source) {
-        Ok(answer) => print_answer(alloc, order.format, &answer, out, err),
+        Ok(answer) => print_answer(order.format, &answer, out, err),
         Err(Refusal::Errors(errors)) => refuse(order, source, &errors, err),
         Err(Refusal::Memory) => failed(&Failure::Memory, err),
     }
@@ -74,7 +74,6 @@ fn answer_source<O: Write, E: Write + IsTerminal>(
 
 /// Prints an answer, and writes the lines that go with it.
 fn print_answer<O: Write, E: Write>(
-    alloc: Global,
     format: MessageFormat,
     answer: &Answer,
     out: &mut O,
@@ -84,7 +83,7 @@ fn print_answer<O: Write, E: Write>(
         (string_bytes answer.now.text) }
     ensures known { (result.status ≡ 0) ⊎ (result.status ≡ 3) }
 {
-    let lines = match answer_lines(alloc, format, answer) {
+    let lines = match answer_lines(*answer.text.allocator(), format, answer) {
         Ok(lines) => lines,
         Err(Memory) => return failed(&Failure::Memory, err),
     };

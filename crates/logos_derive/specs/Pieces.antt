@@ -12,8 +12,10 @@ pub record IsPieceOf (prefix source : List ℕ) (piece : Piece) : Type 0 where
   pub name : string_bytes piece.name ≡ prefix ++ decimal piece.number
   pub part : IsPartOf source piece.span (string_bytes piece.text)
 
--- From these offsets on, a text whose placeholders stand for these pieces, in order, is another text, once they are put back. The first text is a row of lexemes and gaps; each is an
--- identifier that is the placeholder of the next piece, whose text stands in the other text, or it stands there itself.
+-- From these offsets on, a text whose placeholders stand for these pieces, in order, is another
+-- text, once they are put back. The first text is a row of lexemes and gaps; each is an identifier
+-- that is the placeholder of the next piece, whose text stands in the other text, or it stands
+-- there itself.
 pub data IsPutBack (shown text : List ℕ) : List Piece → ℕ → ℕ → Type 0 where
   ended : {from other : ℕ} → from ≡ length shown → other ≡ length text → IsPutBack shown text [] from other
   stays : {pieces : List Piece} {from to other end : ℕ} {kind : Kind} →
