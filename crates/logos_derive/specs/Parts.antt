@@ -16,7 +16,8 @@ pub record StandsAt (text : List ℕ) (from : ℕ) (part : List ℕ) (to : ℕ) 
 abbrev pub IsAbsent : List ℕ → List ℕ → Type 0
 IsAbsent text part = (from : ℕ) → from ≤ length text → LacksTextAt part text from
 
--- Placeholders with this beginning are new: it stands neither in the source nor in the implementation.
+-- Placeholders with this beginning are new: it stands neither in the source nor in the
+-- implementation.
 abbrev pub IsNew : List ℕ → List ℕ → List ℕ → Type 0
 IsNew source text prefix = IsAbsent source prefix × IsAbsent text prefix
 

@@ -7,7 +7,8 @@ use Rattle.logos_lexeme.specs.declared.lexeme.Kind.TheVariants.{Identifier}
 use Rattle.logos_derive.specs.Parts.{IsPartOf, StandsAt}
 use Rattle.logos_derive.specs.declared.piece.Piece.{Piece}
 
--- The placeholder of a piece is its number after a beginning. The text of the piece is that of the tokens at its span of the source, printed.
+-- The placeholder of a piece is its number after a beginning. The text of the piece is that of the
+-- tokens at its span of the source, printed.
 pub record IsPieceOf (prefix source : List ℕ) (piece : Piece) : Type 0 where
   pub name : string_bytes piece.name ≡ prefix ++ decimal piece.number
   pub part : IsPartOf source piece.span (string_bytes piece.text)
