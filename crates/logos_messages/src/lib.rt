@@ -4,7 +4,12 @@
 #![tactic(auto)]
 
 mod answer;
+mod head;
+mod line;
+mod marked;
 mod messages;
+mod notes;
+mod spans;
 
 pub use answer::{Piece, push_pieces, push_version};
 pub use messages::push_messages;

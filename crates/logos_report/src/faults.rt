@@ -54,7 +54,7 @@ fn count_all(faults: &[SpannedError]) -> usize
 }
 
 /// Returns whether a fault with this code is an error.
-fn is_error(code: FaultCode) -> bool
+pub fn is_error(code: FaultCode) -> bool
     ensures { result ≡ is_error code }
 {
     !matches!(code, FaultCode::Previous)
@@ -92,7 +92,12 @@ fn errors_text(count: usize) -> &'static str
 }
 
 /// Pushes a fault, which is one of `faults`.
-fn push_fault(page: &mut Page, part: Part<'_, '_>, faults: &[SpannedError], fault: &SpannedError)
+pub fn push_fault(
+    page: &mut Page,
+    part: Part<'_, '_>,
+    faults: &[SpannedError],
+    fault: &SpannedError,
+)
     ensures { Shows (fault_texts page.old.is_colored part.entry.source.now part.entry.offset
         (fault_of fault.now)) page.old page.new }
 {
@@ -162,7 +167,7 @@ fn style_of(code: FaultCode) -> Style {
 }
 
 /// Returns a text up to its first LF.
-fn first_line(text: &str) -> &str
+pub fn first_line(text: &str) -> &str
     ensures { result.now ≡ first_line text.now }
 {
     match text.split_once('\n') {

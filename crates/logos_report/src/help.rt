@@ -1,6 +1,12 @@
 //! What to do about a fault.
 
-use logos_token::error::FaultCode;
+use crate::source::Part;
+use logos_token::error::{FaultCode, SpannedError};
+
+/// Returns what to do about a fault of a part of a file, if there is something to say.
+pub fn help_of(_part: Part<'_, '_>, fault: &SpannedError) -> Option<&'static str> {
+    help_for(fault.code)
+}
 
 /// Returns what to do about a fault with this code, for the codes that are met most.
 pub fn help_for(code: FaultCode) -> Option<&'static str> {

@@ -8,8 +8,8 @@ mod help;
 mod page;
 mod source;
 
-pub use faults::{count_errors, push_faults, push_summary};
+pub use faults::{count_errors, first_line, is_error, push_fault, push_faults, push_summary};
 pub use frame::{digits, push_frame, push_place};
-pub use help::help_for;
+pub use help::{help_for, help_of};
 pub use page::{Page, Style};
 pub use source::{Part, Source};
