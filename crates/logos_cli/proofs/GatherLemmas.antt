@@ -1,5 +1,5 @@
 -- What the enums of a file give, one after another.
-use Rattle.std.proofs.Common.{◌≡◌, ◌==◌, ◌≤◌, ◌<◌, ◌+◌, ℕ, suc, List, [], ◌∷◌, ◌++◌, append_assoc, true, false, All, IfOk, OnOk, Option, Result, Ok, Err, map, length, get_or, drop, string_bytes, refl, sym, ap, ◌∙◌, arith, subst, inl, inr}
+use Rattle.std.proofs.Common.{◌≡◌, ◌==◌, ◌≤◌, ◌<◌, ◌+◌, ℕ, suc, List, [], ◌∷◌, ◌++◌, append_assoc, true, false, IfOk, OnOk, Option, Result, Ok, Err, map, length, get_or, drop, string_bytes, refl, sym, ap, ◌∙◌, arith, subst}
 use Rattle.std.proofs.lemmas.List.{append-nil}
 use Rattle.std.proofs.Math.Seq.{drop-cons}
 use Rattle.std.proofs.Math.ListN.{drop_of_length-le}
@@ -10,9 +10,9 @@ use Rattle.logos_codegen.specs.Source.{IsRefused}
 use Rattle.logos_codegen.specs.Source.IsRefused.{unread}
 use Rattle.logos_cli.specs.declared.expanding.Gathered.{Gathered}
 use Rattle.logos_cli.specs.declared.expanding.Refused.{Refused}
-use Rattle.logos_cli.specs.Expanding.{IsExpansion, IsExpanded, IsLexerText, IsUnreadable, Replaces, config_of, text_at}
+use Rattle.logos_cli.specs.Expanding.{IsExpansion, IsExpanded, IsUnreadable, Replaces, config_of, text_at}
 use Rattle.logos_cli.specs.Expanding.Replaces.{ended as r_ended, stays as r_stays, gives as r_gives}
-use Rattle.logos_cli.specs.inside.Steps.{AddsRefusal, AreFaultsOf, GathersOne, IsExpansionBy, IsPrintedWith}
+use Rattle.logos_cli.specs.inside.Steps.{AddsRefusal, AreFaultsOf, GathersOne, IsExpansionBy}
 use Rattle.logos_cli.specs.Gathering.{AreRefused, Gathers, GathersAll}
 use Rattle.logos_cli.specs.Gathering.AreRefused.{whole, lexers}
 use Rattle.logos_cli.specs.Gathering.Gathers.{ended as g_ended, stays as g_stays, gives as g_gives, refuses as g_refuses}

@@ -1,4 +1,4 @@
-use Rattle.std.proofs.Common.{◌≡◌, ◌<◌, ◌∙◌, [], length, sym, arith, eqb-true, rules}
+use Rattle.std.proofs.Common.{◌≡◌, ◌∙◌, [], sym, arith, eqb-true}
 use Rattle.std.proofs.lemmas.List.{nil_from_length}
 use Rattle.logos_cli.proofs.GatherLemmas.{expanded_all, lexers_refused, some_left}
 use Rattle.logos_cli.proofs.expanding.expand_enums.Goals as goal
