@@ -56,7 +56,7 @@ impl Counts {
     }
 
     /// Returns how many items there were of a leaf.
-    fn of_leaf(&self, number: usize) -> usize {
+    pub(crate) fn of_leaf(&self, number: usize) -> usize {
         match self.by_leaf.get(number) {
             Some(count) => *count,
             None => 0,

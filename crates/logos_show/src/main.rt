@@ -2,10 +2,14 @@
 
 #![tactic(auto)]
 
+mod asking;
 mod counts;
+mod expecting;
 mod items;
 mod lines;
+mod notes;
 mod options;
+mod places;
 mod reading;
 mod running;
 mod showing;

@@ -1,0 +1,4 @@
+pub mod ExampleLemmas
+pub mod GainLemmas
+pub mod LongestLemmas
+pub mod NumberLemmas

@@ -1,0 +1,20 @@
+use Rattle.std.proofs.Common.{◌≡◌, ◌∙◌, ◌+◌, ℕ, None, length, get_or, sym, ap, subst, arith}
+use Rattle.logos_answers.specs.Matches.{last_of, longest_from}
+use Rattle.logos_answers.proofs.LongestLemmas.{last_more, last_none, longest_is}
+use Rattle.logos_answers.proofs.matches.longest_of.Goals as goal
+
+pub loop-found-preserved : goal.loop-found-preserved
+loop-found-preserved c = record {
+  long = c.set_longest.ensures.count ∙ c.loop-found.invariant.long;
+  rest = λ leaf l.
+      last_more c.args.matches.now c.loop-found.found-index leaf c.found-item.result (get_or c.loop-found.longest.items leaf None) _ c.loop-found-test.true c.found-item.is
+      (c.set_longest.ensures.each leaf (omega (arith, l, c.loop-found.invariant.long)))
+      ∙ c.loop-found.invariant.rest leaf l;
+}
+
+pub returns : goal.returns
+returns c =
+    let long = c.loop-found.invariant.long in
+    let is = longest_is c.args.matches.now c.loop-found.longest.items 0 (λ k l.
+        sym (last_none c.args.matches.now c.loop-found.found-index k (get_or c.loop-found.longest.items k None) c.loop-found-test.false) ∙ c.loop-found.invariant.rest k (omega (arith, l, long))) in
+    is ∙ ap (λ n. longest_from c.args.matches.now 0 n) long
