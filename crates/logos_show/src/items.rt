@@ -64,8 +64,10 @@ pub(crate) fn write_items<O: Write, C: Clock>(
     if let Some(passed) = passed {
         push_count(&mut lines.block, "milliseconds", passed)?;
     }
+    // The note is made first, so that nothing is printed if memory runs out.
+    let note = note_of(alloc, code.leaves(), &lines.counts)?;
     print_bytes(&lines.block, out)?;
-    Ok(note_of(alloc, code.leaves(), &lines.counts)?)
+    Ok(note)
 }
 
 /// Returns the heads of the lines of these leaves.
