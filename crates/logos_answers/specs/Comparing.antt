@@ -11,8 +11,8 @@ pub record AreOfOneMode (one other : GraphValue) (names other_names : List ℕ) 
   pub mode : one.utf8 ≡ other.utf8
   pub numbered : AreNumbered one.leaves names other.leaves other_names
 
--- By the variants of their leaves two lexers find the same from each offset of each input, or this is
--- a shortest input at whose beginning they do not, or they read inputs of another kind.
+-- By the variants of their leaves two lexers find the same from each offset of each input, or this
+-- is a shortest input at whose beginning they do not, or they read inputs of another kind.
 abbrev pub IsCompared : GraphValue → GraphValue → Compared → Type 0
 IsCompared one other Same =
     (names other_names : List ℕ) × AreOfOneMode one other names other_names × FindTheSame (rules_of one.leaves) names (rules_of other.leaves) other_names one.utf8

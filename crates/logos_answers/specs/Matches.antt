@@ -13,8 +13,8 @@ use Rattle.logos_answers.specs.Quoting.{quoted}
 abbrev pub bytes_between : List ℕ → ℕ → ℕ → List ℕ
 bytes_between input from to = if nat_le from to && nat_le to (length input) then take (to - from) (drop from input) else []
 
--- The last of these matches that is one of a leaf, or this one: of matches in the order of their ends
--- it is the longest.
+-- The last of these matches that is one of a leaf, or this one: of matches in the order of their
+-- ends it is the longest.
 abbrev pub last_of : ℕ → Option Match → List Match → Option Match
 last_of leaf found [] = found
 last_of leaf found (m ∷ rest) = last_of leaf (if m.leaf == leaf then Some m else found) rest

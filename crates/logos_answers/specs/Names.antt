@@ -34,8 +34,8 @@ leaf_text leaves leaf = codes "`" ++ (name_at leaves leaf ++ (codes "` (leaf " +
 abbrev pub variant_at : List Leaf → ℕ → Option (Option (List ℕ))
 variant_at leaves leaf = option_map (λ (it : Leaf). variant_name it.kind) (slice_get leaves leaf)
 
--- The leaves of two lexers are numbered by their variants: two leaves, or two that are not there, have
--- the same number exactly if they have the same variant.
+-- The leaves of two lexers are numbered by their variants: two leaves, or two that are not there,
+-- have the same number exactly if they have the same variant.
 abbrev pub AreNumbered : List Leaf → List ℕ → List Leaf → List ℕ → Type 0
 AreNumbered leaves names others other_names =
     (leaf other : ℕ) → (slice_get names leaf ≡ slice_get other_names other) ↔ (variant_at leaves leaf ≡ variant_at others other)

@@ -22,10 +22,10 @@ pub enum Compared {
     OtherMode,
 }
 
-/// Compares the lexers of two graphs without faults. They are the same if they read inputs of the same
-/// kind, and from each offset of each input find the same: matches that end at the same offset and give
-/// variants of the same name, or skips, or errors that end at the same offset. What callbacks do is not
-/// compared.
+/// Compares the lexers of two graphs without faults. They are the same if they read inputs of the
+/// same kind, and from each offset of each input find the same: matches that end at the same offset
+/// and give variants of the same name, or skips, or errors that end at the same offset. What
+/// callbacks do is not compared.
 ///
 /// # Errors
 ///
@@ -59,8 +59,8 @@ pub fn compare_lexers(
     }
 }
 
-/// Returns a number for each leaf: 0 for a skip, and for each other leaf that of its variant by a table,
-/// which grows.
+/// Returns a number for each leaf: 0 for a skip, and for each other leaf that of its variant by a
+/// table, which grows.
 fn numbers_of<'l>(
     alloc: Global,
     table: &mut IndexSet<&'l str>,

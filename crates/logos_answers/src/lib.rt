@@ -1,5 +1,5 @@
-//! Answers about a lexer, as lines of text: what matches from a point, what a leaf finds, and whether
-//! two lexers are the same.
+//! Answers about a lexer, as lines of text: what matches from a point, what a leaf finds, and
+//! whether two lexers are the same.
 
 #![tactic(auto)]
 

@@ -51,7 +51,8 @@ pub fn push_matches(
     Ok(())
 }
 
-/// Pushes the match that a lexer takes at the beginning of an input, and returns whether there is one.
+/// Pushes the match that a lexer takes at the beginning of an input, and returns whether there is
+/// one.
 ///
 /// # Errors
 ///

@@ -14,8 +14,8 @@ fn begins_at(byte: u8, here: Position, place: Position) -> bool
     !continues(byte) & (here == place)
 }
 
-/// Returns the offset of a line and a column of an input, or `None` if it does not have them. Lines and
-/// columns count from 1, and a column counts characters.
+/// Returns the offset of a line and a column of an input, or `None` if it does not have them. Lines
+/// and columns count from 1, and a column counts characters.
 pub fn offset_of(input: &[u8], place: Position) -> Option<usize>
     ensures { MatchOption result ((at : ℕ) → ¬ IsOffsetOf input.now place at)
         (IsOffsetOf input.now place) }

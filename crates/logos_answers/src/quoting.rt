@@ -1,5 +1,5 @@
-//! Bytes as they are shown in quotes. No control character, no character that is not visible, and none
-//! that turns the direction of a line is shown as it is.
+//! Bytes as they are shown in quotes. No control character, no character that is not visible, and
+//! none that turns the direction of a line is shown as it is.
 
 ghost use Rattle.std.specs.Prelude.{◌≡◌, ◌<◌, ◌/◌, ◌%◌, length};
 ghost use Rattle.logos_answers.specs.Quoting as shown;

@@ -12,7 +12,8 @@ Table = List (Bor (List ℕ))
 abbrev pub AreDistinct : Table → Type 0
 AreDistinct table = IsDistinct (λ (one other : Bor (List ℕ)). bytes_eq one.now other.now) table
 
--- A number stands for a variant: 0 for a skip, and the index of its name and one more for another one.
+-- A number stands for a variant: 0 for a skip, and the index of its name and one more for another
+-- one.
 abbrev pub IsNumberOf : Table → Option (List ℕ) → ℕ → Type 0
 IsNumberOf table None number = number ≡ 0
 IsNumberOf table (Some name) number = (index : ℕ) × (key : Bor (List ℕ)) × (number ≡ index + 1) × (slice_get table index ≡ Some key) × (key.now ≡ name)
