@@ -28,7 +28,7 @@ pub record PrintsMatches (leaves : List Leaf) (input : List ℕ) (place : Positi
   pub lines : AreLines leaves input from matches text
   pub printed : Appends old new (place_line place ++ text)
 
--- Two lexers are said to be the same, or not, for what a comparison says.
+-- The verdict on two lexers is that of a comparison.
 abbrev pub IsJudged : GraphValue → GraphValue → Standing → Type 0
 IsJudged one other Same = IsCompared one other compared.Same
 IsJudged one other Different = (made : Compared) × IsCompared one other made × (made ≢ compared.Same)
