@@ -1,5 +1,5 @@
 -- Where a leaf loses another one wins, and the lines of leaves follow one another.
-use Rattle.std.proofs.Common.{◌≡◌, ◌<◌, ◌≤◌, ◌+◌, ◌-◌, ℕ, suc, Bool, List, [], ◌++◌, Contains, length, sym, refl, subst, arith}
+use Rattle.std.proofs.Common.{◌≡◌, ◌<◌, ◌≤◌, ◌+◌, ◌-◌, ℕ, suc, Bool, List, [], ◌++◌, Contains, sym, refl, subst, arith}
 use Rattle.logos_automaton.specs.Faults.{AllStart, AreFaults}
 use Rattle.logos_automaton.specs.Munch.{Rule, priority_of}
 use Rattle.logos_evidence.specs.declared.matching.Match.{Match}
@@ -8,6 +8,7 @@ use Rattle.logos_evidence.specs.Matching.{AreMatches}
 use Rattle.logos_graph.proofs.Automaton.{no_faults}
 use Rattle.logos_graph.specs.GraphOf.{IsGraphOf}
 use Rattle.logos_graph.specs.View.{GraphValue, rules_of}
+use Rattle.logos_hir.specs.Text.{IsBytes}
 use Rattle.logos_pattern.specs.declared.leaf.Leaf.{Leaf}
 use Rattle.logos_report.specs.Pages.{PageValue}
 use Rattle.logos_report.proofs.PageLemmas.{gains_nothing, gains_then}
@@ -22,6 +23,10 @@ some_match rules utf8 leaf input matches are loss none =
     let m : Match = record { leaf = leaf; end = loss.end; priority = priority_of rules leaf } in
     let there : Contains matches m = (are.exactly m).1 (record { matches = loss.matches; priority = refl }) in
     none_in m (subst (λ (ms : List Match). Contains ms m) none there)
+
+-- the matches from the beginning of an input, by another name of it
+pub matches_of : (rules : List Rule) (given input : List ℕ) (matches : List Match) → given ≡ input → (IsBytes given → AreMatches rules given 0 matches) → IsBytes input → AreMatches rules input 0 matches
+matches_of rules given input matches e are = subst (λ bytes. IsBytes bytes → AreMatches rules bytes 0 matches) e are
 
 -- all leaves of a graph without faults start
 pub all_start : (graph : GraphValue) → IsGraphOf graph.leaves graph.utf8 graph → graph.faults ≡ [] → AllStart (rules_of graph.leaves)

@@ -1,3 +1,4 @@
+pub mod ComparedLemmas
 pub mod ExampleLemmas
 pub mod GainLemmas
 pub mod LongestLemmas

@@ -1,9 +1,9 @@
 -- Numbers that stand for the variants of leaves.
 use Rattle.std.proofs.Common.{◌≡◌, ◌<◌, ◌≤◌, ◌+◌, ◌⊎◌, inl, inr, ℕ, zero, suc, Bool, true, false, if◌then◌else◌, List, [], ◌∷◌, ◌++◌, Option, Some, None, ◌↔◌, length, get_or, slice_get, slice_index, bytes_eq, option_map, sym, ap, ◌∙◌, refl, subst, arith}
-use Rattle.std.proofs.lemmas.Option.{get_or_from_slice_get, slice_get_cases, slice_get_within}
+use Rattle.std.proofs.lemmas.Option.{get_or_from_slice_get, slice_get_cases}
 use Rattle.std.proofs.lemmas.Bool.{cases_lt}
 use Rattle.std.proofs.lemmas.List.{get_or_append_left, get_or_push, length-append}
-use Rattle.std.specs.List.{AllByRecursion, IsDistinct, list_any}
+use Rattle.std.specs.List.{AllByRecursion, IsDistinct}
 use lib.Pointwise.{bytes_decides}
 use denote.Ref.{Bor}
 use Rattle.logos_pattern.specs.declared.leaf.Leaf.{Leaf}
@@ -82,8 +82,8 @@ module _ (table : Table) (distinct : AreDistinct table) where
       go (inl l) (inl n) (inl o) (inl m) =
           both (Some (variant_name l.0.kind)) (Some (variant_name o.0.kind)) (Some n.0) (Some m.0) (ap variant l.2) (ap variant o.2) n.2 m.2
           (under_some (same_number (variant_name l.0.kind) (variant_name o.0.kind) n.0 m.0
-            (subst (IsNumberOf table (variant_name l.0.kind)) (get_or_from_slice_get names leaf n.0 0 n.2) (a.each leaf l.0 l.1 l.2))
-            (subst (IsNumberOf table (variant_name o.0.kind)) (get_or_from_slice_get other_names other m.0 0 m.2) (b.each other o.0 o.1 o.2))))
+          (subst (IsNumberOf table (variant_name l.0.kind)) (get_or_from_slice_get names leaf n.0 0 n.2) (a.each leaf l.0 l.1 l.2))
+          (subst (IsNumberOf table (variant_name o.0.kind)) (get_or_from_slice_get other_names other m.0 0 m.2) (b.each other o.0 o.1 o.2))))
       go (inr l) (inr n) (inr o) (inr m) = both None None None None (ap variant l.1) (ap variant o.1) n.1 m.1 (λ e. refl, λ e. refl)
       go (inl l) (inl n) (inr o) (inr m) = both (Some (variant_name l.0.kind)) None (Some n.0) None (ap variant l.2) (ap variant o.1) n.2 m.1 (λ e. absurd (cc), λ e. absurd (cc))
       go (inr l) (inr n) (inl o) (inl m) = both None (Some (variant_name o.0.kind)) None (Some m.0) (ap variant l.1) (ap variant o.2) n.1 m.2 (λ e. absurd (cc), λ e. absurd (cc))
@@ -95,17 +95,17 @@ module _ (table : Table) (distinct : AreDistinct table) where
       go (inr l) (inr n) (inr o) (inl m) = let x = o.0 in let y = m.1 in absurd (omega (arith, x, y, b.long))
 
 -- what stands for a variant in a table stands for it in a table that has grown from it
-grown_number : {old new : Table} (v : Option (List ℕ)) (n : ℕ) → Grows old new → IsNumberOf old v n → IsNumberOf new v n
-grown_number None n g is = is
-grown_number (Some v) n g is = (is.0, is.1, is.2, g is.0 is.1 is.3, is.4)
+grown_number : (old new : Table) (v : Option (List ℕ)) (n : ℕ) → Grows old new → IsNumberOf old v n → IsNumberOf new v n
+grown_number old new None n g is = is
+grown_number old new (Some v) n g is = (is.0, is.1, is.2, g is.0 is.1 is.3, is.4)
 
-pub grown_numbers : {old new : Table} (leaves : List Leaf) (count : ℕ) (numbers : List ℕ) → Grows old new → AreNumbers old leaves count numbers → AreNumbers new leaves count numbers
-grown_numbers leaves count numbers g are = record { long = are.long; each = λ k leaf l at. grown_number (variant_name leaf.kind) (slice_index numbers k) g (are.each k leaf l at) }
+pub grown_numbers : (old new : Table) (leaves : List Leaf) (count : ℕ) (numbers : List ℕ) → Grows old new → AreNumbers old leaves count numbers → AreNumbers new leaves count numbers
+grown_numbers old new leaves count numbers g are = record { long = are.long; each = λ k leaf l at. grown_number old new (variant_name leaf.kind) (slice_index numbers k) g (are.each k leaf l at) }
 
 -- one leaf more
-pub one_number : {old new : Table} (leaves : List Leaf) (count number : ℕ) (numbers more_numbers : List ℕ) (leaf : Leaf) → Grows old new → AreNumbers old leaves count numbers → slice_get leaves count ≡ Some leaf →
+pub one_number : (old new : Table) (leaves : List Leaf) (count number : ℕ) (numbers more_numbers : List ℕ) (leaf : Leaf) → Grows old new → AreNumbers old leaves count numbers → slice_get leaves count ≡ Some leaf →
     IsNumberOf new (variant_name leaf.kind) number → more_numbers ≡ numbers ++ number ∷ [] → AreNumbers new leaves (count + 1) more_numbers
-one_number {old} {new} leaves count number numbers more_numbers leaf g are at is e = record {
+one_number old new leaves count number numbers more_numbers leaf g are at is e = record {
   long = let long = are.long in let grown = ap length e in let both = length-append numbers (number ∷ []) in omega arith;
   each = λ k other l found. go k other found (cases_lt k count) l;
 }
@@ -113,10 +113,10 @@ one_number {old} {new} leaves count number numbers more_numbers leaf g are at is
     go : (k : ℕ) (other : Leaf) → slice_get leaves k ≡ Some other → (k < count) ⊎ (count ≤ k) → k < count + 1 → IsNumberOf new (variant_name other.kind) (slice_index more_numbers k)
     go k other found (inl l) m =
         let same : slice_index more_numbers k ≡ slice_index numbers k = ap (λ (xs : List ℕ). slice_index xs k) e ∙ get_or_append_left numbers (number ∷ []) 0 k (let long = are.long in omega arith) in
-        subst (IsNumberOf new (variant_name other.kind)) (sym same) (grown_number (variant_name other.kind) (slice_index numbers k) g (are.each k other l found))
+        subst (IsNumberOf new (variant_name other.kind)) (sym same) (grown_number old new (variant_name other.kind) (slice_index numbers k) g (are.each k other l found))
     go k other found (inr l) m =
         let here : k ≡ count = omega arith in
-        let same : slice_index more_numbers k ≡ number = ap (λ (xs : List ℕ). slice_index xs k) e ∙ ap (slice_index (numbers ++ number ∷ [])) here ∙ get_or_push numbers number count 0 are.long in
+        let same : slice_index more_numbers k ≡ number = ap (λ (xs : List ℕ). slice_index xs k) e ∙ ap (slice_index (numbers ++ number ∷ [])) here ∙ get_or_push numbers number 0 count are.long in
         let leaves_same : Some other ≡ Some leaf = sym found ∙ ap (slice_get leaves) here ∙ at in
         let one : other ≡ leaf = cc in
         subst (λ (x : Leaf). IsNumberOf new (variant_name x.kind) (slice_index more_numbers k)) (sym one) (subst (IsNumberOf new (variant_name leaf.kind)) (sym same) is)
@@ -135,5 +135,5 @@ grows_by old new name false e place key at = ap (λ (t : Table). slice_get t pla
 pub stored_number : (table : Table) (name key : Bor (List ℕ)) (place number : ℕ) → number ≡ place + 1 → slice_get table place ≡ Some key → bytes_eq name.now key.now ≡ true → IsNumberOf table (Some name.now) number
 stored_number table name key place number e at like = (place, key, e, at, sym ((bytes_decides name.now key.now).0 like))
 
-pub grows_then : {one other another : Table} → Grows one other → Grows other another → Grows one another
-grows_then g h place key at = h place key (g place key at)
+pub grows_then : (one other another : Table) → Grows one other → Grows other another → Grows one another
+grows_then one other another g h place key at = h place key (g place key at)

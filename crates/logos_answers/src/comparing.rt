@@ -2,7 +2,7 @@
 
 ghost use Rattle.std.specs.Prelude.{◌≡◌, [], Some, IfOk, OnOk, length, option_map};
 ghost use Rattle.logos_answers.specs.Words.{AreDistinct, AreNumbers, Grows, IsGraphOf, IsNumberOf};
-ghost use Rattle.logos_answers.specs.Views.{IsCompared};
+ghost use Rattle.logos_answers.specs.Views.{IsCompared, compared_by};
 
 use crate::names::variant_of;
 use indexmap::IndexSet;
@@ -53,9 +53,17 @@ pub fn compare_lexers(
         graph: other,
         names: &others,
     };
-    match compare(alloc, named, twin)? {
-        Comparison::Same => Ok(Compared::Same),
-        Comparison::Differ(input) => Ok(Compared::Differ(input)),
+    let made = compare(alloc, named, twin)?;
+    Ok(compared_by(made))
+}
+
+/// Returns what a comparison says of two lexers that read inputs of the same kind.
+fn compared_by(made: Comparison) -> Compared
+    ensures { result ≡ compared_by made }
+{
+    match made {
+        Comparison::Same => Compared::Same,
+        Comparison::Differ(input) => Compared::Differ(input),
     }
 }
 
@@ -81,10 +89,7 @@ fn numbers_of<'l>(
 }
 
 /// Returns the number of a variant by a table, which grows, or 0 for none.
-fn number_of<'l>(
-    table: &mut IndexSet<&'l str>,
-    name: Option<&'l str>,
-) -> Result<usize, AllocError>
+fn number_of<'l>(table: &mut IndexSet<&'l str>, name: Option<&'l str>) -> Result<usize, AllocError>
     ensures number { IfOk result (λ number. IsNumberOf table.new.keys
         (option_map (λ name. name.now) name.entry) number) }
     ensures grows { OnOk result (Grows table.old.keys table.new.keys) }

@@ -36,11 +36,7 @@ struct Loss {
 /// # Errors
 ///
 /// Returns `AllocError` if memory runs out. Some lines may be pushed then.
-pub fn push_examples(
-    alloc: Global,
-    page: &mut Page,
-    graph: &Graph<'_>,
-) -> Result<(), AllocError>
+pub fn push_examples(alloc: Global, page: &mut Page, graph: &Graph<'_>) -> Result<(), AllocError>
     ensures { OnOk result (IsGraphOf graph.now.leaves graph.now.utf8 graph.now →
         graph.now.faults ≡ [] → shown.ShowsExamples graph.now.leaves graph.now.utf8 0
         (length graph.now.leaves) page.old page.new) }
@@ -93,14 +89,10 @@ fn loss_of(alloc: Global, graph: &Graph<'_>, leaf: usize) -> Result<Option<Loss>
 }
 
 /// Returns an input on which a leaf loses, with the leaf that is found there first.
-fn with_winner(
-    alloc: Global,
-    graph: &Graph<'_>,
-    input: Vec<u8>,
-) -> Result<Option<Loss>, AllocError>
+fn with_winner(alloc: Global, graph: &Graph<'_>, input: Vec<u8>) -> Result<Option<Loss>, AllocError>
     ensures { IfOk result (λ loss. (leaf : ℕ) →
         IsGraphOf graph.now.leaves graph.now.utf8 graph.now → graph.now.faults ≡ [] →
-        IsShortestLoss (rules_of graph.now.leaves) graph.now.utf8 leaf input.entry.items →
+        IsShortestLoss (rules_of graph.now.leaves) graph.now.utf8 leaf input.items →
         MatchOption (option_map shown.loss_value loss) ⊥
         (shown.IsLostTo (rules_of graph.now.leaves) graph.now.utf8 leaf)) }
 {

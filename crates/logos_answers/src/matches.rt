@@ -223,7 +223,5 @@ fn reason(matches: &[Match], found: Match) -> &'static str
 fn has_rival(matches: &[Match], found: Match) -> bool
     ensures { result ≡ shown.has_rival matches.now found }
 {
-    matches
-        .iter()
-        .any(|other| (other.end == found.end) & (other.leaf != found.leaf))
+    matches.iter().any(|other| (other.end == found.end) & (other.leaf != found.leaf))
 }
