@@ -3,6 +3,7 @@ pub mod Examples
 pub mod Matches
 pub mod Names
 pub mod Offsets
+pub mod Places
 pub mod Quoting
 pub mod Views
 pub mod Words

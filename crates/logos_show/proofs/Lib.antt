@@ -1,3 +1,1 @@
-pub mod DigitLemmas
-pub mod SplitLemmas
 pub mod WordLemmas

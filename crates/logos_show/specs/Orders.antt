@@ -19,7 +19,7 @@ use Rattle.logos_show.specs.declared.options.Topic.{Topic}
 use Rattle.logos_show.specs.declared.options.Topic.TheVariants as topics
 use Rattle.logos_show.specs.declared.options.Question.{Question}
 use Rattle.logos_show.specs.declared.options.Question.TheVariants as questions
-use Rattle.logos_show.specs.Places.{place_named}
+use Rattle.logos_answers.specs.Places.{place_named}
 use Rattle.logos_lines.specs.declared.place.Position.{Position}
 
 -- What is asked of the lexers of a file: their leaves; the items of an input, by its path; what matches

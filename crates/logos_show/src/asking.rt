@@ -6,12 +6,14 @@ ghost use Rattle.logos_show.specs.Answers.{IsJudged, PrintsMatches, place_line};
 ghost use Rattle.logos_show.specs.Orders.{IsNoMisuse};
 
 use crate::reading::print_bytes;
-use logos_answers::{Compared, compare_lexers, offset_of, push_first, push_matches, push_quoted};
+use logos_answers::{
+    Compared, compare_lexers, offset_of, push_first, push_matches, push_quoted, push_standing,
+};
+use logos_codegen::Generated;
 use logos_codegen::code::Code;
 use logos_codegen::graph::Graph;
 use logos_codegen::leaf::LeafId;
 use logos_codegen::machine::{Action, Item, Lexer};
-use logos_codegen::Generated;
 use logos_host::Failure;
 use logos_lines::Position;
 use logos_report::Page;
@@ -89,6 +91,30 @@ fn no_place(alloc: Global, path: &str, place: Position) -> Failure<'static>
         Ok(text) => Failure::Refused(text),
         Err(_) => Failure::Memory,
     }
+}
+
+/// Writes whether an answer is the stored one at a path, and returns that. If not, writes where they
+/// differ.
+///
+/// # Errors
+///
+/// Returns `Output` if writing fails, and `Memory` if memory runs out.
+pub(crate) fn write_standing<O: Write>(
+    alloc: Global,
+    path: &str,
+    stored: &[u8],
+    made: &[u8],
+    out: &mut O,
+) -> Result<Standing, Failure<'static>>
+    ensures { IfErr result IsNoMisuse }
+{
+    let mut page = Page::new(alloc, false);
+    let is_same = push_standing(&mut page, path, stored, made);
+    print_bytes(page.finish()?.as_str().as_bytes(), out)?;
+    if is_same {
+        return Ok(Standing::Same);
+    }
+    Ok(Standing::Different)
 }
 
 /// Writes whether two lexers are the same, and returns that. If they differ, writes a shortest input at

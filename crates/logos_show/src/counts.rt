@@ -1,6 +1,6 @@
 //! How many items there were of each kind.
 
-use crate::lines::push_number;
+use logos_answers::push_number;
 use logos_codegen::code::CodeLeaf;
 use logos_codegen::leaf::VariantKind;
 use std::alloc::{AllocError, Global};

@@ -4,9 +4,9 @@ ghost use Rattle.std.specs.Prelude.{IfErr};
 ghost use Rattle.logos_show.specs.Orders.{IsNoMisuse};
 
 use crate::counts::{Counts, name_at, push_count};
-use crate::lines::{LINE, push_item};
 use crate::notes::note_of;
 use crate::reading::print_bytes;
+use logos_answers::{LINE, push_item};
 use logos_codegen::code::{Code, CodeLeaf};
 use logos_codegen::leaf::LeafId;
 use logos_codegen::machine::{Action, Item, Lexer};

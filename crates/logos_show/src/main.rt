@@ -4,12 +4,9 @@
 
 mod asking;
 mod counts;
-mod expecting;
 mod items;
-mod lines;
 mod notes;
 mod options;
-mod places;
 mod reading;
 mod running;
 mod showing;
@@ -25,11 +22,10 @@ fn main(rt: HostRuntime) -> io::Result<ExitCode> {
     let mut host = Host {
         files: &mut Disk { rt: &rt },
         clock: &rt,
-        out: &mut rt.stdout(),
         err: &mut rt.stderr(),
     };
     let status = match words(&rt) {
-        Ok(words) => run(rt.alloc(), words.as_slice(), &mut host),
+        Ok(words) => run(rt.alloc(), words.as_slice(), &mut host, &mut rt.stdout()),
         Err(error) => refuse_words(error.kind(), USAGE, host.err),
     };
     Ok(ExitCode::from(status))

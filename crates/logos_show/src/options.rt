@@ -9,9 +9,9 @@ ghost use Rattle.logos_show.specs.Orders.{with_color, with_found, with_input, wi
 ghost use Rattle.logos_show.specs.Orders.{order_asked, question_given, question_value, with_expected};
 ghost use Rattle.logos_show.specs.Orders.{with_place, with_topic, with_value, with_word, with_words};
 ghost use Rattle.logos_host.specs.Colors.{color_named};
-ghost use Rattle.logos_show.specs.Places.{place_named};
+ghost use Rattle.logos_answers.specs.Places.{place_named};
 
-use crate::places::place_by_word;
+use logos_answers::place_by_word;
 use logos_host::{Color, Failure, OptionName, Progress, Use, color_by_name, next_step};
 use logos_lines::Position;
 
@@ -200,7 +200,10 @@ fn question_given<'w>(
         (Some(Topic::Matches(_)), None) => Err(misuse("no input for", OptionName::At.word())),
         (Some(Topic::Matches(place)), Some(input)) => Ok(Question::Matches(input, place)),
         (Some(Topic::Examples), None) => Ok(Question::Examples),
-        (Some(Topic::Examples), Some(input)) => Err(misuse("`--examples` takes no input, not", input)),
+        (Some(Topic::Examples), Some(input)) => Err(misuse(
+            "`--examples` takes no input, not",
+            input,
+        )),
         (Some(Topic::Comparison), None) => {
             Err(misuse("no second file for", OptionName::Compare.word()))
         }

@@ -4,8 +4,7 @@ ghost use Rattle.std.specs.Prelude.{◌≡◌, ◌≤◌, ◌↔◌, None, IfErr
 ghost use Rattle.logos_host.specs.Failures.{status_of};
 ghost use Rattle.logos_show.specs.Orders.{IsNoMisuse, asked};
 
-use crate::asking::{Input, Lexed, Standing, compare_with, write_matches};
-use crate::expecting::write_standing;
+use crate::asking::{Input, Lexed, Standing, compare_with, write_matches, write_standing};
 use crate::items::write_items;
 use crate::options::{Order, Question, Request, TAKEN, request_of};
 use crate::reading::{chosen, print_bytes, read_bytes, refused, text_at, text_of};
@@ -53,12 +52,11 @@ options:
 
 const VERSION: &str = "logos_show 0.1.0 (for logos 0.16)\n";
 
-/// What the program reads and writes: files, a clock, standard output and standard error.
+/// What the program reads, and where messages go: files, a clock, and standard error.
 #[derive(Drop)]
-pub(crate) struct Host<'h, F, C, O, E> {
+pub(crate) struct Host<'h, F, C, E> {
     pub(crate) files: &'h mut F,
     pub(crate) clock: &'h C,
-    pub(crate) out: &'h mut O,
     pub(crate) err: &'h mut E,
 }
 
@@ -68,7 +66,8 @@ pub(crate) struct Host<'h, F, C, O, E> {
 pub(crate) fn run<F: Files, C: Clock, O: Write, E: Write + IsTerminal>(
     alloc: Global,
     words: &[String],
-    host: &mut Host<'_, F, C, O, E>,
+    host: &mut Host<'_, F, C, E>,
+    out: &mut O,
 ) -> u8
     ensures usage { (result ≡ 2) ↔ (asked (map string_bytes words.now) ≡ None) }
     ensures known { result ≤ 3 }
@@ -77,7 +76,7 @@ pub(crate) fn run<F: Files, C: Clock, O: Write, E: Write + IsTerminal>(
         Ok(request) => request,
         Err(failure) => return failed(&with_nearest(failure, &TAKEN), host.err),
     };
-    match carry_out(alloc, request, host) {
+    match carry_out(alloc, request, host, out) {
         Ok(Standing::Same) => 0,
         Ok(Standing::Different) => 1,
         Err(failure) => failed(&failure, host.err),
@@ -104,16 +103,18 @@ struct Task<'w> {
 fn carry_out<'w, F: Files, C: Clock, O: Write, E: Write + IsTerminal>(
     alloc: Global,
     request: Request<'w>,
-    host: &mut Host<'_, F, C, O, E>,
+    host: &mut Host<'_, F, C, E>,
+    out: &mut O,
 ) -> Result<Standing, Failure<'w>>
     ensures { IfErr result IsNoMisuse }
 {
     let done = match request {
-        Request::Help => print_bytes(HELP.as_bytes(), host.out),
-        Request::Version => print_bytes(VERSION.as_bytes(), host.out),
+        Request::Help => print_bytes(HELP.as_bytes(), out),
+        Request::Version => print_bytes(VERSION.as_bytes(), out),
         Request::Show(order) => {
             let is_colored = order.color.is_on(host.err.is_terminal());
-            return answer_or_compare(alloc, Task { order, is_colored }, host);
+            let task = Task { order, is_colored };
+            return answer_or_compare(alloc, task, host, out);
         }
     };
     as_same(done)
@@ -135,23 +136,18 @@ fn as_same<'w>(done: Result<(), Failure<'w>>) -> Result<Standing, Failure<'w>>
 fn answer_or_compare<'w, F: Files, C: Clock, O: Write, E: Write + IsTerminal>(
     alloc: Global,
     task: Task<'w>,
-    host: &mut Host<'_, F, C, O, E>,
+    host: &mut Host<'_, F, C, E>,
+    out: &mut O,
 ) -> Result<Standing, Failure<'w>>
     ensures { IfErr result IsNoMisuse }
 {
     let Some(path) = task.order.expected else {
-        return answer(alloc, task, host);
+        return answer(alloc, task, host, out);
     };
-    let mut made = Vec::new(alloc);
-    let mut inner = Host {
-        files: &mut *host.files,
-        clock: host.clock,
-        out: &mut made,
-        err: &mut *host.err,
-    };
-    let _ = answer(alloc, task, &mut inner)?;
     let stored = read_bytes(path, host.files)?;
-    write_standing(alloc, path, &stored, &made, host.out)
+    let mut made = Vec::new(alloc);
+    let _ = answer(alloc, task, host, &mut made)?;
+    write_standing(alloc, path, &stored, &made, out)
 }
 
 /// Answers what is asked of the lexers of a file, and returns whether what was to be compared is the
@@ -159,16 +155,16 @@ fn answer_or_compare<'w, F: Files, C: Clock, O: Write, E: Write + IsTerminal>(
 fn answer<'w, F: Files, C: Clock, O: Write, E: Write + IsTerminal>(
     alloc: Global,
     task: Task<'w>,
-    host: &mut Host<'_, F, C, O, E>,
+    host: &mut Host<'_, F, C, E>,
+    out: &mut O,
 ) -> Result<Standing, Failure<'w>>
     ensures { IfErr result IsNoMisuse }
 {
     let done = match task.order.question {
-        Question::Leaves => show(alloc, task, host, false),
-        Question::Examples => show(alloc, task, host, true),
-        Question::Items(input) => lex(alloc, task, input, None, host),
-        Question::Matches(input, place) => lex(alloc, task, input, Some(place), host),
-        Question::Comparison(other) => return compare(alloc, task, other, host),
+        Question::Leaves | Question::Examples => show(alloc, task, host, out),
+        Question::Items(input) => lex(alloc, task, input, None, host, out),
+        Question::Matches(input, place) => lex(alloc, task, input, Some(place), host, out),
+        Question::Comparison(other) => return compare(alloc, task, other, host, out),
     };
     as_same(done)
 }
@@ -177,8 +173,8 @@ fn answer<'w, F: Files, C: Clock, O: Write, E: Write + IsTerminal>(
 fn show<'w, F: Files, C: Clock, O: Write, E: Write + IsTerminal>(
     alloc: Global,
     task: Task<'w>,
-    host: &mut Host<'_, F, C, O, E>,
-    has_examples: bool,
+    host: &mut Host<'_, F, C, E>,
+    out: &mut O,
 ) -> Result<(), Failure<'w>>
     ensures { IfErr result IsNoMisuse }
 {
@@ -190,12 +186,20 @@ fn show<'w, F: Files, C: Clock, O: Write, E: Write + IsTerminal>(
     }
     let style = PageStyle {
         is_colored: task.is_colored,
-        has_examples,
+        has_examples: asks_examples(task.order.question),
     };
     let Shown { tables, warnings } = shown_of(alloc, &source, style, task.order.name)?;
     let _ = host.err.write_all(warnings.as_bytes());
     let _ = host.err.flush();
-    print_bytes(tables.as_str().as_bytes(), host.out)
+    print_bytes(tables.as_str().as_bytes(), out)
+}
+
+/// Returns whether examples are asked for.
+fn asks_examples(question: Question<'_>) -> bool {
+    match question {
+        Question::Examples => true,
+        _ => false,
+    }
 }
 
 /// Writes the items of an input, or what matches from a place of it.
@@ -204,7 +208,8 @@ fn lex<'w, F: Files, C: Clock, O: Write, E: Write + IsTerminal>(
     task: Task<'w>,
     input: &'w str,
     place: Option<Position>,
-    host: &mut Host<'_, F, C, O, E>,
+    host: &mut Host<'_, F, C, E>,
+    out: &mut O,
 ) -> Result<(), Failure<'w>>
     ensures { IfErr result IsNoMisuse }
 {
@@ -217,7 +222,7 @@ fn lex<'w, F: Files, C: Clock, O: Write, E: Write + IsTerminal>(
         bytes: bytes.as_slice(),
         place,
     };
-    lex_by_file(alloc, task, &source, input, host)
+    lex_by_file(alloc, task, &source, input, host, out)
 }
 
 /// Writes the items of an input or what matches from a place of it, by the lexer of a file that is
@@ -227,14 +232,15 @@ fn lex_by_file<'w, F: Files, C: Clock, O: Write, E: Write + IsTerminal>(
     task: Task<'w>,
     source: &Source<'_>,
     input: Input<'w, '_>,
-    host: &mut Host<'_, F, C, O, E>,
+    host: &mut Host<'_, F, C, E>,
+    out: &mut O,
 ) -> Result<(), Failure<'w>>
     ensures { IfErr result IsNoMisuse }
 {
     let one = lexer_in(alloc, task, source)?;
     let part = part_of(source, one);
     match generate(alloc, text_of(source, one), SHAPE) {
-        Ok(made) => lex_by_lexer(alloc, &made, input, host),
+        Ok(made) => lex_by_lexer(alloc, &made, input, host, out),
         Err(refusal) => Err(refused(alloc, part, task.is_colored, refusal)),
     }
 }
@@ -252,14 +258,15 @@ fn lex_by_lexer<'w, F: Files, C: Clock, O: Write, E: Write + IsTerminal>(
     alloc: Global,
     made: &Generated<'_>,
     input: Input<'w, '_>,
-    host: &mut Host<'_, F, C, O, E>,
+    host: &mut Host<'_, F, C, E>,
+    out: &mut O,
 ) -> Result<(), Failure<'w>>
     ensures { IfErr result IsNoMisuse }
 {
     if let Some(place) = input.place {
-        return write_matches(alloc, &made.graph, input, place, host.out);
+        return write_matches(alloc, &made.graph, input, place, out);
     }
-    let note = write_items(alloc, &made.code, input.bytes, host.clock, host.out)?;
+    let note = write_items(alloc, &made.code, input.bytes, host.clock, out)?;
     let _ = host.err.write_all(note.as_bytes());
     let _ = host.err.flush();
     Ok(())
@@ -270,7 +277,8 @@ fn compare<'w, F: Files, C: Clock, O: Write, E: Write + IsTerminal>(
     alloc: Global,
     task: Task<'w>,
     other: &'w str,
-    host: &mut Host<'_, F, C, O, E>,
+    host: &mut Host<'_, F, C, E>,
+    out: &mut O,
 ) -> Result<Standing, Failure<'w>>
     ensures { IfErr result IsNoMisuse }
 {
@@ -279,7 +287,7 @@ fn compare<'w, F: Files, C: Clock, O: Write, E: Write + IsTerminal>(
     let other_text = text_at(other, host.files)?;
     let source = Source::new(alloc, path, text.as_str())?;
     let other_source = Source::new(alloc, other, other_text.as_str())?;
-    compare_files(alloc, task, &source, &other_source, host.out)
+    compare_files(alloc, task, &source, &other_source, out)
 }
 
 /// Writes whether the lexers of two files are the same, and returns that.
@@ -295,7 +303,16 @@ fn compare_files<'w, O: Write>(
     let one = lexer_in(alloc, task, source)?;
     let part = part_of(source, one);
     match generate(alloc, text_of(source, one), SHAPE) {
-        Ok(made) => compare_to(alloc, task, Lexed { path: source.path(), made: &made }, other, out),
+        Ok(made) => compare_to(
+            alloc,
+            task,
+            Lexed {
+                path: source.path(),
+                made: &made,
+            },
+            other,
+            out,
+        ),
         Err(refusal) => Err(refused(alloc, part, task.is_colored, refusal)),
     }
 }
@@ -313,7 +330,15 @@ fn compare_to<'w, O: Write>(
     let other = lexer_in(alloc, task, source)?;
     let part = part_of(source, other);
     match generate(alloc, text_of(source, other), SHAPE) {
-        Ok(made) => compare_with(alloc, one, Lexed { path: source.path(), made: &made }, out),
+        Ok(made) => compare_with(
+            alloc,
+            one,
+            Lexed {
+                path: source.path(),
+                made: &made,
+            },
+            out,
+        ),
         Err(refusal) => Err(refused(alloc, part, task.is_colored, refusal)),
     }
 }

@@ -1,7 +1,7 @@
 -- Cutting a word at its first colon.
 use Rattle.std.proofs.Common.{◌≡◌, ◌≢◌, ◌<◌, ℕ, List, length, None, refl, arith, eq-eqb, ne_eqb}
 use Rattle.std.specs.List.{after_first, before_first, position_or_len}
-use Rattle.logos_show.specs.Places.{is_colon, number_named, place_named, place_of}
+use Rattle.logos_answers.specs.Places.{is_colon, number_named, place_named, place_of}
 
 pub no_split : (word : List ℕ) → position_or_len is_colon word ≡ length word → None ≡ place_named word
 no_split word e = rw (eq-eqb _ _ e) refl

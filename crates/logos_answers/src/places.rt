@@ -1,13 +1,14 @@
 //! A line and a column in a word of the command line.
 
 ghost use Rattle.std.specs.Prelude.{◌≡◌, Some};
-ghost use Rattle.logos_show.specs.Places.{digits_after, number_named, place_named};
-ghost use Rattle.logos_show.specs.Places.{place_of, positive, with_digit};
+ghost use Rattle.logos_answers.specs.Places.{digits_after, number_named, place_named};
+ghost use Rattle.logos_answers.specs.Places.{place_of, positive, with_digit};
 
 use logos_lines::Position;
 
-/// Returns the line and the column that a word names, as `2:14`. Both count from 1.
-pub(crate) fn place_by_word(word: &str) -> Option<Position>
+/// Returns the line and the column that a word names, as `2:14`, or `None` if it names no position.
+/// Both count from 1, and have at most seventeen digits.
+pub fn place_by_word(word: &str) -> Option<Position>
     ensures { result ≡ place_named word.now }
 {
     match word.split_once(':') {
@@ -34,8 +35,8 @@ fn number_by_text(text: &str) -> Option<usize>
     digits_after(0, text.as_bytes())
 }
 
-/// Returns the number that digits give after those of another number. A number has at most seventeen
-/// digits, so this calls itself at most as often.
+/// Returns the number that digits give after those of another number. A number has at most
+/// seventeen digits, so this calls itself at most as often.
 fn digits_after(number: usize, digits: &[u8]) -> Option<usize>
     ensures { result ≡ digits_after (Some number) digits.now }
 {

@@ -1,44 +1,36 @@
 //! An answer that is compared with a stored one.
 
-ghost use Rattle.std.specs.Prelude.{IfErr};
-ghost use Rattle.logos_show.specs.Orders.{IsNoMisuse};
+ghost use Rattle.std.specs.Prelude.{◌≡◌, true};
 
-use crate::asking::Standing;
-use crate::reading::print_bytes;
-use logos_answers::push_quoted;
-use logos_host::Failure;
+use crate::quoting::push_quoted;
 use logos_lines::Cursor;
 use logos_report::Page;
-use std::alloc::{AllocError, Global};
-use std::io::Write;
 
 /// What begins the line of an answer that differs from run to run.
 const TIME: &[u8] = b"milliseconds: ";
 
-/// Writes whether an answer is the stored one, and returns that. If not, writes at which line and column
-/// they differ, and both lines. The line of the time that was taken is not compared.
-///
-/// # Errors
-///
-/// Returns `Output` if writing fails, and `Memory` if memory runs out.
-pub(crate) fn write_standing<O: Write>(
-    alloc: Global,
-    path: &str,
-    stored: &[u8],
-    made: &[u8],
-    out: &mut O,
-) -> Result<Standing, Failure<'static>>
-    ensures { IfErr result IsNoMisuse }
+/// Pushes whether an answer is the stored one, and returns that. If not, pushes at which line and
+/// column of the stored one they differ first, and both lines. The line of the time that was taken
+/// is not compared. `path` is that of the stored answer.
+pub fn push_standing(page: &mut Page, path: &str, stored: &[u8], made: &[u8]) -> bool
+    ensures { stored.now ≡ made.now → result ≡ true }
 {
-    let stored = without_time(stored);
-    let made = without_time(made);
-    if stored == made {
-        print_bytes(b"as expected\n", out)?;
-        return Ok(Standing::Same);
+    if is_same(stored, made) {
+        page.push("as expected\n");
+        return true;
     }
-    let text = difference_of(alloc, path, stored, made)?;
-    print_bytes(text.as_str().as_bytes(), out)?;
-    Ok(Standing::Different)
+    push_difference(page, path, without_time(stored), without_time(made));
+    false
+}
+
+/// Returns whether two answers are the same, but for the time that was taken.
+fn is_same(stored: &[u8], made: &[u8]) -> bool
+    ensures { stored.now ≡ made.now → result ≡ true }
+{
+    if stored == made {
+        return true;
+    }
+    without_time(stored) == without_time(made)
 }
 
 /// Returns an answer without its last line, if that has the time.
@@ -74,20 +66,13 @@ fn tail_of(text: &[u8], at: usize) -> &[u8] {
     }
 }
 
-/// Returns the lines that say where two answers differ first, and how.
-fn difference_of(
-    alloc: Global,
-    path: &str,
-    stored: &[u8],
-    made: &[u8],
-) -> Result<String, AllocError> {
+/// Pushes where two answers differ first, and how.
+fn push_difference(page: &mut Page, path: &str, stored: &[u8], made: &[u8]) {
     let at = common_length(stored, made);
     let start = line_start(stored, at);
-    let mut page = Page::new(alloc, false);
-    push_place(&mut page, path, stored, at);
-    push_line(&mut page, "expected ", line_from(stored, start));
-    push_line(&mut page, "found    ", line_from(made, start));
-    page.finish()
+    push_place(page, path, stored, at);
+    push_line(page, "expected ", line_from(stored, start));
+    push_line(page, "found    ", line_from(made, start));
 }
 
 /// Returns how many bytes two texts begin with alike.
