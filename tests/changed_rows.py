@@ -25,6 +25,7 @@ PARTS = {
     "contracts": ("docs/PROOFS.md", "`generate`", "`generated`"),
     "pages": ("tests/lints/pages.py", '"README.md": 110', '"README.md": 20'),
     "crates_page": ("crates.txt", "logos_host:\n", ""),
+    "sources": ("tests/lints/sources.py", "crates\\.txt", "crates\\.text"),
     "rattle_examples": ("examples/config/data/expected", None, "?"),
     "memory_tools": ("tests/memory/run.py", "status == 3", "status == 4"),
     "evidence": ("tests/evidence/main.py", "end = max(end for", "end = min(end for"),
@@ -34,7 +35,6 @@ PARTS = {
     "memory_logos": ("tests/memory/run.py", '"letters"', '"lettres"'),
     "examples": ("examples/json/data/sample.out", None, "?"),
     "derive": ("tests/derive/refused", "Unknown flag: accents", "Unknown flag: accent"),
-    "derive": ("tests/derive/accepted/closures/expected", None, "?"),
     "limits": ("tests/limits.sh", "'17..522 LimitPatternNesting", "'17..521 LimitPatternNesting"),
     "memory_calls": ("tests/rows/calls/types.rows", "a :: b\n", "a : : b\n"),
     "install": ("README.md", "1:6  Space", "1:7  Space"),
@@ -47,6 +47,7 @@ PARTS = {
     "texts": ("tests/texts/letters.tailcall.txt", "impl < 's >", "impl < 't >"),
     "strips": ("tests/generated/stripped.py", "'Logos'", "'Lagos'"),
     "guide": ("docs/GUIDE.md", "token 1 0..1", "token 1 0..2"),
+    "terminal": ("tests/terminal.py", "not in body", "in body"),
     "faults": ("docs/FAULTS.md", "7..8 Lexical: unreadable source: Unbalanced", "7..9 Lexical: unreadable source: Unbalanced"),
 }
 

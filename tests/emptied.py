@@ -76,6 +76,7 @@ TAKEN = {
     "lengths": {"the sources of half of the crates": removed("crates/logos_[a-l]*")},
     "pages": {"the map": removed("docs/MAP.md"), "all pages of docs": removed("docs/*.md")},
     "crates_page": {"all crates": every(without("crates.txt", r"^logos_.*?\n"), without("crates/README.md", r"^\*\*`.*\Z"))},
+    "sources": {"a crate": removed("crates/logos_cycles")},
     "proofs": {"all wrong bodies": removed("crates/*/must-fail/*.edit"), "one wrong body": removed("crates/logos_reduce/must-fail/end_edge_dropped.edit"), "one crate": without("crates.txt", r"^logos_cycles:[^\n]*\n")},
     "contracts": {"most tables": without("docs/PROOFS.md", r"^## Tokens.*?(?=^## Only tested)")},
     "rattle_examples": {"all examples but the first": without("tests/rattle_examples.sh", r"^(query|log) data[^\n]*\n")},
@@ -90,7 +91,6 @@ TAKEN = {
     "rust_text": {"the small sources": without("tests/rust_text/rows", r".+"), "an input": removed("tests/rust_text/inputs/letters")},
     "memory_logos": {"a source": every(removed("tests/memory/logos/letters.*"), without("tests/memory/run.py", r'"letters", ', ""))},
     "examples": {"all folders of tests": removed("examples/*/tests", "runtime/*/tests")},
-    "derive": {"a package": removed("tests/derive/accepted/macros"), "the sources that are refused": without("tests/derive/refused", r"^== .*\Z")},
     "derive": {"a package": removed("tests/derive/accepted/closures"), "the table of refused sources": without("tests/derive/refused", r".+")},
     "limits": {"all cases": without("tests/limits.sh", r"^token=.*(?=^echo)"), "the beginnings of a source": without("tests/limits.sh", r"^for \(\(length = 0.*?^done\n")},
     "memory_calls": {"all rows": rows("tests/rows/calls"), "the rows of types": removed("tests/rows/calls/types.rows")},
@@ -104,6 +104,7 @@ TAKEN = {
     "texts": {"a source": every(removed("tests/texts/jumps.*"), without("tests/texts/run.sh", r" jumps", ""))},
     "strips": {"the sources that are made": without("tests/generated/strips.py", r"^SOURCES = 600", "SOURCES = 0")},
     "guide": {"the page": without("tests/guide.sh", r"^check_page docs/GUIDE[^\n]*\n")},
+    "terminal": {"all places but one": without("tests/terminal.py", r'^    "the line of a pattern".*?^}', "}")},
     "faults": {"the entries": without("docs/FAULTS.md", r"^### .*?(?=^## |\Z)")},
 }
 

@@ -4,7 +4,7 @@
 #   tests/install.sh [FOLDER]   installs them as tests/programs.py has built them in FOLDER, out/installed if it is not given
 #   tests/install.sh --whole    has tools/install.sh build them, as users do, which takes minutes. This is not in the gate
 #
-# Then it builds a program that adds one to the byte 255, whose checks at run time end it: where its sums are those of proved.sums, and where its
+# Then it packs a release in two clones, and installs one of them. Last it builds a program that adds one to the byte 255, whose checks at run time end it: where its sums are those of proved.sums, and where its
 # source has changed since.
 set -uo pipefail
 
@@ -75,19 +75,63 @@ is_ended() {
     [ $? -gt 128 ]
 }
 
+# FOLDER: makes a clone of what a release packs.
+make_clone() {
+    mkdir -p "$1"
+    cp -R "$root"/{README.md,CHANGELOG.md,LICENSE-APACHE,LICENSE-MIT,docs,runtime,tools} "$1"
+    rm -rf "$1"/runtime/*/target
+    git -C "$1" init -q
+    git -C "$1" add -A
+    GIT_AUTHOR_DATE='2026-01-01T00:00:00Z' GIT_COMMITTER_DATE='2026-01-01T00:00:00Z' git -C "$1" -c user.name=t -c user.email=t commit -qm t
+}
+
+# The programs packed in a clone, or nothing where that has failed.
+packs() {
+    bash "$1/tools/release.sh" --built "$built" "$1.out" > /dev/null
+}
+
+packs_the_same() {
+    make_clone "$room/one"
+    make_clone "$room/another/clone"
+    packs "$room/one" && packs "$room/another/clone" && cmp "$room/one.out"/*.tar.gz "$room/another/clone.out"/*.tar.gz
+}
+
+installs_release() {
+    tar -xzf "$room/one.out"/*.tar.gz -C "$room" && bash "$room"/logos-*-linux/install.sh "$room/release" > /dev/null \
+        && (cd "$root" && "$room/release/bin/logos_show" docs/guide/words.rs docs/guide/greeting | head -n 2 | cmp -s - "$room/items") \
+        && [ -f "$room/release/share/logos/runtime/rust/Cargo.toml" ]
+}
+
+refuses_changed_release() {
+    echo >> "$room"/logos-*-linux/runtime/README.md
+    ! bash "$room"/logos-*-linux/install.sh "$room/changed" > /dev/null 2>&1 && [ ! -e "$room/changed" ]
+}
+
+refuses_changed_clone() {
+    echo >> "$room/one/README.md"
+    ! packs "$room/one" 2> /dev/null
+}
+
 bin=$room/prefix/bin
+built=${1:-$root/out/installed}
 probe=$room/probe
 if [ "${1-}" = --whole ]; then
+    built=$bin
     expect 'the programs are built and installed' bash "$root/tools/install.sh" "$room/prefix" > "$room/said"
     expect 'the installed programs say whether they keep their checks' says_checks
 else
-    expect 'the programs are installed' bash "$root/tools/install.sh" --built "${1:-$root/out/installed}" "$room/prefix" > "$room/said"
+    expect 'the programs are installed' bash "$root/tools/install.sh" --built "$built" "$room/prefix" > "$room/said"
 fi
 cat "$room/said"
 expect 'the items in README.md' shows_readme
 for name in logos logos_cli logos_show; do
     expect "the rows of $name" rows "$name"
 done
+
+expect 'two clones of one commit pack the same bytes' packs_the_same
+expect 'the packed programs are installed, and show the items in README.md' installs_release
+expect 'a packed file that has changed is refused' refuses_changed_release
+expect 'a clone with changes is refused' refuses_changed_clone
 
 make_probe
 python3 "$probe/tools/proved_sums.py" --write

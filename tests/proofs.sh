@@ -3,6 +3,7 @@
 #
 #   bash tests/proofs.sh            proves what has changed since the last run
 #   bash tests/proofs.sh --anew     proves everything
+#   bash tests/proofs.sh --kept     proves nothing: fails where an earlier run has not proved all of this
 #
 # Some toolchains keep what `rt ci` proved, crate by crate. With one that does not, a run whose proofs all passed leaves a note in the
 # folder .git/gate: which files it proved, with which toolchain, and which programs it built. A later run over the same files takes
@@ -13,8 +14,8 @@
 # In front of each verdict stand the seconds since the run began, and at the end the processor minutes of each crate. RT_JOBS says how
 # many checks run at once.
 set -uo pipefail
-if [ $# -gt 0 ] && [ "$*" != --anew ]; then
-    echo "usage: bash tests/proofs.sh [--anew]" >&2
+if [ $# -gt 0 ] && [ "$*" != --anew ] && [ "$*" != --kept ]; then
+    echo "usage: bash tests/proofs.sh [--anew | --kept]" >&2
     exit 2
 fi
 cd "$(dirname "${BASH_SOURCE[0]}")/.." || exit
@@ -95,6 +96,12 @@ print_checks() {
         }' "$room/checks" | sort -k 2,2nr
 }
 
+if [ "$*" = --kept ]; then
+    proved_before && exit 0
+    echo 'proofs: no run here has proved all of this'
+    echo '0 passed, 1 failed'
+    exit 1
+fi
 RT_JOBS=${RT_JOBS:-$(jobs_that_fit)}
 export RT_JOBS
 echo "cores: $(nproc), checks at once: $RT_JOBS"

@@ -64,7 +64,7 @@ def changed(rules, seed):
 
 
 def questions(seed):
-    """The lines that are asked about the rules of a seed, and the wanted answers, where None leaves a comparison open."""
+    """The lines that are asked about the rules of a seed; the wanted answers, up to the inputs; and the lexers whose inputs and comparison are judged."""
     try:
         _, reading, inputs = made(seed)
     except TooLarge:
@@ -77,9 +77,9 @@ def questions(seed):
         evidence = Evidence(reading.matching, mode == 'TEXT')
         front = meetings(evidence)
         text = Random(seed).choice(inputs)[:12] if inputs else b'ab'
-        asked.append((f'{mode}\t{rules}\t@{text.hex()}', front + matches_found(evidence, text), None))
+        asked.append((f'{mode}\t{rules}\t@{text.hex()}', front + matches_found(evidence, text), None, None))
         if reading.matching.ambiguous():
-            asked.append((f'{mode}\t{rules}', front, None))
+            asked.append((f'{mode}\t{rules}', front, None, None))
             continue
         other, twin = changed(rules, seed), None
         try:
@@ -87,7 +87,7 @@ def questions(seed):
             twin = None if matching.ambiguous() or matching.live == set() else Evidence(matching, mode == 'TEXT')
         except (Faulty, TooLarge):
             pass
-        asked.append((f'{mode}\t{rules}' + (f'\t{other}' if twin else ''), front + leaves_found(evidence), (evidence, twin) if twin else None))
+        asked.append((f'{mode}\t{rules}' + (f'\t{other}' if twin else ''), front + leaves_found(evidence), evidence, twin))
     return asked
 
 
@@ -95,14 +95,8 @@ def codes(reading):
     return {code for code, _, _ in reading.faults.list}
 
 
-def is_right(answer, wanted, pair):
-    """Whether an answer is the wanted one, and a comparison is right."""
-    if pair is None:
-        return answer == wanted
-    front, mark, told = answer.rpartition(' C ')
-    if not mark or front != wanted:
-        return False
-    one, other = pair
+def is_right_difference(told, one, other):
+    """Whether the answer of a comparison is right."""
     shorter = first_difference(one, other, MOST)
     if shorter is not None:
         return told == hexadecimal(shorter)
@@ -112,19 +106,31 @@ def is_right(answer, wanted, pair):
     return len(text) > MOST and one.first(text) != other.first(text)
 
 
+def is_right(answer, wanted, one, other):
+    """Whether an answer is the wanted one; with a lexer, whether its inputs cover it, and with another, whether the comparison is right."""
+    if one is None:
+        return answer == wanted
+    if other is not None:
+        answer, mark, told = answer.rpartition(' C ')
+        if not mark or not is_right_difference(told, one, other):
+            return False
+    front, mark, texts = answer.partition(' I')
+    return front == wanted and bool(mark) and one.are_covering([bytes.fromhex(word[1:]) for word in texts.split()])
+
+
 def judge(job):
     """How many answers about a seed are right, and the first that is not."""
     program, seed = job
     asked = questions(seed)
     if not asked:
         return 0, None, []
-    done = subprocess.run([program], input='\n'.join(line for line, _, _ in asked).encode(), capture_output=True, check=False)
+    done = subprocess.run([program], input='\n'.join(line for line, *_ in asked).encode(), capture_output=True, check=False)
     answers = done.stdout.decode().split('\n')[:-1]
     if len(answers) != len(asked):
         return 0, f'{seed}: {len(answers)} answers to {len(asked)} lines', []
     met = [word for answer in answers for word in answer.split()]
-    for answer, (line, wanted, pair) in zip(answers, asked):
-        if not is_right(answer, wanted, pair):
+    for answer, (line, wanted, one, other) in zip(answers, asked):
+        if not is_right(answer, wanted, one, other):
             return 0, f'{seed}: {line!r}\nwanted {wanted}\nfound  {answer}', []
     return len(asked), None, met
 

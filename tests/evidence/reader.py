@@ -4,6 +4,8 @@ A search goes breadth first over what is left of the patterns, with what has to 
 which texts are to be chosen. So its answer is the first of the shortest ones.
 """
 
+from rests import looks
+
 PUNCTUATION = [byte for byte in range(32, 127) if not chr(byte).isalnum()]
 ORDER = [*b'abcdefghijklmnopqrstuvwxyz', *b'ABCDEFGHIJKLMNOPQRSTUVWXYZ', *b'0123456789', *PUNCTUATION, *range(32), *range(127, 256)]
 # The bytes that may follow a first byte of a character, and how many follow after that.
@@ -47,6 +49,14 @@ def search(start, letters, step, is_goal, utf8):
                 met.add((target, after))
                 ahead.append((target, after, text + bytes([byte])))
     return None
+
+
+def is_utf8(text):
+    try:
+        text.decode()
+    except UnicodeDecodeError:
+        return False
+    return True
 
 
 class Evidence:
@@ -105,6 +115,55 @@ class Evidence:
             follows = self.matching.first[text[end]] if end < len(text) else None
             found += [(leaf, end, self.matching.priorities[leaf]) for leaf in self.listed(state, follows)]
         return found
+
+    def classes(self):
+        """The number of each live state's class, where states are alike that no bytes distinguish."""
+        states = self.matching.live | {self.matching.start}
+        letters = self.matching.letters
+        block = {state: tuple(self.best(state, byte) for byte in [*letters, None]) for state in states}
+        count = 0
+        while count != len(set(block.values())):
+            count = len(set(block.values()))
+            signs = {state: (block[state],) + tuple(block.get(self.next(state, byte)) for byte in letters) for state in states}
+            numbers = {sign: number for number, sign in enumerate(dict.fromkeys(signs.values()))}
+            block = {state: numbers[sign] for state, sign in signs.items()}
+        return block
+
+    def edges(self):
+        """The edges between classes of states that inputs pass."""
+        block, found = self.classes(), set()
+        ahead, met = [(self.matching.start, WHOLE)], {(self.matching.start, WHOLE)}
+        for state, open_ in ahead:
+            for byte in self.letters:
+                after, target = utf8_step(open_, byte) if self.utf8 else WHOLE, self.next(state, byte)
+                if after is False or target not in self.matching.live:
+                    continue
+                found.add((block[state], block[target]))
+                if (target, after) not in met:
+                    met.add((target, after))
+                    ahead.append((target, after))
+        return found
+
+    def passed(self, text):
+        """The edges that an input passes."""
+        block, state, found = self.classes(), self.matching.start, set()
+        for byte in text:
+            target = self.next(state, byte)
+            if target not in self.matching.live:
+                break
+            found.add((block[state], block[target]))
+            state = target
+        return found
+
+    def are_covering(self, texts):
+        """Whether these are inputs that together pass each edge that inputs pass, and each passes a new one, where no pattern looks."""
+        passed, looking = set(), any(looks(number) for number in self.matching.start[0])
+        for text in texts:
+            more = self.passed(text) - passed
+            if not (more or looking) or self.utf8 and not is_utf8(text):
+                return False
+            passed |= more
+        return passed == self.edges()
 
     def first(self, text):
         """The first item of an input that is not empty: the leaf and the end of a match, or None and the end of an error."""

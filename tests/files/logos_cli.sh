@@ -15,7 +15,8 @@ printf '#[derive(Logos)]\nenum T { #[token] A }\n' > faulty.rs
 printf 'enum \xff' > torn.rs
 mkdir folder
 usage='usage: logos_cli INPUT [-o FILE] [-c] [--shape tables|tailcall|state_machine]
-                 [--color always|never|auto]'
+                 [--color always|never|auto]
+       logos_cli --derive [--shape SHAPE] [--message-format human|json] -'
 met=0
 
 fail() {
@@ -80,12 +81,14 @@ if [ "$(id -u)" != 0 ]; then
     chmod 0 shut.rs
     gives 3 'error: cannot read shut.rs: permission denied' shut.rs
 fi
+# The first line of a result names the file.
+sed '1s/ from source.rs,/ from stdin,/' whole > whole_of_stdin
 cat source.rs | gives 0 '' /dev/stdin
-same out whole
+same out whole_of_stdin
 cat source.rs | gives 0 '' -
-same out whole
+same out whole_of_stdin
 gives 0 '' - < source.rs
-same out whole
+same out whole_of_stdin
 
 # A file is not its own output, by whatever path or link.
 mkdir own

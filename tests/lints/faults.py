@@ -4,8 +4,10 @@
   faults.py [PROGRAM]
 
 PROGRAM is `logos` as the gate has built it, if it is not given. Every code of the library needs an entry, and every kind a row of its table.
-Every code also needs a row of `logos_cli` that is named after it and shows how the program prints it. The last line is
-`faults: N passed, M failed`."""
+Every code also needs a row of `logos_cli` that is named after it and shows how the program prints it. Each help in these rows
+is a sentence of the entry, or what the table has for the kind, and every code and kind but `Previous` has one. The last line
+is `faults: N passed, M failed`."""
+import glob
 import os
 import re
 import subprocess
@@ -15,6 +17,7 @@ import tempfile
 ROOT = os.path.dirname(os.path.dirname(os.path.dirname(os.path.realpath(__file__))))
 PAGE = f"{ROOT}/docs/FAULTS.md"
 SHOWN = f"{ROOT}/tests/rows/logos_cli/faults.rows"
+REPORTS = f"{ROOT}/tests/rows/logos_cli/*.rows"
 # The enums that list the codes and kinds, each with the level of its names on the page.
 CODES = f"{ROOT}/crates/logos_token/src/error/fault_code.rt", "FaultCode"
 KINDS = [(f"{ROOT}/crates/logos_lexeme/src/lexeme.rt", "LexicalKind"), (f"{ROOT}/crates/logos_pattern_tokens/src/error.rt", "Kind")]
@@ -84,6 +87,46 @@ def shown():
     return found
 
 
+def reports():
+    """Yields the code, the message and the help or None of each error in a report of the rows of `logos_cli`."""
+    for path in sorted(glob.glob(REPORTS)):
+        with open(path, encoding="utf-8") as it:
+            rows = it.read()
+        for messages in re.findall(r"\n--- stderr\n(.*?)(?=\n(?:---|===) |\Z)", rows, re.S):
+            for report in messages.split("\n\n"):
+                head = re.match(r"error\[(\w+)\]: (.*)", report)
+                help_line = re.search(r"^ += help: (.*)", report, re.M)
+                if head:
+                    yield head[1], head[2], help_line and help_line[1]
+
+
+def words(page):
+    """Returns the words below each heading of a code, and what stands in the last column for each kind of pattern fault."""
+    found = {name: " ".join(body.split()) for name, body in re.findall(r"^### `(\w+)`\n(.*?)(?=^##)", page, re.M | re.S)}
+    cells = dict(re.findall(r"^\| `(\w+)` \| .* \| ([^|\n]+) \|$", page.partition("## Kinds of pattern faults")[2], re.M))
+    return found, cells
+
+
+def help_faults(page):
+    """Returns what is wrong with the helps that reports have."""
+    found, cells = words(page)
+    failed, met = [], set()
+    for code, message, text in reports():
+        name = message.split()[-1] if code == "Regex" else code
+        if text is None:
+            continue
+        met.add(name)
+        if code == "Regex":
+            fits = text in cells.get(name, "").split("; or: ")
+        else:
+            fits = f"{text[0].upper()}{text[1:]}." in found.get(code, "")
+        if not fits:
+            failed.append(f"the help of {name} is not on the page: {text}")
+    wanted = [name for name in [*variants(*CODES), *variants(*KINDS[1])] if name not in ("Regex", "Previous")]
+    failed += [f"{name} has no help in a row of logos_cli" for name in wanted if name not in met]
+    return failed
+
+
 def main():
     program = os.path.realpath((sys.argv[1:] or [f"{ROOT}/crates/logos_program/out/logos_program"])[0])
     if not os.access(program, os.X_OK):
@@ -97,6 +140,7 @@ def main():
     wanted = [*variants(*CODES), *[name for kind in KINDS for name in variants(*kind)]]
     failed = [f"{name} has no entry" for name in wanted if name not in met]
     failed += [f"{name} has no row in tests/rows/logos_cli/faults.rows" for name in variants(*CODES) if name not in printed_by_cli]
+    failed += help_faults(page)
     passed = 0
     with tempfile.TemporaryDirectory() as room:
         for heading, source, given, lines in asked:

@@ -23,6 +23,7 @@ import tempfile
 SECONDS = 60  # for each run of a program
 BATCH = 100  # rows of calls for each run of the program of calls
 STREAMS = ('stdout', 'stderr')
+INPUT = 'stdin'
 WAYS = {
     'begins': bytes.startswith,
     'has': bytes.__contains__,
@@ -106,7 +107,7 @@ class Row:
     def files(self):
         """Yields the path and the content of each file that is there before a run."""
         for key, data in self.parts.items():
-            if key.split('.')[0] not in STREAMS and not key.startswith('files/'):
+            if key != INPUT and key.split('.')[0] not in STREAMS and not key.startswith('files/'):
                 yield key, data
 
     def wanted_files(self):
@@ -226,7 +227,7 @@ def run_in(program, row, words, outside):
     with open('/dev/full', 'wb') as full:
         out, err = (full if stream in row.full else subprocess.PIPE for stream in STREAMS)
         ended = subprocess.run(
-            [program, *words], cwd=here, stdin=subprocess.DEVNULL, stdout=out, stderr=err, timeout=SECONDS, check=False
+            [program, *words], cwd=here, input=row.parts.get(INPUT, b''), stdout=out, stderr=err, timeout=SECONDS, check=False
         )
     wrong = differences('status', ended.returncode, row.status)
     wrong += stream_differences(row, 'stdout', ended.stdout or b'')

@@ -1,5 +1,5 @@
 -- What the enums of a file give, one after another.
-use Rattle.std.proofs.Common.{◌≡◌, ◌==◌, ◌≤◌, ◌<◌, ◌+◌, ℕ, suc, List, [], ◌∷◌, ◌++◌, append_assoc, true, false, All, IfOk, OnOk, Option, Result, Ok, Err, map, length, get_or, drop, string_bytes, refl, sym, ap, ◌∙◌, arith, subst, inl, inr}
+use Rattle.std.proofs.Common.{◌≡◌, ◌==◌, ◌≤◌, ◌<◌, ◌+◌, ℕ, suc, Bool, List, [], ◌∷◌, ◌++◌, append_assoc, true, false, IfOk, OnOk, Option, Result, Ok, Err, map, length, get_or, drop, string_bytes, refl, sym, ap, ◌∙◌, arith, eqb-true, subst}
 use Rattle.std.proofs.lemmas.List.{append-nil}
 use Rattle.std.proofs.Math.Seq.{drop-cons}
 use Rattle.std.proofs.Math.ListN.{drop_of_length-le}
@@ -10,9 +10,10 @@ use Rattle.logos_codegen.specs.Source.{IsRefused}
 use Rattle.logos_codegen.specs.Source.IsRefused.{unread}
 use Rattle.logos_cli.specs.declared.expanding.Gathered.{Gathered}
 use Rattle.logos_cli.specs.declared.expanding.Refused.{Refused}
-use Rattle.logos_cli.specs.Expanding.{IsExpansion, IsExpanded, IsLexerText, IsUnreadable, Replaces, config_of, text_at}
+use Rattle.logos_cli.specs.Expanding.{IsExpansion, IsExpanded, IsFileOf, IsUnreadable, Replaces, config_of, text_at}
 use Rattle.logos_cli.specs.Expanding.Replaces.{ended as r_ended, stays as r_stays, gives as r_gives}
-use Rattle.logos_cli.specs.inside.Steps.{AddsRefusal, AreFaultsOf, GathersOne, IsExpansionBy, IsPrintedWith}
+use Rattle.logos_cli.specs.Heads.{IsFileWith}
+use Rattle.logos_cli.specs.inside.Steps.{AddsRefusal, AreFaultsOf, GathersOne, IsExpansionBy}
 use Rattle.logos_cli.specs.Gathering.{AreRefused, Gathers, GathersAll}
 use Rattle.logos_cli.specs.Gathering.AreRefused.{whole, lexers}
 use Rattle.logos_cli.specs.Gathering.Gathers.{ended as g_ended, stays as g_stays, gives as g_gives, refuses as g_refuses}
@@ -122,7 +123,7 @@ replaces_all shape text _ _ _ (g_refuses d s x g) e = absurd cc
 
 -- the result of a file without faults
 pub expanded_all : (shape : Shape) (text bytes : List ℕ) (found : List FoundEnum) (gathered : Gathered) → AreEnumsOf text found → GathersAll shape text found gathered → gathered.refused.items ≡ [] →
-    bytes ≡ replaced text 0 gathered.parts.items → IsExpanded shape text bytes
+    IsFileOf shape text gathered.parts.items bytes → IsExpanded shape text bytes
 expanded_all shape text bytes found gathered a g e b = record {
   found = found;
   parts = gathered.parts.items;
@@ -130,6 +131,20 @@ expanded_all shape text bytes found gathered a g e b = record {
   replaces = replaces_all shape text found gathered.parts.items gathered.refused.items g e;
   is = b;
 }
+
+-- a file as it was made, by whether there are parts
+pub bare_file : (shape : Shape) (text : List ℕ) (parts : List Replacement) (bytes : List ℕ) (empty : Bool) → empty ≡ (length parts == 0) → empty ≡ true → bytes ≡ replaced text 0 parts → IsFileOf shape text parts bytes
+bare_file shape text [] bytes empty e t r = r
+bare_file shape text (part ∷ parts) bytes empty e t r = absurd (let z : length (part ∷ parts) ≡ 0 = eqb-true _ _ (sym e ∙ t) in omega (arith, z))
+
+pub headed_file : (shape : Shape) (text : List ℕ) (parts : List Replacement) (bytes : List ℕ) (empty : Bool) → empty ≡ (length parts == 0) → empty ≡ false → IsFileWith shape (replaced text 0 parts) bytes → IsFileOf shape text parts bytes
+headed_file shape text [] bytes empty e f w = absurd (let z : empty ≡ true = e in cc)
+headed_file shape text (part ∷ parts) bytes empty e f w = w
+
+pub headed_all : {A E : Type 0} (f : A → List ℕ) (result : Result A E) (shape : Shape) (text : List ℕ) (parts : List Replacement) (made_of : List ℕ) (empty : Bool) → empty ≡ (length parts == 0) → empty ≡ false → made_of ≡ replaced text 0 parts →
+    IfOk result (λ made. IsFileWith shape made_of (f made)) → IfOk result (λ made. IsFileOf shape text parts (f made))
+headed_all f (Ok made) shape text parts made_of empty e n w h = headed_file shape text parts (f made) empty e n (subst (λ (bytes : List ℕ). IsFileWith shape bytes (f made)) w h)
+headed_all f (Err error) shape text parts made_of empty e n w h = tt
 
 -- the refusals of a file, of which there are some
 pub lexers_refused : (shape : Shape) (text : List ℕ) (found : List FoundEnum) (gathered : Gathered) → AreEnumsOf text found → GathersAll shape text found gathered → 0 < length gathered.refused.items →
@@ -161,9 +176,13 @@ ordered_parts shape text found gathered g o = order_parts shape text found gathe
 pub expansion_made : (shape : Shape) (source shown : List ℕ) (graph : GraphValue) (code : CodeValue) (name : Slice) (export : Option (List ℕ)) → IsGiven source (config_of shape) graph code name export → IsExpansionBy shape code source shown → IsExpansion shape source shown
 expansion_made shape source shown graph code name export g b = record {
   left = b.left;
+  written = b.prints.written;
   lexer = b.prints.lexer;
+  laid = b.prints.laid;
   stripped = b.stripped;
+  is_written = b.prints.is_written;
   is_lexer = record { graph = graph; code = code; name = name; export = export; given = g; stand = b.prints.stand };
+  is_laid_out = b.prints.is_laid_out;
   is = b.prints.is;
 }
 

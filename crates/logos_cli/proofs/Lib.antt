@@ -2,3 +2,4 @@ pub mod GatherLemmas
 pub mod RunLemmas
 pub mod ShownLemmas
 pub mod WordLemmas
+pub mod DeriveLemmas

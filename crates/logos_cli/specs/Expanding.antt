@@ -1,9 +1,10 @@
 -- A file with the derive of its lexers expanded.
-use Rattle.std.specs.Prelude.{◌≡◌, ℕ, List, [], ◌∷◌, ◌++◌, Option, true, false, slice_range, string_bytes}
+use Rattle.std.specs.Prelude.{◌≡◌, ℕ, List, [], ◌∷◌, ◌++◌, Option, true, false, codes, slice_range, string_bytes}
 use Rattle.logos_code.specs.Code.{CodeValue}
 use Rattle.logos_code.specs.declared.code.Config.{Config}
 use Rattle.logos_cli.specs.declared.options.Shape.{Shape}
 use Rattle.logos_cli.specs.declared.options.Shape.TheVariants.{Code, Tables}
+use Rattle.logos_cli.specs.Heads.{IsFileWith}
 use Rattle.logos_tables.specs.Texts.{HoldsTables}
 use Rattle.logos_codegen.specs.Given.{IsGiven}
 use Rattle.logos_rust_file.specs.declared.finding.FoundEnum.{FoundEnum}
@@ -12,12 +13,13 @@ use Rattle.logos_rust_file.specs.Files.{AreEnumsOf}
 use Rattle.logos_rust_file.specs.Replacing.{replaced}
 use Rattle.logos_graph.specs.View.{GraphValue}
 use Rattle.logos_enum.specs.Values.{Slice}
+use Rattle.logos_layout.specs.Conditions.{conditions_text}
+use Rattle.logos_layout.specs.Layout.{IsLaidOut, IsWrittenAs}
 use Rattle.logos_rust_file.specs.Handed.{EndsReading}
 use Rattle.logos_rust_file.specs.Handed.{IsStripped}
 use Rattle.logos_text.specs.Standing.{StandInOrder}
 use Rattle.logos_text.specs.Texts.{texts_of}
 use Rattle.logos_token.specs.Faults.{Fault}
-use Rattle.logos_token.specs.Printing.{printed}
 use Rattle.logos_token.specs.Tokens.{TokenList}
 
 -- the shape of the code that a lexer is made of
@@ -39,13 +41,25 @@ pub record IsLexerText (shape : Shape) (source shown : List ℕ) : Type 0 where
   pub given : IsGiven source (config_of shape) graph code name export
   pub stand : IsShown shape code shown
 
--- this is an enum without what belongs to the derive, printed, and after LF the text of its lexer
+-- the attributes of an implementation: no lint of rustc or clippy looks at it, and rustfmt leaves it as it is
+abbrev pub attributes_text : List ℕ
+attributes_text = codes "#[allow(unused, clippy::all)]\n#[rustfmt::skip]\n"
+
+-- the text of a lexer with its attributes: under the conditions of its enum
+abbrev pub under : TokenList → List ℕ → List ℕ
+under left lexer = conditions_text left ++ (attributes_text ++ lexer)
+
+-- this is an enum without what belongs to the derive, and after LF the text of its lexer with attributes, laid out
 pub record IsExpansion (shape : Shape) (source shown : List ℕ) : Type 0 where
   pub left : TokenList
+  pub written : List ℕ
   pub lexer : List ℕ
+  pub laid : List ℕ
   pub stripped : IsStripped source left
+  pub is_written : IsWrittenAs left written
   pub is_lexer : IsLexerText shape source lexer
-  pub is : shown ≡ printed left ++ 10 ∷ lexer
+  pub is_laid_out : IsLaidOut (under left lexer) laid
+  pub is : shown ≡ written ++ 10 ∷ laid
 
 -- the text of an enum of a file
 abbrev pub text_at : List ℕ → FoundEnum → List ℕ
@@ -58,13 +72,18 @@ pub data Replaces (shape : Shape) (text : List ℕ) : List FoundEnum → List Re
   gives : {one : FoundEnum} {part : Replacement} {rest : List FoundEnum} {parts : List Replacement} →
       one.derives ≡ true → part.span ≡ one.span → IsExpansion shape (text_at text one) (string_bytes part.text) → Replaces shape text rest parts → Replaces shape text (one ∷ rest) (part ∷ parts)
 
--- these bytes are the file with the derive of its lexers expanded, and all other bytes as they were
+-- a file with parts replaced, which has no first line if there are none
+abbrev pub IsFileOf : Shape → List ℕ → List Replacement → List ℕ → Type 0
+IsFileOf shape text [] bytes = bytes ≡ replaced text 0 []
+IsFileOf shape text (part ∷ parts) bytes = IsFileWith shape (replaced text 0 (part ∷ parts)) bytes
+
+-- these bytes are the file with the derive of its lexers expanded, and all other bytes as they were, perhaps after a first line that says so
 pub record IsExpanded (shape : Shape) (text bytes : List ℕ) : Type 0 where
   pub found : List FoundEnum
   pub parts : List Replacement
   pub are : AreEnumsOf text found
   pub replaces : Replaces shape text found parts
-  pub is : bytes ≡ replaced text 0 parts
+  pub is : IsFileOf shape text parts bytes
 
 -- the file cannot be read into tokens, and this is its one fault
 abbrev pub IsUnreadable : List ℕ → List Fault → Type 0

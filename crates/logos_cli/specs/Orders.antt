@@ -1,5 +1,5 @@
 -- What the words of a command line ask for.
-use Rattle.std.specs.Prelude.{ℕ, ◌&&◌, List, [], ◌∷◌, Bool, true, false, Option, Some, None, if◌then◌else◌, option_map, bytes_eq, codes, is_some, not}
+use Rattle.std.specs.Prelude.{ℕ, ◌&&◌, ◌||◌, List, [], ◌∷◌, Bool, true, false, Option, Some, None, if◌then◌else◌, option_map, bytes_eq, codes, is_some, not}
 use Rattle.logos_host.specs.declared.color.Color.{Color}
 use Rattle.logos_host.specs.declared.color.Color.TheVariants.{Auto}
 use Rattle.logos_host.specs.declared.options.OptionName.{OptionName}
@@ -11,7 +11,10 @@ use Rattle.logos_cli.specs.declared.options.Shape.{Shape}
 use Rattle.logos_cli.specs.declared.options.Shape.TheVariants.{Code, Tables}
 use Rattle.logos_cli.specs.declared.options.Order.{Order}
 use Rattle.logos_cli.specs.declared.options.Request.{Request}
-use Rattle.logos_cli.specs.declared.options.Request.TheVariants.{Help, Version, Expand}
+use Rattle.logos_cli.specs.declared.options.DeriveOrder.{DeriveOrder}
+use Rattle.logos_cli.specs.declared.options.MessageFormat.{MessageFormat}
+use Rattle.logos_cli.specs.declared.options.MessageFormat.TheVariants.{Human, Json}
+use Rattle.logos_cli.specs.declared.options.Request.TheVariants as requests
 use Rattle.logos_cli.specs.declared.options.Given.{Given}
 use Rattle.logos_cli.specs.declared.options.Answer.{Answer}
 use Rattle.logos_cli.specs.declared.options.Answer.TheVariants as answers
@@ -29,6 +32,7 @@ pub data Asked : Type 0 where
   asks_help : Asked
   asks_version : Asked
   asks_expansion : (order : OrderValue) → Asked
+  asks_derive : (order : DeriveOrder) → Asked
 
 -- the shapes of lexers, by their names
 abbrev pub shape_named : List ℕ → Option Shape
@@ -38,6 +42,10 @@ shape_named name =
     else (if bytes_eq name (codes "tables") then Some Tables
     else None))
 
+-- how messages are written, by its name
+abbrev pub format_named : List ℕ → Option MessageFormat
+format_named name = if bytes_eq name (codes "human") then Some Human else (if bytes_eq name (codes "json") then Some Json else None)
+
 -- What the words so far give. After an option that asks for a text no word is read.
 pub record GivenValue : Type 0 where
   pub input : Option (List ℕ)
@@ -45,12 +53,14 @@ pub record GivenValue : Type 0 where
   pub is_check : Bool
   pub shape : Option Shape
   pub color : Option Color
+  pub is_derive : Bool
+  pub format : Option MessageFormat
   pub answer : Option Answer
   pub progress : Progress
 
 -- what no words give
 abbrev pub given_nothing : GivenValue
-given_nothing = record { input = None; output = None; is_check = false; shape = None; color = None; answer = None; progress = record { pending = None; is_over = false } }
+given_nothing = record { input = None; output = None; is_check = false; shape = None; color = None; is_derive = false; format = None; answer = None; progress = record { pending = None; is_over = false } }
 
 -- what is given, or this
 abbrev pub given_or : {A : Type 0} → A → Option A → A
@@ -70,6 +80,7 @@ abbrev pub with_flag : GivenValue → OptionName → Option GivenValue
 with_flag given options.Help = Some (record given { answer = Some answers.Help })
 with_flag given options.Version = Some (record given { answer = Some answers.Version })
 with_flag given options.Check = if given.is_check then None else Some (record given { is_check = true })
+with_flag given options.Derive = if given.is_derive then None else Some (record given { is_derive = true })
 with_flag given option = None
 
 -- the file for the result, of which there is one
@@ -88,11 +99,18 @@ with_color given (Some color) named = None
 with_color given None None = None
 with_color given None (Some color) = Some (record given { color = Some color })
 
+-- how messages are written, which is given once
+abbrev pub with_format : GivenValue → Option MessageFormat → Option MessageFormat → Option GivenValue
+with_format given (Some format) named = None
+with_format given None None = None
+with_format given None (Some format) = Some (record given { format = Some format })
+
 -- an option with its value
 abbrev pub with_value : GivenValue → OptionName → List ℕ → Option GivenValue
 with_value given options.Output word = with_output given word
 with_value given options.Shape word = with_shape given given.shape (shape_named word)
 with_value given options.Color word = with_color given given.color (color_named word)
+with_value given options.MessageFormat word = with_format given given.format (format_named word)
 with_value given option word = None
 
 abbrev pub with_use : GivenValue → UseValue → Option GivenValue
@@ -118,12 +136,30 @@ with_words given [] = given
 with_words None (word ∷ rest) = None
 with_words (Some given) (word ∷ rest) = with_words (with_word given word) rest
 
--- a file to expand, if there is one; what is only compared needs a file for the result
+-- whether messages are lines of JSON
+abbrev pub is_json : Option MessageFormat → Bool
+is_json (Some Json) = true
+is_json (Some Human) = false
+is_json None = false
+
+-- a file to expand; what is only compared needs a file for the result
+abbrev pub file_given : GivenValue → List ℕ → Option Asked
+file_given given input =
+    if given.is_check && not (is_some given.output) then None
+    else (if is_json given.format then None
+    else Some (asks_expansion (record { input = input; output = given.output; is_check = given.is_check; shape = given_or Tables given.shape; color = given_or Auto given.color })))
+
+-- an enum to answer about, which is read from standard input; the answer is not for a file
+abbrev pub enum_given : GivenValue → List ℕ → Option Asked
+enum_given given input =
+    if given.is_check || is_some given.output then None
+    else (if bytes_eq input (codes "/dev/stdin") then Some (asks_derive (record { shape = given_or Tables given.shape; format = given_or Human given.format; color = given_or Auto given.color }))
+    else None)
+
+-- what is asked of the input, if there is one
 abbrev pub order_given : GivenValue → Option (List ℕ) → Option Asked
 order_given given None = None
-order_given given (Some input) =
-    if given.is_check && not (is_some given.output) then None
-    else Some (asks_expansion (record { input = input; output = given.output; is_check = given.is_check; shape = given_or Tables given.shape; color = given_or Auto given.color }))
+order_given given (Some input) = if given.is_derive then enum_given given input else file_given given input
 
 -- no option waits for a value
 abbrev pub settled_given : GivenValue → Option OptionName → Option Asked
@@ -151,6 +187,8 @@ given_value given = record {
   is_check = given.is_check;
   shape = given.shape;
   color = given.color;
+  is_derive = given.is_derive;
+  format = given.format;
   answer = given.answer;
   progress = given.progress;
 }
@@ -165,6 +203,7 @@ order_value order = record {
 }
 
 abbrev pub request_value : Request → Asked
-request_value Help = asks_help
-request_value Version = asks_version
-request_value (Expand order) = asks_expansion (order_value order)
+request_value requests.Help = asks_help
+request_value requests.Version = asks_version
+request_value (requests.Expand order) = asks_expansion (order_value order)
+request_value (requests.Derive order) = asks_derive order

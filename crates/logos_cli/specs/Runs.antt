@@ -1,13 +1,18 @@
 -- What a run of the program does, by what its files give. `gives` holds of files, a path, all bytes that are read there, and the files after that; `makes` of files, a path,
 -- the bytes of the file there from then on, and the files after that; `finds` of files, a path, some bytes, how the file there compares with them, and the files after that.
-use Rattle.std.specs.Prelude.{◌≡◌, ◌≢◌, ◌⊎◌, ℕ, List, Bool, true, false, IsTrue, Option, Some, None, IfSome}
+use Rattle.std.specs.Prelude.{◌≡◌, ◌≢◌, ◌⊎◌, ℕ, List, Bool, true, false, IsTrue, Option, Some, None, IfSome, codes, string_bytes}
 use Rattle.std.specs.Io.KnownBytes.{Appends, Keeps}
 use Rattle.logos_host.specs.declared.comparing.Standing.{Standing}
 use Rattle.logos_host.specs.declared.comparing.Standing.TheVariants.{Same}
 use Rattle.logos_host.specs.Reading.{Reads}
 use Rattle.logos_cli.specs.Expanding.{IsExpanded}
 use Rattle.logos_cli.specs.Gathering.{ShowsFaults}
-use Rattle.logos_cli.specs.Orders.{Asked, asks_help, asks_version, asks_expansion, OrderValue}
+use Rattle.logos_cli.specs.Deriving.{IsDerived, ShowsErrors, standard_input}
+use Rattle.logos_cli.specs.Orders.{Asked, asks_help, asks_version, asks_expansion, asks_derive, OrderValue}
+use Rattle.logos_cli.specs.declared.options.DeriveOrder.{DeriveOrder}
+use Rattle.logos_codegen.specs.Source.{IsRefused}
+use Rattle.logos_derive.specs.declared.answering.Answer.{Answer}
+use Rattle.logos_token.specs.Faults.{Fault}
 
 -- a file has other bytes than these, or cannot be read
 pub record IsOther {F : Type 0} (finds : F → List ℕ → List ℕ → Standing → F → Type 0) (path bytes : List ℕ) (files after : F) : Type 0 where
@@ -20,6 +25,16 @@ pub record IsRewritten {F : Type 0} (makes : F → List ℕ → List ℕ → F �
   pub between : F
   pub other : IsOther finds path bytes files between
   pub made : makes between path bytes after
+
+-- the enum on standard input has no faults, and its implementation is at the end of standard output, with placeholders
+abbrev pub IsAnswered : {F : Type 0} → (F → List ℕ → List ℕ → F → Type 0) → DeriveOrder → F → F → Option (List ℕ) → Option (List ℕ) → Type 0
+IsAnswered gives order files after old new =
+    Reads gives files (codes "/dev/stdin") (λ text read. (after ≡ read) × ((answer : Answer) × IsDerived order.shape text answer × Appends old new (string_bytes answer.text)))
+
+-- the enum on standard input has faults, which this text shows
+abbrev pub IsDeniedAnswer : {F : Type 0} → (F → List ℕ → List ℕ → F → Type 0) → DeriveOrder → F → F → List ℕ → Type 0
+IsDeniedAnswer gives order files after shown =
+    Reads gives files (codes "/dev/stdin") (λ text read. (after ≡ read) × ((faults : List Fault) × IsRefused text faults × ShowsErrors order.format (standard_input text) faults shown))
 
 module _ {F : Type 0} (gives makes : F → List ℕ → List ℕ → F → Type 0) (finds : F → List ℕ → List ℕ → Standing → F → Type 0) where
   -- a file has these bytes, and was not written
@@ -45,6 +60,7 @@ module _ {F : Type 0} (gives makes : F → List ℕ → List ℕ → F → Type 
   IsDone asks_help files after old new = after ≡ files
   IsDone asks_version files after old new = after ≡ files
   IsDone (asks_expansion order) files after old new = IsCarriedOut order files after old new
+  IsDone (asks_derive order) files after old new = IsAnswered gives order files after old new
 
   -- the file is read, and has faults, which this text shows; or its expansion was only to be compared, and is not what the other file has. No file is written.
   abbrev pub IsDeniedOrder : OrderValue → F → F → List ℕ → Type 0
@@ -57,15 +73,18 @@ module _ {F : Type 0} (gives makes : F → List ℕ → List ℕ → F → Type 
   IsDenied asks_help files after shown = ⊥
   IsDenied asks_version files after shown = ⊥
   IsDenied (asks_expansion order) files after shown = IsDeniedOrder order files after shown
+  IsDenied (asks_derive order) files after shown = IsDeniedAnswer gives order files after shown
 
 -- the file for the result is the file that is read; `same` holds of files, two paths, and whether these lead to one file
 abbrev pub IsOwnOutput : {F : Type 0} → (F → List ℕ → List ℕ → Bool → Type 0) → Asked → F → Type 0
 IsOwnOutput same asks_help files = ⊥
 IsOwnOutput same asks_version files = ⊥
+IsOwnOutput same (asks_derive order) files = ⊥
 IsOwnOutput same (asks_expansion order) files = IfSome order.output (λ path. same files order.input path true)
 
 -- it is another file
 abbrev pub IsApart : {F : Type 0} → (F → List ℕ → List ℕ → Bool → Type 0) → Asked → F → Type 0
 IsApart same asks_help files = Unit {0}
 IsApart same asks_version files = Unit {0}
+IsApart same (asks_derive order) files = Unit {0}
 IsApart same (asks_expansion order) files = IfSome order.output (λ path. same files order.input path false)

@@ -1,24 +1,27 @@
 //! A file with the derive of its lexers expanded.
 
-ghost use Rattle.std.specs.Prelude.{◌≡◌, ◌≤◌, All, IfErr, IfOk, OnOk, length, map, string_bytes};
+ghost use Rattle.std.specs.Prelude.{◌≡◌, ◌≤◌, ◌++◌, All, IfErr, IfOk, OnOk, length, map, string_bytes};
 ghost use Rattle.logos_token.specs.Views.{tokens_of};
 ghost use Rattle.logos_codegen.specs.Source.{IsRefused};
+ghost use Rattle.logos_layout.specs.Layout.{IsLaidOut};
 ghost use Rattle.logos_rust_file.specs.Replacing.{AreInOrder, IsFoundCut, found_span, part_span};
 ghost use Rattle.logos_rust_file.specs.Files.{AreEnumsOf};
 ghost use Rattle.logos_report.specs.Pages.{Shows, StandInOrder};
 ghost use Rattle.logos_rust_file.specs.Handed.{Refuses};
-ghost use Rattle.logos_cli.specs.Expanding.{IsExpanded, IsExpansion};
+ghost use Rattle.logos_cli.specs.Expanding.{IsExpanded, IsExpansion, IsFileOf, under};
 ghost use Rattle.logos_cli.specs.Expanding.{IsShown, IsUnreadable, config_of};
 ghost use Rattle.logos_cli.specs.Gathering.{AreRefused, FailsFor, GathersAll, refused_texts};
 ghost use Rattle.logos_cli.specs.inside.Steps.{AddsRefusal, GathersOne};
 ghost use Rattle.logos_cli.specs.inside.Steps.{IsExpansionBy, IsPrintedWith};
 
+use crate::head::with_head;
 use crate::options::Shape;
 use logos_codegen::error::{Errors, Memory};
 use logos_codegen::generator::Config;
-use logos_codegen::token::{Tokens, print};
+use logos_codegen::token::Tokens;
 use logos_codegen::{Generated, Refusal, generate, strip_attributes};
 use logos_host::Failure;
+use logos_layout::{lay_out, push_conditions, write_left};
 use logos_report::{Page, Part, Source, count_errors, push_faults, push_summary};
 use logos_rust_file::{FoundEnum, Replacement, enums_in, replace};
 use logos_tables::tables;
@@ -104,11 +107,28 @@ fn expand_enums<'w>(
     let gathered = gather(alloc, source.text(), shape, found)?;
     if gathered.refused.is_empty() {
         return Ok(Expansion {
-            bytes: replace(alloc, source.text(), &gathered.parts)?,
+            bytes: expanded_file(alloc, source, shape, &gathered.parts)?,
             count: gathered.parts.len(),
         });
     }
     Err(refused_file(alloc, source, is_colored, &gathered.refused))
+}
+
+/// Returns a file with parts replaced, and with a first line that says so if there are any.
+fn expanded_file(
+    alloc: Global,
+    source: &Source<'_>,
+    shape: Shape,
+    parts: &[Replacement],
+) -> Result<Vec<u8>, Memory>
+    requires { AreInOrder 0 (map part_span parts.now) (length source.now.text) }
+    ensures { IfOk result (λ made. IsFileOf shape source.now.text parts.now made.items) }
+{
+    let bytes = replace(alloc, source.text(), parts)?;
+    if parts.is_empty() {
+        return Ok(bytes);
+    }
+    with_head(alloc, source.path(), shape, &bytes)
 }
 
 /// Returns the replacements of these enums of a file, and the faults of those that are refused.
@@ -168,7 +188,7 @@ fn push_refusal(refused: &mut Vec<Refused>, offset: usize, refusal: Refusal) -> 
 }
 
 /// Returns the shape of the code that a lexer is made of.
-fn config_of(shape: Shape) -> Config
+pub(crate) fn config_of(shape: Shape) -> Config
     ensures { result ≡ config_of shape }
 {
     match shape {
@@ -180,7 +200,11 @@ fn config_of(shape: Shape) -> Config
 }
 
 /// Returns the text of a lexer.
-fn lexer_text(alloc: Global, shape: Shape, made: &Generated<'_>) -> Result<String, Memory>
+pub(crate) fn lexer_text(
+    alloc: Global,
+    shape: Shape,
+    made: &Generated<'_>,
+) -> Result<String, Memory>
     ensures { IfOk result (λ text. IsShown shape made.now.code (string_bytes text)) }
 {
     match shape {
@@ -188,6 +212,10 @@ fn lexer_text(alloc: Global, shape: Shape, made: &Generated<'_>) -> Result<Strin
         Shape::Tables => tables(alloc, made),
     }
 }
+
+/// The attributes of an implementation: no lint of rustc or clippy looks at it, and rustfmt leaves
+/// it as it is.
+const ATTRIBUTES: &str = "#[allow(unused, clippy::all)]\n#[rustfmt::skip]\n";
 
 /// Returns an enum without what belongs to the derive, and the implementation.
 fn expanded(alloc: Global, source: &str, shape: Shape) -> Result<String, Refusal>
@@ -213,7 +241,7 @@ fn expansion_by(
     ensures refused { IfErr result (Refuses (IsRefused source.now)) }
 {
     match strip_attributes(alloc, source) {
-        Ok(left) => match printed_with(alloc, left.run(), shape, made) {
+        Ok(left) => match printed_with(alloc, source, left.run(), shape, made) {
             Ok(text) => Ok(text),
             Err(Memory) => Err(Refusal::Memory),
         },
@@ -221,9 +249,11 @@ fn expansion_by(
     }
 }
 
-/// Returns the text of tokens, and after LF the text of a lexer.
+/// Returns the text of those tokens of a source that stay, and after LF the text of a lexer
+/// with attributes, laid out.
 fn printed_with(
     alloc: Global,
+    source: &str,
     left: Tokens<'_, '_>,
     shape: Shape,
     made: &Generated<'_>,
@@ -232,9 +262,31 @@ fn printed_with(
         (string_bytes text)) }
 {
     let lexer = lexer_text(alloc, shape, made)?;
-    let mut text = print(alloc, left)?;
+    let laid = laid_under(alloc, left, lexer.as_str())?;
+    let mut text = write_left(alloc, source, left)?;
     text.push('\n')?;
-    text.push_str(lexer.as_str())?;
+    text.push_str(laid.as_str())?;
+    Ok(text)
+}
+
+/// Returns the text of a lexer with its attributes, under the conditions of the enum with these
+/// tokens, laid out.
+fn laid_under(alloc: Global, left: Tokens<'_, '_>, lexer: &str) -> Result<String, Memory>
+    ensures { IfOk result (λ laid. IsLaidOut (under (tokens_of left.entry) lexer.now) (string_bytes laid)) }
+{
+    let whole = under(alloc, left, lexer)?;
+    lay_out(alloc, whole.as_str())
+}
+
+/// Returns the text of a lexer with its attributes. It stands under the conditions of the enum with
+/// these tokens.
+fn under(alloc: Global, left: Tokens<'_, '_>, lexer: &str) -> Result<String, Memory>
+    ensures { IfOk result (λ text. string_bytes text ≡ under (tokens_of left.entry) lexer.now) }
+{
+    let mut text = String::new(alloc);
+    push_conditions(alloc, &mut text, left)?;
+    text.push_str(ATTRIBUTES)?;
+    text.push_str(lexer)?;
     Ok(text)
 }
 

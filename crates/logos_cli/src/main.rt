@@ -2,7 +2,10 @@
 
 #![tactic(auto)]
 
+mod answering;
 mod expanding;
+mod head;
+mod implementation;
 mod options;
 mod running;
 

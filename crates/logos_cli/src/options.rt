@@ -4,6 +4,7 @@ ghost use Rattle.std.specs.Prelude.{◌≡◌, IfErr, IfOk, None, Some, is_some,
 ghost use Rattle.logos_host.specs.Failures.{status_of};
 ghost use Rattle.logos_host.specs.WordSteps.{use_value};
 ghost use Rattle.logos_cli.specs.Orders.{asked, asked_given, given_nothing, given_value, order_given};
+ghost use Rattle.logos_cli.specs.Orders.{enum_given, file_given, format_named, is_json, with_format};
 ghost use Rattle.logos_cli.specs.Orders.{given_or, path_named, request_value, shape_named, with_flag};
 ghost use Rattle.logos_cli.specs.Orders.{with_found, with_output, with_path, with_shape, with_color};
 ghost use Rattle.logos_cli.specs.Orders.{with_value, with_word, with_words};
@@ -18,6 +19,8 @@ pub(crate) enum Request<'w> {
     Help,
     Version,
     Expand(Order<'w>),
+    /// The answer to the derive macro.
+    Derive(DeriveOrder),
 }
 
 /// How lexers are printed.
@@ -44,6 +47,26 @@ pub(crate) struct Order<'w> {
     pub(crate) color: Color,
 }
 
+/// How messages are written.
+#[derive(Clone, Copy)]
+pub(crate) enum MessageFormat {
+    /// As a report.
+    Human,
+    /// As lines of JSON.
+    Json,
+}
+
+/// An enum on standard input whose implementation is printed with placeholders.
+#[derive(Clone, Copy)]
+pub(crate) struct DeriveOrder {
+    /// The shape of the lexer.
+    pub(crate) shape: Shape,
+    /// How messages are written.
+    pub(crate) format: MessageFormat,
+    /// When messages have colors.
+    pub(crate) color: Color,
+}
+
 /// Options that ask for a text.
 #[derive(Clone, Copy)]
 enum Answer {
@@ -59,22 +82,26 @@ struct Given<'w> {
     is_check: bool,
     shape: Option<Shape>,
     color: Option<Color>,
+    is_derive: bool,
+    format: Option<MessageFormat>,
     answer: Option<Answer>,
     progress: Progress,
 }
 
 /// The options that the program takes.
-pub(crate) const TAKEN: [OptionName; 6] = [
+pub(crate) const TAKEN: [OptionName; 8] = [
     OptionName::Check,
     OptionName::Color,
+    OptionName::Derive,
     OptionName::Help,
+    OptionName::MessageFormat,
     OptionName::Output,
     OptionName::Shape,
     OptionName::Version,
 ];
 
 /// The path of standard input.
-const STANDARD_INPUT: &str = "/dev/stdin";
+pub(crate) const STANDARD_INPUT: &str = "/dev/stdin";
 
 /// Returns what the words ask for.
 ///
@@ -107,6 +134,8 @@ fn read_words(words: &[String]) -> Result<Given<'_>, Failure<'_>>
         is_check: false,
         shape: None,
         color: None,
+        is_derive: false,
+        format: None,
         answer: None,
         progress: Progress {
             pending: None,
@@ -139,7 +168,7 @@ fn request_given(given: Given<'_>) -> Result<Request<'_>, Failure<'_>>
     }
 }
 
-/// Returns the file to expand.
+/// Returns the file to expand, or the enum to answer about.
 fn order_given(given: Given<'_>) -> Result<Request<'_>, Failure<'_>>
     ensures asked { IfOk result (λ request. order_given (given_value given.entry)
         (given_value given.entry).input ≡ Some (request_value request)) }
@@ -149,8 +178,24 @@ fn order_given(given: Given<'_>) -> Result<Request<'_>, Failure<'_>>
     let Some(input) = given.input else {
         return Err(misuse("no input file", ""));
     };
+    if given.is_derive {
+        return enum_given(given, input);
+    }
+    file_given(given, input)
+}
+
+/// Returns the file to expand.
+fn file_given<'w>(given: Given<'w>, input: &'w str) -> Result<Request<'w>, Failure<'w>>
+    ensures asked { IfOk result (λ request. file_given (given_value given.entry) input.now
+        ≡ Some (request_value request)) }
+    ensures misuse { IfErr result (λ failure. (file_given (given_value given.entry) input.now
+        ≡ None) × (status_of failure ≡ 2)) }
+{
     if given.is_check & !is_given(given.output) {
         return Err(misuse("`--check` needs `--output FILE`", ""));
+    }
+    if is_json(given.format) {
+        return Err(misuse("`--message-format json` needs `--derive`", ""));
     }
     Ok(Request::Expand(Order {
         input,
@@ -159,6 +204,43 @@ fn order_given(given: Given<'_>) -> Result<Request<'_>, Failure<'_>>
         shape: shape_or_tables(given.shape),
         color: color_or_auto(given.color),
     }))
+}
+
+/// Returns the enum to answer about, which is read from standard input.
+fn enum_given<'w>(given: Given<'w>, input: &'w str) -> Result<Request<'w>, Failure<'w>>
+    ensures asked { IfOk result (λ request. enum_given (given_value given.entry) input.now
+        ≡ Some (request_value request)) }
+    ensures misuse { IfErr result (λ failure. (enum_given (given_value given.entry) input.now
+        ≡ None) × (status_of failure ≡ 2)) }
+{
+    if given.is_check | is_given(given.output) {
+        return Err(misuse("`--derive` writes no file", ""));
+    }
+    if input != STANDARD_INPUT {
+        return Err(misuse("`--derive` reads standard input, which is `-`, not", input));
+    }
+    Ok(Request::Derive(DeriveOrder {
+        shape: shape_or_tables(given.shape),
+        format: format_or_human(given.format),
+        color: color_or_auto(given.color),
+    }))
+}
+
+/// Returns whether messages are lines of JSON.
+fn is_json(format: Option<MessageFormat>) -> bool
+    ensures { result ≡ is_json format }
+{
+    matches!(format, Some(MessageFormat::Json))
+}
+
+/// Returns how messages are written: as is given, or as a report.
+fn format_or_human(format: Option<MessageFormat>) -> MessageFormat
+    ensures { result ≡ given_or MessageFormat.Human format }
+{
+    match format {
+        Some(format) => format,
+        None => MessageFormat::Human,
+    }
 }
 
 /// Returns the shape that is given, or tables.
@@ -309,6 +391,11 @@ fn read_flag<'w>(given: Given<'w>, option: OptionName) -> Result<Given<'w>, Fail
             is_check: true,
             ..given
         }),
+        OptionName::Derive if given.is_derive => Err(twice(option)),
+        OptionName::Derive => Ok(Given {
+            is_derive: true,
+            ..given
+        }),
         _ => Err(unknown(option)),
     }
 }
@@ -329,6 +416,7 @@ fn read_value<'w>(
         OptionName::Output => read_output(given, value),
         OptionName::Shape => read_shape(given, value),
         OptionName::Color => read_color(given, value),
+        OptionName::MessageFormat => read_format(given, value),
         _ => Err(unknown(option)),
     }
 }
@@ -388,6 +476,38 @@ fn read_color<'w>(given: Given<'w>, name: &'w str) -> Result<Given<'w>, Failure<
         }),
         (None, None) => Err(misuse("`--color` is `always`, `never` or `auto`, not", name)),
     }
+}
+
+/// Reads how messages are written.
+fn read_format<'w>(given: Given<'w>, name: &'w str) -> Result<Given<'w>, Failure<'w>>
+    ensures given { IfOk result (λ next.
+        with_format (given_value given.entry) given.entry.format (format_named name.now)
+        ≡ Some (given_value next)) }
+    ensures misuse { IfErr result (λ failure.
+        (with_format (given_value given.entry) given.entry.format (format_named name.now) ≡ None)
+        × (status_of failure ≡ 2)) }
+{
+    match (given.format, format_by_name(name)) {
+        (Some(_), _) => Err(twice(OptionName::MessageFormat)),
+        (None, Some(format)) => Ok(Given {
+            format: Some(format),
+            ..given
+        }),
+        (None, None) => Err(misuse("`--message-format` is `human` or `json`, not", name)),
+    }
+}
+
+/// Returns the format with this name.
+fn format_by_name(name: &str) -> Option<MessageFormat>
+    ensures { result ≡ format_named name.now }
+{
+    if name == "human" {
+        return Some(MessageFormat::Human);
+    }
+    if name == "json" {
+        return Some(MessageFormat::Json);
+    }
+    None
 }
 
 /// Returns the shape with this name.

@@ -14,6 +14,7 @@ ghost use Rattle.logos_cli.specs.Gathering.{FailsBy, IsRefusedFor};
 ghost use Rattle.logos_cli.specs.Runs.{IsOther};
 ghost use Rattle.logos_host.specs.Reading.{Reads};
 
+use crate::answering::run_derive;
 use crate::expanding::{Expansion, expand};
 use crate::options::{Order, Request, TAKEN, request_of};
 use logos_host::{
@@ -27,6 +28,7 @@ use std::io::{IsTerminal, Write};
 pub(crate) const USAGE: &str = "\
 usage: logos_cli INPUT [-o FILE] [-c] [--shape tables|tailcall|state_machine]
                  [--color always|never|auto]
+       logos_cli --derive [--shape SHAPE] [--message-format human|json] -
 ";
 
 const HELP: &str = "\
@@ -45,6 +47,12 @@ options:
                      tailcall: a function for each state
                      state_machine: one loop over a state
       --color WHEN   always, never or auto (on a terminal; the default)
+      --derive       read one enum from standard input, and print its
+                     implementation for `#[derive(Logos)]`: identifiers stand
+                     for what the user wrote
+      --message-format FORMAT
+                     human: a report (the default)
+                     json: with `--derive`, a line of JSON for each message
   -h, --help         print this text
   -V, --version      print the version
       --             what follows is INPUT, even if it begins with `-`
@@ -97,6 +105,7 @@ pub(crate) fn run<F: ComparableFiles, O: Write, E: Write + IsTerminal>(
         Ok(Request::Help) => ended(print_bytes(HELP.as_bytes(), out), err),
         Ok(Request::Version) => ended(print_bytes(VERSION.as_bytes(), out), err),
         Ok(Request::Expand(order)) => run_order(alloc, order, files, out, err),
+        Ok(Request::Derive(order)) => run_derive(alloc, order, files, out, err),
         Err(failure) => failed(&with_nearest(failure, &TAKEN), err),
     }
 }
@@ -116,7 +125,7 @@ fn ended<E: Write>(done: Result<(), Failure<'_>>, err: &mut E) -> Ending
 }
 
 /// Ends a run that failed: writes why.
-fn failed<E: Write>(failure: &Failure<'_>, err: &mut E) -> Ending
+pub(crate) fn failed<E: Write>(failure: &Failure<'_>, err: &mut E) -> Ending
     ensures status { result.status ≡ status_of failure.now }
     ensures written { IsTrue result.is_written → (usage : List ℕ) × Appends (E.contents err.old)
         (E.contents err.new) (message_of usage failure.now) }
@@ -284,7 +293,7 @@ fn deliver<'w, F: ComparableFiles, O: Write>(
 }
 
 /// Prints bytes.
-fn print_bytes<'w, O: Write>(bytes: &[u8], out: &mut O) -> Result<(), Failure<'w>>
+pub(crate) fn print_bytes<'w, O: Write>(bytes: &[u8], out: &mut O) -> Result<(), Failure<'w>>
     ensures done { OnOk result (Appends (O.contents out.old) (O.contents out.new) bytes.now) }
     ensures failed { IfErr result (λ failure. status_of failure ≡ 3) }
 {

@@ -13,7 +13,10 @@ pub use logos_generator::laws::{
 use logos_generator::machine::Action;
 pub use logos_graph::laws::{early_marks_are_found, one_is_found, one_list_of_faults};
 use logos_hir::leaf::LeafId;
-pub use logos_machine::laws::{items_given_are_a_run, next_adds_its_item, runs_go_over};
+pub use logos_machine::laws::{
+    items_given_are_a_run, next_adds_its_item, parts_are_of_the_whole, runs_go_later, runs_go_over,
+    tries_agree,
+};
 
 /// A source without faults has one list of rules and one mode.
 pub fn a_source_has_one_list_of_rules()

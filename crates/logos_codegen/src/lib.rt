@@ -17,6 +17,7 @@ pub use logos_generator::machine;
 pub use logos_graph::graph;
 pub use logos_parser::refusal::Refusal;
 pub use logos_parser::{item, nested, parser};
+pub use logos_parts::Parts;
 pub use logos_pattern::{leaf, pattern};
 pub use logos_strip::stripping::strip_attributes;
 pub use logos_text::text;

@@ -1,5 +1,6 @@
 pub mod AliveLemmas
 pub mod CompareLemmas
+pub mod CoveringLemmas
 pub mod ErrorLemmas
 pub mod ExampleLemmas
 pub mod FoundLemmas

@@ -1,4 +1,5 @@
 pub mod Comparing
+pub mod Covering
 pub mod Examples
 pub mod Losses
 pub mod Matching

@@ -3,6 +3,7 @@
 #![tactic(auto)]
 
 mod comparing;
+mod covering;
 mod examples;
 mod losses;
 mod matching;
@@ -11,6 +12,7 @@ mod steps;
 mod walking;
 
 pub use comparing::{Comparison, Named, compare};
+pub use covering::covering_inputs;
 pub use examples::example;
 pub use losses::loses;
 pub use matching::{Match, matches_from, winner};

@@ -1,5 +1,5 @@
 -- The row of a leaf in a table.
-use Rattle.std.specs.Prelude.{◌≡◌, ◌≤◌, ◌+◌, ◌-◌, ◌*◌, ◌^◌, ◌↔◌, min, ℕ, IsTrue, if◌then◌else◌, List, length, slice_range, IsCharBoundary, Option, Some, None, option_map, option_copied}
+use Rattle.std.specs.Prelude.{◌≡◌, ◌+◌, ◌-◌, ◌*◌, ◌^◌, ◌↔◌, min, ℕ, IsTrue, if◌then◌else◌, List, length, slice_range, Option, Some, None, option_map, option_copied}
 use Rattle.logos_lexeme.specs.declared.lexeme.Span.{Span}
 use Rattle.logos_lines.specs.Places.{place_at}
 use Rattle.logos_hir.specs.Measure.{fitted}
@@ -12,6 +12,7 @@ use Rattle.logos_pattern.specs.declared.leaf.VariantKind.TheVariants.{Unit as Un
 use Rattle.logos_pattern.specs.declared.pattern.Pattern.{Pattern}
 use Rattle.logos_inspect.specs.declared.leaves.LeafRow.{LeafRow}
 use Rattle.logos_token.specs.Held.{Held, of_text, of_bytes, held}
+use Rattle.logos_token.specs.Spans.{IsSpanOf}
 
 -- the name of the variant of a leaf; a skip has none
 abbrev pub variant_name : VariantKind → Option (List ℕ)
@@ -27,12 +28,6 @@ held_priority (of_bytes value) = 2 * length value
 -- the priority of a leaf with this pattern when none is given: that of its literal for a `token`, else the value of its tree, if that fits
 abbrev pub default_priority : Pattern → Option ℕ
 default_priority pattern = if is_token pattern then option_map held_priority (held (source_of pattern)) else fitted (value (pattern_tree pattern))
-
--- the ends of a span are between characters of a text, and in order
-pub record IsSpanOf (text : List ℕ) (span : Span) : Type 0 where
-  pub order : span.from ≤ span.to
-  pub begins : IsCharBoundary text span.from
-  pub ends : IsCharBoundary text span.to
 
 -- this is the text at a span, if it is a span of the text
 abbrev pub IsTextAt : List ℕ → Span → List ℕ → Type 0

@@ -6,3 +6,8 @@ pub mod WalkLemmas
 pub mod StepLemmas
 pub mod LexerLemmas
 pub mod ItemsLemmas
+pub mod AgreeLemmas
+pub mod LaterLemmas
+pub mod PartLemmas
+pub mod MoveLemmas
+pub mod WithinLemmas

@@ -1,5 +1,7 @@
 pub mod LexerValue
 pub mod Loops
+pub mod Streams
+pub mod Within
 pub mod inside
 pub mod Words
 pub mod Views

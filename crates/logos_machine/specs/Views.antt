@@ -2,4 +2,7 @@
 pub use Rattle.logos_machine.specs.LexerValue.{Ends, Gives, Keeps, LexerValue, MatchGives, Takes, answers_of, begun, item_of}
 pub use Rattle.logos_machine.specs.Loops.{EndIsRun, NextAddsItem, RunsGoOver}
 pub use Rattle.logos_machine.specs.inside.Attempts.{context_of, found_of, stand_of, turn_of}
+pub use Rattle.logos_machine.specs.Streams.{PartsAreOfTheWhole, RunsGoLater, TriesAgree}
+pub use Rattle.logos_machine.specs.Within.{DoesWithin, GivesWithin, KeepsGiven, Waits}
+pub use Rattle.logos_machine.specs.inside.Parts.{EndsHere, EndsOpen, IsSettled, Moves}
 pub use Rattle.logos_machine.specs.inside.Looks.{IsOutcome, LooksAhead, Reaches, StopsAt}

@@ -1,3 +1,4 @@
 pub mod Attempts
 pub mod Looks
+pub mod Parts
 pub mod Stands

@@ -6,12 +6,14 @@ ghost use Rattle.logos_machine.specs.Views.{answers_of, begun, item_of, Gives, E
 
 mod attempt;
 mod fast_loop;
+mod part;
 mod walk;
 
 pub use logos_code::action::Action;
 use logos_code::code::Code;
 use logos_hir::leaf::LeafId;
 use logos_token::token::Span;
+pub use part::Within;
 use std::marker::Model;
 use walk::{Outcome, attempt};
 

@@ -1,10 +1,11 @@
 -- The faults of a file, one after another.
-use Rattle.std.proofs.Common.{◌≡◌, Bool, ◌≤◌, ◌<◌, ◌+◌, ℕ, suc, List, ◌∷◌, length, get_or, drop, sym, ap, ◌∙◌, arith, subst}
+use Rattle.std.proofs.Common.{◌≡◌, Bool, ◌≤◌, ◌<◌, ◌+◌, ℕ, suc, List, [], ◌∷◌, ◌++◌, length, get_or, drop, take, sym, ap, ◌∙◌, arith, subst}
 use Rattle.std.proofs.Math.Seq.{drop-cons}
+use Rattle.std.proofs.lemmas.List.{map_more}
 use Rattle.std.proofs.Math.ListN.{drop_of_length-le}
 use Rattle.logos_token.specs.declared.error.SpannedError.{SpannedError}
 use Rattle.logos_token.specs.FaultView.{fault_of, faults_of}
-use Rattle.logos_report.specs.Faults.{fault_texts, faults_texts}
+use Rattle.logos_report.specs.Faults.{counted_texts, texts_after}
 use Rattle.logos_report.specs.Pages.{PageValue, Shows}
 use Rattle.logos_report.specs.Places.{SourceValue}
 use Rattle.logos_report.proofs.PageLemmas.{shows_nothing, shows_then}
@@ -14,12 +15,21 @@ next_left faults i d l =
     let k : suc i ≡ i + 1 = omega arith in
     drop-cons faults i d l ∙ ap (λ n. get_or faults i d ∷ drop n faults) k
 
+-- those in front with the next one
+pub next_front : (faults : List SpannedError) (i : ℕ) (d : SpannedError) → i < length faults → faults_of (take (i + 1) faults) ≡ faults_of (take i faults) ++ fault_of (get_or faults i d) ∷ []
+next_front faults i d l = map_more fault_of faults i d l
+
 -- the next fault, and those after it
 pub next_shown : (is_colored : Bool) (source : SourceValue) (begin : ℕ) (faults : List SpannedError) (i : ℕ) (d : SpannedError) (old middle new : PageValue) → i < length faults →
-    Shows (fault_texts is_colored source begin (fault_of (get_or faults i d))) old middle → Shows (faults_texts is_colored source begin (faults_of (drop (i + 1) faults))) middle new → Shows (faults_texts is_colored source begin (faults_of (drop i faults))) old new
+    Shows (counted_texts is_colored source begin (faults_of faults) (faults_of (take i faults)) (fault_of (get_or faults i d))) old middle →
+    Shows (texts_after is_colored source begin (faults_of faults) (faults_of (take (i + 1) faults)) (faults_of (drop (i + 1) faults))) middle new →
+    Shows (texts_after is_colored source begin (faults_of faults) (faults_of (take i faults)) (faults_of (drop i faults))) old new
 next_shown is_colored source begin faults i d old middle new l s t =
-    subst (λ list. Shows (faults_texts is_colored source begin (faults_of list)) old new) (sym (next_left faults i d l)) (shows_then s t)
+    let rest = subst (λ front. Shows (texts_after is_colored source begin (faults_of faults) front (faults_of (drop (i + 1) faults))) middle new) (next_front faults i d l) t in
+    subst (λ list. Shows (texts_after is_colored source begin (faults_of faults) (faults_of (take i faults)) (faults_of list)) old new) (sym (next_left faults i d l)) (shows_then s rest)
 
 -- no fault is left
-pub none_shown : (is_colored : Bool) (source : SourceValue) (begin : ℕ) (faults : List SpannedError) (i : ℕ) (page : PageValue) → length faults ≤ i → Shows (faults_texts is_colored source begin (faults_of (drop i faults))) page page
-none_shown is_colored source begin faults i page l = subst (λ list. Shows (faults_texts is_colored source begin (faults_of list)) page page) (sym (drop_of_length-le faults l)) (shows_nothing page)
+pub none_shown : (is_colored : Bool) (source : SourceValue) (begin : ℕ) (faults : List SpannedError) (i : ℕ) (page : PageValue) → length faults ≤ i →
+    Shows (texts_after is_colored source begin (faults_of faults) (faults_of (take i faults)) (faults_of (drop i faults))) page page
+none_shown is_colored source begin faults i page l =
+    subst (λ list. Shows (texts_after is_colored source begin (faults_of faults) (faults_of (take i faults)) (faults_of list)) page page) (sym (drop_of_length-le faults l)) (shows_nothing page)

@@ -1,3 +1,5 @@
 pub mod PageLemmas
+pub mod ShownLemmas
 pub mod FaultLemmas
+pub mod CountLemmas
 pub mod DigitLemmas

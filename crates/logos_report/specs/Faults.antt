@@ -1,6 +1,7 @@
 -- What is shown of faults.
-use Rattle.std.specs.Prelude.{ℕ, ◌==◌, Bool, List, [], ◌∷◌, ◌++◌, if◌then◌else◌, codes, decimal}
-use Rattle.std.specs.List.{before_first, flat_map}
+use Rattle.std.specs.Prelude.{ℕ, ◌-◌, min, ◌==◌, nat_lt, Bool, List, [], ◌∷◌, ◌++◌, if◌then◌else◌, codes, decimal}
+use Rattle.std.specs.List.{before_first, count_by}
+use Rattle.std.specs.Str.{bytes_eq}
 use Rattle.logos_token.specs.Faults.{Fault}
 use Rattle.logos_token.specs.FaultNames.{name_of}
 use Rattle.logos_report.specs.Codes.{is_error}
@@ -8,6 +9,7 @@ use Rattle.logos_token.specs.declared.error.fault_code.FaultCode.{FaultCode}
 use Rattle.logos_report.specs.declared.page.Style.TheVariants.{Error, Frame, Strong}
 use Rattle.logos_report.specs.Pages.{painted}
 use Rattle.logos_report.specs.Places.{SourceValue, place_line}
+use Rattle.logos_report.specs.Shown.{shown_text}
 
 -- a text up to its first LF
 abbrev pub first_line : List ℕ → List ℕ
@@ -19,18 +21,47 @@ code_text is_colored code =
     if is_error code then painted is_colored Error (codes "error[" ++ (name_of code ++ codes "]"))
     else painted is_colored Frame (codes "note")
 
--- the line of a fault: its code, and the first line of its message
+-- the line of a fault: its code, and the first line of its message, as it is shown
 abbrev pub head_line : Bool → Fault → List ℕ
 head_line is_colored fault =
-    code_text is_colored fault.code ++ (painted is_colored Strong (codes ": " ++ first_line fault.message) ++ codes "\n")
+    code_text is_colored fault.code ++ (painted is_colored Strong (codes ": " ++ shown_text (first_line fault.message)) ++ codes "\n")
 
 -- the line of a fault, and the one that names its place in the file
 abbrev pub fault_texts : Bool → SourceValue → ℕ → Fault → List (List ℕ)
 fault_texts is_colored source begin fault = head_line is_colored fault ∷ place_line is_colored source begin fault.span.from ∷ []
 
--- the same for all faults of a part of a file, in order
+-- whether a fault has the code of this name
+abbrev pub has_name : List ℕ → Fault → Bool
+has_name name fault = bytes_eq (name_of fault.code) name
+
+-- how many of these faults have a code, but no more than one above the number that is shown
+abbrev pub seen_of : FaultCode → List Fault → ℕ
+seen_of code faults = min (count_by (has_name (name_of code)) faults) 51
+
+-- the line that says how many faults of a code are left out
+abbrev pub rest_text : ℕ → List ℕ
+rest_text count = codes ": " ++ (decimal count ++ codes " more are not shown")
+
+abbrev pub rest_line : Bool → FaultCode → ℕ → List ℕ
+rest_line is_colored code count = code_text is_colored code ++ (painted is_colored Strong (rest_text count) ++ codes "\n")
+
+-- what is shown of a fault of a list, after those in front of it: its lines, if fewer than 50 in front have its code; and in place
+-- of the next one how many of all are left out
+abbrev pub counted_texts : Bool → SourceValue → ℕ → List Fault → List Fault → Fault → List (List ℕ)
+counted_texts is_colored source begin all front fault =
+    if nat_lt (seen_of fault.code front) 50 then fault_texts is_colored source begin fault
+    else if seen_of fault.code front == 50 then rest_line is_colored fault.code (count_by (has_name (name_of fault.code)) all - 50) ∷ []
+    else []
+
+-- the same for the faults after some in front, in order
+abbrev pub texts_after : Bool → SourceValue → ℕ → List Fault → List Fault → List Fault → List (List ℕ)
+texts_after is_colored source begin all front [] = []
+texts_after is_colored source begin all front (fault ∷ faults) =
+    counted_texts is_colored source begin all front fault ++ texts_after is_colored source begin all (front ++ fault ∷ []) faults
+
+-- the same for all faults of a part of a file
 abbrev pub faults_texts : Bool → SourceValue → ℕ → List Fault → List (List ℕ)
-faults_texts is_colored source begin faults = flat_map (fault_texts is_colored source begin) faults
+faults_texts is_colored source begin faults = texts_after is_colored source begin faults [] faults
 
 -- the line that says how many errors there are
 abbrev pub count_text : ℕ → List ℕ

@@ -1,4 +1,5 @@
 pub mod Codes
+pub mod Shown
 pub mod Pages
 pub mod Places
 pub mod Faults

@@ -5,6 +5,7 @@ use Rattle.logos_lines.specs.Places.{place_at}
 use Rattle.logos_lines.specs.Starts.{IsLineOf, IsNoLine}
 use Rattle.logos_report.specs.declared.page.Style.TheVariants.{Frame}
 use Rattle.logos_report.specs.Pages.{painted}
+use Rattle.logos_report.specs.Shown.{shown_text}
 
 -- a file as a value: its path and its text
 pub record SourceValue : Type 0 where
@@ -13,7 +14,7 @@ pub record SourceValue : Type 0 where
 
 -- a place as `path:line:column`
 abbrev pub shown_position : List ℕ → Position → List ℕ
-shown_position path place = path ++ (codes ":" ++ (decimal place.line ++ (codes ":" ++ decimal place.column)))
+shown_position path place = shown_text path ++ (codes ":" ++ (decimal place.line ++ (codes ":" ++ decimal place.column)))
 
 -- an offset of the part that begins at another offset of a file, as one of the file, or the largest offset there is
 abbrev pub in_file : ℕ → ℕ → ℕ

@@ -1,22 +1,28 @@
 //! The faults of a file.
 
-ghost use Rattle.std.specs.Prelude.{◌≡◌, ◌++◌, ◌==◌, [], codes, if◌then◌else◌};
+ghost use Rattle.std.specs.Prelude.{◌≡◌, ◌++◌, ◌==◌, ◌∷◌, [], codes, if◌then◌else◌};
 ghost use Rattle.std.specs.List.{count_by};
 ghost use Rattle.logos_token.specs.FaultNames.{name_of};
 ghost use Rattle.logos_token.specs.FaultView.{fault_of, faults_of};
 ghost use Rattle.logos_report.specs.Codes.{is_error};
-ghost use Rattle.logos_report.specs.Faults.{code_text, count_text, fault_texts, faults_texts};
-ghost use Rattle.logos_report.specs.Faults.{first_line, head_line, is_fault_error, summary_line};
+ghost use Rattle.logos_report.specs.Faults.{code_text, count_text, counted_texts, fault_texts, faults_texts};
+ghost use Rattle.logos_report.specs.Faults.{first_line, has_name, head_line, is_fault_error, rest_line, rest_text, seen_of, summary_line};
 ghost use Rattle.logos_report.specs.Pages.{Gains, Shows, painted};
+ghost use Rattle.logos_report.specs.Places.{place_line};
+ghost use Rattle.logos_report.specs.Shown.{shown_text};
 
-use crate::frame::{push_frame, push_place};
-use crate::help::help_for;
+use crate::frame::{push_frame_with, push_offset, push_place};
+use crate::help::help_of;
+use crate::inner::caret_span;
 use crate::page::{Page, Style};
 use crate::source::Part;
 use logos_token::error::{Errors, FaultCode, SpannedError};
 
-/// Pushes the faults of a part of a file, in order. For each, a line with the name of its code and the
-/// first line of its message, and one with its place in the file stand in what is pushed.
+/// How many faults of one code are shown of a part of a file.
+const MOST: usize = 50;
+
+/// Pushes the faults of a part of a file, in order. For each, a line with the name of its code and
+/// the first line of its message, and one with its place in the file stand in what is pushed.
 pub fn push_faults(page: &mut Page, part: Part<'_, '_>, errors: &Errors)
     ensures { Shows (faults_texts page.old.is_colored part.entry.source.now part.entry.offset
         errors.now) page.old page.new }
@@ -29,13 +35,102 @@ fn push_all(page: &mut Page, part: Part<'_, '_>, faults: &[SpannedError])
     ensures { Shows (faults_texts page.old.is_colored part.entry.source.now part.entry.offset
         (faults_of faults.now)) page.old page.new }
 {
+    let mut number = 0;
     for fault in faults {
-        push_fault(page, part, faults, fault);
+        push_counted(page, part, faults, &faults[..number], fault);
+        number += 1;
     }
 }
 
-/// Returns how many of these faults are errors. `Previous` is the place of an earlier definition that
-/// an error speaks of.
+/// Pushes a fault, which is one of `faults`, after those in front of it. Of the faults of one code 50
+/// are shown. In place of the next one stands how many are left out.
+fn push_counted(
+    page: &mut Page,
+    part: Part<'_, '_>,
+    faults: &[SpannedError],
+    front: &[SpannedError],
+    fault: &SpannedError,
+)
+    ensures { Shows (counted_texts page.old.is_colored part.entry.source.now part.entry.offset
+        (faults_of faults.now) (faults_of front.now) (fault_of fault.now)) page.old page.new }
+{
+    let seen = seen_of(front, fault.code);
+    if seen < MOST {
+        push_fault(page, part, faults, fault);
+    } else if seen == MOST {
+        push_rest(
+            page,
+            fault.code,
+            count_code(faults, fault.code).saturating_sub(MOST),
+        );
+    }
+}
+
+/// Pushes how many faults of a code are left out, and an empty line.
+fn push_rest(page: &mut Page, code: FaultCode, count: usize)
+    ensures { Shows (rest_line page.old.is_colored code count ∷ []) page.old page.new }
+{
+    push_rest_line(page, code, count);
+    page.push("\n");
+}
+
+/// Pushes the line that says how many faults of a code are left out.
+fn push_rest_line(page: &mut Page, code: FaultCode, count: usize)
+    ensures { Gains (rest_line page.old.is_colored code count) page.old page.new }
+{
+    push_code(page, code);
+    push_rest_text(page, count);
+    page.push("\n");
+}
+
+/// Pushes what follows the code of faults that are left out.
+fn push_rest_text(page: &mut Page, count: usize)
+    ensures { Gains (painted page.old.is_colored Style.Strong (rest_text count)) page.old page.new }
+{
+    page.begin(Style::Strong);
+    page.push(": ");
+    page.push_number(count);
+    page.push(" more are not shown");
+    page.end();
+}
+
+/// Returns how many of these faults have a code.
+fn count_code(faults: &[SpannedError], code: FaultCode) -> usize
+    ensures { result ≡ count_by (has_name (name_of code)) (faults_of faults.now) }
+{
+    let mut count = 0;
+    for fault in faults {
+        count += usize::from(has_code(fault, code));
+    }
+    count
+}
+
+/// Returns how many of these faults have a code, but no more than one above the number that is shown. It
+/// looks from the last one on, so that the time of all these calls is linear in the number of faults.
+fn seen_of(faults: &[SpannedError], code: FaultCode) -> usize
+    ensures { result ≡ seen_of code (faults_of faults.now) }
+{
+    let mut left = faults.len();
+    let mut count = 0;
+    while left > 0 {
+        if count > MOST {
+            return count;
+        }
+        left -= 1;
+        count += usize::from(has_code(&faults[left], code));
+    }
+    count
+}
+
+/// Returns whether a fault has a code.
+fn has_code(fault: &SpannedError, code: FaultCode) -> bool
+    ensures { result ≡ has_name (name_of code) (fault_of fault.now) }
+{
+    fault.code.name() == code.name()
+}
+
+/// Returns how many of these faults are errors. `Previous` is the place of an earlier definition
+/// that an error speaks of.
 pub fn count_errors(errors: &Errors) -> usize
     ensures { result ≡ count_by is_fault_error errors.now }
 {
@@ -54,7 +149,7 @@ fn count_all(faults: &[SpannedError]) -> usize
 }
 
 /// Returns whether a fault with this code is an error.
-fn is_error(code: FaultCode) -> bool
+pub fn is_error(code: FaultCode) -> bool
     ensures { result ≡ is_error code }
 {
     !matches!(code, FaultCode::Previous)
@@ -92,12 +187,17 @@ fn errors_text(count: usize) -> &'static str
 }
 
 /// Pushes a fault, which is one of `faults`.
-fn push_fault(page: &mut Page, part: Part<'_, '_>, faults: &[SpannedError], fault: &SpannedError)
+pub fn push_fault(
+    page: &mut Page,
+    part: Part<'_, '_>,
+    faults: &[SpannedError],
+    fault: &SpannedError,
+)
     ensures { Shows (fault_texts page.old.is_colored part.entry.source.now part.entry.offset
         (fault_of fault.now)) page.old page.new }
 {
     push_head(page, fault);
-    let width = push_frame(page, part, fault.span, style_of(fault.code));
+    let width = push_span(page, part, fault);
     push_notes(
         page,
         Shown {
@@ -107,6 +207,20 @@ fn push_fault(page: &mut Page, part: Part<'_, '_>, faults: &[SpannedError], faul
             width,
         },
     );
+}
+
+/// Pushes where a fault begins, and its lines with carets, but no line of a source that is too
+/// long. Returns how wide the column of line numbers is.
+fn push_span(page: &mut Page, part: Part<'_, '_>, fault: &SpannedError) -> usize
+    ensures { Shows (place_line page.old.is_colored part.entry.source.now part.entry.offset
+        fault.now.span.from ∷ []) page.old page.new }
+{
+    if matches!(fault.code, FaultCode::LimitSource) {
+        push_offset(page, part, fault.span.from, 1);
+        return 1;
+    }
+    let carets = caret_span(part, fault);
+    push_frame_with(page, part, fault.span.from, carets, style_of(fault.code))
 }
 
 /// Pushes the code of a fault and the first line of its message.
@@ -120,12 +234,12 @@ fn push_head(page: &mut Page, fault: &SpannedError)
 
 /// Pushes the first line of a message, and what parts it from the code.
 fn push_message(page: &mut Page, line: &str)
-    ensures { Gains (painted page.old.is_colored Style.Strong (codes ": " ++ line.now)) page.old
-        page.new }
+    ensures { Gains (painted page.old.is_colored Style.Strong (codes ": " ++ shown_text line.now))
+        page.old page.new }
 {
     page.begin(Style::Strong);
     page.push(": ");
-    page.push(line);
+    page.push_shown(line);
     page.end();
 }
 
@@ -162,7 +276,7 @@ fn style_of(code: FaultCode) -> Style {
 }
 
 /// Returns a text up to its first LF.
-fn first_line(text: &str) -> &str
+pub fn first_line(text: &str) -> &str
     ensures { result.now ≡ first_line text.now }
 {
     match text.split_once('\n') {
@@ -200,7 +314,7 @@ fn push_note(page: &mut Page, width: usize, kind: &str, text: &str)
     push_note_mark(page, width);
     page.paint(Style::Strong, kind);
     page.push(": ");
-    page.push(text);
+    page.push_shown(text);
 }
 
 /// Pushes the mark of a line under a fault.
@@ -227,7 +341,7 @@ fn push_other_place(page: &mut Page, shown: Shown<'_, '_, '_>)
 fn push_help(page: &mut Page, shown: Shown<'_, '_, '_>)
     ensures { Shows [] page.old page.new }
 {
-    if let Some(help) = help_for(shown.fault.code) {
+    if let Some(help) = help_of(shown.part, shown.fault) {
         push_note(page, shown.width, "help", help);
         page.push("\n");
     }
@@ -244,8 +358,8 @@ fn push_other_lines(page: &mut Page, shown: Shown<'_, '_, '_>)
     }
 }
 
-/// Pushes a line of a message. Faults from `next` on may be those of other patterns of an ambiguity.
-/// Returns where to look for the next one.
+/// Pushes a line of a message. Faults from `next` on may be those of other patterns of an
+/// ambiguity. Returns where to look for the next one.
 fn push_other_line(page: &mut Page, shown: Shown<'_, '_, '_>, line: &str, next: usize) -> usize
     ensures { Shows [] page.old page.new }
 {
@@ -285,8 +399,8 @@ fn find_pattern(shown: Shown<'_, '_, '_>, name: &str, from: usize) -> usize {
     shown.faults.len()
 }
 
-/// Returns whether a fault is at another place than `own`, and an ambiguity of the pattern with this
-/// name.
+/// Returns whether a fault is at another place than `own`, and an ambiguity of the pattern with
+/// this name.
 fn is_other_ambiguity(fault: &SpannedError, own: &SpannedError, name: &str) -> bool {
     let is_other = fault.span.from != own.span.from;
     let is_ambiguity = matches!(fault.code, FaultCode::Disambiguation);

@@ -1,11 +1,13 @@
-//! A place of a file: its line, and carets under it.
+//! A span of a file: its lines, and carets under it.
 
 ghost use Rattle.std.specs.Prelude.{◌≡◌, ◌∷◌, [], decimal, length};
 ghost use Rattle.logos_report.specs.Pages.{Gains, Shows};
 ghost use Rattle.logos_report.specs.Places.{arrow_line, place_line, shown_place, shown_position};
+ghost use Rattle.logos_report.specs.Shown.{shown_text};
 
 use crate::page::{Page, Style};
 use crate::source::{Part, Source};
+use crate::window::{Window, window_at};
 use logos_lines::Position;
 use logos_token::token::Span;
 
@@ -23,40 +25,80 @@ struct Frame<'p, 't> {
     style: Style,
 }
 
-/// Pushes where a span begins, the lines at which it begins and ends, and carets of this style under
-/// it. Returns how many digits the number of the last line has.
+/// Pushes where a span begins, the lines at which it begins and ends, and carets of this style
+/// under it. Long lines are cut around it. Returns how many digits the number of the last line has.
 pub fn push_frame(page: &mut Page, part: Part<'_, '_>, span: Span, style: Style) -> usize
     ensures { Shows (place_line page.old.is_colored part.entry.source.now part.entry.offset span.from
         ∷ []) page.old page.new }
 {
+    push_frame_with(page, part, span.from, span, style)
+}
+
+/// Pushes an offset of a part of a file, the lines at which a span begins and ends, and carets of
+/// this style under the span. Returns how many digits the number of the last line has.
+pub(crate) fn push_frame_with(
+    page: &mut Page,
+    part: Part<'_, '_>,
+    offset: usize,
+    span: Span,
+    style: Style,
+) -> usize
+    ensures { Shows (place_line page.old.is_colored part.entry.source.now part.entry.offset offset
+        ∷ []) page.old page.new }
+{
+    let frame = frame_of(part, span, style);
+    push_offset(page, part, offset, frame.width);
+    push_lines(page, frame);
+    frame.width
+}
+
+/// Returns how a span of a part of a file is shown.
+fn frame_of<'p, 't>(part: Part<'p, 't>, span: Span, style: Style) -> Frame<'p, 't> {
     let first = part.position(span.from);
-    let last = part.position(span.to);
-    let width = digits(last.line);
-    let frame = Frame {
+    let last = last_shown(first, part.position(span.to));
+    Frame {
         source: part.source,
         first,
         last,
-        width,
+        width: digits(last.line),
         style,
-    };
-    page.push_times(" ", width);
-    push_arrow(page, part.source, first);
-    push_lines(page, frame);
-    width
+    }
 }
 
-/// Pushes a place of a part of a file as `path:line:column`.
+/// Returns where what is shown of a span ends: at the end of the line before, where it ends with a
+/// line.
+fn last_shown(first: Position, end: Position) -> Position {
+    if (end.column == 1) & (first.line < end.line) {
+        Position {
+            line: end.line.saturating_sub(1),
+            column: usize::MAX,
+        }
+    } else {
+        end
+    }
+}
+
+/// Pushes the line that names an offset of a part of a file, after a margin.
+pub(crate) fn push_offset(page: &mut Page, part: Part<'_, '_>, offset: usize, width: usize)
+    ensures { Shows (place_line page.old.is_colored part.entry.source.now part.entry.offset offset
+        ∷ []) page.old page.new }
+{
+    page.push_times(" ", width);
+    push_arrow(page, part.source, part.position(offset));
+}
+
+/// Pushes an offset of a part of a file as `path:line:column`.
 pub fn push_place(page: &mut Page, part: Part<'_, '_>, offset: usize)
     ensures { Gains (shown_place part.entry.source.now part.entry.offset offset) page.old page.new }
 {
     push_position(page, part.source, part.position(offset));
 }
 
-/// Pushes a place as `path:line:column`.
+/// Pushes a position as `path:line:column`.
 fn push_position(page: &mut Page, source: &Source<'_>, place: Position)
     ensures { Gains (shown_position source.now.path place) page.old page.new }
 {
-    page.push(source.path());
+    page.push_shown(source.path());
     page.push(":");
     page.push_number(place.line);
     page.push(":");
@@ -92,22 +134,20 @@ fn push_lines(page: &mut Page, frame: Frame<'_, '_>)
 fn push_only_line(page: &mut Page, frame: Frame<'_, '_>)
     ensures { Shows [] page.old page.new }
 {
-    push_line(page, frame, frame.first.line);
-    push_carets(page, frame, frame.first, frame.last.column);
+    let Position { line, column } = frame.first;
+    let window = window_at(frame.source.line(line), column);
+    push_line(page, frame, line, window);
+    push_carets(page, frame, window, column, frame.last.column);
 }
 
 /// Pushes the line at which a span begins that ends on a later one.
 fn push_first_line(page: &mut Page, frame: Frame<'_, '_>)
     ensures { Shows [] page.old page.new }
 {
-    push_line(page, frame, frame.first.line);
-    let text = frame.source.line(frame.first.line);
-    push_carets(
-        page,
-        frame,
-        frame.first,
-        text.chars().count().saturating_add(1),
-    );
+    let Position { line, column } = frame.first;
+    let window = window_at(frame.source.line(line), column);
+    push_line(page, frame, line, window);
+    push_carets(page, frame, window, column, usize::MAX);
 }
 
 /// Pushes dots if there are lines between the first and the last one.
@@ -124,12 +164,10 @@ fn push_dots(page: &mut Page, frame: Frame<'_, '_>)
 fn push_last_line(page: &mut Page, frame: Frame<'_, '_>)
     ensures { Shows [] page.old page.new }
 {
-    push_line(page, frame, frame.last.line);
-    let start = Position {
-        line: frame.last.line,
-        column: 1,
-    };
-    push_carets(page, frame, start, frame.last.column);
+    let Position { line, column } = frame.last;
+    let window = window_at(frame.source.line(line), column);
+    push_line(page, frame, line, window);
+    push_carets(page, frame, window, 1, column);
 }
 
 /// Pushes the margin of a line without a number.
@@ -140,15 +178,14 @@ fn push_margin(page: &mut Page, width: usize)
     page.paint(Style::Frame, "|");
 }
 
-/// Pushes a line of the file with its number.
-fn push_line(page: &mut Page, frame: Frame<'_, '_>, line: usize)
+/// Pushes what is shown of a line of the file, with its number.
+fn push_line(page: &mut Page, frame: Frame<'_, '_>, line: usize, window: Window<'_>)
     ensures { Shows [] page.old page.new }
 {
     push_line_number(page, line, frame.width);
-    let text = frame.source.line(line);
-    if !text.is_empty() {
+    if !window.text.is_empty() {
         page.push(" ");
-        page.push(text);
+        window.push(page);
     }
     page.push("\n");
 }
@@ -164,28 +201,19 @@ fn push_line_number(page: &mut Page, line: usize, width: usize)
     page.end();
 }
 
-/// Pushes carets under the characters of a line from a place to a column. There is at least one.
-fn push_carets(page: &mut Page, frame: Frame<'_, '_>, from: Position, to: usize)
+/// Pushes carets under what is shown of a line, from a column to another one, which is not under
+/// them. There is at least one.
+fn push_carets(page: &mut Page, frame: Frame<'_, '_>, window: Window<'_>, from: usize, to: usize)
     ensures { Shows [] page.old page.new }
 {
     push_margin(page, frame.width);
-    push_blanks(page, frame.source.line(from.line), from.column);
+    page.push(" ");
+    page.push_times(" ", window.columns_before(from));
     page.begin(frame.style);
     page.push("^");
-    page.push_times("^", to.saturating_sub(from.column).saturating_sub(1));
+    page.push_times("^", window.columns_between(from, to).saturating_sub(1));
     page.end();
     page.push("\n");
-}
-
-/// Pushes a blank for the margin, and then one for each character of a line before a column. A tab
-/// stays a tab.
-fn push_blanks(page: &mut Page, text: &str, column: usize)
-    ensures { Shows [] page.old page.new }
-{
-    page.push(" ");
-    for character in text.chars().take(column.saturating_sub(1)) {
-        page.push(if character == '\t' { "\t" } else { " " });
-    }
 }
 
 /// Returns how many decimal digits a number has.

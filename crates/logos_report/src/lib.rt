@@ -5,11 +5,17 @@
 mod faults;
 mod frame;
 mod help;
+mod help_by_sight;
+mod help_for_pattern;
+mod inner;
 mod page;
+mod shown;
+mod sight;
 mod source;
+mod window;
 
-pub use faults::{count_errors, push_faults, push_summary};
+pub use faults::{count_errors, first_line, is_error, push_fault, push_faults, push_summary};
 pub use frame::{digits, push_frame, push_place};
-pub use help::help_for;
+pub use help::help_of;
 pub use page::{Page, Style};
 pub use source::{Part, Source};

@@ -3,7 +3,9 @@
 ghost use Rattle.std.specs.Prelude.{◌≡◌, ◌↔◌, [], true, IfOk, IsOk, IsTrue};
 ghost use Rattle.std.specs.Prelude.{decimal, encode_utf8, string_bytes};
 ghost use Rattle.logos_report.specs.Pages.{Gains, begun, ended, painted, style_text, times};
+ghost use Rattle.logos_report.specs.Shown.{shown_char, shown_text};
 
+use crate::shown::stand_in;
 use std::alloc::{AllocError, Global};
 use std::marker::Model;
 
@@ -68,6 +70,28 @@ impl Page {
     {
         if self.text.push(character).is_err() {
             self.is_whole = false;
+        }
+    }
+
+    /// Pushes a character as it is shown on a terminal, which no character of a text controls.
+    pub(crate) fn push_shown_char(&mut self, character: char)
+        ensures { Gains (shown_char character) self.old self.new }
+    {
+        if character == '\t' {
+            self.push("    ");
+        } else {
+            self.push_char(stand_in(character));
+        }
+    }
+
+    /// Pushes a text as it is shown on a terminal: ASCII control characters as pictures of
+    /// themselves, tabs as four blanks, and U+FFFD for other characters that control a terminal,
+    /// change the order of a text or are not seen.
+    pub fn push_shown(&mut self, text: &str)
+        ensures { Gains (shown_text text.now) self.old self.new }
+    {
+        for character in text.chars() {
+            self.push_shown_char(character);
         }
     }
 

@@ -1,7 +1,10 @@
+pub mod CompletionLemmas
+pub mod CoverLemmas
 pub mod ListLemmas
 pub mod MeetLemmas
 pub mod OrderLemmas
 pub mod RestLemmas
 pub mod ShortestLemmas
 pub mod StandLemmas
+pub mod StepLemmas
 pub mod VisitLemmas

@@ -9,7 +9,7 @@ use Rattle.simdutf8.proofs.Chars.{least_is, most_is, StepsThen-IsUtf8}
 use Rattle.logos_search.specs.Rests.{more, begun, rest_after, rest_over}
 use Rattle.logos_search.specs.declared.rest.Rest.{Rest}
 
-abbrev lead : ℕ → ℕ → Rest
+abbrev pub lead : ℕ → ℕ → Rest
 lead z n = record { low = least_after z; high = most_after z; count = n }
 
 -- what has to follow after the bytes x, y and z
@@ -23,7 +23,7 @@ data Fits (rest : Rest) (x y z : ℕ) : Type 0 where
   fourth : rest ≡ more 1 → (0xf0 ≤ x) → IsContinuation y → IsContinuation z → Fits rest x y z
 
 -- all bytes have followed
-abbrev IsDone : Option Rest → Type 0
+abbrev pub IsDone : Option Rest → Type 0
 IsDone o = (rest : Rest) × (o ≡ Some rest) × (rest.count ≡ 0)
 
 -- ---- One byte
@@ -34,7 +34,7 @@ not_zero n = grind (arith, nat_tests)
 one_less : (n : ℕ) → suc n - 1 ≡ n
 one_less n = omega arith
 
-inside : (low high n b : ℕ) → low ≤ b → b ≤ high → rest_after (record { low = low; high = high; count = suc n }) b ≡ Some (more n)
+pub inside : (low high n b : ℕ) → low ≤ b → b ≤ high → rest_after (record { low = low; high = high; count = suc n }) b ≡ Some (more n)
 inside low high n b l h = rw (not_zero n, le-leb low b l, le-leb b high h, one_less n) refl
 
 outside_low : (low high n b : ℕ) → b < low → rest_after (record { low = low; high = high; count = suc n }) b ≡ None
@@ -43,22 +43,22 @@ outside_low low high n b l = rw (not_zero n, lt-leb low b l) refl
 outside_high : (low high n b : ℕ) → low ≤ b → high < b → rest_after (record { low = low; high = high; count = suc n }) b ≡ None
 outside_high low high n b l h = rw (not_zero n, le-leb low b l, lt-leb b high h) refl
 
-ascii : (b : ℕ) → b < 0x80 → begun b ≡ Some (more 0)
+pub ascii : (b : ℕ) → b < 0x80 → begun b ≡ Some (more 0)
 ascii b l = rw (lt-ltb b 0x80 l) refl
 
-stray : (b : ℕ) → 0x80 ≤ b → b < 0xc2 → begun b ≡ None
+pub stray : (b : ℕ) → 0x80 ≤ b → b < 0xc2 → begun b ≡ None
 stray b l h = rw (le-ltb b 0x80 l, lt-ltb b 0xc2 h) refl
 
-of_two : (b : ℕ) → 0xc2 ≤ b → b < 0xe0 → begun b ≡ Some (more 1)
+pub of_two : (b : ℕ) → 0xc2 ≤ b → b < 0xe0 → begun b ≡ Some (more 1)
 of_two b l h = rw (le-ltb b 0x80 (omega arith), le-ltb b 0xc2 l, lt-ltb b 0xe0 h) refl
 
-of_three : (b : ℕ) → 0xe0 ≤ b → b < 0xf0 → begun b ≡ Some (lead b 2)
+pub of_three : (b : ℕ) → 0xe0 ≤ b → b < 0xf0 → begun b ≡ Some (lead b 2)
 of_three b l h = rw (le-ltb b 0x80 (omega arith), le-ltb b 0xc2 (omega arith), le-ltb b 0xe0 l, lt-ltb b 0xf0 h) refl
 
-of_four : (b : ℕ) → 0xf0 ≤ b → b < 0xf5 → begun b ≡ Some (lead b 3)
+pub of_four : (b : ℕ) → 0xf0 ≤ b → b < 0xf5 → begun b ≡ Some (lead b 3)
 of_four b l h = rw (le-ltb b 0x80 (omega arith), le-ltb b 0xc2 (omega arith), le-ltb b 0xe0 (omega arith), le-ltb b 0xf0 l, lt-ltb b 0xf5 h) refl
 
-past : (b : ℕ) → 0xf5 ≤ b → begun b ≡ None
+pub past : (b : ℕ) → 0xf5 ≤ b → begun b ≡ None
 past b l = rw (le-ltb b 0x80 (omega arith), le-ltb b 0xc2 (omega arith), le-ltb b 0xe0 (omega arith), le-ltb b 0xf0 (omega arith), le-ltb b 0xf5 l) refl
 
 -- ---- From the rule on three bytes
@@ -76,7 +76,7 @@ no_lead x y z (b ∷ bs) c l n v =
       | later p q r ↦ omega (arith, q, l)
     ]
 
-on_rest : (o : Option Rest) (r : Rest) (bs : List ℕ) → o ≡ Some r → IsDone (rest_over true r bs) → IsDone (option_and_then (λ next. rest_over true next bs) o)
+pub on_rest : (o : Option Rest) (r : Rest) (bs : List ℕ) → o ≡ Some r → IsDone (rest_over true r bs) → IsDone (option_and_then (λ next. rest_over true next bs) o)
 on_rest o r bs e d = subst (λ (p : Option Rest). IsDone (option_and_then (λ next. rest_over true next bs) p)) (sym e) d
 
 abbrev Goes : List ℕ → Type 0

@@ -11,14 +11,14 @@ use Rattle.logos_search.specs.declared.rest.Rest.{Rest}
 use Rattle.logos_search.specs.declared.visits.Stand.{Stand}
 use Rattle.logos_search.proofs.RestLemmas.{utf8_is_done, done_is_utf8, bytes_are_done}
 
-abbrev joined : Option Point → Option Rest → Option Stand
+abbrev pub joined : Option Point → Option Rest → Option Stand
 joined point rest = option_and_then (λ p. option_map (stand_at p) rest) point
 
 no_rest : (point : Option Point) → joined point None ≡ None
 no_rest None = refl
 no_rest (Some p) = refl
 
-joined_is : (point : Option Point) (rest : Option Rest) (s : Stand) → joined point rest ≡ Some s → (point ≡ Some s.point) × (rest ≡ Some s.rest)
+pub joined_is : (point : Option Point) (rest : Option Rest) (s : Stand) → joined point rest ≡ Some s → (point ≡ Some s.point) × (rest ≡ Some s.rest)
 joined_is None rest s e = cc
 joined_is (Some p) None s e = cc
 joined_is (Some p) (Some r) s e =
@@ -38,12 +38,12 @@ module _ (next : Point → ℕ → Option Point) (utf8 : Bool) where
       go ih (Some o) None = sym (no_rest (after next o bytes))
       go ih (Some o) (Some q) = ih o q
 
-both_true : (a b : Bool) → a ≡ true → b ≡ true → (a && b) ≡ true
+pub both_true : (a b : Bool) → a ≡ true → b ≡ true → (a && b) ≡ true
 both_true true b p q = q
 both_true false b p q = p
 
 module _ (next : Point → ℕ → Option Point) (is_goal : Point → Bool) (utf8 : Bool) (start : Point) where
-  rests : (m : Bool) (bytes : List ℕ) → (IsTrue m → (rest : Rest) × (rest_over true (more 0) bytes ≡ Some rest) × (rest.count ≡ 0)) →
+  pub rests : (m : Bool) (bytes : List ℕ) → (IsTrue m → (rest : Rest) × (rest_over true (more 0) bytes ≡ Some rest) × (rest.count ≡ 0)) →
       (rest : Rest) × (rest_over m (more 0) bytes ≡ Some rest) × (rest.count ≡ 0)
   rests true bytes h = h refl
   rests false bytes h = (more 0, bytes_are_done (more 0) bytes, refl)
@@ -57,10 +57,10 @@ module _ (next : Point → ℕ → Option Point) (is_goal : Point → Bool) (utf
       ap (λ (o : Option Point). joined o (rest_over utf8 (more 0) bytes)) leads.way ∙ ap (λ (o : Option Rest). joined (Some leads.end) o) r.1 in
       (stand_at leads.end r.0, both_go next utf8 start (more 0) bytes ∙ at, both_true _ _ leads.goal (eq-eqb _ _ r.2))
 
-  is_zero : (n : ℕ) → (n == 0) ≡ true → n ≡ 0
+  pub is_zero : (n : ℕ) → (n == 0) ≡ true → n ≡ 0
   is_zero n e = grind (arith, nat_tests)
 
-  texts : (m : Bool) (bytes : List ℕ) (rest : Rest) → rest_over m (more 0) bytes ≡ Some rest → IsTrue m → rest_over true (more 0) bytes ≡ Some rest
+  pub texts : (m : Bool) (bytes : List ℕ) (rest : Rest) → rest_over m (more 0) bytes ≡ Some rest → IsTrue m → rest_over true (more 0) bytes ≡ Some rest
   texts true bytes rest e t = e
   texts false bytes rest e t = cc
 

@@ -1,3 +1,4 @@
+pub mod Covering
 pub mod Machines
 pub mod Rests
 pub mod Shortest

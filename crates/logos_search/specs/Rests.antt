@@ -1,5 +1,5 @@
 -- UTF-8 byte by byte: what has to follow the bytes that were read.
-use Rattle.std.specs.Prelude.{ℕ, ◌-◌, Bool, ◌&&◌, List, [], ◌∷◌, Option, Some, None, if◌then◌else◌, ◌==◌, nat_lt, nat_le, option_and_then}
+use Rattle.std.specs.Prelude.{ℕ, zero, suc, ◌-◌, Bool, ◌&&◌, List, [], ◌∷◌, Option, Some, None, if◌then◌else◌, ◌==◌, nat_lt, nat_le, option_and_then}
 use Rattle.simdutf8.specs.Steps.{least_after, most_after}
 use Rattle.logos_search.specs.declared.rest.Rest.{Rest}
 
@@ -30,3 +30,12 @@ rest_by utf8 rest b = if utf8 then rest_after rest b else Some rest
 abbrev pub rest_over : Bool → Rest → List ℕ → Option Rest
 rest_over utf8 rest [] = Some rest
 rest_over utf8 rest (b ∷ bytes) = option_and_then (λ next. rest_over utf8 next bytes) (rest_by utf8 rest b)
+
+-- the least bytes that may follow inside a character, of which so many are to come
+abbrev pub leasts : ℕ → ℕ → List ℕ
+leasts low zero = []
+leasts low (suc n) = low ∷ leasts 0x80 n
+
+-- the least bytes that complete a character
+abbrev pub completion : Rest → List ℕ
+completion rest = leasts rest.low rest.count

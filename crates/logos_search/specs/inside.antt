@@ -1,3 +1,4 @@
+pub mod Covers
 pub mod Order
 pub mod Stands
 pub mod Visits

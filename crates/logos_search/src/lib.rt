@@ -1,12 +1,16 @@
-//! Shortest inputs that lead a machine to a point that is looked for.
+//! Shortest inputs that lead a machine to a point that is looked for, and inputs that together take
+//! all of its steps.
 
 #![tactic(auto)]
 
+mod cover;
 mod order;
 mod point;
 mod rest;
 mod search;
+mod steps;
 mod visits;
 
+pub use cover::covering;
 pub use point::{Machine, Point};
 pub use search::shortest;

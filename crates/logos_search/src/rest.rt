@@ -1,7 +1,9 @@
 //! UTF-8 byte by byte.
-ghost use Rattle.std.specs.Prelude.{◌≡◌};
+ghost use Rattle.std.specs.Prelude.{◌≡◌, ◌++◌, OnOk};
 ghost use Rattle.logos_search.specs.Rests as rests;
 ghost use Rattle.simdutf8.specs.Steps as steps;
+
+use std::alloc::AllocError;
 
 /// What has to follow for the bytes read so far to be UTF-8.
 #[derive(Clone, Copy, PartialEq, Eq, Hash)]
@@ -105,4 +107,20 @@ pub(crate) fn rest_by(utf8: bool, rest: Rest, byte: u8) -> Option<Rest>
     } else {
         Some(rest)
     }
+}
+
+/// Adds the least bytes that complete a character.
+///
+/// # Errors
+///
+/// Returns `AllocError` when memory runs out.
+pub(crate) fn push_rest(bytes: &mut Vec<u8>, rest: Rest) -> Result<(), AllocError>
+    ensures { OnOk result (bytes.new.items ≡ bytes.old.items ++ rests.completion rest) }
+{
+    let mut rest = rest;
+    while rest.count != 0 {
+        bytes.push(rest.low)?;
+        rest = more(rest.count - 1);
+    }
+    Ok(())
 }

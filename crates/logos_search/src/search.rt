@@ -8,7 +8,7 @@ use crate::visits::{Stand, first_stand, first_visits, meet_all, stand_of, way_to
 use std::alloc::{AllocError, Global};
 
 /// Returns whether an input can end at a stand whose point is looked for.
-fn is_goal<M: Machine>(machine: &M, stand: Stand) -> bool
+pub(crate) fn is_goal<M: Machine>(machine: &M, stand: Stand) -> bool
     ensures { result ≡ stands.stand_goal (M.goal machine.now) stand }
 {
     machine.is_goal(stand.point) & (stand.rest.count == 0)

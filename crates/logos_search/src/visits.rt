@@ -22,18 +22,18 @@ pub(crate) struct Stand {
 #[derive(Clone, Copy)]
 pub(crate) struct Visit {
     /// The number of the stand before it.
-    from: usize,
+    pub(crate) from: usize,
     /// The byte that leads from there.
-    byte: u8,
+    pub(crate) byte: u8,
     /// How many bytes lead to it.
-    depth: usize,
+    pub(crate) depth: usize,
 }
 
 /// The stands that were met, numbered in their order.
 #[derive(Drop)]
 pub(crate) struct Visits {
     pub(crate) stands: IndexSet<Stand>,
-    ways: Vec<Visit>,
+    pub(crate) ways: Vec<Visit>,
 }
 
 /// Returns the stand before the first byte.
@@ -47,7 +47,7 @@ pub(crate) fn first_stand(point: Point) -> Stand
 }
 
 /// Returns where a byte leads from a stand.
-fn advance<M: Machine>(machine: &M, utf8: bool, at: Stand, byte: u8) -> Option<Stand>
+pub(crate) fn advance<M: Machine>(machine: &M, utf8: bool, at: Stand, byte: u8) -> Option<Stand>
     ensures { result ≡ stands.stand_next (M.leads machine.now) utf8 at byte }
 {
     let point = machine.next(at.point, byte)?;

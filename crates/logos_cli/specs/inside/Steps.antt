@@ -4,15 +4,15 @@ use Rattle.logos_code.specs.Code.{CodeValue}
 use Rattle.logos_cli.specs.declared.options.Shape.{Shape}
 use Rattle.logos_cli.specs.declared.expanding.Gathered.{Gathered}
 use Rattle.logos_cli.specs.declared.expanding.Refused.{Refused}
-use Rattle.logos_cli.specs.Expanding.{IsShown}
+use Rattle.logos_cli.specs.Expanding.{IsShown, under}
 use Rattle.logos_cli.specs.Gathering.{Gathers}
+use Rattle.logos_layout.specs.Layout.{IsLaidOut, IsWrittenAs}
 use Rattle.logos_rust_file.specs.declared.finding.FoundEnum.{FoundEnum}
 use Rattle.logos_rust_file.specs.declared.replacing.Replacement.{Replacement}
 use Rattle.logos_rust_file.specs.Handed.{Refusal}
 use Rattle.logos_rust_file.specs.Handed as refusals
 use Rattle.logos_rust_file.specs.Handed.{IsStripped}
 use Rattle.logos_token.specs.Faults.{Fault}
-use Rattle.logos_token.specs.Printing.{printed}
 use Rattle.logos_token.specs.Tokens.{TokenList}
 
 -- one more enum was gathered: what it gives stands at the end
@@ -35,11 +35,15 @@ pub record AddsRefusal (offset : ℕ) (refusal : Refusal) (old new : List Refuse
   pub faults : AreFaultsOf refusal bad.errors
   pub are : new ≡ old ++ bad ∷ []
 
--- these are tokens, printed, and after LF the text of a lexer with this code
+-- these are tokens, and after LF the text of a lexer with this code and with attributes, laid out
 pub record IsPrintedWith (shape : Shape) (code : CodeValue) (left : TokenList) (shown : List ℕ) : Type 0 where
+  pub written : List ℕ
   pub lexer : List ℕ
+  pub laid : List ℕ
   pub stand : IsShown shape code lexer
-  pub is : shown ≡ printed left ++ 10 ∷ lexer
+  pub is_written : IsWrittenAs left written
+  pub is_laid_out : IsLaidOut (under left lexer) laid
+  pub is : shown ≡ written ++ 10 ∷ laid
 
 -- this is the expansion of an enum whose lexer has this code
 pub record IsExpansionBy (shape : Shape) (code : CodeValue) (source shown : List ℕ) : Type 0 where

@@ -1,7 +1,7 @@
 -- The machines of the searches.
 use Rattle.std.specs.Prelude.{ℕ, Bool, false, true, not, ◌&&◌, ◌||◌, List, Option, None, Some, is_some, if◌then◌else◌, ◌==◌, nat_lt, nat_le, slice_get, option_map, bytes_eq}
 use Rattle.std.specs.List.{list_any}
-use Rattle.logos_graph.specs.Graph.{GraphState, next_by}
+use Rattle.logos_graph.specs.Graph.{GraphState, next_by, next_at_end}
 use Rattle.logos_automaton.specs.Automaton.{Automaton}
 use Rattle.logos_automaton.specs.Munch.{Rule}
 use Rattle.logos_automaton.specs.inside.TopSets.{top_of}
@@ -81,6 +81,15 @@ module _ (one other : List GraphState) (names others : List ℕ) (utf8 : Bool) w
 
   abbrev pub pair_goal : Point → Bool
   pair_goal at = differs_after names others at.met at.last (mark_at_end one at.here) (mark_at_end other at.there) false
+
+-- The edges of a graph.
+module _ (graph : List GraphState) where
+  abbrev pub edge_next : Point → ℕ → Option Point
+  edge_next at b = option_map point_from (next_by graph at.here b)
+
+  -- An edge for the end of the input.
+  abbrev pub edge_goal : Point → Bool
+  edge_goal at = is_some (next_at_end graph at.here)
 
 -- ---- Leaves that an automaton lists
 

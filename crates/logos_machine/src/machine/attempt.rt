@@ -39,10 +39,10 @@ pub(super) enum Found {
 
 /// Where a state's fast loop ends.
 #[derive(Clone, Copy)]
-struct Stop {
-    offset: usize,
+pub(super) struct Stop {
+    pub offset: usize,
     /// Where the byte there leads, if a byte is there.
-    target: Option<Option<usize>>,
+    pub target: Option<Option<usize>>,
 }
 
 /// Does what the entered state does.
@@ -70,7 +70,7 @@ fn run_state(code: &Code, input: &[u8], start: usize, at: Stand) -> Turn
 
 /// Returns where the state's fast loop ends, and where the byte there leads.
 #[inline]
-fn stop_of(code: &Code, input: &[u8], state: usize, offset: usize) -> Stop
+pub(super) fn stop_of(code: &Code, input: &[u8], state: usize, offset: usize) -> Stop
     requires { state < length code.now.states }
     ensures offset { result.offset
         ≡ offset + looped code.now (state_at code.now state).fast_loop (drop offset input.now) }
@@ -114,7 +114,11 @@ fn loop_end(code: &Code, input: &[u8], state: usize, offset: usize) -> usize
 
 /// Returns the context after a mark.
 #[inline]
-fn marked(sign: Sign, offset: usize, context: Option<(LeafId, usize)>) -> Option<(LeafId, usize)>
+pub(super) fn marked(
+    sign: Sign,
+    offset: usize,
+    context: Option<(LeafId, usize)>,
+) -> Option<(LeafId, usize)>
     requires { IfSome (mark_by sign) (λ m. IsTrue m.late → 0 < offset) }
     ensures { context_of result ≡ marked (mark_by sign) offset (context_of context) }
 {

@@ -1,4 +1,4 @@
-use Rattle.std.proofs.Common.{◌≡◌, ◌<◌, ◌∙◌, [], length, sym, arith, eqb-true, rules}
+use Rattle.std.proofs.Common.{◌≡◌, ◌∙◌, [], sym, arith, eqb-true}
 use Rattle.std.proofs.lemmas.List.{nil_from_length}
 use Rattle.logos_cli.proofs.GatherLemmas.{expanded_all, lexers_refused, some_left}
 use Rattle.logos_cli.proofs.expanding.expand_enums.Goals as goal
@@ -9,7 +9,7 @@ returns-then-is_empty-clause-done c =
     let none : gathered.refused.items ≡ [] =
     nil_from_length gathered.refused.items (omega (arith, gathered.refused.ok.0, eqb-true _ _ (sym c.is_empty.ensures ∙ c.if-is_empty.true))) in
     expanded_all c.args.shape c.args.source.now.text _ c.args.found.now gathered c.requires.enums (rw c.text.ensures at c.in_ok-gathered.ensures.gathers) none
-    (rw c.text-then-is_empty.ensures at (rw c.deref.ensures.value at c.in_ok-replace.ensures))
+    (rw c.deref.ensures.value at c.in_ok-expanded_file.ensures)
 
 pub returns-clause-denied : goal.returns-clause-denied
 returns-clause-denied c =

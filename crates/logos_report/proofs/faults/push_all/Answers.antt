@@ -1,6 +1,6 @@
-use Rattle.std.proofs.Common.{◌∙◌, subst}
-use Rattle.logos_token.specs.FaultView.{fault_of}
-use Rattle.logos_report.specs.Faults.{fault_texts}
+use Rattle.std.proofs.Common.{◌∙◌, subst, take, arith}
+use Rattle.logos_token.specs.FaultView.{fault_of, faults_of}
+use Rattle.logos_report.specs.Faults.{counted_texts}
 use Rattle.logos_report.specs.Pages.{Shows}
 use Rattle.logos_report.proofs.FaultLemmas.{next_shown, none_shown}
 use Rattle.logos_report.proofs.PageLemmas.{shows_as}
@@ -9,10 +9,14 @@ use Rattle.logos_report.proofs.faults.push_all.Goals as goal
 pub loop-fault-preserved : goal.loop-fault-preserved
 loop-fault-preserved c =
     let same = c.loop-fault.invariant.colored in
-    let shows = shows_as (λ colored. fault_texts colored c.args.part.source.now c.args.part.offset (fault_of c.fault-item.result)) same c.push_fault.ensures in
-    let one = subst (λ x. Shows (fault_texts c.args.page.now.is_colored c.args.part.source.now c.args.part.offset (fault_of x)) c.loop-fault.page c.push_fault.new.page) c.fault-item.is shows in
+    let all = faults_of c.args.faults.now in
+    let front = faults_of (take c.loop-fault.fault-index c.args.faults.now) in
+    let here = rw c.loop-fault.invariant.numbered at c.push_counted.ensures in
+    let shows = shows_as (λ colored. counted_texts colored c.args.part.source.now c.args.part.offset all front (fault_of c.fault-item.result)) same here in
+    let one = subst (λ x. Shows (counted_texts c.args.page.now.is_colored c.args.part.source.now c.args.part.offset all front (fault_of x)) c.loop-fault.page c.push_counted.new.page) c.fault-item.is shows in
     record {
-      colored = c.push_fault.ensures.colored ∙ same;
+      numbered = omega (arith, c.loop-fault.invariant.numbered);
+      colored = c.push_counted.ensures.colored ∙ same;
       rest = λ new s. c.loop-fault.invariant.rest new (next_shown c.args.page.now.is_colored c.args.part.source.now c.args.part.offset c.args.faults.now c.loop-fault.fault-index c.fault-item.result _ _ new c.loop-fault-test.true one s);
     }
 

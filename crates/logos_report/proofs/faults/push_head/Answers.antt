@@ -3,6 +3,7 @@ use Rattle.logos_token.specs.FaultView.{fault_of}
 use Rattle.logos_report.specs.Faults.{first_line}
 use Rattle.logos_report.specs.Pages.{painted}
 use Rattle.logos_report.specs.declared.page.Style.TheVariants.{Strong}
+use Rattle.logos_report.specs.Shown.{shown_text}
 use Rattle.logos_report.proofs.PageLemmas.{gains_as, gains_then}
 use Rattle.logos_report.proofs.faults.push_head.Goals as goal
 
@@ -11,4 +12,4 @@ returns c =
     let e = c.first_line.ensures ∙ ap first_line c.as_str.ensures.value in
     let line = rw e at c.push_message.ensures in
     gains_then c.push_code.ensures
-    (gains_then (gains_as (λ colored. painted colored Strong (codes ": " ++ first_line (fault_of c.args.fault.now).message)) c.push_code.ensures.colored line) c.push.ensures)
+    (gains_then (gains_as (λ colored. painted colored Strong (codes ": " ++ shown_text (first_line (fault_of c.args.fault.now).message))) c.push_code.ensures.colored line) c.push.ensures)

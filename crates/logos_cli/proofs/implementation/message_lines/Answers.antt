@@ -1,0 +1,14 @@
+use Rattle.std.proofs.Common.{◌∙◌, ◌++◌, ap}
+use Rattle.logos_cli.proofs.implementation.message_lines.Goals as goal
+
+pub returns : goal.returns
+returns c =
+    let v = c.in_ok-push_version.ensures.pushed in
+    let m = c.in_ok-push_messages.ensures.pushed in
+    record {
+      version = v.0;
+      messages = m.0;
+      is = m.1 ∙ ap (λ xs. xs ++ m.0) (v.1 ∙ ap (λ xs. xs ++ v.0) c.new-lines.ensures.items);
+      line = v.2;
+      are = m.2;
+    }

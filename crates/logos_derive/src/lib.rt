@@ -1,0 +1,17 @@
+//! What the derive macro is answered: an implementation with placeholders for the pieces that a
+//! user wrote.
+
+#![tactic(auto)]
+
+mod answering;
+mod checking;
+mod filling;
+mod options;
+mod parts;
+mod piece;
+mod placing;
+mod prefix;
+mod spots;
+
+pub use answering::{Answer, make_answer};
+pub use piece::Piece;

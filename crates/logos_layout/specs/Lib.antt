@@ -1,0 +1,3 @@
+pub mod Conditions
+pub mod Layout
+pub mod Words

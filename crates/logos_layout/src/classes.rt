@@ -1,0 +1,205 @@
+//! What a lexeme is to the lexemes beside it.
+
+use logos_token::token::{Delimiter, Spacing};
+
+/// What a lexeme is to the lexemes beside it.
+#[derive(Clone, Copy, PartialEq, Eq)]
+pub(crate) enum Class {
+    /// No lexeme: the text begins.
+    Start,
+    /// A name that is declared, or one whose first letter is large and whose second one is small.
+    TypeName,
+    /// A keyword that declares a name.
+    Declaring,
+    /// The keyword `else`.
+    Else,
+    /// Another keyword that an operand, a pattern or a name follows.
+    Keyword,
+    /// The name of a lifetime or a label, without its apostrophe.
+    Lifetime,
+    /// Any other name.
+    Name,
+    /// A literal.
+    Literal,
+    /// A comment.
+    Comment,
+    /// An opening delimiter.
+    Opening(Delimiter),
+    /// A closing delimiter.
+    Closing(Delimiter),
+    /// A character of punctuation.
+    Sign(Role),
+}
+
+/// What a character of punctuation does.
+#[derive(Clone, Copy, PartialEq, Eq)]
+pub(crate) enum Role {
+    /// `,`
+    Comma,
+    /// `;`
+    Semicolon,
+    /// `?`
+    Question,
+    /// `.`
+    Dot,
+    /// The `'` of a lifetime or a label.
+    Apostrophe,
+    /// `#`
+    Hash,
+    /// The second `:` of a path.
+    PathMark,
+    /// Any other `:`.
+    Colon,
+    /// A `<` that opens a list of types.
+    OpensTypes,
+    /// A `>` that closes a list of types.
+    ClosesTypes,
+    /// The `!` after the name of a macro.
+    MacroMark,
+    /// A character before an operand, such as the `&` of a reference.
+    Prefix,
+    /// A `-` or `=` that `>` can follow.
+    Arrow,
+    /// Any other character.
+    Operator,
+}
+
+/// The keywords that declare a name.
+const DECLARING: [&str; 7] = ["enum", "fn", "impl", "struct", "trait", "type", "union"];
+
+/// The other keywords that an operand, a pattern or a name follows, but for `else`.
+const KEYWORDS: [&str; 18] = [
+    "as", "break", "const", "dyn", "for", "if", "in", "let", "loop", "match", "move", "mut", "ref",
+    "return", "static", "use", "where", "while",
+];
+
+/// Returns the class of a name after a lexeme of the class `last`.
+pub(crate) fn class_of_name(name: &str, last: Class) -> Class {
+    match last {
+        Class::Sign(Role::Apostrophe) => Class::Lifetime,
+        Class::Declaring => Class::TypeName,
+        _ => class_of_word(name),
+    }
+}
+
+/// Returns the class of a keyword or a name.
+fn class_of_word(name: &str) -> Class {
+    if name == "else" {
+        return Class::Else;
+    }
+    if is_in(name, &DECLARING) {
+        return Class::Declaring;
+    }
+    if is_in(name, &KEYWORDS) {
+        return Class::Keyword;
+    }
+    if is_type_name(name.as_bytes()) {
+        return Class::TypeName;
+    }
+    Class::Name
+}
+
+/// Returns whether a name is one of these words.
+fn is_in(name: &str, words: &[&str]) -> bool {
+    for word in words {
+        if name == *word {
+            return true;
+        }
+    }
+    false
+}
+
+/// Returns whether a name looks like that of a type. It can begin with `_`.
+fn is_type_name(name: &[u8]) -> bool {
+    match name {
+        [b'_', first, second, ..] => first.is_ascii_uppercase() & second.is_ascii_lowercase(),
+        [first, second, ..] => first.is_ascii_uppercase() & second.is_ascii_lowercase(),
+        _ => false,
+    }
+}
+
+/// A character of punctuation, and what is before it.
+#[derive(Clone, Copy)]
+pub(crate) struct Sign {
+    /// The character.
+    pub(crate) character: u8,
+    /// Whether more punctuation follows directly.
+    pub(crate) spacing: Spacing,
+    /// The last lexeme.
+    pub(crate) last: Class,
+    /// Whether that is punctuation without a gap after it.
+    pub(crate) is_second: bool,
+    /// Whether a list of types is open.
+    pub(crate) has_types: bool,
+}
+
+/// Returns what a character of punctuation does.
+pub(crate) fn role_of(sign: Sign) -> Role {
+    let last = sign.last;
+    match sign.character {
+        b',' => Role::Comma,
+        b';' => Role::Semicolon,
+        b'?' => Role::Question,
+        b'.' => Role::Dot,
+        b'\'' => Role::Apostrophe,
+        b'#' => Role::Hash,
+        b':' => colon_role(last),
+        b'<' => less_role(last, sign.is_second),
+        b'>' => greater_role(last, sign.has_types),
+        b'!' if is_macro_mark(last, sign.spacing) => Role::MacroMark,
+        b'$' => Role::Prefix,
+        b'&' | b'*' | b'!' | b'-' if is_prefix(last, sign.is_second) => Role::Prefix,
+        b'-' | b'=' => Role::Arrow,
+        _ => Role::Operator,
+    }
+}
+
+/// Returns what a `:` does: the second of two ends the mark of a path.
+fn colon_role(last: Class) -> Role {
+    match last {
+        Class::Sign(Role::Colon) => Role::PathMark,
+        _ => Role::Colon,
+    }
+}
+
+/// Returns what a `<` does: after the name of a type or the mark of a path it opens a list of types,
+/// and where an operand can stand too.
+fn less_role(last: Class, is_second: bool) -> Role {
+    match last {
+        Class::TypeName | Class::Declaring | Class::Sign(Role::PathMark) => Role::OpensTypes,
+        _ if is_prefix(last, is_second) => Role::OpensTypes,
+        _ => Role::Operator,
+    }
+}
+
+/// Returns what a `>` does: it closes a list of types, unless it ends an arrow.
+fn greater_role(last: Class, has_types: bool) -> Role {
+    match last {
+        Class::Sign(Role::Arrow) => Role::Operator,
+        _ if has_types => Role::ClosesTypes,
+        _ => Role::Operator,
+    }
+}
+
+/// Returns whether a `!` ends the name of a macro: it is alone, and after a name.
+fn is_macro_mark(last: Class, spacing: Spacing) -> bool {
+    matches!(last, Class::Name | Class::TypeName) & matches!(spacing, Spacing::Alone)
+}
+
+/// Returns whether a character stands before an operand, and is not the second one of an operator.
+fn is_prefix(last: Class, is_second: bool) -> bool {
+    let is_operator = matches!(last, Class::Sign(Role::Operator | Role::Arrow));
+    is_before_operand(last) & !(is_operator & is_second)
+}
+
+/// Returns whether an operand can follow a lexeme of this class.
+fn is_before_operand(last: Class) -> bool {
+    match last {
+        Class::Start | Class::Else | Class::Keyword | Class::Comment | Class::Opening(_) => true,
+        Class::Sign(role) => !matches!(
+            role,
+            Role::Question | Role::PathMark | Role::ClosesTypes | Role::MacroMark
+        ),
+        _ => false,
+    }
+}

@@ -1,0 +1,61 @@
+//! The conditions under which an item is compiled.
+
+ghost use Rattle.std.specs.Prelude.{◌≡◌, ◌++◌, OnOk, codes, string_bytes};
+ghost use Rattle.logos_layout.specs.Words.{after_word, attribute_text, condition_text, conditions_text, text_if, tokens_of, tree_of};
+
+use logos_token::error::Memory;
+use logos_token::token::{Delimiter, TokenTree, Tokens, print};
+use logos_token::util::after_word;
+use std::alloc::Global;
+
+/// Pushes the `cfg` attributes of an item, each on a line of its own.
+///
+/// # Errors
+///
+/// Returns `Memory` if memory runs out. Then a part of them can have been pushed.
+pub fn push_conditions(alloc: Global, text: &mut String, item: Tokens<'_, '_>) -> Result<(), Memory>
+    ensures { OnOk result (string_bytes text.new
+        ≡ string_bytes text.old ++ conditions_text (tokens_of item.entry)) }
+{
+    let mut rest = item;
+    while let Some(tree) = rest.first() {
+        push_condition(alloc, text, tree)?;
+        rest = rest.rest();
+    }
+    Ok(())
+}
+
+/// Pushes the attribute with these brackets, if it is a condition.
+fn push_condition(alloc: Global, text: &mut String, tree: TokenTree<'_, '_>) -> Result<(), Memory>
+    ensures { OnOk result (string_bytes text.new
+        ≡ string_bytes text.old ++ condition_text (tree_of tree.entry)) }
+{
+    let TokenTree::Group(group) = tree else {
+        return Ok(());
+    };
+    match group.delimiter {
+        Delimiter::Bracket => push_if_condition(alloc, text, group.run()),
+        _ => Ok(()),
+    }
+}
+
+/// Pushes the attribute with this run between its brackets, if it is a condition.
+fn push_if_condition(alloc: Global, text: &mut String, run: Tokens<'_, '_>) -> Result<(), Memory>
+    ensures { OnOk result (string_bytes text.new ≡ string_bytes text.old
+        ++ text_if (after_word (codes "cfg") (tokens_of run.entry)) (tokens_of run.entry)) }
+{
+    match after_word("cfg", run) {
+        Some(_) => push_attribute(alloc, text, run),
+        None => Ok(()),
+    }
+}
+
+/// Pushes the attribute with this run between its brackets.
+fn push_attribute(alloc: Global, text: &mut String, run: Tokens<'_, '_>) -> Result<(), Memory>
+    ensures { OnOk result (string_bytes text.new
+        ≡ string_bytes text.old ++ attribute_text (tokens_of run.entry)) }
+{
+    let inside = print(alloc, run)?;
+    write!(text, "#[{inside}]\n")?;
+    Ok(())
+}

@@ -1,0 +1,37 @@
+//! Lays out a text.
+
+ghost use Rattle.std.specs.Prelude.{IfOk, string_bytes};
+ghost use Rattle.logos_layout.specs.Words.{IsLaidOut};
+
+use crate::comparing::spell_same;
+use crate::walk::lines_of;
+use logos_token::error::Memory;
+use std::alloc::Global;
+
+/// Returns a Rust text laid out in lines, with the same tokens and the same comments. Four blanks
+/// stand before a line for each level of braces, and a line has at most 100 bytes where a blank
+/// allows it. Lines end after `;`, after the braces of blocks, after commas between braces, after
+/// attributes and comments, and where the text has a line end. Short braces stay on one line.
+///
+/// A text that cannot be read into tokens, or is longer than 16,777,216 bytes in lines, stays as it
+/// is.
+///
+/// # Errors
+///
+/// Returns `Memory` if memory runs out.
+pub fn lay_out(alloc: Global, text: &str) -> Result<String, Memory>
+    ensures { IfOk result (λ laid. IsLaidOut text.now (string_bytes laid)) }
+{
+    let laid = lines_of(alloc, text)?;
+    if spell_same(alloc, text, laid.as_str())? {
+        return Ok(laid);
+    }
+    unchanged(alloc, text)
+}
+
+/// Returns a text as it is.
+fn unchanged(alloc: Global, text: &str) -> Result<String, Memory>
+    ensures { IfOk result (λ laid. IsLaidOut text.now (string_bytes laid)) }
+{
+    Ok(String::from_str(alloc, text)?)
+}

@@ -1,0 +1,19 @@
+//! Rust text as people read it: laid out in lines, or written as it was, with the same tokens.
+
+#![tactic(auto)]
+
+mod blanks;
+mod classes;
+mod comparing;
+mod conditions;
+mod laying;
+mod lines;
+mod state;
+mod staying;
+mod thinned;
+mod walk;
+mod writing;
+
+pub use conditions::push_conditions;
+pub use laying::lay_out;
+pub use writing::write_left;

@@ -1,0 +1,120 @@
+//! Lines that are filled word by word.
+
+use logos_token::error::Memory;
+use std::alloc::Global;
+
+/// The greatest length of a line, in bytes, where a blank allows it.
+const MAX_LINE: usize = 100;
+
+/// What stands before a word.
+#[derive(Clone, Copy)]
+pub(crate) enum Lead {
+    /// A blank, or a line end where the line would be too long, and then so many levels.
+    Blank { depth: usize },
+    /// A line end and so many levels, perhaps with an empty line before them.
+    Line { depth: usize, is_apart: bool },
+    /// Nothing: the text begins.
+    Nothing,
+}
+
+/// Lines that are filled word by word. A word is lexemes without a blank between them.
+#[derive(Drop)]
+pub(crate) struct Lines {
+    /// The lines so far, without the last word.
+    text: String,
+    /// How many bytes the last line has.
+    column: usize,
+    /// What stands before the last word.
+    lead: Lead,
+    /// The last word.
+    word: String,
+}
+
+impl Lines {
+    /// Returns no lines.
+    pub(crate) fn new(alloc: Global) -> Lines {
+        Lines {
+            text: String::new(alloc),
+            column: 0,
+            lead: Lead::Nothing,
+            word: String::new(alloc),
+        }
+    }
+
+    /// Begins a word.
+    pub(crate) fn begin(&mut self, lead: Lead) -> Result<(), Memory> {
+        self.put_word()?;
+        self.lead = lead;
+        Ok(())
+    }
+
+    /// Returns how many bytes have room in the line after the word.
+    pub(crate) fn room(&self) -> usize {
+        let used = self.column.saturating_add(self.word.len());
+        MAX_LINE.saturating_sub(used)
+    }
+
+    /// Adds a lexeme to the word.
+    pub(crate) fn add(&mut self, lexeme: &str) -> Result<(), Memory> {
+        self.word.push_str(lexeme)?;
+        Ok(())
+    }
+
+    /// Returns all lines.
+    pub(crate) fn finish(mut self) -> Result<String, Memory> {
+        self.put_word()?;
+        Ok(self.text)
+    }
+
+    /// Puts the word into its line, or into a new one.
+    fn put_word(&mut self) -> Result<(), Memory> {
+        self.put_lead()?;
+        self.text.push_str(self.word.as_str())?;
+        self.column = self.column.saturating_add(self.word.len());
+        self.word.clear();
+        Ok(())
+    }
+
+    /// Puts what stands before the word.
+    fn put_lead(&mut self) -> Result<(), Memory> {
+        match self.lead {
+            Lead::Nothing => Ok(()),
+            Lead::Blank { depth: _ } if self.has_room() => self.put_blank(),
+            Lead::Blank { depth } => self.put_line(depth),
+            Lead::Line { depth, is_apart } => {
+                self.put_empty_line(is_apart)?;
+                self.put_line(depth)
+            }
+        }
+    }
+
+    /// Returns whether the word and a blank have room in the line.
+    fn has_room(&self) -> bool {
+        self.column.saturating_add(self.word.len()) < MAX_LINE
+    }
+
+    /// Puts a blank.
+    fn put_blank(&mut self) -> Result<(), Memory> {
+        self.text.push(' ')?;
+        self.column = self.column.saturating_add(1);
+        Ok(())
+    }
+
+    /// Puts a line end, if an empty line is wanted.
+    fn put_empty_line(&mut self, is_apart: bool) -> Result<(), Memory> {
+        if is_apart {
+            self.text.push('\n')?;
+        }
+        Ok(())
+    }
+
+    /// Ends the line, and begins one with so many levels of four blanks.
+    fn put_line(&mut self, depth: usize) -> Result<(), Memory> {
+        self.text.push('\n')?;
+        for _ in 0..depth {
+            self.text.push_str("    ")?;
+        }
+        self.column = depth.saturating_mul(4);
+        Ok(())
+    }
+}

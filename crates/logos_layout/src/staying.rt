@@ -1,0 +1,72 @@
+//! Which lexemes of a source stay.
+
+use logos_token::error::Memory;
+use logos_token::token::{Span, TokenTree, Tokens};
+use std::alloc::Global;
+
+/// What follows a group, and where the group around it ends.
+#[derive(Clone, Copy)]
+struct Outer<'t, 's> {
+    rest: Tokens<'t, 's>,
+    to: usize,
+}
+
+/// The tokens of a source that stay, from the next one on.
+#[derive(Drop)]
+pub(crate) struct Staying<'t, 's> {
+    /// The rest of the innermost open group.
+    rest: Tokens<'t, 's>,
+    /// The byte offset at which that group ends.
+    to: usize,
+    /// What follows it, and the groups around it, from the outermost on.
+    outer: Vec<Outer<'t, 's>>,
+}
+
+impl<'t, 's> Staying<'t, 's> {
+    /// Returns all these tokens.
+    pub(crate) fn new(alloc: Global, tokens: Tokens<'t, 's>) -> Staying<'t, 's> {
+        Staying {
+            rest: tokens,
+            to: 0,
+            outer: Vec::new(alloc),
+        }
+    }
+
+    /// Returns whether the lexeme with this span is the next one that stays. If so, goes past it.
+    pub(crate) fn pass(&mut self, span: Span) -> Result<bool, Memory> {
+        let Some(tree) = self.rest.first() else {
+            return Ok(self.leave(span.to));
+        };
+        if tree.span().from != span.from {
+            return Ok(false);
+        }
+        self.enter(tree)?;
+        Ok(true)
+    }
+
+    /// Goes past the first token, or into its group.
+    fn enter(&mut self, tree: TokenTree<'t, 's>) -> Result<(), Memory> {
+        let rest = self.rest.rest();
+        let TokenTree::Group(group) = tree else {
+            self.rest = rest;
+            return Ok(());
+        };
+        self.outer.push(Outer { rest, to: self.to })?;
+        self.rest = group.run();
+        self.to = group.span.to;
+        Ok(())
+    }
+
+    /// Leaves the innermost group if it ends at this byte offset. Returns whether it does.
+    fn leave(&mut self, to: usize) -> bool {
+        if to != self.to {
+            return false;
+        }
+        let Some(outer) = self.outer.pop() else {
+            return false;
+        };
+        self.rest = outer.rest;
+        self.to = outer.to;
+        true
+    }
+}

@@ -1,0 +1,138 @@
+//! Goes through the lexemes of a text and puts them into lines.
+
+use crate::classes::{Class, Role, Sign, class_of_name, role_of};
+use crate::lines::Lines;
+use crate::state::{Gap, Open, State, opened};
+use logos_lexeme::lexeme::{Kind, lexeme_at};
+use logos_token::error::Memory;
+use logos_token::token::{Delimiter, Spacing};
+use std::alloc::Global;
+
+/// Lexemes that are put into lines.
+#[derive(Drop)]
+struct Layout {
+    lines: Lines,
+    state: State,
+    /// What the open delimiters enclose, without the innermost one, from the outermost on.
+    outer: Vec<Open>,
+}
+
+/// Returns a text in lines, or as much of it as can be read into lexemes.
+pub(crate) fn lines_of(alloc: Global, text: &str) -> Result<String, Memory> {
+    let mut layout = Layout {
+        lines: Lines::new(alloc),
+        state: State::new(),
+        outer: Vec::new(alloc),
+    };
+    let mut from = 0;
+    while from < text.len() {
+        let Ok((kind, to)) = lexeme_at(text, from) else {
+            return layout.lines.finish();
+        };
+        layout.add_piece(kind, &text[from..to], &text.as_bytes()[to..])?;
+        from = to;
+    }
+    layout.lines.finish()
+}
+
+impl Layout {
+    /// Adds a lexeme or a gap that these bytes follow.
+    fn add_piece(&mut self, kind: Kind, piece: &str, ahead: &[u8]) -> Result<(), Memory> {
+        let last = self.state.last;
+        match kind {
+            Kind::Gap => self.add_gap(piece),
+            Kind::Identifier => self.add(class_of_name(piece, last), piece),
+            Kind::Literal => self.add(Class::Literal, piece),
+            Kind::Doc => self.add(Class::Comment, piece),
+            Kind::Punctuation(spacing) => {
+                let role = self.role(first_byte(piece), spacing);
+                self.add(Class::Sign(role), piece)
+            }
+            Kind::Opening(delimiter) => self.open(delimiter, piece, ahead),
+            Kind::Closing(delimiter) => self.close(delimiter, piece),
+        }
+    }
+
+    /// Returns what a character of punctuation does.
+    fn role(&self, character: u8, spacing: Spacing) -> Role {
+        role_of(Sign {
+            character,
+            spacing,
+            last: self.state.last,
+            is_second: matches!(self.state.gap, Gap::Nothing),
+            has_types: self.state.types != 0,
+        })
+    }
+
+    /// Adds a lexeme that is not a delimiter.
+    fn add(&mut self, next: Class, lexeme: &str) -> Result<(), Memory> {
+        self.put(next, lexeme)?;
+        self.state = self.state.after(next);
+        Ok(())
+    }
+
+    /// Adds an opening delimiter.
+    fn open(&mut self, delimiter: Delimiter, lexeme: &str, ahead: &[u8]) -> Result<(), Memory> {
+        let last = self.state.last;
+        self.put(Class::Opening(delimiter), lexeme)?;
+        let inner = opened(last, delimiter, ahead, self.lines.room());
+        self.outer.push(self.state.inner)?;
+        self.state = self.state.after_opening(delimiter, inner);
+        Ok(())
+    }
+
+    /// Adds a closing delimiter.
+    fn close(&mut self, delimiter: Delimiter, lexeme: &str) -> Result<(), Memory> {
+        self.put(Class::Closing(delimiter), lexeme)?;
+        let outer = match self.outer.pop() {
+            Some(outer) => outer,
+            None => Open::Block,
+        };
+        self.state = self.state.after_closing(delimiter, outer);
+        Ok(())
+    }
+
+    /// Puts a lexeme into a line.
+    fn put(&mut self, next: Class, lexeme: &str) -> Result<(), Memory> {
+        if let Some(lead) = self.state.lead(next) {
+            self.lines.begin(lead)?;
+        }
+        self.lines.add(lexeme)
+    }
+
+    /// Adds a gap: a comment, or white space.
+    fn add_gap(&mut self, piece: &str) -> Result<(), Memory> {
+        if first_byte(piece) == b'/' {
+            return self.add(Class::Comment, piece);
+        }
+        self.state.gap = gap_of(piece.as_bytes());
+        Ok(())
+    }
+}
+
+/// Returns the first byte of a text, or 0 if it has none.
+fn first_byte(text: &str) -> u8 {
+    match text.as_bytes() {
+        [first, ..] => *first,
+        [] => 0,
+    }
+}
+
+/// Returns what white space has.
+fn gap_of(space: &[u8]) -> Gap {
+    let mut gap = Gap::Blank;
+    for byte in space {
+        gap = gap_with(gap, *byte);
+    }
+    gap
+}
+
+/// Returns what white space has together with one more byte.
+fn gap_with(gap: Gap, byte: u8) -> Gap {
+    match (gap, byte) {
+        (Gap::Line, b'\n') => Gap::EmptyLine,
+        (Gap::EmptyLine, b'\n') => Gap::EmptyLine,
+        (_, b'\n') => Gap::Line,
+        _ => gap,
+    }
+}

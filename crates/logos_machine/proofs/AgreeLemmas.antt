@@ -1,0 +1,122 @@
+-- A try that looks at none but the first bytes finds the same in each input that has them.
+use Rattle.std.proofs.Common.{◌≡◌, ◌∙◌, ℕ, zero, suc, ◌+◌, ◌<◌, ◌≤◌, inl, inr, Bool, true, false, cond, eqb, ◌&&◌, ◌==◌, IsTrue, IsCharBoundary, List, [], ◌∷◌, ◌++◌, length, take, drop, Option, Some, None, slice_get, refl, sym, ap, subst, arith}
+use Rattle.std.proofs.lemmas.List.{append-nil, take-append-drop, drop-append-le, length-append, length-take-le, length-drop, get_or_append_left}
+use Rattle.std.proofs.lemmas.List.Folds.{length-prefix_len, prefix_len-append}
+use Rattle.std.proofs.lemmas.Bool.{cases_lt}
+use Rattle.std.specs.List.{prefix_len}
+use Rattle.logos_automaton.specs.Munch.{Found, ended, matched, failed}
+use Rattle.logos_code.specs.Bytes.{passes_test}
+use Rattle.logos_code.specs.Code.{CodeValue, CodeState}
+use Rattle.logos_code.specs.Runs.{Stand, Turn, enters, acts, looped, marked, forked, turn, Does, EndsError, Acts, Goes, goes_on, acts_on, Tries}
+use Rattle.logos_machine.specs.Streams.{stop_at, StopsWithin, EndsWithin, GoesWithin, leads_within, acts_within, TriesWithin, TriesAgree}
+
+-- ---- lists with the same front
+
+module _ (front one other : List ℕ) where
+  -- a run of bytes that ends in the front ends at the same byte
+  pub prefix_agrees : (p : ℕ → Bool) → prefix_len p (front ++ one) < length front → prefix_len p (front ++ other) ≡ prefix_len p (front ++ one)
+  prefix_agrees p h = go (eqb (prefix_len p front) (length front)) (prefix_len-append p front one) (prefix_len-append p front other)
+    where
+      go : (b : Bool) → prefix_len p (front ++ one) ≡ cond b (length front + prefix_len p one) (prefix_len p front) →
+          prefix_len p (front ++ other) ≡ cond b (length front + prefix_len p other) (prefix_len p front) → prefix_len p (front ++ other) ≡ prefix_len p (front ++ one)
+      go true e f = absurd (omega (arith, h, e))
+      go false e f = f ∙ sym e
+
+slice_front : (front one other : List ℕ) (i : ℕ) → i < length front → slice_get (front ++ one) i ≡ slice_get (front ++ other) i
+slice_front [] one other i h = absurd (omega (arith, h))
+slice_front (x ∷ xs) one other zero h = refl
+slice_front (x ∷ xs) one other (suc i) h = slice_front xs one other i (omega (arith, h))
+
+boundary_front : (front one other : List ℕ) (i : ℕ) → i < length front → IsCharBoundary (front ++ one) i → IsCharBoundary (front ++ other) i
+boundary_front front one other i h b = (
+  omega (arith, h, length-append front other),
+  λ l a.
+      let here = get_or_append_left front one 0 i h in
+      let there = get_or_append_left front other 0 i h in
+      let least = b.1 (omega (arith, h, length-append front one)) (omega (arith, a, here, there)) in
+      omega (arith, least, here, there),
+)
+
+same_state : (o : Option CodeState) (a b : CodeState) → o ≡ Some a → o ≡ Some b → a ≡ b
+same_state o a b e f = cc
+
+module _ (code : CodeValue) (front one other : List ℕ) (start : ℕ) where
+  loop_agrees : (loop : Option ℕ) (offset : ℕ) → offset + looped code loop (drop offset (front ++ one)) < length front →
+      looped code loop (drop offset (front ++ other)) ≡ looped code loop (drop offset (front ++ one))
+  loop_agrees None offset h = refl
+  loop_agrees (Some k) offset h =
+      let p = passes_test code.bit_tables k in
+      let fits : offset ≤ length front = omega (arith, h) in
+      let is_one : drop offset (front ++ one) ≡ drop offset front ++ one = drop-append-le offset front one fits in
+      let is_other : drop offset (front ++ other) ≡ drop offset front ++ other = drop-append-le offset front other fits in
+      let long = length-prefix_len p (drop offset (front ++ one)) in
+      let within : prefix_len p (drop offset front ++ one) < length (drop offset front) = omega (arith, h, long, ap (prefix_len p) is_one, length-drop offset front) in
+      length-prefix_len p (drop offset (front ++ other)) ∙ ap (prefix_len p) is_other ∙ prefix_agrees (drop offset front) one other p within
+      ∙ sym (ap (prefix_len p) is_one) ∙ sym long
+
+  turn_agrees : (state : CodeState) (at : Stand) → stop_at code (front ++ one) state at.offset < length front → turn code (front ++ other) start state at ≡ turn code (front ++ one) start state at
+  turn_agrees state at h =
+      let same : stop_at code (front ++ other) state at.offset ≡ stop_at code (front ++ one) state at.offset = ap (λ n. at.offset + n) (loop_agrees state.fast_loop at.offset h) in
+      ap (λ o. forked code state (slice_get (front ++ other) o) (at.state == code.root && o == start) o (marked state.mark o at.context)) same
+      ∙ ap (λ s. forked code state s (at.state == code.root && stop_at code (front ++ one) state at.offset == start) (stop_at code (front ++ one) state at.offset) (marked state.mark (stop_at code (front ++ one) state at.offset) at.context))
+      (slice_front front other one (stop_at code (front ++ one) state at.offset) h)
+
+  stops_agree : (seen : ℕ) (at : Stand) → seen ≤ length front → StopsWithin code (front ++ one) start seen at → StopsWithin code (front ++ other) start seen at
+  stops_agree seen at fits s =
+      let stops = s.2 in
+      (s.0, s.1, omega (arith, stops, loop_agrees s.0.fast_loop at.offset (omega (arith, stops, fits))))
+
+  does_agrees : (seen : ℕ) (at : Stand) (what : Turn) → seen ≤ length front → StopsWithin code (front ++ one) start seen at → Does code (front ++ one) start at what → Does code (front ++ other) start at what
+  does_agrees seen at what fits s d =
+      let stops = s.2 in
+      let same = same_state (slice_get code.states at.state) s.0 d.0 s.1 d.1 in
+      (d.0, d.1, turn_agrees d.0 at (subst (λ (state : CodeState). stop_at code (front ++ one) state at.offset < length front) same (omega (arith, stops, fits))) ∙ d.2)
+
+  ends_agree : (seen offset to : ℕ) → seen ≤ length front → (IsTrue code.utf8 → to < seen) → EndsError code (front ++ one) start offset to → EndsError code (front ++ other) start offset to
+  ends_agree seen offset to fits within e = record {
+    past = e.past;
+    boundary = λ utf8. let w = within utf8 in boundary_front front one other to (omega (arith, w, fits)) (e.boundary utf8);
+    least = λ end past cut. elim (cases_lt end to) [
+      | inl less ↦ e.least end past (λ utf8. let w = within utf8 in boundary_front front other one end (omega (arith, less, w, fits)) (cut utf8))
+      | inr more ↦ more
+    ];
+  }
+
+  acts_agree : (seen : ℕ) (context : Option (ℕ × ℕ)) (offset : ℕ) (found : Found) → seen ≤ length front → EndsWithin code (front ++ one) start seen found →
+      Acts code (front ++ one) start context offset found → Acts code (front ++ other) start context offset found
+  acts_agree seen (Some context) offset found fits within a = a
+  acts_agree seen None offset ended fits within a = a
+  acts_agree seen None offset (matched leaf to) fits within a = a
+  acts_agree seen None offset (failed to) fits within a = ends_agree seen offset to fits within a
+
+  ends_within : (seen : ℕ) (found : Found) → EndsWithin code (front ++ one) start seen found → EndsWithin code (front ++ other) start seen found
+  ends_within seen ended w = w
+  ends_within seen (matched leaf to) w = w
+  ends_within seen (failed to) w = w
+
+  goes_agree : (seen : ℕ) → seen ≤ length front → {at : Stand} {found : Found} {n : ℕ} → GoesWithin code (front ++ one) start seen at found n → GoesWithin code (front ++ other) start seen at found n
+  goes_agree seen fits (leads_within at next found n s d g) =
+      leads_within at next found n (stops_agree seen at fits s) (does_agrees seen at (enters next) fits s d) (goes_agree seen fits g)
+  goes_agree seen fits (acts_within at context offset found s d a w) =
+      acts_within at context offset found (stops_agree seen at fits s) (does_agrees seen at (acts context offset) fits s d) (acts_agree seen context offset found fits w a) (ends_within seen found w)
+
+-- such a try is a try
+pub goes_within : (code : CodeValue) (bytes : List ℕ) (start seen : ℕ) {at : Stand} {found : Found} {n : ℕ} → GoesWithin code bytes start seen at found n → Goes code bytes start at found n
+goes_within code bytes start seen (leads_within at next found n s d g) = goes_on at next found n d (goes_within code bytes start seen g)
+goes_within code bytes start seen (acts_within at context offset found s d a w) = acts_on at context offset found d a
+
+pub tries_agree : TriesAgree
+tries_agree code bytes others start seen n found fits same t =
+    let front = take seen bytes in
+    let long : length front ≡ seen = length-take-le seen bytes fits in
+    let is_one : front ++ drop seen bytes ≡ bytes = take-append-drop seen bytes in
+    let is_other : front ++ drop seen others ≡ others = ap (λ l. l ++ drop seen others) same ∙ take-append-drop seen others in
+    let one : TriesWithin code (front ++ drop seen bytes) start seen found n = subst (λ (l : List ℕ). TriesWithin code l start seen found n) (sym is_one) t in
+    let other : TriesWithin code others start seen found n = subst (λ (l : List ℕ). TriesWithin code l start seen found n) is_other (goes_agree code front (drop seen bytes) (drop seen others) start seen (omega (arith, long)) one) in
+    (other, goes_within code others start seen other)
+
+-- what was found in a part by looking at its bytes alone is found there, whatever follows it
+pub tries_whatever_follows : (code : CodeValue) (part rest : List ℕ) (start n : ℕ) (found : Found) → TriesWithin code part start (length part) found n → Tries code (part ++ rest) start found n
+tries_whatever_follows code part rest start n found t =
+    let one : TriesWithin code (part ++ []) start (length part) found n = subst (λ (l : List ℕ). TriesWithin code l start (length part) found n) (sym (append-nil part)) t in
+    goes_within code (part ++ rest) start (length part) (goes_agree code part [] rest start (length part) (omega arith) one)

@@ -1,0 +1,34 @@
+-- One state of a try on a part of an input.
+use Rattle.std.proofs.Common.{◌≡◌, ◌∙◌, ℕ, ◌+◌, ◌<◌, ◌≤◌, inl, ⊎_elim, List, length, drop, Option, Some, None, option_map, slice_get, refl, sym, arith}
+use Rattle.std.proofs.lemmas.Option.{slice_get_within, slice_get_cases}
+use Rattle.logos_code.specs.Code.{CodeValue, CodeState}
+use Rattle.logos_code.specs.Runs.{Stand, led, target, looped, marked, Does}
+use Rattle.logos_machine.specs.Streams.{StopsWithin, LooksPast, looks_here}
+use Rattle.logos_machine.proofs.StepLemmas.{does_lead}
+
+some_none : {A : Type 0} {a : A} → None ≡ Some a → ⊥
+some_none h = cc
+
+seen_none : {A B : Type 0} (f : A → B) (o : Option A) → option_map f o ≡ None → o ≡ None
+seen_none f None e = cc
+seen_none f (Some a) e = absurd cc
+
+module _ (code : CodeValue) (part : List ℕ) (start : ℕ) (at : Stand) (state : CodeState) (is : slice_get code.states at.state ≡ Some state)
+    (offset : ℕ) (seen : Option (Option ℕ)) (stops : offset ≡ at.offset + looped code state.fast_loop (drop at.offset part)) (sees : seen ≡ option_map (target code state.fork) (slice_get part offset)) where
+  -- no byte is where the fast loop ends
+  pub looks_past : seen ≡ None → LooksPast code part start at
+  looks_past none =
+      let gone : slice_get part offset ≡ None = seen_none (target code state.fork) (slice_get part offset) (sym sees ∙ none) in
+      let past : length part ≤ offset = ⊎_elim (λ h. absurd (some_none (sym gone ∙ h.2))) (λ h. h.0) (slice_get_cases part offset).1 in
+      looks_here at state is (omega (arith, past, stops))
+
+  -- one is
+  byte_within : (to : Option ℕ) (o : Option ℕ) → slice_get part offset ≡ o → option_map (target code state.fork) o ≡ Some to → offset < length part
+  byte_within to None there e = absurd (some_none e)
+  byte_within to (Some b) there e = slice_get_within part offset b there
+
+  pub moves_on : (to : Option ℕ) (context : Option (ℕ × ℕ)) → seen ≡ Some to → context ≡ marked state.mark offset at.context →
+      StopsWithin code part start (length part) at × Does code part start at (led to offset context)
+  moves_on to context found kept =
+      let within = byte_within to (slice_get part offset) refl (sym sees ∙ found) in
+      ((state, is, omega (arith, within, stops)), does_lead code part start at state is offset seen to context stops sees (inl found) kept)

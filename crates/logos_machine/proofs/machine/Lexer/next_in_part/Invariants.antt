@@ -1,0 +1,14 @@
+use Rattle.std.proofs.Common.{◌≡◌, ◌-◌, length}
+use Rattle.logos_machine.specs.LexerValue.{answers_of}
+use Rattle.logos_machine.proofs.WithinLemmas.{GoesOnWithin}
+use Rattle.logos_machine.proofs.machine.Lexer.next_in_part.Given as goal
+
+-- what goes on after the matches without an item goes on after the last item, whatever follows the part
+abbrev pub invariant-loop-leaf : goal.invariant-loop-leaf
+invariant-loop-leaf g l = record {
+  same : l.self ≡ l.fn.self;
+  on : GoesOnWithin (answers_of g.C.Fn l.fn.self.callback) l.fn.self l.from;
+}
+
+abbrev pub decreases-loop-leaf : goal.decreases-loop-leaf
+decreases-loop-leaf g l = length l.fn.self.input - l.from

@@ -1,0 +1,107 @@
+-- Runs on an input that grows, and on a part of an input.
+use Rattle.std.specs.Prelude.{◌≡◌, ℕ, suc, ◌+◌, ◌<◌, ◌≤◌, List, [], ◌∷◌, ◌++◌, length, take, drop, map, Option, Some, None, slice_get, slice_range, IsTrue}
+use Rattle.logos_automaton.specs.Munch.{Use, Found, ended, matched, failed}
+use Rattle.logos_code.specs.Code.{CodeValue, CodeState}
+use Rattle.logos_code.specs.Headline.{IsSound}
+use Rattle.logos_code.specs.Items.{Callback, Search, Item, token, error, MayAnswer, items_of}
+use Rattle.logos_code.specs.Runs.{Stand, enters, acts, looped, Does, EndsError, Acts, Tries, CodeFinds, Runs, RunsOn}
+use Rattle.logos_code.specs.declared.action.Action.{Action}
+
+-- Where a try begins.
+abbrev pub first_stand : CodeValue → ℕ → Stand
+first_stand code start = record { state = code.root; offset = start; context = None }
+
+-- Where the fast loop ends of a state that is entered at the offset.
+abbrev pub stop_at : CodeValue → List ℕ → CodeState → ℕ → ℕ
+stop_at code bytes state offset = offset + looped code state.fast_loop (drop offset bytes)
+
+module _ (code : CodeValue) (bytes : List ℕ) (start seen : ℕ) where
+  -- The state looks at none but the first `seen` bytes: its fast loop ends before one of them.
+  abbrev pub StopsWithin : Stand → Type 0
+  StopsWithin at = (state : CodeState) × (slice_get code.states at.state ≡ Some state) × (stop_at code bytes state at.offset < seen)
+
+  -- In UTF-8 mode an error ends before one of them.
+  abbrev pub EndsWithin : Found → Type 0
+  EndsWithin ended = Unit {0}
+  EndsWithin (matched leaf to) = Unit {0}
+  EndsWithin (failed to) = IsTrue code.utf8 → to < seen
+
+  -- From a stand on, the try finds this in so many states, and looks at none but the first `seen` bytes.
+  pub data GoesWithin : Stand → Found → ℕ → Type 0 where
+    leads_within : (at next : Stand) (found : Found) (n : ℕ) → StopsWithin at →
+        Does code bytes start at (enters next) → GoesWithin next found n → GoesWithin at found (suc n)
+    acts_within : (at : Stand) (context : Option (ℕ × ℕ)) (offset : ℕ) (found : Found) → StopsWithin at →
+        Does code bytes start at (acts context offset) → Acts code bytes start context offset found → EndsWithin found → GoesWithin at found 1
+
+  -- So does a try from the start.
+  abbrev pub TriesWithin : Found → ℕ → Type 0
+  TriesWithin = GoesWithin (first_stand code start)
+
+-- The try looks at the end of the bytes: a fast loop comes to it, or an error in UTF-8 mode ends there.
+pub data LooksPast (code : CodeValue) (bytes : List ℕ) (start : ℕ) : Stand → Type 0 where
+  looks_here : (at : Stand) (state : CodeState) → slice_get code.states at.state ≡ Some state →
+      length bytes ≤ stop_at code bytes state at.offset → LooksPast code bytes start at
+  looks_later : (at next : Stand) → Does code bytes start at (enters next) → LooksPast code bytes start next → LooksPast code bytes start at
+  looks_last : (at : Stand) (offset to : ℕ) → Does code bytes start at (acts None offset) → IsTrue code.utf8 →
+      EndsError code bytes start offset to → length bytes ≤ to → LooksPast code bytes start at
+
+-- What a try that looks at none but the first bytes finds is what a try finds in each input that has these bytes.
+abbrev pub TriesAgree : Type 0
+TriesAgree = (code : CodeValue) (bytes others : List ℕ) (start seen n : ℕ) (found : Found) → seen ≤ length bytes →
+    take seen bytes ≡ take seen others → TriesWithin code bytes start seen found n → TriesWithin code others start seen found n × Tries code others start found n
+
+-- The same, so many bytes later in the input.
+abbrev pub found_later : ℕ → Found → Found
+found_later far ended = ended
+found_later far (matched leaf to) = matched leaf (far + to)
+found_later far (failed to) = failed (far + to)
+
+-- An item as it stands so many bytes later.
+abbrev pub item_later : ℕ → Item → Item
+item_later far (token leaf from to slice) = token leaf (far + from) (far + to) slice
+item_later far (error leaf from to slice) = error leaf (far + from) (far + to) slice
+
+-- What is passed without an item: matches that a skip or an answer leaves out.
+pub data PassesOver (uses : List Use) (callback : Callback) (bytes : List ℕ) (search : Search) : ℕ → ℕ → Type 0 where
+  passes_none : (at : ℕ) → PassesOver uses callback bytes search at at
+  passes_match : (from to leaf : ℕ) (answer : Action) (end : ℕ) → search from (matched leaf to) →
+      MayAnswer uses callback bytes leaf (slice_range bytes from to) answer → items_of uses callback bytes answer leaf from to ≡ [] →
+      PassesOver uses callback bytes search to end → PassesOver uses callback bytes search from end
+
+-- A run of the code passes from one point to the other without an item.
+abbrev pub RunsOver : CodeValue → Callback → List ℕ → ℕ → ℕ → Type 0
+RunsOver code callback bytes = PassesOver code.leaves callback bytes (CodeFinds code bytes)
+
+-- Runs do not depend on what is before them: with other bytes in front, each gives the same items, so many bytes later.
+pub record RunsGoLater (callback : Callback) : Type 0 where
+  pub tries : (code : CodeValue) (front bytes : List ℕ) (start n : ℕ) (found : Found) → IsSound code → Tries code bytes start found n →
+      Tries code (front ++ bytes) (length front + start) (found_later (length front) found) n
+  pub runs : (code : CodeValue) (front bytes : List ℕ) (from : ℕ) (items : List Item) → IsSound code → Runs code callback bytes from items →
+      Runs code callback (front ++ bytes) (length front + from) (map (item_later (length front)) items)
+  pub next : (code : CodeValue) (front bytes : List ℕ) (from end : ℕ) (item : Item) → IsSound code → RunsOn code callback bytes from item end →
+      RunsOn code callback (front ++ bytes) (length front + from) (item_later (length front) item) (length front + end)
+  pub over : (code : CodeValue) (front bytes : List ℕ) (from end : ℕ) → IsSound code → RunsOver code callback bytes from end →
+      RunsOver code callback (front ++ bytes) (length front + from) (length front + end)
+
+-- These items were found in the beginning of an input, up to a point: what completes a run from there on completes, after them, the whole run,
+-- whatever follows the beginning.
+abbrev pub AreBegun : CodeValue → Callback → List ℕ → List Item → ℕ → Type 0
+AreBegun code callback begun items to = (rest : List ℕ) (later : List Item) → Runs code callback (begun ++ rest) to later →
+    Runs code callback (begun ++ rest) 0 (items ++ later)
+
+-- The items of parts are items of the whole. A part stands after so many bytes of the beginning, and what is found in the part, whatever follows it,
+-- is found there in the whole.
+pub record PartsAreOfTheWhole (callback : Callback) : Type 0 where
+  pub none : (code : CodeValue) (begun : List ℕ) → AreBegun code callback begun [] 0
+  pub grown : (code : CodeValue) (begun added : List ℕ) (items : List Item) (to : ℕ) → AreBegun code callback begun items to →
+      AreBegun code callback (begun ++ added) items to
+  pub item : (code : CodeValue) (front part : List ℕ) (items : List Item) (from to : ℕ) (item : Item) → IsSound code →
+      AreBegun code callback (front ++ part) items (length front + from) →
+      ((rest : List ℕ) → RunsOn code callback (part ++ rest) from item to) →
+      AreBegun code callback (front ++ part) (items ++ item_later (length front) item ∷ []) (length front + to)
+  pub over : (code : CodeValue) (front part : List ℕ) (items : List Item) (from to : ℕ) → IsSound code →
+      AreBegun code callback (front ++ part) items (length front + from) →
+      ((rest : List ℕ) → RunsOver code callback (part ++ rest) from to) → AreBegun code callback (front ++ part) items (length front + to)
+  pub end : (code : CodeValue) (front part : List ℕ) (items later : List Item) (from : ℕ) → IsSound code →
+      AreBegun code callback (front ++ part) items (length front + from) →
+      Runs code callback part from later → Runs code callback (front ++ part) 0 (items ++ map (item_later (length front)) later)

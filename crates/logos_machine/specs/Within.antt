@@ -1,0 +1,46 @@
+-- What a lexer does on a part of an input, whose rest is not known.
+use Rattle.std.specs.Prelude.{◌≡◌, ℕ, ◌<◌, ◌≤◌, Bool, true, false, List, ◌++◌, length}
+use Rattle.logos_automaton.specs.Munch.{Found}
+use Rattle.logos_code.specs.Items.{Callback, Item}
+use Rattle.logos_code.specs.Runs.{RunsOn}
+use Rattle.logos_machine.specs.LexerValue.{LexerValue, HasSpan, Gives, Ends, item_of}
+use Rattle.logos_machine.specs.Streams.{first_stand, TriesWithin, LooksPast, RunsOver}
+use Rattle.logos_machine.specs.declared.machine.part.Within.{Within}
+use Rattle.logos_machine.specs.declared.machine.part.Within.TheVariants.{Item as Given, More, End}
+
+-- An item is given that every continuation of the part gives.
+pub record GivesWithin {C : Type 0} (callback : Callback) (old new : LexerValue C) (item : Item) : Type 0 where
+  pub span : HasSpan new item
+  pub after : old.to ≤ new.from
+  pub nonempty : new.from < new.to
+  pub within : new.to ≤ length new.input
+  -- it is the next one, whatever follows the part
+  pub is : (rest : List ℕ) → RunsOn old.code callback (old.input ++ rest) old.to item new.to
+  -- the last try looked at the part alone
+  pub tries : (found : Found) × TriesWithin new.code new.input new.from (length new.input) found new.steps
+
+-- No item is given: what comes next depends on what follows.
+pub record Waits {C : Type 0} (callback : Callback) (old new : LexerValue C) : Type 0 where
+  pub from : new.from ≡ new.to
+  pub after : old.to ≤ new.to
+  pub within : new.to ≤ length new.input
+  pub steps : new.steps ≡ old.steps
+  -- what was passed gives no item, whatever follows the part
+  pub passed : (rest : List ℕ) → RunsOver old.code callback (old.input ++ rest) old.to new.to
+  -- the next try looks at the end of the part
+  pub looks : LooksPast new.code new.input new.to (first_stand new.code new.to)
+
+-- Code, input and callback stay.
+pub record KeepsGiven {C : Type 0} (old new : LexerValue C) : Type 0 where
+  pub code : new.code ≡ old.code
+  pub input : new.input ≡ old.input
+  pub callback : new.callback ≡ old.callback
+
+-- What a call of `next_within` does: on the last part what `next` does, on another one only what holds for every continuation.
+abbrev pub DoesWithin : {C : Type 0} → Bool → Callback → LexerValue C → LexerValue C → Within → Type 0
+DoesWithin true callback old new (Given item) = Gives callback old new (item_of item)
+DoesWithin true callback old new More = ⊥
+DoesWithin true callback old new End = Ends callback old new
+DoesWithin false callback old new (Given item) = GivesWithin callback old new (item_of item)
+DoesWithin false callback old new More = Waits callback old new
+DoesWithin false callback old new End = ⊥

@@ -1,0 +1,4 @@
+pub mod QuietLemmas
+pub mod LineLemmas
+pub mod MessageLemmas
+pub mod PieceLemmas

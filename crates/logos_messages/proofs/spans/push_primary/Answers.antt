@@ -1,0 +1,5 @@
+use Rattle.logos_messages.proofs.LineLemmas.{gains_then}
+use Rattle.logos_messages.proofs.spans.push_primary.Goals as goal
+
+pub returns : goal.returns
+returns c = gains_then c.push_bool.ensures c.push_null.ensures

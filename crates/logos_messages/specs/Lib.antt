@@ -1,0 +1,6 @@
+pub mod Lines
+pub mod Shown
+pub mod Tokens
+pub mod Growing
+pub mod Messages
+pub mod Answers

@@ -1,0 +1,15 @@
+//! Faults as lines of JSON in rustc's schema of diagnostics, for editors, for CI and for the derive
+//! macro.
+
+#![tactic(auto)]
+
+mod answer;
+mod head;
+mod line;
+mod marked;
+mod messages;
+mod notes;
+mod spans;
+
+pub use answer::{Piece, push_pieces, push_version};
+pub use messages::push_messages;

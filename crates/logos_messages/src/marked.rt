@@ -1,0 +1,91 @@
+//! Lines of a file with what is marked in them.
+
+ghost use Rattle.std.specs.Prelude.{◌≡◌, [], ◌∷◌};
+ghost use Rattle.logos_report.specs.Places.{IsShownLine};
+ghost use Rattle.logos_messages.specs.Lines.{Gains};
+ghost use Rattle.logos_messages.specs.Growing.{GivesLineList, GivesLines};
+ghost use Rattle.logos_messages.specs.Tokens.{marked_tokens};
+
+use crate::line::Line;
+use logos_lines::Position;
+use logos_report::Source;
+
+/// How many lines a span may go on after its first one to be shown with its lines.
+const LINES: usize = 8;
+
+/// How many bytes a line that is shown may have.
+pub(crate) const LONG: usize = 400;
+
+/// Where a span begins and ends.
+#[derive(Clone, Copy)]
+pub(crate) struct Reach {
+    pub(crate) first: Position,
+    pub(crate) last: Position,
+}
+
+/// Pushes the lines of a span, as a member. Lines that are long are left out, and so are all lines
+/// of a span that has many.
+pub(crate) fn push_lines(line: &mut Line, source: &Source<'_>, reach: Reach)
+    ensures { GivesLineList source.now.text line.old line.new }
+{
+    line.begin_list("text");
+    push_each_line(line, source, reach);
+    line.end_list();
+}
+
+/// Pushes the lines of a span that are not long, if there are few.
+fn push_each_line(line: &mut Line, source: &Source<'_>, reach: Reach)
+    ensures { GivesLines source.now.text line.old line.new }
+{
+    if reach.last.line.saturating_sub(reach.first.line) > LINES {
+        return;
+    }
+    for number in reach.first.line..reach.last.line.saturating_add(1) {
+        push_line(line, source, reach, number);
+    }
+}
+
+/// Pushes a line, unless it is long.
+fn push_line(line: &mut Line, source: &Source<'_>, reach: Reach, number: usize)
+    ensures { GivesLines source.now.text line.old line.new }
+{
+    let text = source.line(number);
+    if text.len() <= LONG {
+        push_marked(
+            line,
+            text,
+            first_column(reach, number),
+            last_column(reach, number, text),
+        );
+    }
+}
+
+/// Returns the column at which a span begins in a line.
+fn first_column(reach: Reach, number: usize) -> usize {
+    if number == reach.first.line {
+        reach.first.column
+    } else {
+        1
+    }
+}
+
+/// Returns the column before which a span ends in a line with this text.
+fn last_column(reach: Reach, number: usize, text: &str) -> usize {
+    if number == reach.last.line {
+        reach.last.column
+    } else {
+        text.chars().count().saturating_add(1)
+    }
+}
+
+/// Pushes a line with the columns of what is marked in it.
+fn push_marked(line: &mut Line, text: &str, from: usize, to: usize)
+    ensures { Gains (marked_tokens (record { text = text.now; from = from; to = to })) line.old
+        line.new }
+{
+    line.begin_object();
+    line.push_text("text", text);
+    line.push_number("highlight_start", from);
+    line.push_number("highlight_end", to);
+    line.end_object();
+}

@@ -1,0 +1,84 @@
+//! The notes and the help of a fault.
+
+ghost use Rattle.std.specs.Prelude.{◌≡◌, [], ◌∷◌};
+ghost use Rattle.logos_messages.specs.Lines.{Gains};
+ghost use Rattle.logos_messages.specs.Growing.{GivesNoteList, GivesNotes};
+ghost use Rattle.logos_messages.specs.Tokens.{list_member, note_tokens, nothing_tokens};
+
+use crate::line::Line;
+use logos_report::{Part, help_of};
+use logos_token::error::SpannedError;
+
+/// Pushes the notes and the help of a fault, as a member.
+pub(crate) fn push_notes(line: &mut Line, part: Part<'_, '_>, fault: &SpannedError)
+    ensures { GivesNoteList line.old line.new }
+{
+    line.begin_list("children");
+    push_other_lines(line, fault.message.as_str());
+    push_help(line, part, fault);
+    line.end_list();
+}
+
+/// Pushes a note for each line of a message after its first one.
+fn push_other_lines(line: &mut Line, message: &str)
+    ensures { GivesNotes line.old line.new }
+{
+    for text in message.split('\n').skip(1) {
+        push_other_line(line, text);
+    }
+}
+
+/// Pushes a note for a line of a message, unless it is empty.
+fn push_other_line(line: &mut Line, text: &str)
+    ensures { GivesNotes line.old line.new }
+{
+    if !text.is_empty() {
+        push_note(line, "note", without_margin(text));
+    }
+}
+
+/// Returns a line of a message without the blanks that stand in front of the name of a pattern.
+fn without_margin(text: &str) -> &str {
+    match text.strip_prefix("  ") {
+        Some(name) => name,
+        None => text,
+    }
+}
+
+/// Pushes what to do about a fault, if there is something to say.
+fn push_help(line: &mut Line, part: Part<'_, '_>, fault: &SpannedError)
+    ensures { GivesNotes line.old line.new }
+{
+    if let Some(help) = help_of(part, fault) {
+        push_note(line, "help", help);
+    }
+}
+
+/// Pushes a note or a help.
+fn push_note(line: &mut Line, level: &str, text: &str)
+    ensures { Gains (note_tokens (record { level = level.now; text = text.now })) line.old line.new }
+{
+    line.begin_object();
+    line.push_text("message", text);
+    line.push_null("code");
+    line.push_text("level", level);
+    push_nothing_else(line);
+    line.end_object();
+}
+
+/// Pushes that a note has no spans, no notes and no report of its own.
+fn push_nothing_else(line: &mut Line)
+    ensures { Gains nothing_tokens line.old line.new }
+{
+    push_empty_list(line, "spans");
+    push_empty_list(line, "children");
+    line.push_null("rendered");
+}
+
+/// Pushes a member with an empty list.
+fn push_empty_list(line: &mut Line, name: &str)
+    ensures { Gains (list_member name.now []) line.old line.new }
+{
+    line.begin_list(name);
+    line.end_list();
+}

@@ -1,0 +1,97 @@
+//! What to do about a fault, by what stands at its span. `docs/FAULTS.md` has the same words, and
+//! `tests/lints/faults.py` compares them.
+
+use crate::sight::{Sight, between_quotes};
+
+/// Returns what to do about a part of `logos(..)` that is not an option.
+pub(crate) fn help_for_nested(sight: Sight<'_>) -> &'static str {
+    let text = sight.text;
+    if text.is_empty() | text.starts_with(',') {
+        "remove it: one comma between options is enough"
+    } else if text.contains('>') {
+        "write an alias for a type with a comma in it: a comma cuts, also between `<` and `>`"
+    } else if text == "skip" {
+        "write the pattern after it, as in `skip \"..\"`"
+    } else if text.ends_with('"') & !text.contains('=') {
+        "write `skip \"..\"` for what gives no token"
+    } else if text.starts_with('-') {
+        "write the name with ASCII letters, digits and `_` alone"
+    } else {
+        "write an option with its value, as in `utf8 = false`"
+    }
+}
+
+/// Returns what to do about the option `source`, by its value.
+pub(crate) fn help_for_source(sight: Sight<'_>) -> &'static str {
+    let value = match sight.after.split_once(')') {
+        Some(parts) => parts.0,
+        None => sight.after,
+    };
+    if value.contains("str") & !value.contains("u8") {
+        "drop it: inputs are UTF-8 without it"
+    } else {
+        "write `utf8 = false` for inputs of bytes"
+    }
+}
+
+/// Returns what to do about an argument without a name.
+pub(crate) fn help_for_named(sight: Sight<'_>) -> &'static str {
+    let text = sight.text;
+    if text.contains('>') {
+        "put the body of the closure in braces: a comma cuts it, also between `<` and `>`"
+    } else if text.contains('|') {
+        "write a closure with one parameter, as `|lex| ..`"
+    } else {
+        "name it, as in `callback = ..` or `priority = 3`"
+    }
+}
+
+/// Returns what to do about a callback that is not a closure with one parameter.
+pub(crate) fn help_for_closure(sight: Sight<'_>) -> &'static str {
+    let Some(rest) = sight.text.strip_prefix("|") else {
+        return "write the name of a function, or a closure with one parameter, as `|lex| ..`";
+    };
+    if rest.contains('|') {
+        "write the parameter as a bare name, without a type and without `mut`, as `|lex| ..`"
+    } else {
+        "write a closure with one parameter, as `|lex| ..`"
+    }
+}
+
+/// Returns what to do about a closure without a body.
+pub(crate) fn help_for_body(sight: Sight<'_>) -> &'static str {
+    if sight.text.ends_with('|') {
+        "write the body, as in `|lex| lex.slice().len()`"
+    } else {
+        "write one parameter alone: a comma ends the callback"
+    }
+}
+
+/// Returns what to do about the flag `ascii_case`, by the attribute that has it.
+pub(crate) fn help_for_ignore(sight: Sight<'_>) -> &'static str {
+    let attribute = match sight.before.rsplit_once('#') {
+        Some(parts) => parts.1,
+        None => "",
+    };
+    if attribute.starts_with("[token") {
+        "write `ignore(case)`"
+    } else {
+        "write `ignore(case)`, or `(?i-u:..)` in the pattern for ASCII letters alone"
+    }
+}
+
+/// Returns what to do about a pattern that matches the empty text.
+pub(crate) fn help_for_empty(sight: Sight<'_>) -> &'static str {
+    let pattern = between_quotes(sight.text);
+    if pattern.is_empty() {
+        "write the text that it matches"
+    } else if pattern.ends_with('*') {
+        "write `+` for `*`"
+    } else if pattern.ends_with('?') {
+        "take the last `?` away, so that it matches one byte at least"
+    } else if pattern.contains("{0") | pattern.contains("{,") {
+        "write a count of 1 at least"
+    } else {
+        "let each of its alternatives match one byte at least"
+    }
+}

@@ -1,0 +1,16 @@
+use Rattle.std.proofs.Common.{◌≡◌, ℕ, ◌≤◌, Some, length, map, slice_get}
+use Rattle.logos_search.specs.inside.Covers.{IsCover, AreCoveredAt}
+use Rattle.logos_search.specs.declared.visits.Stand.{Stand}
+use Rattle.logos_search.proofs.cover.covering.Given as goal
+
+-- the steps from the stands with higher numbers are covered
+abbrev pub invariant-loop-number : goal.invariant-loop-number
+invariant-loop-number g l = record {
+  within : l.number ≤ length l.explored.visits.stands.keys;
+  cover : IsCover (g.M.Machine.leads l.machine) l.explored.utf8 l.explored.start l.cover.steps.keys (map (λ v. v.items) l.cover.inputs.items);
+  covered : (i : ℕ) (at : Stand) → l.number ≤ i → slice_get l.explored.visits.stands.keys i ≡ Some at →
+      AreCoveredAt (g.M.Machine.leads l.machine) (g.M.Machine.goal l.machine) l.explored.utf8 l.cover.steps.keys at;
+}
+
+abbrev pub decreases-loop-number : goal.decreases-loop-number
+decreases-loop-number g l = l.number

@@ -1,0 +1,224 @@
+-- The attributes of an enum and of its variants are runs of its tokens.
+use Rattle.std.proofs.Common.{◌≡◌, ◌==◌, Bool, true, false, List, Option, Some, None, Ok, Err, if◌then◌else◌, codes, subst}
+use Rattle.std.specs.Str.{bytes_eq}
+use Rattle.logos_lexeme.specs.declared.lexeme.Span.{Span}
+use Rattle.logos_lexeme.specs.declared.lexeme.Delimiter.TheVariants.{Parenthesis, Bracket, Brace}
+use Rattle.logos_token.specs.Tokens.{TokenList, identifier, punctuation, literal, doc, group, none, also}
+use Rattle.logos_token.specs.PrintedAgain.{IsRunOf}
+use Rattle.logos_token.proofs.reading.SpanLemmas.{Each}
+use Rattle.logos_enum.specs.Attributes.{after_parenthesis, after_visibility, after_keyword, announced_in}
+use Rattle.logos_enum.specs.AttributeValues.{SplitAttribute, bracketed, attribute_in}
+use Rattle.logos_enum.specs.Enum.{Holding, from_comma, value_in, discriminant_in, variant_of, variant, within, from_brace, where_in, Body, end_in, enum_of, item, Reads}
+use Rattle.logos_enum.specs.Enum.Reads.{reads}
+use Rattle.logos_enum.specs.Enum.Holding.{in_tuple, with_names, nothing}
+use Rattle.logos_enum.specs.Enum.Body.{braced, lacking}
+use Rattle.logos_enum.specs.EnumValues.{VariantValue, EnumValue}
+use Rattle.logos_enum.specs.Generics.{name_in}
+use Rattle.logos_enum.specs.Groups.{Opened, parenthesis_in, bracket_in, brace_in}
+use Rattle.logos_enum.specs.Marks.{comma, equals, is_none}
+use Rattle.logos_enum.specs.Rules.{Outcome, mismatch}
+use Rattle.logos_spans.proofs.TokenParts.{part_self, part_rest, part_inside}
+use Rattle.logos_spans.proofs.RuleParts.{Anything, Gives, Keeps, part_if, gives_if, keeps_by, keeps_given, keeps_then, keeps_listed}
+use Rattle.logos_spans.proofs.GenericParts.{attributes_keep, name_gives, generics_keep}
+
+-- ---- What comes before the name of an enum.
+
+after_parenthesis_part : (tokens run : TokenList) → IsRunOf run tokens → IsRunOf (after_parenthesis run) tokens
+after_parenthesis_part tokens none r = r
+after_parenthesis_part tokens (also (identifier text span) rest) r = r
+after_parenthesis_part tokens (also (punctuation character spacing span) rest) r = r
+after_parenthesis_part tokens (also (literal text span) rest) r = r
+after_parenthesis_part tokens (also (doc text span) rest) r = r
+after_parenthesis_part tokens (also (group Parenthesis span inside) rest) r = part_rest _ rest r
+after_parenthesis_part tokens (also (group Bracket span inside) rest) r = r
+after_parenthesis_part tokens (also (group Brace span inside) rest) r = r
+
+visibility_part : (tokens run : TokenList) → IsRunOf run tokens → IsRunOf (after_visibility run) tokens
+visibility_part tokens none r = r
+visibility_part tokens (also (identifier text span) rest) r =
+    part_if tokens (bytes_eq text (codes "pub")) (after_parenthesis rest) (also (identifier text span) rest) (after_parenthesis_part tokens rest (part_rest _ rest r)) r
+visibility_part tokens (also (punctuation character spacing span) rest) r = r
+visibility_part tokens (also (literal text span) rest) r = r
+visibility_part tokens (also (doc text span) rest) r = r
+visibility_part tokens (also (group delimiter span inside) rest) r = r
+
+-- the run, if there is one, is one of the whole
+abbrev pub IfRun : TokenList → Option TokenList → Type 0
+IfRun tokens None = Unit {0}
+IfRun tokens (Some run) = IsRunOf run tokens
+
+if_run_if : (tokens : TokenList) (b : Bool) (one other : Option TokenList) → IfRun tokens one → IfRun tokens other → IfRun tokens (if b then one else other)
+if_run_if tokens true one other p q = p
+if_run_if tokens false one other p q = q
+
+keyword_part : (tokens run : TokenList) → IsRunOf run tokens → IfRun tokens (after_keyword run)
+keyword_part tokens none r = tt
+keyword_part tokens (also (identifier text span) rest) r = if_run_if tokens (bytes_eq text (codes "enum")) (Some rest) None (part_rest _ rest r) tt
+keyword_part tokens (also (punctuation character spacing span) rest) r = tt
+keyword_part tokens (also (literal text span) rest) r = tt
+keyword_part tokens (also (doc text span) rest) r = tt
+keyword_part tokens (also (group delimiter span inside) rest) r = tt
+
+announced_part : (tokens middle rest : TokenList) → IsRunOf middle tokens → announced_in middle ≡ Some rest → IsRunOf rest tokens
+announced_part tokens middle rest r e = subst (IfRun tokens) e (keyword_part tokens (after_visibility middle) (visibility_part tokens middle r))
+
+-- ---- Groups, variants and the whole.
+
+-- what is inside a group, and what follows it, are runs of the whole
+abbrev IfOpened : TokenList → Option Opened → Type 0
+IfOpened tokens None = Unit {0}
+IfOpened tokens (Some opened) = IsRunOf opened.inside tokens × IsRunOf opened.rest tokens
+
+parenthesis_part : (tokens run : TokenList) → IsRunOf run tokens → IfOpened tokens (parenthesis_in run)
+parenthesis_part tokens none r = tt
+parenthesis_part tokens (also (identifier text span) rest) r = tt
+parenthesis_part tokens (also (punctuation character spacing span) rest) r = tt
+parenthesis_part tokens (also (literal text span) rest) r = tt
+parenthesis_part tokens (also (doc text span) rest) r = tt
+parenthesis_part tokens (also (group Parenthesis span inside) rest) r = (part_inside Parenthesis span inside rest r, part_rest _ rest r)
+parenthesis_part tokens (also (group Bracket span inside) rest) r = tt
+parenthesis_part tokens (also (group Brace span inside) rest) r = tt
+
+bracket_part : (tokens run : TokenList) → IsRunOf run tokens → IfOpened tokens (bracket_in run)
+bracket_part tokens none r = tt
+bracket_part tokens (also (identifier text span) rest) r = tt
+bracket_part tokens (also (punctuation character spacing span) rest) r = tt
+bracket_part tokens (also (literal text span) rest) r = tt
+bracket_part tokens (also (doc text span) rest) r = tt
+bracket_part tokens (also (group Parenthesis span inside) rest) r = tt
+bracket_part tokens (also (group Bracket span inside) rest) r = (part_inside Bracket span inside rest r, part_rest _ rest r)
+bracket_part tokens (also (group Brace span inside) rest) r = tt
+
+brace_part : (tokens run : TokenList) → IsRunOf run tokens → IfOpened tokens (brace_in run)
+brace_part tokens none r = tt
+brace_part tokens (also (identifier text span) rest) r = tt
+brace_part tokens (also (punctuation character spacing span) rest) r = tt
+brace_part tokens (also (literal text span) rest) r = tt
+brace_part tokens (also (doc text span) rest) r = tt
+brace_part tokens (also (group Parenthesis span inside) rest) r = tt
+brace_part tokens (also (group Bracket span inside) rest) r = tt
+brace_part tokens (also (group Brace span inside) rest) r = (part_inside Brace span inside rest r, part_rest _ rest r)
+
+within_gives : {A B : Type 0} (tokens : TokenList) (make : A → B) (rest : TokenList) (outcome : Outcome A) → IsRunOf rest tokens → Gives tokens Anything (within make rest outcome)
+within_gives tokens make rest (Ok read) r = (tt, r)
+within_gives tokens make rest (Err error) r = tt
+
+holding_keeps : (tokens : TokenList) → Keeps tokens Anything Holding
+holding_keeps tokens run outcome r (in_tuple opened inner e h) =
+    let o : IfOpened tokens (Some opened) = subst (IfOpened tokens) e (parenthesis_part tokens run r) in within_gives tokens _ opened.rest inner o.1
+holding_keeps tokens run outcome r (with_names opened inner n e h) =
+    let o : IfOpened tokens (Some opened) = subst (IfOpened tokens) e (brace_part tokens run r) in within_gives tokens _ opened.rest inner o.1
+holding_keeps tokens run outcome r (nothing n e) = (tt, r)
+
+from_comma_part : (tokens run : TokenList) → IsRunOf run tokens → IsRunOf (from_comma run) tokens
+from_comma_part tokens none r = r
+from_comma_part tokens (also (identifier text span) rest) r = from_comma_part tokens rest (part_rest _ rest r)
+from_comma_part tokens (also (punctuation character spacing span) rest) r =
+    part_if tokens (character == comma) (also (punctuation character spacing span) rest) (from_comma rest) r (from_comma_part tokens rest (part_rest _ rest r))
+from_comma_part tokens (also (literal text span) rest) r = from_comma_part tokens rest (part_rest _ rest r)
+from_comma_part tokens (also (doc text span) rest) r = from_comma_part tokens rest (part_rest _ rest r)
+from_comma_part tokens (also (group delimiter span inside) rest) r = from_comma_part tokens rest (part_rest _ rest r)
+
+value_gives : (tokens run : TokenList) → IsRunOf run tokens → Gives tokens Anything (value_in run)
+value_gives tokens none r = tt
+value_gives tokens (also (identifier text span) rest) r = (tt, from_comma_part tokens rest (part_rest _ rest r))
+value_gives tokens (also (punctuation character spacing span) rest) r =
+    gives_if tokens Anything (character == comma) (mismatch (also (punctuation character spacing span) rest)) (Ok (tt, from_comma rest)) tt (tt, from_comma_part tokens rest (part_rest _ rest r))
+value_gives tokens (also (literal text span) rest) r = (tt, from_comma_part tokens rest (part_rest _ rest r))
+value_gives tokens (also (doc text span) rest) r = (tt, from_comma_part tokens rest (part_rest _ rest r))
+value_gives tokens (also (group delimiter span inside) rest) r = (tt, from_comma_part tokens rest (part_rest _ rest r))
+
+discriminant_gives : (tokens run : TokenList) → IsRunOf run tokens → Gives tokens Anything (discriminant_in run)
+discriminant_gives tokens none r = (tt, r)
+discriminant_gives tokens (also (identifier text span) rest) r = (tt, r)
+discriminant_gives tokens (also (punctuation character spacing span) rest) r =
+    gives_if tokens Anything (character == equals) (value_in rest) (Ok (tt, also (punctuation character spacing span) rest)) (value_gives tokens rest (part_rest _ rest r)) (tt, r)
+discriminant_gives tokens (also (literal text span) rest) r = (tt, r)
+discriminant_gives tokens (also (doc text span) rest) r = (tt, r)
+discriminant_gives tokens (also (group delimiter span inside) rest) r = (tt, r)
+
+-- the attributes of a variant are a run of the whole
+abbrev pub VariantParts : TokenList → VariantValue → Type 0
+VariantParts tokens variant = IsRunOf variant.attributes tokens
+
+variant_keeps : (tokens : TokenList) → Keeps tokens (VariantParts tokens) variant
+variant_keeps tokens =
+    keeps_then tokens (λ (attributes : TokenList). IsRunOf attributes tokens) (VariantParts tokens) _ _ (attributes_keep tokens) (λ attributes p.
+    keeps_then tokens Anything (VariantParts tokens) _ _ (keeps_by tokens Anything name_in (name_gives tokens)) (λ name _.
+    keeps_then tokens Anything (VariantParts tokens) _ _ (holding_keeps tokens) (λ held _.
+    keeps_then tokens Anything (VariantParts tokens) _ _ (keeps_by tokens Anything discriminant_in (discriminant_gives tokens)) (λ _ _.
+    keeps_given tokens (VariantParts tokens) (variant_of attributes name held) p))))
+
+body_within : (tokens rest : TokenList) (outcome : Outcome (List VariantValue)) → Gives tokens (Each (VariantParts tokens)) outcome → IsRunOf rest tokens →
+    Gives tokens (Each (VariantParts tokens)) (within (λ (list : List VariantValue). list) rest outcome)
+body_within tokens rest (Ok read) g r = (g.0, r)
+body_within tokens rest (Err error) g r = tt
+
+body_keeps : (tokens : TokenList) → Keeps tokens (Each (VariantParts tokens)) Body
+body_keeps tokens run outcome r (braced opened inner e h) =
+    let o : IfOpened tokens (Some opened) = subst (IfOpened tokens) e (brace_part tokens run r) in
+    body_within tokens opened.rest inner (keeps_listed tokens (VariantParts tokens) is_none variant (variant_keeps tokens) opened.inside inner o.0 h) o.1
+body_keeps tokens run outcome r (lacking e) = tt
+
+from_brace_part : (tokens run : TokenList) → IsRunOf run tokens → IsRunOf (from_brace run) tokens
+from_brace_part tokens none r = r
+from_brace_part tokens (also (identifier text span) rest) r = from_brace_part tokens rest (part_rest _ rest r)
+from_brace_part tokens (also (punctuation character spacing span) rest) r = from_brace_part tokens rest (part_rest _ rest r)
+from_brace_part tokens (also (literal text span) rest) r = from_brace_part tokens rest (part_rest _ rest r)
+from_brace_part tokens (also (doc text span) rest) r = from_brace_part tokens rest (part_rest _ rest r)
+from_brace_part tokens (also (group Parenthesis span inside) rest) r = from_brace_part tokens rest (part_rest _ rest r)
+from_brace_part tokens (also (group Bracket span inside) rest) r = from_brace_part tokens rest (part_rest _ rest r)
+from_brace_part tokens (also (group Brace span inside) rest) r = r
+
+where_gives : (tokens run : TokenList) → IsRunOf run tokens → Gives tokens Anything (where_in run)
+where_gives tokens none r = (tt, r)
+where_gives tokens (also (identifier text span) rest) r =
+    gives_if tokens Anything (bytes_eq text (codes "where")) (Ok (tt, from_brace rest)) (Ok (tt, also (identifier text span) rest)) (tt, from_brace_part tokens rest (part_rest _ rest r)) (tt, r)
+where_gives tokens (also (punctuation character spacing span) rest) r = (tt, r)
+where_gives tokens (also (literal text span) rest) r = (tt, r)
+where_gives tokens (also (doc text span) rest) r = (tt, r)
+where_gives tokens (also (group delimiter span inside) rest) r = (tt, r)
+
+end_gives : (tokens run : TokenList) → IsRunOf run tokens → Gives tokens Anything (end_in run)
+end_gives tokens none r = (tt, r)
+end_gives tokens (also token rest) r = tt
+
+-- the attributes of an enum and of its variants are runs of the whole
+abbrev pub EnumParts : TokenList → EnumValue → Type 0
+EnumParts tokens enum = IsRunOf enum.attributes tokens × Each (VariantParts tokens) enum.variants
+
+item_keeps : (tokens attributes : TokenList) → IsRunOf attributes tokens → Keeps tokens (EnumParts tokens) (item attributes)
+item_keeps tokens attributes p =
+    keeps_then tokens Anything (EnumParts tokens) _ _ (keeps_by tokens Anything name_in (name_gives tokens)) (λ name _.
+    keeps_then tokens Anything (EnumParts tokens) _ _ (generics_keep tokens) (λ parameters _.
+    keeps_then tokens Anything (EnumParts tokens) _ _ (keeps_by tokens Anything where_in (where_gives tokens)) (λ _ _.
+    keeps_then tokens (Each (VariantParts tokens)) (EnumParts tokens) _ _ (body_keeps tokens) (λ list v.
+    keeps_then tokens Anything (EnumParts tokens) _ _ (keeps_by tokens Anything end_in (end_gives tokens)) (λ _ _.
+    keeps_given tokens (EnumParts tokens) (enum_of attributes name parameters list) (p, v))))))
+
+pub enum_parts : (tokens : TokenList) (enum : EnumValue) → Reads tokens (Ok enum) → EnumParts tokens enum
+enum_parts tokens enum (reads {attributes} {rest} front h) =
+    let a = attributes_keep tokens tokens (Ok (attributes, front.middle)) (part_self tokens) front.stand in
+    (item_keeps tokens attributes a.0 rest (Ok (enum, none)) (announced_part tokens front.middle rest a.1 front.announced) h).0
+
+-- ---- The attributes of a run.
+
+-- what is inside an attribute, and what follows it, are runs of the whole
+abbrev pub IfSplit : TokenList → Option SplitAttribute → Type 0
+IfSplit tokens None = Unit {0}
+IfSplit tokens (Some split) = IfRun tokens split.attribute.inside × IsRunOf split.rest tokens
+
+bracketed_part : (tokens : TokenList) (mark : Span) (opened : Option Opened) → IfOpened tokens opened → IfSplit tokens (bracketed mark opened)
+bracketed_part tokens mark None o = tt
+bracketed_part tokens mark (Some opened) o = o
+
+attribute_part : (tokens run : TokenList) → IsRunOf run tokens → IfSplit tokens (attribute_in run)
+attribute_part tokens none r = tt
+attribute_part tokens (also (identifier text span) rest) r = tt
+attribute_part tokens (also (punctuation character spacing span) rest) r = bracketed_part tokens span (bracket_in rest) (bracket_part tokens rest (part_rest _ rest r))
+attribute_part tokens (also (literal text span) rest) r = tt
+attribute_part tokens (also (doc text span) rest) r = (tt, part_rest _ rest r)
+attribute_part tokens (also (group delimiter span inside) rest) r = tt
+
+pub split_part : (tokens run : TokenList) (split : SplitAttribute) → IsRunOf run tokens → attribute_in run ≡ Some split → IfSplit tokens (Some split)
+split_part tokens run split r e = subst (IfSplit tokens) e (attribute_part tokens run r)

@@ -1,0 +1,68 @@
+#!/usr/bin/env bash
+# Packs the three proved programs for machines without the toolchain: tools/release.sh [--built FOLDER] FOLDER
+#
+# It writes FOLDER/logos-VERSION-x86_64-linux.tar.gz, with the programs, `runtime/`, the pages and the licences; the file COMMIT,
+# which names the commit; and the file SHA256SUMS, with the sum of each other file. Its `install.sh` compares the sums, and puts
+# the programs into PREFIX/bin and the rest into PREFIX/share/logos. The programs need x86-64 Linux with glibc 2.34 or later.
+#
+# The programs are those that `.ci/run` has proved and built, and it refuses where a file has changed since. With --built they are taken from a
+# folder in which they were built, and COMMIT says that they are not the proved ones. The same commit and the same programs give the
+# same bytes, wherever the clone lies.
+set -euo pipefail
+
+root=$(cd "$(dirname "${BASH_SOURCE[0]}")/.." && pwd)
+built=
+if [ "${1-}" = --built ] && [ $# = 3 ]; then
+    built=$(realpath -m "$2")
+    shift 2
+fi
+if [ $# != 1 ]; then
+    echo 'usage: tools/release.sh [--built FOLDER] FOLDER' >&2
+    exit 2
+fi
+mkdir -p "$1"
+to=$(cd "$1" && pwd)
+git=(git -C "$root")
+
+refuse() {
+    echo "release: $1" >&2
+    exit 1
+}
+
+# Prints the path of the program with this name.
+program() {
+    local crate=$1
+    [ "$1" != logos ] || crate=logos_program
+    if [ -n "$built" ]; then
+        echo "$built/$1"
+    else
+        echo "$root/crates/$crate/out/$crate"
+    fi
+}
+
+[ -z "$("${git[@]}" status --porcelain)" ] || refuse 'a file has changed since the last commit'
+commit=$("${git[@]}" rev-parse HEAD)
+if [ -n "$built" ]; then
+    said='These programs were built apart from the gate: no proof stands behind this build itself.'
+else
+    [[ $(bash "$root/tests/proofs.sh" --kept) == *' passed, 0 failed' ]] || refuse 'the gate has not proved this commit here: run bash .ci/run'
+    said='The gate proved these programs and built them.'
+fi
+version=$("$(program logos_cli)" --version | awk '{ print $2 }')
+name=logos-$version-x86_64-linux
+room=$(mktemp -d)
+trap 'rm -rf "$room"' EXIT
+mkdir -p "$room/$name/bin"
+for it in logos logos_cli logos_show; do
+    install -m 755 "$(program "$it")" "$room/$name/bin/$it"
+done
+"${git[@]}" archive HEAD README.md CHANGELOG.md LICENSE-APACHE LICENSE-MIT docs runtime | tar -xf - -C "$room/$name"
+printf '%s\n%s\n' "$commit" "$said" > "$room/$name/COMMIT"
+install -m 755 "$root/tools/install_release.sh" "$room/$name/install.sh"
+(cd "$room/$name" && find . -type f ! -name SHA256SUMS -print0 | LC_ALL=C sort -z | xargs -0 sha256sum > SHA256SUMS)
+chmod -R u=rwX,go=rX "$room/$name"
+# The order of files, their times and their owners are those of the commit, so that the bytes depend on nothing else.
+tar --sort=name --mtime="@$("${git[@]}" log -1 --format=%ct)" --owner=0 --group=0 --numeric-owner --format=gnu -cf - -C "$room" "$name" \
+    | gzip -n -9 > "$to/$name.tar.gz.part"
+mv "$to/$name.tar.gz.part" "$to/$name.tar.gz"
+echo "$to/$name.tar.gz"
