@@ -1,7 +1,7 @@
 -- The options of a command line.
 use Rattle.std.specs.Prelude.{ℕ, List, Bool, true, false, Option, Some, None, if◌then◌else◌, bytes_eq, codes}
 use Rattle.logos_host.specs.declared.options.OptionName.{OptionName}
-use Rattle.logos_host.specs.declared.options.OptionName.TheVariants.{Check, Color, Derive, Enum, Help, MessageFormat, Output, Shape, Version}
+use Rattle.logos_host.specs.declared.options.OptionName.TheVariants.{At, Check, Color, Compare, Derive, Enum, Examples, Expect, Help, MessageFormat, Output, Shape, Version}
 
 -- the options with a word of one letter
 abbrev pub letter_named : List ℕ → Option OptionName
@@ -12,13 +12,22 @@ letter_named word =
     else (if bytes_eq word (codes "-V") then Some Version
     else None)))
 
--- the last options of the alphabet
+-- the options that ask something of a lexer
+abbrev pub question_named : List ℕ → Option OptionName
+question_named word =
+    if bytes_eq word (codes "--at") then Some At
+    else (if bytes_eq word (codes "--compare") then Some Compare
+    else (if bytes_eq word (codes "--examples") then Some Examples
+    else (if bytes_eq word (codes "--expect") then Some Expect
+    else None)))
+
+-- the last other options of the alphabet
 abbrev pub later_named : List ℕ → Option OptionName
 later_named word =
     if bytes_eq word (codes "--output") then Some Output
     else (if bytes_eq word (codes "--shape") then Some Shape
     else (if bytes_eq word (codes "--version") then Some Version
-    else None))
+    else question_named word))
 
 -- the options, by their long words
 abbrev pub long_named : List ℕ → Option OptionName
@@ -41,10 +50,14 @@ option_named word = first_named (letter_named word) word
 
 -- whether an option has a value
 abbrev pub takes_value : OptionName → Bool
+takes_value At = true
 takes_value Check = false
 takes_value Color = true
+takes_value Compare = false
 takes_value Derive = false
 takes_value Enum = true
+takes_value Examples = false
+takes_value Expect = true
 takes_value Help = false
 takes_value MessageFormat = true
 takes_value Output = true

@@ -1,15 +1,19 @@
 //! The options of a command line. A program takes some of them.
 
 ghost use Rattle.std.specs.Prelude.{◌≡◌};
-ghost use Rattle.logos_host.specs.Options.{later_named, letter_named, long_named};
+ghost use Rattle.logos_host.specs.Options.{later_named, letter_named, long_named, question_named};
 
 /// An option, by its name.
 #[derive(Clone, Copy, Debug, PartialEq, Eq)]
 pub enum OptionName {
+    At,
     Check,
     Color,
+    Compare,
     Derive,
     Enum,
+    Examples,
+    Expect,
     Help,
     MessageFormat,
     Output,
@@ -36,10 +40,14 @@ impl OptionName {
         ensures { option_named result.now ≡ Some self }
     {
         match self {
+            OptionName::At => "--at",
             OptionName::Check => "--check",
             OptionName::Color => "--color",
+            OptionName::Compare => "--compare",
             OptionName::Derive => "--derive",
             OptionName::Enum => "--enum",
+            OptionName::Examples => "--examples",
+            OptionName::Expect => "--expect",
             OptionName::Help => "--help",
             OptionName::MessageFormat => "--message-format",
             OptionName::Output => "--output",
@@ -54,8 +62,10 @@ impl OptionName {
     {
         matches!(
             self,
-            OptionName::Color
+            OptionName::At
+                | OptionName::Color
                 | OptionName::Enum
+                | OptionName::Expect
                 | OptionName::MessageFormat
                 | OptionName::Output
                 | OptionName::Shape
@@ -119,6 +129,25 @@ fn by_later_long(word: &str) -> Option<OptionName>
     }
     if word == "--version" {
         return Some(OptionName::Version);
+    }
+    by_question(word)
+}
+
+/// Returns the option with this word, if it is one that asks something of a lexer.
+fn by_question(word: &str) -> Option<OptionName>
+    ensures { result ≡ question_named word.now }
+{
+    if word == "--at" {
+        return Some(OptionName::At);
+    }
+    if word == "--compare" {
+        return Some(OptionName::Compare);
+    }
+    if word == "--examples" {
+        return Some(OptionName::Examples);
+    }
+    if word == "--expect" {
+        return Some(OptionName::Expect);
     }
     None
 }

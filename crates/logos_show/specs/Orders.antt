@@ -15,11 +15,28 @@ use Rattle.logos_show.specs.declared.options.Request.TheVariants.{Help, Version,
 use Rattle.logos_show.specs.declared.options.Given.{Given}
 use Rattle.logos_show.specs.declared.options.Answer.{Answer}
 use Rattle.logos_show.specs.declared.options.Answer.TheVariants as answers
+use Rattle.logos_show.specs.declared.options.Topic.{Topic}
+use Rattle.logos_show.specs.declared.options.Topic.TheVariants as topics
+use Rattle.logos_show.specs.declared.options.Question.{Question}
+use Rattle.logos_show.specs.declared.options.Question.TheVariants as questions
+use Rattle.logos_answers.specs.Places.{place_named}
+use Rattle.logos_lines.specs.declared.place.Position.{Position}
 
--- a file to show: its path; to lex by it, the path of the file to lex and perhaps the name of the enum; and when messages have colors
+-- What is asked of the lexers of a file: their leaves; the items of an input, by its path; what matches
+-- from a place of an input; examples of what leaves find; or whether the lexer of another file, by its
+-- path, is the same.
+pub data QuestionValue : Type 0 where
+  leaves : QuestionValue
+  items : (input : List ℕ) → QuestionValue
+  matches : (input : List ℕ) → (place : Position) → QuestionValue
+  examples : QuestionValue
+  comparison : (other : List ℕ) → QuestionValue
+
+-- a file: its path, what is asked of its lexers, perhaps the path of a stored answer, perhaps the name of the enum, and when messages have colors
 pub record OrderValue : Type 0 where
   pub file : List ℕ
-  pub input : Option (List ℕ)
+  pub question : QuestionValue
+  pub expected : Option (List ℕ)
   pub name : Option (List ℕ)
   pub color : Color
 
@@ -35,12 +52,14 @@ pub record GivenValue : Type 0 where
   pub input : Option (List ℕ)
   pub name : Option (List ℕ)
   pub color : Option Color
+  pub topic : Option Topic
+  pub expected : Option (List ℕ)
   pub answer : Option Answer
   pub progress : Progress
 
 -- what no words give
 abbrev pub given_nothing : GivenValue
-given_nothing = record { file = None; input = None; name = None; color = None; answer = None; progress = record { pending = None; is_over = false } }
+given_nothing = record { file = None; input = None; name = None; color = None; topic = None; expected = None; answer = None; progress = record { pending = None; is_over = false } }
 
 -- what is given, or this
 abbrev pub given_or : {A : Type 0} → A → Option A → A
@@ -59,15 +78,30 @@ with_input given word = if is_some given.input then None else Some (record given
 abbrev pub with_path : GivenValue → List ℕ → Option GivenValue
 with_path given word = if is_some given.file then with_input given word else Some (record given { file = Some (path_named word) })
 
+-- what is asked, of which there is one
+abbrev pub with_topic : GivenValue → Topic → Option GivenValue
+with_topic given topic = if is_some given.topic then None else Some (record given { topic = Some topic })
+
+-- a place from which matches are asked for
+abbrev pub with_place : GivenValue → Option Position → Option GivenValue
+with_place given None = None
+with_place given (Some place) = with_topic given (topics.Matches place)
+
 -- an option without a value
 abbrev pub with_flag : GivenValue → OptionName → Option GivenValue
 with_flag given options.Help = Some (record given { answer = Some answers.Help })
 with_flag given options.Version = Some (record given { answer = Some answers.Version })
+with_flag given options.Compare = with_topic given topics.Comparison
+with_flag given options.Examples = with_topic given topics.Examples
 with_flag given option = None
 
 -- the name of an enum, of which there is one
 abbrev pub with_name : GivenValue → List ℕ → Option GivenValue
 with_name given word = if is_some given.name then None else Some (record given { name = Some word })
+
+-- the path of a stored answer, of which there is one
+abbrev pub with_expected : GivenValue → List ℕ → Option GivenValue
+with_expected given word = if is_some given.expected then None else Some (record given { expected = Some (path_named word) })
 
 -- when messages have colors, which is given once
 abbrev pub with_color : GivenValue → Option Color → Option Color → Option GivenValue
@@ -79,6 +113,8 @@ with_color given None (Some color) = Some (record given { color = Some color })
 abbrev pub with_value : GivenValue → OptionName → List ℕ → Option GivenValue
 with_value given options.Enum word = with_name given word
 with_value given options.Color word = with_color given given.color (color_named word)
+with_value given options.At word = with_place given (place_named word)
+with_value given options.Expect word = with_expected given word
 with_value given option word = None
 
 abbrev pub with_use : GivenValue → UseValue → Option GivenValue
@@ -104,10 +140,26 @@ with_words given [] = given
 with_words None (word ∷ rest) = None
 with_words (Some given) (word ∷ rest) = with_words (with_word given word) rest
 
+-- What is asked of a file, by what is asked and by a second path. Matches and comparisons have one, and
+-- examples have none.
+abbrev pub question_given : Option Topic → Option (List ℕ) → Option QuestionValue
+question_given None None = Some leaves
+question_given None (Some input) = Some (items input)
+question_given (Some (topics.Matches place)) None = None
+question_given (Some (topics.Matches place)) (Some input) = Some (matches input place)
+question_given (Some topics.Examples) None = Some examples
+question_given (Some topics.Examples) (Some input) = None
+question_given (Some topics.Comparison) None = None
+question_given (Some topics.Comparison) (Some other) = Some (comparison other)
+
+abbrev pub order_asked : GivenValue → List ℕ → Option QuestionValue → Option Asked
+order_asked given file None = None
+order_asked given file (Some question) = Some (asks_showing (record { file = file; question = question; expected = given.expected; name = given.name; color = given_or Auto given.color }))
+
 -- a file to show, if there is one
 abbrev pub order_given : GivenValue → Option (List ℕ) → Option Asked
 order_given given None = None
-order_given given (Some file) = Some (asks_showing (record { file = file; input = given.input; name = given.name; color = given_or Auto given.color }))
+order_given given (Some file) = order_asked given file (question_given given.topic given.input)
 
 -- no option waits for a value
 abbrev pub settled_given : GivenValue → Option OptionName → Option Asked
@@ -134,14 +186,24 @@ given_value given = record {
   input = option_map (λ path. path.now) given.input;
   name = option_map (λ path. path.now) given.name;
   color = given.color;
+  topic = given.topic;
+  expected = option_map (λ path. path.now) given.expected;
   answer = given.answer;
   progress = given.progress;
 }
 
+abbrev pub question_value : Question → QuestionValue
+question_value questions.Leaves = leaves
+question_value (questions.Items input) = items input.now
+question_value (questions.Matches input place) = matches input.now place
+question_value questions.Examples = examples
+question_value (questions.Comparison other) = comparison other.now
+
 abbrev pub order_value : Order → OrderValue
 order_value order = record {
   file = order.file.now;
-  input = option_map (λ path. path.now) order.input;
+  question = question_value order.question;
+  expected = option_map (λ path. path.now) order.expected;
   name = option_map (λ path. path.now) order.name;
   color = order.color;
 }

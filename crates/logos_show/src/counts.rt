@@ -1,6 +1,6 @@
 //! How many items there were of each kind.
 
-use crate::lines::push_number;
+use logos_answers::push_number;
 use logos_codegen::code::CodeLeaf;
 use logos_codegen::leaf::VariantKind;
 use std::alloc::{AllocError, Global};
@@ -56,7 +56,7 @@ impl Counts {
     }
 
     /// Returns how many items there were of a leaf.
-    fn of_leaf(&self, number: usize) -> usize {
+    pub(crate) fn of_leaf(&self, number: usize) -> usize {
         match self.by_leaf.get(number) {
             Some(count) => *count,
             None => 0,

@@ -4,8 +4,9 @@ ghost use Rattle.std.specs.Prelude.{IfErr};
 ghost use Rattle.logos_show.specs.Orders.{IsNoMisuse};
 
 use crate::counts::{Counts, name_at, push_count};
-use crate::lines::{LINE, push_item};
+use crate::notes::note_of;
 use crate::reading::print_bytes;
+use logos_answers::{LINE, push_item};
 use logos_codegen::code::{Code, CodeLeaf};
 use logos_codegen::leaf::LeafId;
 use logos_codegen::machine::{Action, Item, Lexer};
@@ -34,7 +35,8 @@ struct Lines {
     heads: Vec<Vec<u8>>,
 }
 
-/// Writes a line for each item of an input, and then what was counted.
+/// Writes a line for each item of an input, and then what was counted. Returns a note about callbacks,
+/// which is empty if no leaf with a callback has an item.
 ///
 /// # Errors
 /// Returns `NotUtf8` if the lexer reads text and the input is not UTF-8, `Output` if writing fails,
@@ -45,7 +47,7 @@ pub(crate) fn write_items<O: Write, C: Clock>(
     input: &[u8],
     clock: &C,
     out: &mut O,
-) -> Result<(), Failure<'static>>
+) -> Result<String, Failure<'static>>
     ensures { IfErr result IsNoMisuse }
 {
     let mut lines = Lines {
@@ -62,7 +64,10 @@ pub(crate) fn write_items<O: Write, C: Clock>(
     if let Some(passed) = passed {
         push_count(&mut lines.block, "milliseconds", passed)?;
     }
-    print_bytes(&lines.block, out)
+    // The note is made first, so that nothing is printed if memory runs out.
+    let note = note_of(alloc, code.leaves(), &lines.counts)?;
+    print_bytes(&lines.block, out)?;
+    Ok(note)
 }
 
 /// Returns the heads of the lines of these leaves.

@@ -2,9 +2,10 @@
 
 #![tactic(auto)]
 
+mod asking;
 mod counts;
 mod items;
-mod lines;
+mod notes;
 mod options;
 mod reading;
 mod running;
@@ -21,11 +22,10 @@ fn main(rt: HostRuntime) -> io::Result<ExitCode> {
     let mut host = Host {
         files: &mut Disk { rt: &rt },
         clock: &rt,
-        out: &mut rt.stdout(),
         err: &mut rt.stderr(),
     };
     let status = match words(&rt) {
-        Ok(words) => run(rt.alloc(), words.as_slice(), &mut host),
+        Ok(words) => run(rt.alloc(), words.as_slice(), &mut host, &mut rt.stdout()),
         Err(error) => refuse_words(error.kind(), USAGE, host.err),
     };
     Ok(ExitCode::from(status))

@@ -6,10 +6,14 @@ ghost use Rattle.logos_host.specs.WordSteps.{use_value};
 ghost use Rattle.logos_show.specs.Orders.{asked, asked_given, given_nothing, given_value, order_given};
 ghost use Rattle.logos_show.specs.Orders.{given_or, path_named, request_value, with_flag};
 ghost use Rattle.logos_show.specs.Orders.{with_color, with_found, with_input, with_name, with_path};
-ghost use Rattle.logos_show.specs.Orders.{with_value, with_word, with_words};
+ghost use Rattle.logos_show.specs.Orders.{order_asked, question_given, question_value, with_expected};
+ghost use Rattle.logos_show.specs.Orders.{with_place, with_topic, with_value, with_word, with_words};
 ghost use Rattle.logos_host.specs.Colors.{color_named};
+ghost use Rattle.logos_answers.specs.Places.{place_named};
 
+use logos_answers::place_by_word;
 use logos_host::{Color, Failure, OptionName, Progress, Use, color_by_name, next_step};
+use logos_lines::Position;
 
 /// What is asked for.
 #[derive(Clone, Copy)]
@@ -19,17 +23,42 @@ pub(crate) enum Request<'w> {
     Show(Order<'w>),
 }
 
-/// A file to show, or to lex by.
+/// A file, and what is asked of its lexers.
 #[derive(Clone, Copy)]
 pub(crate) struct Order<'w> {
     /// The path of the file.
     pub(crate) file: &'w str,
-    /// The path of the file to lex, if one is given.
-    pub(crate) input: Option<&'w str>,
-    /// The name of the enum to show or to lex by. If none is given all are shown, and the first one lexes.
+    pub(crate) question: Question<'w>,
+    /// The path of a stored answer, if the answer is to be compared with one.
+    pub(crate) expected: Option<&'w str>,
+    /// The name of the enum that is meant. If none is given all are shown, and the first one lexes.
     pub(crate) name: Option<&'w str>,
     /// When messages have colors.
     pub(crate) color: Color,
+}
+
+/// What is asked of the lexers of a file.
+#[derive(Clone, Copy)]
+pub(crate) enum Question<'w> {
+    /// Their leaves.
+    Leaves,
+    /// The items of the file at this path.
+    Items(&'w str),
+    /// What matches from a place of the file at this path.
+    Matches(&'w str, Position),
+    /// For each leaf a text that it finds, and one where it loses.
+    Examples,
+    /// Whether the lexer of the file at this path is the same.
+    Comparison(&'w str),
+}
+
+/// What an option asks of lexers.
+#[derive(Clone, Copy)]
+enum Topic {
+    /// What matches from a place.
+    Matches(Position),
+    Examples,
+    Comparison,
 }
 
 /// Options that ask for a text.
@@ -46,14 +75,20 @@ struct Given<'w> {
     input: Option<&'w str>,
     name: Option<&'w str>,
     color: Option<Color>,
+    topic: Option<Topic>,
+    expected: Option<&'w str>,
     answer: Option<Answer>,
     progress: Progress,
 }
 
 /// The options that the program takes.
-pub(crate) const TAKEN: [OptionName; 4] = [
+pub(crate) const TAKEN: [OptionName; 8] = [
+    OptionName::At,
     OptionName::Color,
+    OptionName::Compare,
     OptionName::Enum,
+    OptionName::Examples,
+    OptionName::Expect,
     OptionName::Help,
     OptionName::Version,
 ];
@@ -91,6 +126,8 @@ fn read_words(words: &[String]) -> Result<Given<'_>, Failure<'_>>
         input: None,
         name: None,
         color: None,
+        topic: None,
+        expected: None,
         answer: None,
         progress: Progress {
             pending: None,
@@ -133,12 +170,45 @@ fn order_given(given: Given<'_>) -> Result<Request<'_>, Failure<'_>>
     let Some(file) = given.file else {
         return Err(misuse("no file", ""));
     };
-    Ok(Request::Show(Order {
-        file,
-        input: given.input,
-        name: given.name,
-        color: color_or_auto(given.color),
-    }))
+    match question_given(given.topic, given.input) {
+        Ok(question) => Ok(Request::Show(Order {
+            file,
+            question,
+            expected: given.expected,
+            name: given.name,
+            color: color_or_auto(given.color),
+        })),
+        Err(failure) => Err(failure),
+    }
+}
+
+/// Returns what is asked of a file, by what options ask and by the second path.
+fn question_given<'w>(
+    topic: Option<Topic>,
+    input: Option<&'w str>,
+) -> Result<Question<'w>, Failure<'w>>
+    ensures asked { IfOk result (λ question.
+        question_given topic (option_map (λ path. path.now) input.entry)
+        ≡ Some (question_value question)) }
+    ensures misuse { IfErr result (λ failure.
+        (question_given topic (option_map (λ path. path.now) input.entry) ≡ None)
+        × (status_of failure ≡ 2)) }
+{
+    match (topic, input) {
+        (None, None) => Ok(Question::Leaves),
+        (None, Some(input)) => Ok(Question::Items(input)),
+        (Some(Topic::Matches(_)), None) => Err(misuse("no input for", OptionName::At.word())),
+        (Some(Topic::Matches(place)), Some(input)) => Ok(Question::Matches(input, place)),
+        (Some(Topic::Examples), None) => Ok(Question::Examples),
+        (Some(Topic::Examples), Some(input)) => Err(misuse(
+            "`--examples` takes no input, not",
+            input,
+        )),
+        (Some(Topic::Comparison), None) => {
+            Err(misuse("no second file for", OptionName::Compare.word()))
+        }
+        (Some(Topic::Comparison), Some(other)) => Ok(Question::Comparison(other)),
+    }
 }
 
 /// Returns when messages have colors: as is given, or on a terminal.
@@ -290,7 +360,42 @@ fn read_flag<'w>(given: Given<'w>, option: OptionName) -> Result<Given<'w>, Fail
             answer: Some(Answer::Version),
             ..given
         }),
+        OptionName::Compare => read_topic(given, option, Topic::Comparison),
+        OptionName::Examples => read_topic(given, option, Topic::Examples),
         _ => Err(unknown(option)),
+    }
+}
+
+/// Reads what an option asks.
+fn read_topic<'w>(
+    given: Given<'w>,
+    option: OptionName,
+    topic: Topic,
+) -> Result<Given<'w>, Failure<'w>>
+    ensures given { IfOk result (λ next.
+        with_topic (given_value given.entry) topic ≡ Some (given_value next)) }
+    ensures misuse { IfErr result (λ failure.
+        (with_topic (given_value given.entry) topic ≡ None) × (status_of failure ≡ 2)) }
+{
+    match given.topic {
+        Some(_) => Err(misuse("a second question", option.word())),
+        None => Ok(Given {
+            topic: Some(topic),
+            ..given
+        }),
+    }
+}
+
+/// Reads the place from which matches are asked for.
+fn read_place<'w>(given: Given<'w>, word: &'w str) -> Result<Given<'w>, Failure<'w>>
+    ensures given { IfOk result (λ next. with_place (given_value given.entry)
+        (place_named word.now) ≡ Some (given_value next)) }
+    ensures misuse { IfErr result (λ failure. (with_place (given_value given.entry)
+        (place_named word.now) ≡ None) × (status_of failure ≡ 2)) }
+{
+    match place_by_word(word) {
+        Some(place) => read_topic(given, OptionName::At, Topic::Matches(place)),
+        None => Err(misuse("`--at` is LINE:COLUMN, not", word)),
     }
 }
 
@@ -309,6 +414,8 @@ fn read_value<'w>(
     match option {
         OptionName::Enum => read_name(given, value),
         OptionName::Color => read_color(given, value),
+        OptionName::At => read_place(given, value),
+        OptionName::Expect => read_expected(given, value),
         _ => Err(unknown(option)),
     }
 }
@@ -325,6 +432,22 @@ fn read_name<'w>(given: Given<'w>, name: &'w str) -> Result<Given<'w>, Failure<'
     }
     Ok(Given {
         name: Some(name),
+        ..given
+    })
+}
+
+/// Reads the path of a stored answer.
+fn read_expected<'w>(given: Given<'w>, path: &'w str) -> Result<Given<'w>, Failure<'w>>
+    ensures given { IfOk result (λ next.
+        with_expected (given_value given.entry) path.now ≡ Some (given_value next)) }
+    ensures misuse { IfErr result (λ failure.
+        (with_expected (given_value given.entry) path.now ≡ None) × (status_of failure ≡ 2)) }
+{
+    if is_given(given.expected) {
+        return Err(twice(OptionName::Expect));
+    }
+    Ok(Given {
+        expected: Some(path_by_word(path)),
         ..given
     })
 }

@@ -1,6 +1,7 @@
 //! Files and their enums.
 
-ghost use Rattle.std.specs.Prelude.{IfErr};
+ghost use Rattle.std.specs.Prelude.{IfErr, OnOk};
+ghost use Rattle.std.specs.Io.KnownBytes.{Appends};
 ghost use Rattle.logos_show.specs.Orders.{IsNoMisuse};
 
 use logos_codegen::Refusal;
@@ -106,7 +107,8 @@ fn is_named(alloc: Global, text: &str, name: &str) -> Result<bool, Memory> {
 
 /// Prints bytes.
 pub(crate) fn print_bytes<O: Write>(bytes: &[u8], out: &mut O) -> Result<(), Failure<'static>>
-    ensures { IfErr result IsNoMisuse }
+    ensures printed { OnOk result (Appends (O.contents out.old) (O.contents out.new) bytes.now) }
+    ensures failed { IfErr result IsNoMisuse }
 {
     match write_through(bytes, out) {
         Ok(()) => Ok(()),

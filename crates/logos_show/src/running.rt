@@ -4,20 +4,26 @@ ghost use Rattle.std.specs.Prelude.{◌≡◌, ◌≤◌, ◌↔◌, None, IfErr
 ghost use Rattle.logos_host.specs.Failures.{status_of};
 ghost use Rattle.logos_show.specs.Orders.{IsNoMisuse, asked};
 
+use crate::asking::{Input, Lexed, Standing, compare_with, write_matches, write_standing};
 use crate::items::write_items;
-use crate::options::{Order, Request, TAKEN, request_of};
+use crate::options::{Order, Question, Request, TAKEN, request_of};
 use crate::reading::{chosen, print_bytes, read_bytes, refused, text_at, text_of};
-use crate::showing::{SHAPE, Shown, shown_of};
-use logos_codegen::generate;
+use crate::showing::{PageStyle, SHAPE, Shown, shown_of};
+use logos_codegen::{Generated, generate};
 use logos_host::{Failure, Files, report, with_nearest};
+use logos_lines::Position;
 use logos_report::{Part, Source};
 use logos_rust_file::{FoundEnum, enums_in};
 use std::alloc::Global;
 use std::io::{IsTerminal, Write};
 use std::time::Clock;
 
-pub(crate) const USAGE: &str =
-    "usage: logos_show FILE [INPUT] [--enum NAME] [--color always|never|auto]\n";
+pub(crate) const USAGE: &str = "\
+usage: logos_show FILE [INPUT] [--enum NAME] [--color always|never|auto]
+       logos_show FILE INPUT --at LINE:COLUMN
+       logos_show FILE --examples
+       logos_show OLD NEW --compare
+";
 
 const HELP: &str = "\
 logos_show: the lexers of a Rust file, and the items of an input
@@ -31,6 +37,13 @@ may be `-`, which is standard input.
 
 options:
       --enum NAME   show, or lex by, the enum NAME alone
+      --at L:C      print what matches from line L, column C of INPUT
+      --examples    print for each leaf a shortest text that it finds, and one
+                    where another leaf is found in its place
+      --expect LIST compare what would be printed with the file LIST; status 1
+                    if they differ in more than the time that was taken
+      --compare     print whether the lexers of two files find the same, or a
+                    shortest text on which they do not; status 1 if they differ
       --color WHEN  always, never or auto (on a terminal; the default)
   -h, --help        print this text
   -V, --version     print the version
@@ -39,22 +52,22 @@ options:
 
 const VERSION: &str = "logos_show 0.1.0 (for logos 0.16)\n";
 
-/// What the program reads and writes: files, a clock, standard output and standard error.
+/// What the program reads, and where messages go: files, a clock, and standard error.
 #[derive(Drop)]
-pub(crate) struct Host<'h, F, C, O, E> {
+pub(crate) struct Host<'h, F, C, E> {
     pub(crate) files: &'h mut F,
     pub(crate) clock: &'h C,
-    pub(crate) out: &'h mut O,
     pub(crate) err: &'h mut E,
 }
 
-/// Runs the program, and returns the exit status: 0 done, 1 refused, 2 for words
-/// that are not a command, 3 for files, outputs and memory. With a status above 0 a message goes to
-/// standard error, and so do warnings.
+/// Runs the program, and returns the exit status: 0 done, 1 refused, or two lexers differ, 2 for words
+/// that are not a command, 3 for files, outputs and memory. What is refused or fails has a message on
+/// standard error, and warnings go there too.
 pub(crate) fn run<F: Files, C: Clock, O: Write, E: Write + IsTerminal>(
     alloc: Global,
     words: &[String],
-    host: &mut Host<'_, F, C, O, E>,
+    host: &mut Host<'_, F, C, E>,
+    out: &mut O,
 ) -> u8
     ensures usage { (result ≡ 2) ↔ (asked (map string_bytes words.now) ≡ None) }
     ensures known { result ≤ 3 }
@@ -63,8 +76,9 @@ pub(crate) fn run<F: Files, C: Clock, O: Write, E: Write + IsTerminal>(
         Ok(request) => request,
         Err(failure) => return failed(&with_nearest(failure, &TAKEN), host.err),
     };
-    match carry_out(alloc, request, host) {
-        Ok(()) => 0,
+    match carry_out(alloc, request, host, out) {
+        Ok(Standing::Same) => 0,
+        Ok(Standing::Different) => 1,
         Err(failure) => failed(&failure, host.err),
     }
 }
@@ -85,34 +99,82 @@ struct Task<'w> {
     is_colored: bool,
 }
 
-/// Does what is asked for.
+/// Does what is asked for, and returns whether what was to be compared is the same.
 fn carry_out<'w, F: Files, C: Clock, O: Write, E: Write + IsTerminal>(
     alloc: Global,
     request: Request<'w>,
-    host: &mut Host<'_, F, C, O, E>,
-) -> Result<(), Failure<'w>>
+    host: &mut Host<'_, F, C, E>,
+    out: &mut O,
+) -> Result<Standing, Failure<'w>>
     ensures { IfErr result IsNoMisuse }
 {
-    let order = match request {
-        Request::Help => return print_bytes(HELP.as_bytes(), host.out),
-        Request::Version => return print_bytes(VERSION.as_bytes(), host.out),
-        Request::Show(order) => order,
+    let done = match request {
+        Request::Help => print_bytes(HELP.as_bytes(), out),
+        Request::Version => print_bytes(VERSION.as_bytes(), out),
+        Request::Show(order) => {
+            let is_colored = order.color.is_on(host.err.is_terminal());
+            let task = Task { order, is_colored };
+            return answer_or_compare(alloc, task, host, out);
+        }
     };
-    let task = Task {
-        order,
-        is_colored: order.color.is_on(host.err.is_terminal()),
-    };
-    match order.input {
-        Some(input) => lex(alloc, task, input, host),
-        None => show(alloc, task, host),
+    as_same(done)
+}
+
+/// Returns that nothing differs, if nothing failed.
+fn as_same<'w>(done: Result<(), Failure<'w>>) -> Result<Standing, Failure<'w>>
+    requires { IfErr done IsNoMisuse }
+    ensures { IfErr result IsNoMisuse }
+{
+    match done {
+        Ok(()) => Ok(Standing::Same),
+        Err(failure) => Err(failure),
     }
 }
 
-/// Writes the tables of a file, and its warnings.
+/// Answers what is asked of the lexers of a file, or compares the answer with a stored one. Returns
+/// whether what was to be compared is the same.
+fn answer_or_compare<'w, F: Files, C: Clock, O: Write, E: Write + IsTerminal>(
+    alloc: Global,
+    task: Task<'w>,
+    host: &mut Host<'_, F, C, E>,
+    out: &mut O,
+) -> Result<Standing, Failure<'w>>
+    ensures { IfErr result IsNoMisuse }
+{
+    let Some(path) = task.order.expected else {
+        return answer(alloc, task, host, out);
+    };
+    let stored = read_bytes(path, host.files)?;
+    let mut made = Vec::new(alloc);
+    let _ = answer(alloc, task, host, &mut made)?;
+    write_standing(alloc, path, &stored, &made, out)
+}
+
+/// Answers what is asked of the lexers of a file, and returns whether what was to be compared is the
+/// same.
+fn answer<'w, F: Files, C: Clock, O: Write, E: Write + IsTerminal>(
+    alloc: Global,
+    task: Task<'w>,
+    host: &mut Host<'_, F, C, E>,
+    out: &mut O,
+) -> Result<Standing, Failure<'w>>
+    ensures { IfErr result IsNoMisuse }
+{
+    let done = match task.order.question {
+        Question::Leaves | Question::Examples => show(alloc, task, host, out),
+        Question::Items(input) => lex(alloc, task, input, None, host, out),
+        Question::Matches(input, place) => lex(alloc, task, input, Some(place), host, out),
+        Question::Comparison(other) => return compare(alloc, task, other, host, out),
+    };
+    as_same(done)
+}
+
+/// Writes the tables of a file or examples, and its warnings.
 fn show<'w, F: Files, C: Clock, O: Write, E: Write + IsTerminal>(
     alloc: Global,
     task: Task<'w>,
-    host: &mut Host<'_, F, C, O, E>,
+    host: &mut Host<'_, F, C, E>,
+    out: &mut O,
 ) -> Result<(), Failure<'w>>
     ensures { IfErr result IsNoMisuse }
 {
@@ -122,18 +184,32 @@ fn show<'w, F: Files, C: Clock, O: Write, E: Write + IsTerminal>(
     if task.order.name.is_some() {
         let _ = lexer_in(alloc, task, &source)?;
     }
-    let Shown { tables, warnings } = shown_of(alloc, &source, task.is_colored, task.order.name)?;
+    let style = PageStyle {
+        is_colored: task.is_colored,
+        has_examples: asks_examples(task.order.question),
+    };
+    let Shown { tables, warnings } = shown_of(alloc, &source, style, task.order.name)?;
     let _ = host.err.write_all(warnings.as_bytes());
     let _ = host.err.flush();
-    print_bytes(tables.as_str().as_bytes(), host.out)
+    print_bytes(tables.as_str().as_bytes(), out)
 }
 
-/// Writes the items of an input.
+/// Returns whether examples are asked for.
+fn asks_examples(question: Question<'_>) -> bool {
+    match question {
+        Question::Examples => true,
+        _ => false,
+    }
+}
+
+/// Writes the items of an input, or what matches from a place of it.
 fn lex<'w, F: Files, C: Clock, O: Write, E: Write + IsTerminal>(
     alloc: Global,
     task: Task<'w>,
     input: &'w str,
-    host: &mut Host<'_, F, C, O, E>,
+    place: Option<Position>,
+    host: &mut Host<'_, F, C, E>,
+    out: &mut O,
 ) -> Result<(), Failure<'w>>
     ensures { IfErr result IsNoMisuse }
 {
@@ -141,26 +217,128 @@ fn lex<'w, F: Files, C: Clock, O: Write, E: Write + IsTerminal>(
     let text = text_at(path, host.files)?;
     let bytes = read_bytes(input, host.files)?;
     let source = Source::new(alloc, path, text.as_str())?;
-    lex_by_file(alloc, task, &source, bytes.as_slice(), host)
+    let input = Input {
+        path: input,
+        bytes: bytes.as_slice(),
+        place,
+    };
+    lex_by_file(alloc, task, &source, input, host, out)
 }
 
-/// Writes the items of an input, by the lexer of a file that is asked for.
+/// Writes the items of an input or what matches from a place of it, by the lexer of a file that is
+/// asked for.
 fn lex_by_file<'w, F: Files, C: Clock, O: Write, E: Write + IsTerminal>(
     alloc: Global,
     task: Task<'w>,
     source: &Source<'_>,
-    input: &[u8],
-    host: &mut Host<'_, F, C, O, E>,
+    input: Input<'w, '_>,
+    host: &mut Host<'_, F, C, E>,
+    out: &mut O,
 ) -> Result<(), Failure<'w>>
     ensures { IfErr result IsNoMisuse }
 {
     let one = lexer_in(alloc, task, source)?;
-    let part = Part {
+    let part = part_of(source, one);
+    match generate(alloc, text_of(source, one), SHAPE) {
+        Ok(made) => lex_by_lexer(alloc, &made, input, host, out),
+        Err(refusal) => Err(refused(alloc, part, task.is_colored, refusal)),
+    }
+}
+
+/// Returns the part of a file that is an enum.
+fn part_of<'f, 's>(source: &'f Source<'s>, one: FoundEnum) -> Part<'f, 's> {
+    Part {
         source,
         offset: one.span.from,
-    };
+    }
+}
+
+/// Writes the items of an input, or what matches from a place of it.
+fn lex_by_lexer<'w, F: Files, C: Clock, O: Write, E: Write + IsTerminal>(
+    alloc: Global,
+    made: &Generated<'_>,
+    input: Input<'w, '_>,
+    host: &mut Host<'_, F, C, E>,
+    out: &mut O,
+) -> Result<(), Failure<'w>>
+    ensures { IfErr result IsNoMisuse }
+{
+    if let Some(place) = input.place {
+        return write_matches(alloc, &made.graph, input, place, out);
+    }
+    let note = write_items(alloc, &made.code, input.bytes, host.clock, out)?;
+    let _ = host.err.write_all(note.as_bytes());
+    let _ = host.err.flush();
+    Ok(())
+}
+
+/// Writes whether the lexer of another file is the same, and returns that.
+fn compare<'w, F: Files, C: Clock, O: Write, E: Write + IsTerminal>(
+    alloc: Global,
+    task: Task<'w>,
+    other: &'w str,
+    host: &mut Host<'_, F, C, E>,
+    out: &mut O,
+) -> Result<Standing, Failure<'w>>
+    ensures { IfErr result IsNoMisuse }
+{
+    let path = task.order.file;
+    let text = text_at(path, host.files)?;
+    let other_text = text_at(other, host.files)?;
+    let source = Source::new(alloc, path, text.as_str())?;
+    let other_source = Source::new(alloc, other, other_text.as_str())?;
+    compare_files(alloc, task, &source, &other_source, out)
+}
+
+/// Writes whether the lexers of two files are the same, and returns that.
+fn compare_files<'w, O: Write>(
+    alloc: Global,
+    task: Task<'w>,
+    source: &Source<'_>,
+    other: &Source<'_>,
+    out: &mut O,
+) -> Result<Standing, Failure<'w>>
+    ensures { IfErr result IsNoMisuse }
+{
+    let one = lexer_in(alloc, task, source)?;
+    let part = part_of(source, one);
     match generate(alloc, text_of(source, one), SHAPE) {
-        Ok(made) => write_items(alloc, &made.code, input, host.clock, host.out),
+        Ok(made) => compare_to(
+            alloc,
+            task,
+            Lexed {
+                path: source.path(),
+                made: &made,
+            },
+            other,
+            out,
+        ),
+        Err(refusal) => Err(refused(alloc, part, task.is_colored, refusal)),
+    }
+}
+
+/// Writes whether a lexer and that of another file are the same, and returns that.
+fn compare_to<'w, O: Write>(
+    alloc: Global,
+    task: Task<'w>,
+    one: Lexed<'_, '_>,
+    source: &Source<'_>,
+    out: &mut O,
+) -> Result<Standing, Failure<'w>>
+    ensures { IfErr result IsNoMisuse }
+{
+    let other = lexer_in(alloc, task, source)?;
+    let part = part_of(source, other);
+    match generate(alloc, text_of(source, other), SHAPE) {
+        Ok(made) => compare_with(
+            alloc,
+            one,
+            Lexed {
+                path: source.path(),
+                made: &made,
+            },
+            out,
+        ),
         Err(refusal) => Err(refused(alloc, part, task.is_colored, refusal)),
     }
 }
@@ -182,16 +360,15 @@ fn lexer_in<'w>(
     };
     match chosen(alloc, source, &found, task.order.name)? {
         Some(one) => Ok(one),
-        None => Err(no_lexer(alloc, task.order)),
+        None => Err(no_lexer(alloc, source.path(), task.order.name)),
     }
 }
 
 /// Returns the refusal of a file that has no such lexer.
-fn no_lexer<'w>(alloc: Global, order: Order<'w>) -> Failure<'w>
+fn no_lexer(alloc: Global, file: &str, name: Option<&str>) -> Failure<'static>
     ensures { IsNoMisuse result }
 {
-    let file = order.file;
-    let made = match order.name {
+    let made = match name {
         Some(name) => format!(in alloc; "error: no enum `{name}` in {file} derives `Logos`\n"),
         None => format!(in alloc; "error: no enum in {file} derives `Logos`\n"),
     };

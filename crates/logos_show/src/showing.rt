@@ -3,8 +3,9 @@ ghost use Rattle.std.specs.Prelude.{IfErr};
 ghost use Rattle.logos_show.specs.Orders.{IsNoMisuse};
 
 use crate::reading::{has_name, refused, text_of};
-use crate::table::push_table;
+use crate::table::{push_table, push_title};
 use crate::warnings::{push_unmarked, push_warnings};
+use logos_answers::push_examples;
 use logos_codegen::generator::Config;
 use logos_codegen::{Generated, generate};
 use logos_host::Failure;
@@ -26,13 +27,21 @@ pub(crate) struct Shown {
     pub(crate) warnings: String,
 }
 
+/// How a file is shown.
+#[derive(Clone, Copy)]
+pub(crate) struct PageStyle {
+    /// Whether faults and warnings are shown in colors.
+    pub(crate) is_colored: bool,
+    /// Whether examples of what leaves find are shown in place of tables.
+    pub(crate) has_examples: bool,
+}
+
 /// The pages of what is shown of a file.
 #[derive(Drop)]
 struct Pages {
     tables: Page,
     warnings: Page,
-    /// Whether faults are shown in colors.
-    is_colored: bool,
+    style: PageStyle,
 }
 
 /// An enum of a file: where it begins there, the lines of the file, its own text, and whether it derives `Logos`.
@@ -53,7 +62,7 @@ pub(crate) struct EnumInFile<'f, 's> {
 pub(crate) fn shown_of(
     alloc: Global,
     source: &Source<'_>,
-    is_colored: bool,
+    style: PageStyle,
     name: Option<&str>,
 ) -> Result<Shown, Failure<'static>>
     ensures { IfErr result IsNoMisuse }
@@ -61,13 +70,13 @@ pub(crate) fn shown_of(
     let whole = Part { source, offset: 0 };
     let found = match enums_in(alloc, source.text()) {
         Ok(found) => found,
-        Err(refusal) => return Err(refused(alloc, whole, is_colored, refusal)),
+        Err(refusal) => return Err(refused(alloc, whole, style.is_colored, refusal)),
     };
     let lines = LineIndex::new(alloc, source.text())?;
     let mut pages = Pages {
         tables: Page::new(alloc, false),
-        warnings: Page::new(alloc, is_colored),
-        is_colored,
+        warnings: Page::new(alloc, style.is_colored),
+        style,
     };
     for one in &found {
         push_named(alloc, &mut pages, enum_in(source, &lines, *one), name)?;
@@ -135,11 +144,11 @@ fn push_lexer(
 {
     match generate(alloc, one.text, SHAPE) {
         Ok(made) => push_made(alloc, pages, one, &made),
-        Err(refusal) => Err(refused(alloc, one.part, pages.is_colored, refusal)),
+        Err(refusal) => Err(refused(alloc, one.part, pages.style.is_colored, refusal)),
     }
 }
 
-/// Adds the table of a lexer, and the warnings of its leaves.
+/// Adds the table of a lexer or its examples, and the warnings of its leaves.
 fn push_made(
     alloc: Global,
     pages: &mut Pages,
@@ -148,7 +157,13 @@ fn push_made(
 ) -> Result<(), Failure<'static>>
     ensures { IfErr result IsNoMisuse }
 {
-    push_table(alloc, &mut pages.tables, one, made)?;
+    if pages.style.has_examples {
+        push_title(&mut pages.tables, one.part, made);
+        push_examples(alloc, &mut pages.tables, &made.graph)?;
+        pages.tables.push("\n");
+    } else {
+        push_table(alloc, &mut pages.tables, one, made)?;
+    }
     push_unmarked(alloc, &mut pages.warnings, one.part, &made.graph)?;
     Ok(())
 }

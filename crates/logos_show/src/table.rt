@@ -45,7 +45,7 @@ fn rows_of<'l>(
 }
 
 /// Adds the name of the enum and its position.
-fn push_title(page: &mut Page, part: Part<'_, '_>, made: &Generated<'_>) {
+pub(crate) fn push_title(page: &mut Page, part: Part<'_, '_>, made: &Generated<'_>) {
     page.push("enum ");
     page.push(made.name.text);
     page.push(" (");

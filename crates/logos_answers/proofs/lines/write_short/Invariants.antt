@@ -1,5 +1,5 @@
 use Rattle.std.proofs.Common.{◌≡◌, ◌≤◌, ◌+◌, ◌*◌, length}
-use Rattle.logos_show.proofs.lines.write_short.Given as goal
+use Rattle.logos_answers.proofs.lines.write_short.Given as goal
 
 -- each byte takes at most four bytes
 abbrev pub invariant-loop-byte : goal.invariant-loop-byte

@@ -16,14 +16,18 @@ const POSITION: usize = 41;
 /// The length in bytes of the longest head for which a line is put together at once.
 const HEAD: usize = 64;
 
-/// The length in bytes of the longest line that is put together at once: a position, a head, an escape
-/// of four bytes for each byte that is shown, a quote and a line end.
-pub(crate) const LINE: usize = 347;
+/// The length in bytes of the longest line that is put together at once: a position, a head, an
+/// escape of four bytes for each byte that is shown, a quote and a line end.
+pub const LINE: usize = 347;
 
-/// Adds the line of an item: its position, its head, which names it, and its text in quotes. A short
-/// line is put together in `line` first.
+/// Adds the line of an item: its position, its head, which names it, and its text in quotes. A
+/// short line is put together in `line` first.
+///
+/// # Errors
+///
+/// Returns `AllocError` if memory runs out. A part of the line may be added then.
 #[inline(always)]
-pub(crate) fn push_item(
+pub fn push_item(
     block: &mut Vec<u8>,
     line: &mut [u8; LINE],
     position: Position,
@@ -142,7 +146,11 @@ fn hexadecimal_digit(number: u8) -> u8
 }
 
 /// Adds a number in decimal.
-pub(crate) fn push_number(block: &mut Vec<u8>, number: usize) -> Result<(), AllocError> {
+///
+/// # Errors
+///
+/// Returns `AllocError` if memory runs out. Nothing is added then.
+pub fn push_number(block: &mut Vec<u8>, number: usize) -> Result<(), AllocError> {
     let mut digits = [0; 20];
     let from = write_digits(number as u64, &mut digits, 20);
     block.extend_from_slice(&digits[from..])

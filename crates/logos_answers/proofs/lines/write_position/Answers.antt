@@ -1,7 +1,7 @@
-use Rattle.std.proofs.Common.{rules, arith, ◌≡◌, ◌+◌, ◌≤◌, length, length-set}
+use Rattle.std.proofs.Common.{rules, arith, ◌≤◌, length, length-set}
 use Rattle.std.specs.Fmt.{decimal}
-use Rattle.logos_show.proofs.DigitLemmas.{few_digits}
-use Rattle.logos_show.proofs.lines.write_position.Goals as goal
+use Rattle.logos_answers.proofs.DigitLemmas.{few_digits}
+use Rattle.logos_answers.proofs.lines.write_position.Goals as goal
 
 pub write_digits-end-requires : goal.write_digits-end-requires
 write_digits-end-requires c =

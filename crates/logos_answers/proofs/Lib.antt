@@ -1,0 +1,7 @@
+pub mod ComparedLemmas
+pub mod DigitLemmas
+pub mod ExampleLemmas
+pub mod GainLemmas
+pub mod LongestLemmas
+pub mod NumberLemmas
+pub mod SplitLemmas

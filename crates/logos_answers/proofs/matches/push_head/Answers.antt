@@ -1,0 +1,5 @@
+use Rattle.logos_report.proofs.PageLemmas.{gains_then}
+use Rattle.logos_answers.proofs.matches.push_head.Goals as goal
+
+pub returns : goal.returns
+returns c = gains_then c.push.ensures (gains_then c.push_number.ensures (gains_then c.push-2.ensures (gains_then (rw c.name_at.ensures at c.push-3.ensures) c.push-4.ensures)))

@@ -1,0 +1,10 @@
+pub mod Comparing
+pub mod Examples
+pub mod Matches
+pub mod Names
+pub mod Offsets
+pub mod Places
+pub mod Quoting
+pub mod Views
+pub mod Words
+pub mod inside

@@ -1,0 +1,159 @@
+//! What leaves find, and where they lose.
+
+ghost use Rattle.std.specs.Prelude.{◌≡◌, ◌++◌, ℕ, [], codes, IfOk, MatchOption, OnOk, length, option_map};
+ghost use Rattle.logos_answers.specs.Views as shown;
+ghost use Rattle.logos_answers.specs.Words.{Gains, IsGraphOf, IsShortestLoss, NeverLoses, leaf_text, quoted, rules_of};
+
+use crate::matches::push_head;
+use crate::names::push_leaf;
+use crate::quoting::push_quoted;
+use logos_evidence::{example, loses, matches_from, winner};
+use logos_graph::graph::Graph;
+use logos_pattern::leaf::Leaf;
+use logos_report::Page;
+use std::alloc::{AllocError, Global};
+
+/// What a leaf finds, and where it loses.
+#[derive(Drop)]
+struct Evidence {
+    /// A shortest input on which a lexer finds a match of the leaf first, if there is one.
+    found: Option<Vec<u8>>,
+    /// A shortest input on which it matches and another leaf is found first, if there is one.
+    loss: Option<Loss>,
+}
+
+/// An input on which a leaf matches and another one is found.
+#[derive(Drop)]
+struct Loss {
+    input: Vec<u8>,
+    winner: usize,
+}
+
+/// Pushes a line for each leaf of a graph without faults: a shortest input on which a lexer finds a
+/// match of the leaf first, and a shortest one on which the leaf matches and another leaf is found
+/// first, with that leaf. Where a leaf is never found the line says so.
+///
+/// # Errors
+///
+/// Returns `AllocError` if memory runs out. Some lines may be pushed then.
+pub fn push_examples(alloc: Global, page: &mut Page, graph: &Graph<'_>) -> Result<(), AllocError>
+    ensures { OnOk result (IsGraphOf graph.now.leaves graph.now.utf8 graph.now →
+        graph.now.faults ≡ [] → shown.ShowsExamples graph.now.leaves graph.now.utf8 0
+        (length graph.now.leaves) page.old page.new) }
+{
+    for leaf in 0..graph.leaves().len() {
+        push_example(alloc, page, graph, leaf)?;
+    }
+    Ok(())
+}
+
+/// Pushes the line of a leaf.
+fn push_example(
+    alloc: Global,
+    page: &mut Page,
+    graph: &Graph<'_>,
+    leaf: usize,
+) -> Result<(), AllocError>
+    ensures { OnOk result (IsGraphOf graph.now.leaves graph.now.utf8 graph.now →
+        graph.now.faults ≡ [] →
+        shown.ShowsExample graph.now.leaves graph.now.utf8 leaf page.old page.new) }
+{
+    let evidence = evidence_of(alloc, graph, leaf)?;
+    push_evidence(page, graph.leaves(), leaf, &evidence);
+    Ok(())
+}
+
+/// Returns what a leaf finds, and where it loses.
+fn evidence_of(alloc: Global, graph: &Graph<'_>, leaf: usize) -> Result<Evidence, AllocError>
+    ensures { IfOk result (λ evidence. IsGraphOf graph.now.leaves graph.now.utf8 graph.now →
+        graph.now.faults ≡ [] → shown.IsEvidence (rules_of graph.now.leaves) graph.now.utf8 leaf
+        (option_map (λ input. input.items) evidence.found)
+        (option_map shown.loss_value evidence.loss)) }
+{
+    let found = example(alloc, graph, leaf)?;
+    let loss = loss_of(alloc, graph, leaf)?;
+    Ok(Evidence { found, loss })
+}
+
+/// Returns where a leaf loses.
+fn loss_of(alloc: Global, graph: &Graph<'_>, leaf: usize) -> Result<Option<Loss>, AllocError>
+    ensures { IfOk result (λ loss. IsGraphOf graph.now.leaves graph.now.utf8 graph.now →
+        graph.now.faults ≡ [] → MatchOption (option_map shown.loss_value loss)
+        (NeverLoses (rules_of graph.now.leaves) graph.now.utf8 leaf)
+        (shown.IsLostTo (rules_of graph.now.leaves) graph.now.utf8 leaf)) }
+{
+    match loses(alloc, graph, leaf)? {
+        Some(input) => with_winner(alloc, graph, input),
+        None => Ok(None),
+    }
+}
+
+/// Returns an input on which a leaf loses, with the leaf that is found there first.
+fn with_winner(alloc: Global, graph: &Graph<'_>, input: Vec<u8>) -> Result<Option<Loss>, AllocError>
+    ensures { IfOk result (λ loss. (leaf : ℕ) →
+        IsGraphOf graph.now.leaves graph.now.utf8 graph.now → graph.now.faults ≡ [] →
+        IsShortestLoss (rules_of graph.now.leaves) graph.now.utf8 leaf input.items →
+        MatchOption (option_map shown.loss_value loss) ⊥
+        (shown.IsLostTo (rules_of graph.now.leaves) graph.now.utf8 leaf)) }
+{
+    let matches = matches_from(alloc, graph, &input, 0)?;
+    match winner(&matches) {
+        Some(found) => Ok(Some(Loss {
+            input,
+            winner: found.leaf,
+        })),
+        None => Ok(None),
+    }
+}
+
+/// Pushes the line of a leaf, by what it finds and where it loses.
+fn push_evidence(page: &mut Page, leaves: &[Leaf<'_>], leaf: usize, evidence: &Evidence)
+    ensures { Gains (shown.evidence_line leaves.now leaf
+        (option_map (λ input. input.items) evidence.now.found)
+        (option_map shown.loss_value evidence.now.loss)) page.old page.new }
+{
+    push_head(page, leaves, leaf);
+    push_found(page, &evidence.found);
+    push_loss(page, leaves, &evidence.loss);
+    page.push("\n");
+}
+
+/// Pushes what a leaf finds.
+fn push_found(page: &mut Page, found: &Option<Vec<u8>>)
+    ensures { Gains (shown.found_text (option_map (λ input. input.items) found.now))
+        page.old page.new }
+{
+    match found {
+        Some(input) => push_example_of(page, input),
+        None => page.push("finds nothing"),
+    }
+}
+
+/// Pushes an input on which a leaf is found.
+fn push_example_of(page: &mut Page, input: &[u8])
+    ensures { Gains (codes "finds " ++ quoted input.now) page.old page.new }
+{
+    page.push("finds ");
+    push_quoted(page, input);
+}
+
+/// Pushes where a leaf loses, if it does.
+fn push_loss(page: &mut Page, leaves: &[Leaf<'_>], loss: &Option<Loss>)
+    ensures { Gains (shown.loss_text leaves.now (option_map shown.loss_value loss.now))
+        page.old page.new }
+{
+    if let Some(loss) = loss {
+        push_lost(page, leaves, &loss.input, loss.winner);
+    }
+}
+
+/// Pushes an input on which a leaf loses, and to which one.
+fn push_lost(page: &mut Page, leaves: &[Leaf<'_>], input: &[u8], winner: usize)
+    ensures { Gains (codes ", loses " ++ (quoted input.now
+        ++ (codes " to " ++ leaf_text leaves.now winner))) page.old page.new }
+{
+    page.push(", loses ");
+    push_quoted(page, input);
+    page.push(" to ");
+    push_leaf(page, leaves, winner);
+}

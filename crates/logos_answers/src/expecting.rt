@@ -1,0 +1,114 @@
+//! An answer that is compared with a stored one.
+
+ghost use Rattle.std.specs.Prelude.{◌≡◌, true};
+
+use crate::quoting::push_quoted;
+use logos_lines::Cursor;
+use logos_report::Page;
+
+/// What begins the line of an answer that differs from run to run.
+const TIME: &[u8] = b"milliseconds: ";
+
+/// Pushes whether an answer is the stored one, and returns that. If not, pushes at which line and
+/// column of the stored one they differ first, and both lines. The line of the time that was taken
+/// is not compared. `path` is that of the stored answer.
+pub fn push_standing(page: &mut Page, path: &str, stored: &[u8], made: &[u8]) -> bool
+    ensures { stored.now ≡ made.now → result ≡ true }
+{
+    if is_same(stored, made) {
+        page.push("as expected\n");
+        return true;
+    }
+    push_difference(page, path, without_time(stored), without_time(made));
+    false
+}
+
+/// Returns whether two answers are the same, but for the time that was taken.
+fn is_same(stored: &[u8], made: &[u8]) -> bool
+    ensures { stored.now ≡ made.now → result ≡ true }
+{
+    if stored == made {
+        return true;
+    }
+    without_time(stored) == without_time(made)
+}
+
+/// Returns an answer without its last line, if that has the time.
+fn without_time(answer: &[u8]) -> &[u8] {
+    let start = line_start(answer, answer.len().saturating_sub(1));
+    if tail_of(answer, start).starts_with(TIME) {
+        return front_of(answer, start);
+    }
+    answer
+}
+
+/// Returns the offset after the last LF before an offset.
+fn line_start(text: &[u8], at: usize) -> usize {
+    match front_of(text, at).iter().rposition(|byte| *byte == b'\n') {
+        Some(end) => end.saturating_add(1),
+        None => 0,
+    }
+}
+
+/// Returns the bytes before an offset.
+fn front_of(text: &[u8], at: usize) -> &[u8] {
+    match text.get(..at) {
+        Some(front) => front,
+        None => text,
+    }
+}
+
+/// Returns the bytes from an offset on.
+fn tail_of(text: &[u8], at: usize) -> &[u8] {
+    match text.get(at..) {
+        Some(tail) => tail,
+        None => &[],
+    }
+}
+
+/// Pushes where two answers differ first, and how.
+fn push_difference(page: &mut Page, path: &str, stored: &[u8], made: &[u8]) {
+    let at = common_length(stored, made);
+    let start = line_start(stored, at);
+    push_place(page, path, stored, at);
+    push_line(page, "expected ", line_from(stored, start));
+    push_line(page, "found    ", line_from(made, start));
+}
+
+/// Returns how many bytes two texts begin with alike.
+fn common_length(one: &[u8], other: &[u8]) -> usize {
+    let mut at = 0;
+    while at < one.len() && at < other.len() && one[at] == other[at] {
+        at += 1;
+    }
+    at
+}
+
+/// Returns the bytes of the line that begins at an offset.
+fn line_from(text: &[u8], start: usize) -> &[u8] {
+    let tail = tail_of(text, start);
+    match tail.iter().position(|byte| *byte == b'\n') {
+        Some(end) => front_of(tail, end),
+        None => tail,
+    }
+}
+
+/// Pushes the path of a file, and a line and a column of it.
+fn push_place(page: &mut Page, path: &str, text: &[u8], at: usize) {
+    let mut cursor = Cursor::new(text);
+    cursor.go_to(at);
+    let position = cursor.position();
+    page.push(path);
+    page.push(":");
+    page.push_number(position.line);
+    page.push(":");
+    page.push_number(position.column);
+    page.push(": the answer is another\n");
+}
+
+/// Pushes a line of an answer in quotes.
+fn push_line(page: &mut Page, before: &str, line: &[u8]) {
+    page.push(before);
+    push_quoted(page, line);
+    page.push("\n");
+}

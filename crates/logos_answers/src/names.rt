@@ -1,0 +1,49 @@
+//! The names of leaves.
+
+ghost use Rattle.std.specs.Prelude.{◌≡◌, option_map};
+ghost use Rattle.logos_answers.specs.Words.{Gains, leaf_name, leaf_text, name_at, variant_name};
+
+use logos_pattern::leaf::{Leaf, VariantKind};
+use logos_report::Page;
+
+/// Returns the name of the variant of a kind, or `None` for a skip.
+pub(crate) fn variant_of<'l>(kind: &'l VariantKind<'_>) -> Option<&'l str>
+    ensures { option_map (λ name. name.now) result ≡ variant_name kind.now }
+{
+    match kind {
+        VariantKind::Unit(name) => Some(name.text),
+        VariantKind::Value(name, _) => Some(name.text),
+        VariantKind::Skip => None,
+    }
+}
+
+/// Returns the name of a leaf: that of its variant, or `skip`.
+fn leaf_name<'l>(leaf: &'l Leaf<'_>) -> &'l str
+    ensures { result.now ≡ leaf_name leaf.now }
+{
+    match variant_of(&leaf.kind) {
+        Some(name) => name,
+        None => "skip",
+    }
+}
+
+/// Returns the name of the leaf with a number, or an empty text if there is no such leaf.
+pub(crate) fn name_at<'l>(leaves: &'l [Leaf<'_>], leaf: usize) -> &'l str
+    ensures { result.now ≡ name_at leaves.now leaf }
+{
+    match leaves.get(leaf) {
+        Some(leaf) => leaf_name(leaf),
+        None => "",
+    }
+}
+
+/// Pushes the name and the number of a leaf.
+pub fn push_leaf(page: &mut Page, leaves: &[Leaf<'_>], leaf: usize)
+    ensures { Gains (leaf_text leaves.now leaf) page.old page.new }
+{
+    page.push("`");
+    page.push(name_at(leaves, leaf));
+    page.push("` (leaf ");
+    page.push_number(leaf);
+    page.push(")");
+}

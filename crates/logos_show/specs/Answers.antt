@@ -1,0 +1,34 @@
+-- What is printed about lexers.
+use Rattle.std.specs.Prelude.{◌≡◌, ◌≢◌, ℕ, List, ◌++◌, Option, codes, decimal}
+use Rattle.std.specs.Io.KnownBytes.{Appends}
+use Rattle.logos_answers.specs.Comparing.{IsCompared}
+use Rattle.logos_answers.specs.Matches.{AreLines}
+use Rattle.logos_answers.specs.Offsets.{IsOffsetOf}
+use Rattle.logos_answers.specs.declared.comparing.Compared.{Compared}
+use Rattle.logos_answers.specs.declared.comparing.Compared.TheVariants as compared
+use Rattle.logos_evidence.specs.Matching.{AreMatches}
+use Rattle.logos_evidence.specs.declared.matching.Match.{Match}
+use Rattle.logos_graph.specs.View.{GraphValue, rules_of}
+use Rattle.logos_lines.specs.declared.place.Position.{Position}
+use Rattle.logos_pattern.specs.declared.leaf.Leaf.{Leaf}
+use Rattle.logos_show.specs.declared.asking.Standing.{Standing}
+use Rattle.logos_show.specs.declared.asking.Standing.TheVariants.{Different, Same}
+
+-- The line that names a place.
+abbrev pub place_line : Position → List ℕ
+place_line place = codes "from " ++ (decimal place.line ++ (codes ":" ++ (decimal place.column ++ codes "\n")))
+
+-- Standard output got the lines about all matches from a place of an input.
+pub record PrintsMatches (leaves : List Leaf) (input : List ℕ) (place : Position) (old new : Option (List ℕ)) : Type 0 where
+  pub from : ℕ
+  pub at : IsOffsetOf input place from
+  pub matches : List Match
+  pub all : AreMatches (rules_of leaves) input from matches
+  pub text : List ℕ
+  pub lines : AreLines leaves input from matches text
+  pub printed : Appends old new (place_line place ++ text)
+
+-- The verdict on two lexers is that of a comparison.
+abbrev pub IsJudged : GraphValue → GraphValue → Standing → Type 0
+IsJudged one other Same = IsCompared one other compared.Same
+IsJudged one other Different = (made : Compared) × IsCompared one other made × (made ≢ compared.Same)
