@@ -1,0 +1,10 @@
+#[derive(logos::Logos)]
+#[logos(skip " +")]
+enum Code {
+    #[token("add")]
+    Add,
+    #[regex("[a-z_]+")]
+    Name,
+    #[regex("0x[0-9a-f]+")]
+    Hex,
+}
