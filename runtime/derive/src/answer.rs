@@ -72,7 +72,7 @@ impl Answer {
                     .ok_or_else(|| Failure::unreadable("a piece is not as it should be"))?;
             }
             if value.get("$message_type").text() == Some("diagnostic") {
-                answer.messages.extend(message(&value));
+                add_message(&mut answer.messages, &value);
             }
         }
         if accepted
@@ -96,6 +96,23 @@ fn pieces(value: &Json) -> Option<Vec<Piece>> {
         })
     };
     value.get("pieces").items().iter().map(piece).collect()
+}
+
+/// Adds a message of a level that is shown. A note becomes part of the message before it.
+fn add_message(messages: &mut Vec<Message>, value: &Json) {
+    if value.get("level").text() != Some("note") {
+        messages.extend(message(value));
+        return;
+    }
+    let spans = value.get("spans").items().iter().filter_map(label);
+    if let Some(before) = messages.last_mut() {
+        let text = value.get("message").text();
+        before.spans.extend(spans.map(|span| Label {
+            primary: false,
+            text: text.map(String::from),
+            ..span
+        }));
+    }
 }
 
 /// Returns a message of a level that is shown.
