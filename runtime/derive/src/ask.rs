@@ -21,8 +21,10 @@ impl Failure {
 
 /// Asks the program for the implementation of an enum.
 ///
-/// `None` stands for a `logos_cli` that does not know the question.
-pub fn ask(program: &Path, shape: &str, text: &str) -> Result<Option<Answer>, Failure> {
+/// # Errors
+///
+/// Returns what to say where the program cannot be run, or its output is no answer.
+pub fn ask(program: &Path, shape: &str, text: &str) -> Result<Answer, Failure> {
     let output = run(program, shape, text).map_err(|error| {
         Failure(format!(
             "the program `{}` cannot be run: {error}\nhelp: {REMEDY}",
@@ -34,10 +36,7 @@ pub fn ask(program: &Path, shape: &str, text: &str) -> Result<Option<Answer>, Fa
     if let (Some(0 | 1), Some(PROTOCOL)) = (status, Answer::protocol(&messages)) {
         let implementation =
             String::from_utf8(output.stdout).map_err(|_| Failure::unreadable("it is not UTF-8"))?;
-        return Answer::read(status == Some(0), implementation, &messages).map(Some);
-    }
-    if status == Some(2) && messages.to_lowercase().contains("usage: logos_cli") {
-        return Ok(None);
+        return Answer::read(status == Some(0), implementation, &messages);
     }
     Err(no_answer(program, &output, &messages))
 }
@@ -58,7 +57,7 @@ fn run(program: &Path, shape: &str, text: &str) -> io::Result<Output> {
 }
 
 /// Returns why an output is no answer.
-pub fn no_answer(program: &Path, output: &Output, messages: &str) -> Failure {
+fn no_answer(program: &Path, output: &Output, messages: &str) -> Failure {
     let program = program.display();
     let why = match (Answer::protocol(messages), output.status.code()) {
         (Some(protocol), _) if protocol != PROTOCOL => {

@@ -2,7 +2,6 @@
 
 use crate::answer::Piece;
 use crate::ask::Failure;
-use crate::callbacks::Pieces;
 use crate::question::Question;
 use proc_macro::{Delimiter, Group, Span, TokenStream, TokenTree};
 use std::collections::HashMap;
@@ -20,9 +19,8 @@ pub fn fill(
     text: TokenStream,
     pieces: &[Piece],
     question: &Question,
-    own: Pieces,
 ) -> Result<TokenStream, Failure> {
-    let mut fillings = own.fillings;
+    let mut fillings = HashMap::new();
     for piece in pieces {
         let tokens = question.cut(piece.from, piece.to);
         let tokens =
@@ -37,7 +35,7 @@ pub fn fill(
 }
 
 /// Returns the span of the last token, where that is a name, else of the first.
-pub fn anchor(tokens: TokenStream) -> Option<Span> {
+fn anchor(tokens: TokenStream) -> Option<Span> {
     let trees: Vec<TokenTree> = tokens.into_iter().collect();
     match trees.last()? {
         TokenTree::Ident(name) => Some(name.span()),

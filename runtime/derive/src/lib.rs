@@ -22,9 +22,7 @@
 
 mod answer;
 mod ask;
-mod callbacks;
 mod fault;
-mod files;
 mod fill;
 mod input;
 mod json;
@@ -37,7 +35,6 @@ mod warning;
 
 use answer::{Answer, Level};
 use ask::Failure;
-use callbacks::Pieces;
 use proc_macro::TokenStream;
 use question::Question;
 
@@ -54,19 +51,10 @@ pub fn derive(item: TokenStream) -> TokenStream {
 /// Returns the implementation and the warnings, or the faults of the enum, and whether the enum is
 /// accepted.
 fn implementation(item: &TokenStream) -> Result<(TokenStream, bool), Failure> {
-    let mut question = Question::new(item.clone());
+    let question = Question::new(item.clone());
     let program = program::find().map_err(Failure)?;
     let shape = shape()?;
-    let mut pieces = Pieces::default();
-    let answer = match ask::ask(&program, shape, &question.text)? {
-        Some(answer) => answer,
-        None => {
-            pieces = Pieces::new(item);
-            let item = pieces.take(item.clone());
-            question = Question::with_placeholders(item, &pieces);
-            files::ask(&program, shape, &question)?
-        }
-    };
+    let answer = ask::ask(&program, shape, &question.text)?;
     if cfg!(feature = "debug") {
         eprintln!(
             "[logos] {} --shape {shape}: {}",
@@ -82,20 +70,20 @@ fn implementation(item: &TokenStream) -> Result<(TokenStream, bool), Failure> {
         }
     }
     if answer.accepted {
-        tokens.extend(filled(&answer, &question, pieces)?);
+        tokens.extend(filled(&answer, &question)?);
     }
     Ok((tokens, answer.accepted))
 }
 
 /// Returns the implementation with the user's tokens.
-fn filled(answer: &Answer, question: &Question, pieces: Pieces) -> Result<TokenStream, Failure> {
+fn filled(answer: &Answer, question: &Question) -> Result<TokenStream, Failure> {
     // What clippy says of the program's own text. The rest of it clippy sees to be a macro's.
     let lints = "#[allow(clippy::manual_range_contains, clippy::question_mark)]";
     let text = format!("{lints} {}", answer.text);
     let text = text
         .parse()
         .map_err(|_| Failure::unreadable("the implementation is not Rust"))?;
-    fill::fill(text, &answer.pieces, question, pieces)
+    fill::fill(text, &answer.pieces, question)
 }
 
 /// Adds an implementation that finds nothing, so that uses of the enum are no errors beside these.

@@ -1,9 +1,6 @@
 //! The enum as a text, and where its tokens stand there.
 
-use crate::callbacks::Pieces;
-use crate::fill::Filling;
 use proc_macro::{Delimiter, Group, Ident, Literal, Spacing, Span, TokenStream, TokenTree};
-use std::collections::HashMap;
 
 /// The enum as a text, with its tokens.
 #[derive(Default)]
@@ -11,10 +8,6 @@ pub struct Question {
     pub text: String,
     nodes: Vec<Node>,
     tokens: Vec<Token>,
-    /// The last span of what each placeholder stands for.
-    ends: HashMap<String, Span>,
-    /// Whether the text is one line.
-    is_line: bool,
 }
 
 /// A token tree of the enum, with its byte range in the text.
@@ -30,8 +23,6 @@ struct Token {
     from: usize,
     to: usize,
     span: Span,
-    /// The last span of what a placeholder stands for, else the token's own.
-    last: Span,
     is_literal: bool,
 }
 
@@ -47,23 +38,6 @@ impl Question {
     /// Prints an item.
     pub fn new(item: TokenStream) -> Question {
         let mut question = Question::default();
-        question.nodes = question.print(item);
-        question.text.push('\n');
-        question
-    }
-
-    /// Prints an item with placeholders on one line.
-    pub fn with_placeholders(item: TokenStream, pieces: &Pieces) -> Question {
-        let end = |filling: &Filling| filling.tokens.clone().into_iter().last();
-        let ends = pieces
-            .fillings
-            .iter()
-            .filter_map(|(name, filling)| Some((name.clone(), end(filling)?.span())));
-        let mut question = Question {
-            ends: ends.collect(),
-            is_line: true,
-            ..Question::default()
-        };
         question.nodes = question.print(item);
         question.text.push('\n');
         question
@@ -102,7 +76,7 @@ impl Question {
             first.is_literal && first.from == last.from && (first.from < from || to < first.to);
         Some(Place {
             first: first.span,
-            last: last.last,
+            last: last.span,
             literal: is_part.then_some((first.from, first.to)),
         })
     }
@@ -158,16 +132,11 @@ impl Question {
         let to = from + text.len();
         self.text.push_str(text);
         self.text
-            .push(if matches!(text, "," | "]") && !self.is_line {
-                '\n'
-            } else {
-                ' '
-            });
+            .push(if matches!(text, "," | "]") { '\n' } else { ' ' });
         self.tokens.push(Token {
             from,
             to,
             span,
-            last: self.ends.get(text).copied().unwrap_or(span),
             is_literal: false,
         });
         to
