@@ -5,4 +5,4 @@ returns-in-Ok-clause-done g c = λ s. (c.in-Ok.answer, c.in-Ok.ensures.done, c.p
 
 pub returns-in-Err-Errors-clause-denied : goal.returns-in-Err-Errors-clause-denied
 returns-in-Err-Errors-clause-denied g c =
-    λ s. let t = rw c.in-Err-Errors.field-0-is at (c.refuse.ensures.denied s) in (t.0, (c.in-Err-Errors.errors, rw c.in-Err-Errors.field-0-is at c.in-Err-Errors.ensures.refused, t.1), t.2)
+    λ s. let t = c.refuse.ensures.denied s in (t.0, (c.in-Err-Errors.errors, rw c.in-Err-Errors.field-0-is at c.in-Err-Errors.ensures.refused, t.1), t.2)
