@@ -1,5 +1,5 @@
 -- What is printed about lexers.
-use Rattle.std.specs.Prelude.{◌≡◌, ◌≢◌, ℕ, List, ◌++◌, Option, codes, decimal}
+use Rattle.std.specs.Prelude.{◌≢◌, ℕ, List, ◌++◌, Option, codes, decimal}
 use Rattle.std.specs.Io.KnownBytes.{Appends}
 use Rattle.logos_answers.specs.Comparing.{IsCompared}
 use Rattle.logos_answers.specs.Matches.{AreLines}
