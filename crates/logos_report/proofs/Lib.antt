@@ -1,4 +1,5 @@
 pub mod PageLemmas
+pub mod SeenLemmas
 pub mod ShownLemmas
 pub mod FaultLemmas
 pub mod CountLemmas

@@ -14,6 +14,10 @@ is_unsafe c =
 abbrev pub stand_in : ℕ → ℕ
 stand_in c = if nat_lt c 32 then 0x2400 + c else if c == 127 then 0x2421 else if is_unsafe c then 0xFFFD else c
 
+-- whether a character is not shown as it is
+abbrev pub is_hidden : ℕ → Bool
+is_hidden c = (nat_lt c 32 || (c == 127)) || is_unsafe c
+
 -- a character as it is shown, in UTF-8: a tab as four blanks
 abbrev pub shown_char : ℕ → List ℕ
 shown_char c = if c == 9 then codes "    " else encode_utf8 (stand_in c)

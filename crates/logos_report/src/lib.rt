@@ -8,6 +8,7 @@ mod help;
 mod help_by_sight;
 mod help_for_pattern;
 mod inner;
+pub mod laws;
 mod page;
 mod shown;
 mod sight;
