@@ -96,8 +96,18 @@ class Repository:
                 shutil.copy2(root / 'crates' / name / file, room / 'crates' / name / file)
         subprocess.run(['git', 'init', '-q', str(room)], check=True)
 
-    def prove(self):
-        """Whether all crates are proved as they stand, and what was said. What an earlier run on this machine has proved is not proved again."""
+    def take_libraries(self):
+        """Takes the libraries that `rt ci` has built in the checkout, for all crates of the copy that have one there."""
+        for crate in (self.room / 'crates').iterdir():
+            built = self.root / 'crates' / crate.name / 'out' / 'rlib'
+            if built.is_dir():
+                shutil.copytree(built, crate / 'out' / 'rlib')
+
+    def prove(self, is_proved):
+        """Whether all crates are proved as they stand, and what was said. Where they are, as the gate's note says, the libraries that it built are taken."""
+        if is_proved:
+            self.take_libraries()
+            return True, ''
         how = {'stdin': subprocess.DEVNULL, 'stdout': subprocess.PIPE, 'stderr': subprocess.STDOUT, 'text': True, 'errors': 'replace'}
         done = subprocess.run(['rt', 'ci'], cwd=self.room, check=False, **how)
         return done.returncode == 0, done.stdout
