@@ -9,7 +9,8 @@
 # folder .git/gate: which files it proved, with which toolchain, and which programs it built. A later run over the same files takes
 # its word for them.
 #
-# The sums in proved.sums have to be those of the crates, so that a program that is installed without proofs may leave its checks out.
+# The sums in proved.sums have to be those of the crates, so that a program that is installed
+# without proofs may leave its checks out.
 #
 # In front of each verdict stand the seconds since the run began, and at the end the processor minutes of each crate. RT_JOBS says how
 # many checks run at once.
