@@ -1,0 +1,38 @@
+//! Laws of definitions in another form. No code calls these functions: the contract of each is a
+//! proved law.
+
+ghost use Rattle.std.specs.Prelude.{◌≡◌, ◌<◌, ◌↔◌, ℕ, ◌+◌, ◌^◌, List, Ok};
+ghost use Rattle.logos_readings.specs.Words.{EnumValue, Piece, Reads, TokenList, pieces, stripped, in_file, moved, StandInReport, StandInText, ArePieces, EnumStays};
+
+/// The pieces of an argument are its first piece, and then the pieces of what is left after that
+/// piece and its comma.
+pub fn pieces_in_turn()
+    ensures are { (run : TokenList) → ArePieces run (pieces run) }
+    ensures only { (run : TokenList) (list : List Piece) → ArePieces run list →
+        list ≡ pieces run }
+{}
+
+/// Stripping leaves of an enum exactly this: its attributes, those of its variants and those of
+/// their fields without the helper attributes, the lists of the enum's `derive`s without the
+/// entries that name the macro, and all other tokens.
+pub fn strips_by_parts()
+    ensures are { (tokens : TokenList) (value : EnumValue) → Reads tokens (Ok value) →
+        EnumStays value tokens (stripped tokens) }
+    ensures only { (tokens remaining : TokenList) (value : EnumValue) →
+        EnumStays value tokens remaining → remaining ≡ stripped tokens }
+{}
+
+/// An offset of a part of a file, counted from the beginning of the file, is a sum, as long as that
+/// is a number of 64 bits.
+pub fn offsets_are_sums()
+    ensures report { (begin offset : ℕ) → offset + begin < 2 ^ 64 →
+        in_file begin offset ≡ offset + begin }
+    ensures rows { (begin offset : ℕ) → offset + begin < 2 ^ 64 →
+        moved begin offset ≡ begin + offset }
+{}
+
+/// Texts stand in a report as they stand in the text of a lexer.
+pub fn texts_stand_alike()
+    ensures { (texts : List (List ℕ)) (whole : List ℕ) →
+        StandInReport texts whole ↔ StandInText texts whole }
+{}
