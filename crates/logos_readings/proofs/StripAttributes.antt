@@ -1,25 +1,24 @@
 -- What stays of attributes.
-use Rattle.std.proofs.Common.{◌≡◌, ◌==◌, ◌&&◌, ◌||◌, not, if◌then◌else◌, ℕ, Bool, true, false, List, [], ◌∷◌, ◌++◌, Option, Some, None, Result, Ok, Err, refl, sym, ap, ◌∙◌, subst, codes, eqb-true}
+use Rattle.std.proofs.Common.{◌≡◌, ◌==◌, ◌&&◌, ◌||◌, if◌then◌else◌, ℕ, Bool, true, false, List, [], ◌∷◌, ◌++◌, Option, Some, None, Result, Ok, refl, sym, ap, ◌∙◌, subst, codes, eqb-true}
 use Rattle.std.specs.Str.{bytes_eq}
 use Rattle.std.specs.List.{flat_map}
 use Rattle.logos_lexeme.specs.declared.lexeme.Span.{Span}
 use Rattle.logos_lexeme.specs.declared.lexeme.Spacing.{Spacing}
 use Rattle.logos_lexeme.specs.declared.lexeme.Spacing.TheVariants.{Alone, Joint}
-use Rattle.logos_lexeme.specs.declared.lexeme.Delimiter.{Delimiter}
 use Rattle.logos_lexeme.specs.declared.lexeme.Delimiter.TheVariants.{Parenthesis, Bracket, Brace}
 use Rattle.logos_token.specs.Tokens.{Token, TokenList, identifier, punctuation, literal, doc, group, none, also, append}
 use Rattle.logos_token.specs.First.{colon, is_path_mark, after_word, after_colon, after_path_mark}
 use Rattle.logos_enum.specs.declared.error.ReadError.{ReadError}
 use Rattle.logos_enum.specs.Attributes.{attribute_mismatch, unless, after_attributes, after_hash}
-use Rattle.logos_enum.specs.Marks.{hash, is_none, is_outer}
+use Rattle.logos_enum.specs.Marks.{hash, is_outer}
 use Rattle.logos_strip.specs.declared.spots.Scope.{Scope}
 use Rattle.logos_strip.specs.declared.spots.Scope.TheVariants.{Enum, Attribute, Derives, Variants, Fields}
 use Rattle.logos_strip.specs.declared.spots.TokenSpot.{TokenSpot}
-use Rattle.logos_strip.specs.declared.spots.TokenSpot.TheVariants.{Open, Hash, Gone, Named, Within}
+use Rattle.logos_strip.specs.declared.spots.TokenSpot.TheVariants.{Open, Gone, Named, Within}
 use Rattle.logos_strip.specs.Helpers.{is_comma, is_helper_path, holds_after, ends_entry, is_macro_name, is_macro_segment, is_macro_path, is_global_path, is_macro_entry}
-use Rattle.logos_strip.specs.Spots.{goes, spot_after, scope_of, scope_inside, after_part, after_start}
+use Rattle.logos_strip.specs.Spots.{scope_inside, after_part}
 use Rattle.logos_strip.specs.Stripping.{in_front, left, thinned, sorted}
-use Rattle.logos_readings.specs.Stays.{stay, go_away, Entry, with_first, entries_of, entry_stays, without_macro, list_without_macro, derive_without_macro, unchanged, brackets_stay, attributes_stay, attribute_stays, are_attributes, are_bracketed}
+use Rattle.logos_readings.specs.Stays.{stay, go_away, Entry, with_first, entries_of, entry_stays, list_without_macro, derive_without_macro, unchanged, brackets_stay, attributes_stay, are_attributes, are_bracketed}
 
 -- ---- Runs of which all stays.
 

@@ -1,24 +1,22 @@
 -- What stays of an enum.
-use Rattle.std.proofs.Common.{◌≡◌, ◌==◌, ℕ, Bool, true, false, if◌then◌else◌, List, [], ◌∷◌, ◌++◌, Option, Some, None, Result, Ok, Err, refl, sym, ap, ◌∙◌, subst, codes}
+use Rattle.std.proofs.Common.{◌≡◌, Bool, true, false, if◌then◌else◌, List, [], ◌∷◌, ◌++◌, Option, Some, None, Ok, Err, refl, sym, ap, ◌∙◌, subst, codes}
 use Rattle.std.specs.Str.{bytes_eq}
 use Rattle.logos_lexeme.specs.declared.lexeme.Span.{Span}
 use Rattle.logos_lexeme.specs.declared.lexeme.Delimiter.TheVariants.{Parenthesis, Bracket, Brace}
-use Rattle.logos_token.specs.Tokens.{Token, TokenList, identifier, punctuation, literal, doc, group, none, also, append, IsRestOf}
-use Rattle.logos_enum.specs.declared.error.ReadError.{ReadError}
-use Rattle.logos_enum.specs.Attributes.{Attributes, after_parenthesis, after_visibility, after_keyword, announced_in, IsFront}
+use Rattle.logos_token.specs.Tokens.{Token, TokenList, identifier, punctuation, literal, doc, group, none, also, append}
+use Rattle.logos_enum.specs.Attributes.{after_parenthesis, after_visibility, after_keyword, announced_in}
 use Rattle.logos_enum.specs.Enum.{variants, within, from_brace, where_in, Body, braced, lacking, end_in, enum_of, item, Reads, reads}
 use Rattle.logos_enum.specs.EnumValues.{VariantValue, EnumValue}
-use Rattle.logos_enum.specs.Generics.{name_in}
 use Rattle.logos_enum.specs.Groups.{Opened, brace_in}
 use Rattle.logos_enum.specs.Marks.{is_none}
-use Rattle.logos_enum.specs.Rules.{Outcome, mismatch, Then, goes, stops}
-use Rattle.logos_enum.proofs.Once.{reading, same-value, same-rest}
+use Rattle.logos_enum.specs.Rules.{Outcome, goes}
+use Rattle.logos_enum.proofs.Once.{same-value}
 use Rattle.logos_strip.specs.declared.spots.Scope.TheVariants.{Enum, Variants}
 use Rattle.logos_strip.specs.declared.spots.TokenSpot.TheVariants.{Open, Within}
 use Rattle.logos_strip.specs.Stripping.{left, sorted, stripped}
 use Rattle.logos_readings.specs.Stays.{stay, attributes_stay, derive_without_macro, are_attributes, begins_word}
 use Rattle.logos_readings.specs.StrippedParts.{ItemsStay, VariantStays, EnumStays}
-use Rattle.logos_readings.proofs.RuleRests.{append_append, IsBack, part_self, part_left, part_rest, Anything, Gives, gives_if}
+use Rattle.logos_readings.proofs.RuleRests.{append_append, IsBack, part_self, part_rest, Anything, Gives, gives_if}
 use Rattle.logos_readings.proofs.GenericRests.{name_gives, generics_keep}
 use Rattle.logos_readings.proofs.StripAttributes.{attributes_sound}
 use Rattle.logos_readings.proofs.StripItems.{ListStays, Attributed, attributes_at}

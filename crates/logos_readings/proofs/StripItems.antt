@@ -1,36 +1,32 @@
 -- What stays of the fields of an enum.
-use Rattle.std.proofs.Common.{◌≡◌, ◌==◌, ◌&&◌, ◌||◌, not, ℕ, Bool, true, false, IsTrue, if◌then◌else◌, List, [], ◌∷◌, ◌++◌, Option, Some, None, Result, Ok, Err, refl, sym, ap, ◌∙◌, subst, codes, eqb-true}
+use Rattle.std.proofs.Common.{◌≡◌, ◌==◌, ◌&&◌, not, ℕ, Bool, true, false, List, [], ◌∷◌, ◌++◌, Option, Some, Ok, Err, refl, sym, ap, ◌∙◌, subst, codes, eqb-true}
 use Rattle.std.specs.Str.{bytes_eq}
 use Rattle.logos_lexeme.specs.declared.lexeme.Span.{Span}
 use Rattle.logos_lexeme.specs.declared.lexeme.Spacing.{Spacing}
 use Rattle.logos_lexeme.specs.declared.lexeme.Delimiter.TheVariants.{Parenthesis, Bracket, Brace}
 use Rattle.logos_token.specs.Tokens.{Token, TokenList, identifier, punctuation, literal, doc, group, none, also, append}
-use Rattle.logos_type.specs.Parts.{Tree}
-use Rattle.logos_type_reader.specs.TypeExprs.{IsTypeExpr, type_nesting}
 use Rattle.logos_type_reader.proofs.ReadWritten.{type_written}
-use Rattle.logos_enum.specs.declared.error.ReadError.{ReadError}
-use Rattle.logos_enum.specs.Attributes.{after_attributes, Attributes, stand, broken, after_parenthesis, after_visibility}
-use Rattle.logos_enum.specs.Enum.{FieldType, fits, fails, visibility_in, colon_in, label, field_of, field, fields, within, Holding, in_tuple, with_names as named_group, nothing, from_comma, value_in, discriminant_in, variant_of, variant, variants}
-use Rattle.logos_enum.specs.EnumValues.{Typed, FieldValue, FieldsValue, no_fields, in_parenthesis, in_braces, VariantValue}
+use Rattle.logos_enum.specs.Attributes.{Attributes, stand, after_parenthesis, after_visibility}
+use Rattle.logos_enum.specs.Enum.{FieldType, fits, colon_in, label, field_of, field, fields}
+use Rattle.logos_enum.specs.EnumValues.{Typed, FieldValue}
 use Rattle.logos_enum.specs.Generics.{name_in}
-use Rattle.logos_enum.specs.Groups.{Opened, parenthesis_in, brace_in}
-use Rattle.logos_enum.specs.Marks.{hash, colon, comma, equals, is_none}
-use Rattle.logos_enum.specs.Rules.{Outcome, Rule, mismatch, by, given, Then, goes, stops, after_item, preceded_by, Listed, ended, further, unparted, stopped}
+use Rattle.logos_enum.specs.Marks.{hash, colon, comma, is_none}
+use Rattle.logos_enum.specs.Rules.{Outcome, Rule, mismatch, goes, after_item, preceded_by, Listed, ended, further, unparted, stopped}
 use Rattle.logos_enum.specs.Values.{Slice}
-use Rattle.logos_enum.proofs.Once.{reading, same-value, same-rest, read-or-fail, one-front}
+use Rattle.logos_enum.proofs.Once.{reading, same-value, same-rest, one-front}
 use Rattle.logos_token.proofs.reading.NestingLemmas.{append-none}
 use Rattle.logos_strip.specs.declared.spots.Scope.{Scope}
 use Rattle.logos_strip.specs.declared.spots.Scope.TheVariants.{Enum, Attribute, Derives, Variants, Fields}
 use Rattle.logos_strip.specs.declared.spots.TokenSpot.{TokenSpot}
 use Rattle.logos_strip.specs.declared.spots.TokenSpot.TheVariants.{Open, Hash, Gone, Named, Within}
 use Rattle.logos_strip.specs.Helpers.{is_comma}
-use Rattle.logos_strip.specs.Spots.{scope_inside, after_part}
-use Rattle.logos_strip.specs.Stripping.{left, thinned, sorted}
-use Rattle.logos_readings.specs.Stays.{stay, unchanged, attributes_stay, are_attributes, is_plain, are_plain, has_comma, is_number}
-use Rattle.logos_readings.specs.StrippedParts.{ItemsStay, no_item, last_item, one_more, FieldStays, FieldsStay, no_group, a_tuple, with_names, VariantStays}
+use Rattle.logos_strip.specs.Spots.{after_part}
+use Rattle.logos_strip.specs.Stripping.{sorted}
+use Rattle.logos_readings.specs.Stays.{stay, unchanged, attributes_stay, are_attributes, is_plain, are_plain}
+use Rattle.logos_readings.specs.StrippedParts.{ItemsStay, no_item, last_item, one_more, FieldStays}
 use Rattle.logos_readings.proofs.RuleRests.{append_append}
-use Rattle.logos_readings.proofs.TypeTokens.{IsPlain, Goes, there, over, Passes, on, one, written}
-use Rattle.logos_readings.proofs.StripAttributes.{HasAttributes, change_of, Passed, attributes_passed, attributes_sound, both_true, more_pieces}
+use Rattle.logos_readings.proofs.TypeTokens.{IsPlain, Goes, there, over, Passes, on, written}
+use Rattle.logos_readings.proofs.StripAttributes.{HasAttributes, change_of, attributes_passed, both_true, more_pieces}
 
 -- ---- Tokens of a field in which no attribute begins.
 

@@ -5,7 +5,7 @@ use Rattle.logos_lexeme.specs.declared.lexeme.Span.{Span}
 use Rattle.logos_lexeme.specs.declared.lexeme.Delimiter.{Delimiter}
 use Rattle.logos_token.specs.Tokens.{Token, TokenList, identifier, literal, group, none, also, rest_of}
 use Rattle.logos_token.specs.Punctuation.{is_alone}
-use Rattle.logos_attribute.specs.Pieces.{Piece, PieceValue, unnamed, named, unexpected, assigned, beside, grouped, keyed, comma, equals, name_token, up_to_comma, after_comma, rest_after_piece}
+use Rattle.logos_attribute.specs.Pieces.{Piece, unnamed, named, unexpected, assigned, beside, grouped, keyed, comma, equals, name_token, up_to_comma, after_comma, rest_after_piece}
 use Rattle.logos_attribute.specs.Slices.{Slice}
 
 -- A lone `=` comes first.
