@@ -8,3 +8,4 @@ mod StripVariants
 mod StripSound
 mod StripEnums
 mod StandAlike
+mod BuilderLaws

@@ -1,8 +1,9 @@
 //! Laws of definitions in another form. No code calls these functions: the contract of each is a
 //! proved law.
 
-ghost use Rattle.std.specs.Prelude.{◌≡◌, ◌<◌, ◌↔◌, ℕ, ◌+◌, ◌^◌, List, Ok};
+ghost use Rattle.std.specs.Prelude.{◌≡◌, ◌<◌, ◌≤◌, ◌↔◌, ℕ, ◌+◌, ◌^◌, Bool, List, Ok, Option, IfSome};
 ghost use Rattle.logos_readings.specs.Words.{EnumValue, Piece, Reads, TokenList, pieces, stripped, in_file, moved, StandInReport, StandInText, ArePieces, EnumStays};
+ghost use Rattle.logos_readings.specs.Words.{Matches, MatchesInOrder, Tree, repetition, trees, concat_of, repetition_of};
 
 /// The pieces of an argument are its first piece, and then the pieces of what is left after that
 /// piece and its comma.
@@ -35,4 +36,15 @@ pub fn offsets_are_sums()
 pub fn texts_stand_alike()
     ensures { (texts : List (List ℕ)) (whole : List ℕ) →
         StandInReport texts whole ↔ StandInText texts whole }
+{}
+
+/// What is built of parts and of a repetition, in its simplest form, matches exactly what the parts
+/// match one after another, and what the repetition matches.
+pub fn builders_change_no_match()
+    ensures parts { (parts : List Tree) (bytes : List ℕ) (from to : ℕ) →
+        Matches (concat_of parts) bytes from to ↔ MatchesInOrder (trees parts) bytes from to }
+    ensures counts { (least : ℕ) (most : Option ℕ) (greedy : Bool) (body : Tree)
+        (bytes : List ℕ) (from to : ℕ) → IfSome most (λ m. least ≤ m) →
+        Matches (repetition_of least most greedy body) bytes from to
+        ↔ Matches (repetition least most greedy body) bytes from to }
 {}
