@@ -9,3 +9,4 @@ mod StripSound
 mod StripEnums
 mod StandAlike
 mod BuilderLaws
+mod BranchLaws

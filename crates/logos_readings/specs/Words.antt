@@ -2,8 +2,9 @@
 pub use Rattle.logos_attribute.specs.Pieces.{Piece, pieces}
 pub use Rattle.logos_enum.specs.Enum.{Reads}
 pub use Rattle.logos_enum.specs.EnumValues.{EnumValue}
-pub use Rattle.logos_hir.specs.Build.{concat_of, repetition_of}
-pub use Rattle.logos_hir.specs.Matches.{Matches, MatchesInOrder}
+pub use Rattle.logos_hir.specs.Build.{alternation_of, concat_of, repetition_of}
+pub use Rattle.logos_hir.specs.Matches.{Matches, MatchesInOrder, SomeMatches}
+pub use Rattle.logos_hir.specs.Text.{IsBytes}
 pub use Rattle.logos_hir.specs.Tree.{Tree, repetition, trees}
 pub use Rattle.logos_inspect.specs.Leaves.{moved}
 pub use Rattle.logos_report.specs.Pages.{StandInOrder as StandInReport}

@@ -3,7 +3,7 @@
 
 ghost use Rattle.std.specs.Prelude.{◌≡◌, ◌<◌, ◌≤◌, ◌↔◌, ℕ, ◌+◌, ◌^◌, Bool, List, Ok, Option, IfSome};
 ghost use Rattle.logos_readings.specs.Words.{EnumValue, Piece, Reads, TokenList, pieces, stripped, in_file, moved, StandInReport, StandInText, ArePieces, EnumStays};
-ghost use Rattle.logos_readings.specs.Words.{Matches, MatchesInOrder, Tree, repetition, trees, concat_of, repetition_of};
+ghost use Rattle.logos_readings.specs.Words.{IsBytes, Matches, MatchesInOrder, SomeMatches, Tree, repetition, trees, alternation_of, concat_of, repetition_of};
 
 /// The pieces of an argument are its first piece, and then the pieces of what is left after that
 /// piece and its comma.
@@ -38,11 +38,16 @@ pub fn texts_stand_alike()
         StandInReport texts whole ↔ StandInText texts whole }
 {}
 
-/// What is built of parts and of a repetition, in its simplest form, matches exactly what the parts
-/// match one after another, and what the repetition matches.
+/// What is built of parts, of branches or of a repetition, in its simplest form, matches exactly
+/// what the parts match one after another, what one of the branches does, or what the repetition
+/// does.
 pub fn builders_change_no_match()
     ensures parts { (parts : List Tree) (bytes : List ℕ) (from to : ℕ) →
         Matches (concat_of parts) bytes from to ↔ MatchesInOrder (trees parts) bytes from to }
+    ensures branches { (branches : List Tree) (bytes : List ℕ) → IsBytes bytes →
+        (from to : ℕ) →
+        Matches (alternation_of branches) bytes from to
+        ↔ SomeMatches (trees branches) bytes from to }
     ensures counts { (least : ℕ) (most : Option ℕ) (greedy : Bool) (body : Tree)
         (bytes : List ℕ) (from to : ℕ) → IfSome most (λ m. least ≤ m) →
         Matches (repetition_of least most greedy body) bytes from to
