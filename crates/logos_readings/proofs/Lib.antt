@@ -1,0 +1,12 @@
+mod PieceTurns
+mod RuleRests
+mod GenericRests
+mod TypeTokens
+mod StripAttributes
+mod StripItems
+mod StripVariants
+mod StripSound
+mod StripEnums
+mod StandAlike
+mod BuilderLaws
+mod BranchLaws

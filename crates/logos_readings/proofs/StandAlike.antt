@@ -1,0 +1,12 @@
+-- Texts that stand in order.
+use Rattle.std.proofs.Common.{ℕ, List, [], ◌∷◌}
+use Rattle.logos_report.specs.Pages.{StandInOrder as StandInReport}
+use Rattle.logos_text.specs.Standing.{StandInOrder as StandInText}
+
+pub in_text : (texts : List (List ℕ)) (whole : List ℕ) → StandInReport texts whole → StandInText texts whole
+in_text [] whole h = tt
+in_text (text ∷ texts) whole (before, after, is, rest) = (before, after, is, in_text texts after rest)
+
+pub in_report : (texts : List (List ℕ)) (whole : List ℕ) → StandInText texts whole → StandInReport texts whole
+in_report [] whole h = tt
+in_report (text ∷ texts) whole (before, after, is, rest) = (before, after, is, in_report texts after rest)
