@@ -15,18 +15,19 @@ use std::alloc::{AllocError, Global};
 
 /// What a leaf finds, and where it loses.
 #[derive(Drop)]
-struct Evidence {
+pub struct Evidence {
     /// A shortest input on which a lexer finds a match of the leaf first, if there is one.
-    found: Option<Vec<u8>>,
+    pub found: Option<Vec<u8>>,
     /// A shortest input on which it matches and another leaf is found first, if there is one.
-    loss: Option<Loss>,
+    pub loss: Option<Loss>,
 }
 
 /// An input on which a leaf matches and another one is found.
 #[derive(Drop)]
-struct Loss {
-    input: Vec<u8>,
-    winner: usize,
+pub struct Loss {
+    pub input: Vec<u8>,
+    /// The number of the leaf that is found.
+    pub winner: usize,
 }
 
 /// Pushes a line for each leaf of a graph without faults: a shortest input on which a lexer finds a
@@ -63,8 +64,12 @@ fn push_example(
     Ok(())
 }
 
-/// Returns what a leaf finds, and where it loses.
-fn evidence_of(alloc: Global, graph: &Graph<'_>, leaf: usize) -> Result<Evidence, AllocError>
+/// Returns what a leaf of a graph without faults finds, and where it loses.
+///
+/// # Errors
+///
+/// Returns `AllocError` if memory runs out.
+pub fn evidence_of(alloc: Global, graph: &Graph<'_>, leaf: usize) -> Result<Evidence, AllocError>
     ensures { IfOk result (λ evidence. IsGraphOf graph.now.leaves graph.now.utf8 graph.now →
         graph.now.faults ≡ [] → shown.IsEvidence (rules_of graph.now.leaves) graph.now.utf8 leaf
         (option_map (λ input. input.items) evidence.found)
@@ -73,6 +78,41 @@ fn evidence_of(alloc: Global, graph: &Graph<'_>, leaf: usize) -> Result<Evidence
     let found = example(alloc, graph, leaf)?;
     let loss = loss_of(alloc, graph, leaf)?;
     Ok(Evidence { found, loss })
+}
+
+/// Pushes which leaf takes a shortest match of another leaf of a graph without faults, and returns
+/// whether there is one.
+///
+/// # Errors
+///
+/// Returns `AllocError` if memory runs out. Nothing is pushed then.
+pub fn push_taker(
+    alloc: Global,
+    page: &mut Page,
+    graph: &Graph<'_>,
+    leaf: usize,
+) -> Result<bool, AllocError>
+    ensures { IfOk result (λ is_there. IsGraphOf graph.now.leaves graph.now.utf8 graph.now →
+        graph.now.faults ≡ [] →
+        shown.ShowsTaker graph.now.leaves graph.now.utf8 leaf is_there page.old page.new) }
+{
+    match loss_of(alloc, graph, leaf)? {
+        Some(loss) => {
+            push_taken(page, graph.leaves(), &loss.input, loss.winner);
+            Ok(true)
+        }
+        None => Ok(false),
+    }
+}
+
+/// Pushes which leaf takes an input.
+fn push_taken(page: &mut Page, leaves: &[Leaf<'_>], input: &[u8], winner: usize)
+    ensures { Gains (leaf_text leaves.now winner ++ (codes " takes " ++ quoted input.now))
+        page.old page.new }
+{
+    push_leaf(page, leaves, winner);
+    page.push(" takes ");
+    push_quoted(page, input);
 }
 
 /// Returns where a leaf loses.

@@ -15,6 +15,7 @@ use std::{mem, str};
 #[derive(Drop)]
 pub struct JsonLines {
     writer: Writer,
+    alloc: Global,
     is_whole: bool,
 }
 
@@ -32,11 +33,12 @@ impl Model for JsonLines {
 
 impl JsonLines {
     /// Returns an empty line after these bytes.
-    pub fn new(out: Vec<u8>) -> JsonLines
+    pub fn new(alloc: Global, out: Vec<u8>) -> JsonLines
         ensures { result ≡ record { before = out.items; tokens = []; is_whole = true } }
     {
         JsonLines {
             writer: Writer::new(out),
+            alloc,
             is_whole: true,
         }
     }
@@ -215,10 +217,10 @@ impl JsonLines {
     }
 
     /// Ends the line, and begins an empty one after it.
-    pub fn end_line(&mut self, alloc: Global)
+    pub fn end_line(&mut self)
         ensures { Ends self.old self.new }
     {
-        let writer = mem::replace(&mut self.writer, Writer::new(Vec::new(alloc)));
+        let writer = mem::replace(&mut self.writer, Writer::new(Vec::new(self.alloc)));
         let mut out = writer.into_inner();
         let is_ended = out.push(b'\n').is_ok();
         self.writer = Writer::new(out);

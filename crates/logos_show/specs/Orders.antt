@@ -1,5 +1,5 @@
 -- What the words of a command line ask for.
-use Rattle.std.specs.Prelude.{◌≡◌, ◌⊎◌, ℕ, List, [], ◌∷◌, false, Option, Some, None, if◌then◌else◌, option_map, bytes_eq, codes, is_some}
+use Rattle.std.specs.Prelude.{◌≡◌, ◌⊎◌, ℕ, List, [], ◌∷◌, Bool, false, true, Option, Some, None, if◌then◌else◌, option_map, bytes_eq, codes, is_some}
 use Rattle.logos_host.specs.declared.color.Color.{Color}
 use Rattle.logos_host.specs.declared.color.Color.TheVariants.{Auto}
 use Rattle.logos_host.specs.declared.options.OptionName.{OptionName}
@@ -19,23 +19,26 @@ use Rattle.logos_show.specs.declared.options.Topic.{Topic}
 use Rattle.logos_show.specs.declared.options.Topic.TheVariants as topics
 use Rattle.logos_show.specs.declared.options.Question.{Question}
 use Rattle.logos_show.specs.declared.options.Question.TheVariants as questions
-use Rattle.logos_answers.specs.Places.{place_named}
+use Rattle.logos_answers.specs.Places.{number_named, place_named}
 use Rattle.logos_lines.specs.declared.place.Position.{Position}
 
 -- What is asked of the lexers of a file: their leaves; the items of an input, by its path; what matches
--- from a place of an input; examples of what leaves find; or whether the lexer of another file, by its
--- path, is the same.
+-- from a place of an input; examples of what leaves find; at most so many inputs that together pass all
+-- edges; or whether the lexer of another file, by its path, is the same.
 pub data QuestionValue : Type 0 where
   leaves : QuestionValue
   items : (input : List ℕ) → QuestionValue
   matches : (input : List ℕ) → (place : Position) → QuestionValue
   examples : QuestionValue
+  inputs : (most : ℕ) → QuestionValue
   comparison : (other : List ℕ) → QuestionValue
 
--- a file: its path, what is asked of its lexers, perhaps the path of a stored answer, perhaps the name of the enum, and when messages have colors
+-- a file: its path, what is asked of its lexers, whether the answer is JSON, perhaps the path of a stored answer, perhaps the name of the enum, and
+-- when messages have colors
 pub record OrderValue : Type 0 where
   pub file : List ℕ
   pub question : QuestionValue
+  pub is_json : Bool
   pub expected : Option (List ℕ)
   pub name : Option (List ℕ)
   pub color : Color
@@ -53,13 +56,14 @@ pub record GivenValue : Type 0 where
   pub name : Option (List ℕ)
   pub color : Option Color
   pub topic : Option Topic
+  pub is_json : Bool
   pub expected : Option (List ℕ)
   pub answer : Option Answer
   pub progress : Progress
 
 -- what no words give
 abbrev pub given_nothing : GivenValue
-given_nothing = record { file = None; input = None; name = None; color = None; topic = None; expected = None; answer = None; progress = record { pending = None; is_over = false } }
+given_nothing = record { file = None; input = None; name = None; color = None; topic = None; is_json = false; expected = None; answer = None; progress = record { pending = None; is_over = false } }
 
 -- what is given, or this
 abbrev pub given_or : {A : Type 0} → A → Option A → A
@@ -87,12 +91,22 @@ abbrev pub with_place : GivenValue → Option Position → Option GivenValue
 with_place given None = None
 with_place given (Some place) = with_topic given (topics.Matches place)
 
+-- a number of inputs that are asked for
+abbrev pub with_most : GivenValue → Option ℕ → Option GivenValue
+with_most given None = None
+with_most given (Some most) = with_topic given (topics.Inputs most)
+
+-- an answer as JSON, which is asked for once
+abbrev pub with_json : GivenValue → Option GivenValue
+with_json given = if given.is_json then None else Some (record given { is_json = true })
+
 -- an option without a value
 abbrev pub with_flag : GivenValue → OptionName → Option GivenValue
 with_flag given options.Help = Some (record given { answer = Some answers.Help })
 with_flag given options.Version = Some (record given { answer = Some answers.Version })
 with_flag given options.Compare = with_topic given topics.Comparison
 with_flag given options.Examples = with_topic given topics.Examples
+with_flag given options.Json = with_json given
 with_flag given option = None
 
 -- the name of an enum, of which there is one
@@ -115,6 +129,7 @@ with_value given options.Enum word = with_name given word
 with_value given options.Color word = with_color given given.color (color_named word)
 with_value given options.At word = with_place given (place_named word)
 with_value given options.Expect word = with_expected given word
+with_value given options.Inputs word = with_most given (number_named word)
 with_value given option word = None
 
 abbrev pub with_use : GivenValue → UseValue → Option GivenValue
@@ -141,7 +156,7 @@ with_words None (word ∷ rest) = None
 with_words (Some given) (word ∷ rest) = with_words (with_word given word) rest
 
 -- What is asked of a file, by what is asked and by a second path. Matches and comparisons have one, and
--- examples have none.
+-- examples and inputs have none.
 abbrev pub question_given : Option Topic → Option (List ℕ) → Option QuestionValue
 question_given None None = Some leaves
 question_given None (Some input) = Some (items input)
@@ -149,12 +164,14 @@ question_given (Some (topics.Matches place)) None = None
 question_given (Some (topics.Matches place)) (Some input) = Some (matches input place)
 question_given (Some topics.Examples) None = Some examples
 question_given (Some topics.Examples) (Some input) = None
+question_given (Some (topics.Inputs most)) None = Some (inputs most)
+question_given (Some (topics.Inputs most)) (Some input) = None
 question_given (Some topics.Comparison) None = None
 question_given (Some topics.Comparison) (Some other) = Some (comparison other)
 
 abbrev pub order_asked : GivenValue → List ℕ → Option QuestionValue → Option Asked
 order_asked given file None = None
-order_asked given file (Some question) = Some (asks_showing (record { file = file; question = question; expected = given.expected; name = given.name; color = given_or Auto given.color }))
+order_asked given file (Some question) = Some (asks_showing (record { file = file; question = question; is_json = given.is_json; expected = given.expected; name = given.name; color = given_or Auto given.color }))
 
 -- a file to show, if there is one
 abbrev pub order_given : GivenValue → Option (List ℕ) → Option Asked
@@ -187,6 +204,7 @@ given_value given = record {
   name = option_map (λ path. path.now) given.name;
   color = given.color;
   topic = given.topic;
+  is_json = given.is_json;
   expected = option_map (λ path. path.now) given.expected;
   answer = given.answer;
   progress = given.progress;
@@ -197,12 +215,14 @@ question_value questions.Leaves = leaves
 question_value (questions.Items input) = items input.now
 question_value (questions.Matches input place) = matches input.now place
 question_value questions.Examples = examples
+question_value (questions.Inputs most) = inputs most
 question_value (questions.Comparison other) = comparison other.now
 
 abbrev pub order_value : Order → OrderValue
 order_value order = record {
   file = order.file.now;
   question = question_value order.question;
+  is_json = order.is_json;
   expected = option_map (λ path. path.now) order.expected;
   name = option_map (λ path. path.now) order.name;
   color = order.color;

@@ -3,15 +3,14 @@
 ghost use Rattle.std.specs.Prelude.{IfErr};
 ghost use Rattle.logos_show.specs.Orders.{IsNoMisuse};
 
-use crate::counts::{Counts, name_at, push_count};
-use crate::notes::note_of;
 use crate::reading::print_bytes;
-use logos_answers::{LINE, push_item};
+use logos_answers::{Counts, LINE, code_name_at, note_of, push_count, push_item};
 use logos_codegen::code::{Code, CodeLeaf};
 use logos_codegen::leaf::LeafId;
 use logos_codegen::machine::{Action, Item, Lexer};
 use logos_host::{Failure, write_full};
 use logos_lines::Cursor;
+use logos_records::{ItemRecord, JsonLines, push_item_record};
 use std::alloc::{AllocError, Global};
 use std::io::Write;
 use std::time::{Clock, Duration};
@@ -70,11 +69,129 @@ pub(crate) fn write_items<O: Write, C: Clock>(
     Ok(note)
 }
 
+/// Writes an object of JSON for each item of an input. Returns a note about callbacks, which is empty if
+/// no leaf with a callback has an item.
+///
+/// # Errors
+///
+/// Returns `NotUtf8` if the lexer reads text and the input is not UTF-8, `Output` if writing fails,
+/// and `Memory` if memory runs out.
+pub(crate) fn write_item_records<O: Write>(
+    alloc: Global,
+    code: &Code<'_>,
+    input: &[u8],
+    out: &mut O,
+) -> Result<String, Failure<'static>>
+    ensures { IfErr result IsNoMisuse }
+{
+    let mut counts = Counts::new(alloc, code.leaves().len())?;
+    let emit = |_leaf: LeafId, _slice: &[u8]| Action::Emit;
+    let block = match Lexer::new_bytes(code, input, emit) {
+        Ok(lexer) => {
+            let mut lexer = lexer;
+            let records = Records {
+                alloc,
+                leaves: code.leaves(),
+                input,
+            };
+            write_records(&mut lexer, records, &mut counts, out)?
+        }
+        Err(error) => {
+            return Err(Failure::NotUtf8 {
+                valid_up_to: error.valid_up_to,
+            });
+        }
+    };
+    // The note is made first, so that nothing is printed if memory runs out.
+    let note = note_of(alloc, code.leaves(), &counts)?;
+    print_bytes(&block, out)?;
+    Ok(note)
+}
+
+/// What the objects of items are made of.
+#[derive(Clone, Copy)]
+struct Records<'c, 's> {
+    alloc: Global,
+    leaves: &'c [CodeLeaf<'s>],
+    input: &'c [u8],
+}
+
+/// Writes an object for each item that a lexer still gives, by blocks, and counts them. Returns the last
+/// block.
+fn write_records<C: Fn(LeafId, &[u8]) -> Action, O: Write>(
+    lexer: &mut Lexer<'_, '_, '_, C>,
+    records: Records<'_, '_>,
+    counts: &mut Counts,
+    out: &mut O,
+) -> Result<Vec<u8>, Failure<'static>>
+    requires { C.IsAlwaysCallable lexer.old.callback }
+    ensures { IfErr result IsNoMisuse }
+{
+    let mut cursor = Cursor::new(records.input);
+    let mut block = Vec::with_capacity(records.alloc, BLOCK + BLOCK / 16)?;
+    while let Some(item) = lexer.next() {
+        count_item(counts, &item);
+        let record = record_of(records.leaves, &mut cursor, item);
+        block = with_record(records.alloc, block, record)?;
+        write_if_full(&mut block, out)?;
+    }
+    Ok(block)
+}
+
+/// Counts an item.
+fn count_item(counts: &mut Counts, item: &Item<'_>) {
+    match item {
+        Item::Token { leaf, .. } => counts.count_token(leaf.0),
+        Item::Error { .. } => counts.count_error(),
+    }
+}
+
+/// Returns a block with one more object.
+fn with_record(
+    alloc: Global,
+    block: Vec<u8>,
+    record: ItemRecord<'_>,
+) -> Result<Vec<u8>, AllocError> {
+    let mut lines = JsonLines::new(alloc, block);
+    push_item_record(&mut lines, record);
+    lines.finish()
+}
+
+/// Returns what the object of an item shows.
+fn record_of<'i>(
+    leaves: &'i [CodeLeaf<'_>],
+    cursor: &mut Cursor<'_>,
+    item: Item<'i>,
+) -> ItemRecord<'i> {
+    match item {
+        Item::Token { leaf, span, slice } => {
+            cursor.go_to(span.from);
+            ItemRecord {
+                position: cursor.position(),
+                from: span.from,
+                leaf: Some(leaf.0),
+                variant: code_name_at(leaves, leaf.0),
+                bytes: slice,
+            }
+        }
+        Item::Error { span, slice, .. } => {
+            cursor.go_to(span.from);
+            ItemRecord {
+                position: cursor.position(),
+                from: span.from,
+                leaf: None,
+                variant: None,
+                bytes: slice,
+            }
+        }
+    }
+}
+
 /// Returns the heads of the lines of these leaves.
 fn heads_of(alloc: Global, leaves: &[CodeLeaf<'_>]) -> Result<Vec<Vec<u8>>, AllocError> {
     let mut heads = Vec::new(alloc);
     for number in 0..leaves.len() {
-        heads.push(head_of(alloc, name_at(leaves, number))?)?;
+        heads.push(head_of(alloc, code_name_at(leaves, number))?)?;
     }
     Ok(heads)
 }

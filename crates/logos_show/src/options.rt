@@ -7,11 +7,11 @@ ghost use Rattle.logos_show.specs.Orders.{asked, asked_given, given_nothing, giv
 ghost use Rattle.logos_show.specs.Orders.{given_or, path_named, request_value, with_flag};
 ghost use Rattle.logos_show.specs.Orders.{with_color, with_found, with_input, with_name, with_path};
 ghost use Rattle.logos_show.specs.Orders.{order_asked, question_given, question_value, with_expected};
-ghost use Rattle.logos_show.specs.Orders.{with_place, with_topic, with_value, with_word, with_words};
+ghost use Rattle.logos_show.specs.Orders.{with_json, with_most, with_place, with_topic, with_value, with_word, with_words};
 ghost use Rattle.logos_host.specs.Colors.{color_named};
-ghost use Rattle.logos_answers.specs.Places.{place_named};
+ghost use Rattle.logos_answers.specs.Places.{number_named, place_named};
 
-use logos_answers::place_by_word;
+use logos_answers::{number_by_text, place_by_word};
 use logos_host::{Color, Failure, OptionName, Progress, Use, color_by_name, next_step};
 use logos_lines::Position;
 
@@ -29,6 +29,8 @@ pub(crate) struct Order<'w> {
     /// The path of the file.
     pub(crate) file: &'w str,
     pub(crate) question: Question<'w>,
+    /// Whether the answer is JSON.
+    pub(crate) is_json: bool,
     /// The path of a stored answer, if the answer is to be compared with one.
     pub(crate) expected: Option<&'w str>,
     /// The name of the enum that is meant. If none is given all are shown, and the first one lexes.
@@ -48,6 +50,8 @@ pub(crate) enum Question<'w> {
     Matches(&'w str, Position),
     /// For each leaf a text that it finds, and one where it loses.
     Examples,
+    /// Inputs that together pass all edges of a lexer's graph, at most so many.
+    Inputs(usize),
     /// Whether the lexer of the file at this path is the same.
     Comparison(&'w str),
 }
@@ -58,6 +62,8 @@ enum Topic {
     /// What matches from a place.
     Matches(Position),
     Examples,
+    /// At most so many inputs.
+    Inputs(usize),
     Comparison,
 }
 
@@ -76,13 +82,14 @@ struct Given<'w> {
     name: Option<&'w str>,
     color: Option<Color>,
     topic: Option<Topic>,
+    is_json: bool,
     expected: Option<&'w str>,
     answer: Option<Answer>,
     progress: Progress,
 }
 
 /// The options that the program takes.
-pub(crate) const TAKEN: [OptionName; 8] = [
+pub(crate) const TAKEN: [OptionName; 10] = [
     OptionName::At,
     OptionName::Color,
     OptionName::Compare,
@@ -90,6 +97,8 @@ pub(crate) const TAKEN: [OptionName; 8] = [
     OptionName::Examples,
     OptionName::Expect,
     OptionName::Help,
+    OptionName::Inputs,
+    OptionName::Json,
     OptionName::Version,
 ];
 
@@ -127,6 +136,7 @@ fn read_words(words: &[String]) -> Result<Given<'_>, Failure<'_>>
         name: None,
         color: None,
         topic: None,
+        is_json: false,
         expected: None,
         answer: None,
         progress: Progress {
@@ -174,6 +184,7 @@ fn order_given(given: Given<'_>) -> Result<Request<'_>, Failure<'_>>
         Ok(question) => Ok(Request::Show(Order {
             file,
             question,
+            is_json: given.is_json,
             expected: given.expected,
             name: given.name,
             color: color_or_auto(given.color),
@@ -202,6 +213,11 @@ fn question_given<'w>(
         (Some(Topic::Examples), None) => Ok(Question::Examples),
         (Some(Topic::Examples), Some(input)) => Err(misuse(
             "`--examples` takes no input, not",
+            input,
+        )),
+        (Some(Topic::Inputs(most)), None) => Ok(Question::Inputs(most)),
+        (Some(Topic::Inputs(_)), Some(input)) => Err(misuse(
+            "`--inputs` takes no input, not",
             input,
         )),
         (Some(Topic::Comparison), None) => {
@@ -362,6 +378,7 @@ fn read_flag<'w>(given: Given<'w>, option: OptionName) -> Result<Given<'w>, Fail
         }),
         OptionName::Compare => read_topic(given, option, Topic::Comparison),
         OptionName::Examples => read_topic(given, option, Topic::Examples),
+        OptionName::Json => read_json(given),
         _ => Err(unknown(option)),
     }
 }
@@ -383,6 +400,35 @@ fn read_topic<'w>(
             topic: Some(topic),
             ..given
         }),
+    }
+}
+
+/// Reads that the answer is to be JSON.
+fn read_json(given: Given<'_>) -> Result<Given<'_>, Failure<'_>>
+    ensures given { IfOk result (λ next.
+        with_json (given_value given.entry) ≡ Some (given_value next)) }
+    ensures misuse { IfErr result (λ failure.
+        (with_json (given_value given.entry) ≡ None) × (status_of failure ≡ 2)) }
+{
+    if given.is_json {
+        return Err(twice(OptionName::Json));
+    }
+    Ok(Given {
+        is_json: true,
+        ..given
+    })
+}
+
+/// Reads how many inputs are asked for.
+fn read_most<'w>(given: Given<'w>, word: &'w str) -> Result<Given<'w>, Failure<'w>>
+    ensures given { IfOk result (λ next. with_most (given_value given.entry)
+        (number_named word.now) ≡ Some (given_value next)) }
+    ensures misuse { IfErr result (λ failure. (with_most (given_value given.entry)
+        (number_named word.now) ≡ None) × (status_of failure ≡ 2)) }
+{
+    match number_by_text(word) {
+        Some(most) => read_topic(given, OptionName::Inputs, Topic::Inputs(most)),
+        None => Err(misuse("`--inputs` is a number from 1 on, not", word)),
     }
 }
 
@@ -416,6 +462,7 @@ fn read_value<'w>(
         OptionName::Color => read_color(given, value),
         OptionName::At => read_place(given, value),
         OptionName::Expect => read_expected(given, value),
+        OptionName::Inputs => read_most(given, value),
         _ => Err(unknown(option)),
     }
 }

@@ -4,15 +4,19 @@ ghost use Rattle.std.specs.Prelude.{◌≡◌, ◌≤◌, ◌↔◌, None, IfErr
 ghost use Rattle.logos_host.specs.Failures.{status_of};
 ghost use Rattle.logos_show.specs.Orders.{IsNoMisuse, asked};
 
-use crate::asking::{Input, Lexed, Standing, compare_with, write_matches, write_standing};
-use crate::items::write_items;
+use crate::asking::{
+    Input, Judgment, Pair, Standing, compare_with, write_input_records, write_inputs,
+    write_match_records, write_matches, write_standing,
+};
+use crate::items::{write_item_records, write_items};
 use crate::options::{Order, Question, Request, TAKEN, request_of};
 use crate::reading::{chosen, print_bytes, read_bytes, refused, text_at, text_of};
-use crate::showing::{PageStyle, SHAPE, Shown, shown_of};
+use crate::showing::{Form, PageStyle, SHAPE, Shown, shown_of};
+use logos_answers::Lexed;
 use logos_codegen::{Generated, generate};
 use logos_host::{Failure, Files, report, with_nearest};
 use logos_lines::Position;
-use logos_report::{Part, Source};
+use logos_report::{Page, Part, Source};
 use logos_rust_file::{FoundEnum, enums_in};
 use std::alloc::Global;
 use std::io::{IsTerminal, Write};
@@ -22,6 +26,7 @@ pub(crate) const USAGE: &str = "\
 usage: logos_show FILE [INPUT] [--enum NAME] [--color always|never|auto]
        logos_show FILE INPUT --at LINE:COLUMN
        logos_show FILE --examples
+       logos_show FILE --inputs N
        logos_show OLD NEW --compare
 ";
 
@@ -40,6 +45,9 @@ options:
       --at L:C      print what matches from line L, column C of INPUT
       --examples    print for each leaf a shortest text that it finds, and one
                     where another leaf is found in its place
+      --inputs N    print at most N inputs that together pass every edge of the
+                    lexer's graph, a literal of Rust on each line
+      --json        print an object of JSON on each line
       --expect LIST compare what would be printed with the file LIST; status 1
                     if they differ in more than the time that was taken
       --compare     print whether the lexers of two files find the same, or a
@@ -162,6 +170,7 @@ fn answer<'w, F: Files, C: Clock, O: Write, E: Write + IsTerminal>(
 {
     let done = match task.order.question {
         Question::Leaves | Question::Examples => show(alloc, task, host, out),
+        Question::Inputs(most) => give_inputs(alloc, task, most, host, out),
         Question::Items(input) => lex(alloc, task, input, None, host, out),
         Question::Matches(input, place) => lex(alloc, task, input, Some(place), host, out),
         Question::Comparison(other) => return compare(alloc, task, other, host, out),
@@ -186,19 +195,80 @@ fn show<'w, F: Files, C: Clock, O: Write, E: Write + IsTerminal>(
     }
     let style = PageStyle {
         is_colored: task.is_colored,
-        has_examples: asks_examples(task.order.question),
+        form: form_of(task.order),
     };
-    let Shown { tables, warnings } = shown_of(alloc, &source, style, task.order.name)?;
+    let Shown {
+        tables,
+        records,
+        warnings,
+    } = shown_of(alloc, &source, style, task.order.name)?;
     let _ = host.err.write_all(warnings.as_bytes());
     let _ = host.err.flush();
-    print_bytes(tables.as_str().as_bytes(), out)
+    print_bytes(tables.as_str().as_bytes(), out)?;
+    print_bytes(&records, out)
 }
 
-/// Returns whether examples are asked for.
-fn asks_examples(question: Question<'_>) -> bool {
-    match question {
-        Question::Examples => true,
-        _ => false,
+/// Returns in which form the lexers of a file are shown.
+fn form_of(order: Order<'_>) -> Form {
+    match (order.question, order.is_json) {
+        (Question::Examples, false) => Form::Examples,
+        (Question::Examples, true) => Form::ExampleRecords,
+        (_, false) => Form::Tables,
+        (_, true) => Form::LeafRecords,
+    }
+}
+
+/// Writes inputs that together pass all edges of the graph of a lexer, at most so many.
+fn give_inputs<'w, F: Files, C: Clock, O: Write, E: Write + IsTerminal>(
+    alloc: Global,
+    task: Task<'w>,
+    most: usize,
+    host: &mut Host<'_, F, C, E>,
+    out: &mut O,
+) -> Result<(), Failure<'w>>
+    ensures { IfErr result IsNoMisuse }
+{
+    let path = task.order.file;
+    let text = text_at(path, host.files)?;
+    let source = Source::new(alloc, path, text.as_str())?;
+    let note = inputs_by_file(alloc, task, &source, most, out)?;
+    let _ = host.err.write_all(note.as_bytes());
+    let _ = host.err.flush();
+    Ok(())
+}
+
+/// Writes inputs by the lexer of a file that is asked for, and returns the note about them.
+fn inputs_by_file<'w, O: Write>(
+    alloc: Global,
+    task: Task<'w>,
+    source: &Source<'_>,
+    most: usize,
+    out: &mut O,
+) -> Result<String, Failure<'w>>
+    ensures { IfErr result IsNoMisuse }
+{
+    let one = lexer_in(alloc, task, source)?;
+    let part = part_of(source, one);
+    match generate(alloc, text_of(source, one), SHAPE) {
+        Ok(made) => inputs_by_lexer(alloc, task, &made, most, out),
+        Err(refusal) => Err(refused(alloc, part, task.is_colored, refusal)),
+    }
+}
+
+/// Writes inputs by a lexer, and returns the note about them.
+fn inputs_by_lexer<O: Write>(
+    alloc: Global,
+    task: Task<'_>,
+    made: &Generated<'_>,
+    most: usize,
+    out: &mut O,
+) -> Result<String, Failure<'static>>
+    ensures { IfErr result IsNoMisuse }
+{
+    if task.order.is_json {
+        write_input_records(alloc, &made.graph, most, out)
+    } else {
+        write_inputs(alloc, &made.graph, most, out)
     }
 }
 
@@ -221,6 +291,7 @@ fn lex<'w, F: Files, C: Clock, O: Write, E: Write + IsTerminal>(
         path: input,
         bytes: bytes.as_slice(),
         place,
+        is_json: task.order.is_json,
     };
     lex_by_file(alloc, task, &source, input, host, out)
 }
@@ -263,13 +334,20 @@ fn lex_by_lexer<'w, F: Files, C: Clock, O: Write, E: Write + IsTerminal>(
 ) -> Result<(), Failure<'w>>
     ensures { IfErr result IsNoMisuse }
 {
-    if let Some(place) = input.place {
-        return write_matches(alloc, &made.graph, input, place, out);
+    match (input.place, input.is_json) {
+        (Some(place), false) => write_matches(alloc, &made.graph, input, place, out),
+        (Some(place), true) => write_match_records(alloc, &made.graph, input, place, out),
+        (None, is_json) => {
+            let note = if is_json {
+                write_item_records(alloc, &made.code, input.bytes, out)?
+            } else {
+                write_items(alloc, &made.code, input.bytes, host.clock, out)?
+            };
+            let _ = host.err.write_all(note.as_bytes());
+            let _ = host.err.flush();
+            Ok(())
+        }
     }
-    let note = write_items(alloc, &made.code, input.bytes, host.clock, out)?;
-    let _ = host.err.write_all(note.as_bytes());
-    let _ = host.err.flush();
-    Ok(())
 }
 
 /// Writes whether the lexer of another file is the same, and returns that.
@@ -287,58 +365,61 @@ fn compare<'w, F: Files, C: Clock, O: Write, E: Write + IsTerminal>(
     let other_text = text_at(other, host.files)?;
     let source = Source::new(alloc, path, text.as_str())?;
     let other_source = Source::new(alloc, other, other_text.as_str())?;
-    compare_files(alloc, task, &source, &other_source, out)
+    let Judgment { standing, note } = compare_files(alloc, task, &source, &other_source, out)?;
+    let _ = host.err.write_all(note.as_bytes());
+    let _ = host.err.flush();
+    Ok(standing)
 }
 
-/// Writes whether the lexers of two files are the same, and returns that.
+/// Writes whether the lexers of two files are the same, and returns that with a note.
 fn compare_files<'w, O: Write>(
     alloc: Global,
     task: Task<'w>,
     source: &Source<'_>,
     other: &Source<'_>,
     out: &mut O,
-) -> Result<Standing, Failure<'w>>
+) -> Result<Judgment, Failure<'w>>
     ensures { IfErr result IsNoMisuse }
 {
     let one = lexer_in(alloc, task, source)?;
     let part = part_of(source, one);
     match generate(alloc, text_of(source, one), SHAPE) {
-        Ok(made) => compare_to(
-            alloc,
-            task,
-            Lexed {
-                path: source.path(),
-                made: &made,
-            },
-            other,
-            out,
-        ),
+        Ok(made) => compare_to(alloc, task, lexed(source, one, &made), other, out),
         Err(refusal) => Err(refused(alloc, part, task.is_colored, refusal)),
     }
 }
 
-/// Writes whether a lexer and that of another file are the same, and returns that.
+/// Returns a lexer with the path of its file and the text of its enum.
+fn lexed<'m, 's>(source: &'m Source<'_>, one: FoundEnum, made: &'m Generated<'s>) -> Lexed<'m, 's> {
+    Lexed {
+        path: source.path(),
+        text: text_of(source, one),
+        graph: &made.graph,
+        code: &made.code,
+    }
+}
+
+/// Writes whether a lexer and that of another file are the same, and returns that with a note.
 fn compare_to<'w, O: Write>(
     alloc: Global,
     task: Task<'w>,
     one: Lexed<'_, '_>,
     source: &Source<'_>,
     out: &mut O,
-) -> Result<Standing, Failure<'w>>
+) -> Result<Judgment, Failure<'w>>
     ensures { IfErr result IsNoMisuse }
 {
     let other = lexer_in(alloc, task, source)?;
     let part = part_of(source, other);
     match generate(alloc, text_of(source, other), SHAPE) {
-        Ok(made) => compare_with(
-            alloc,
-            one,
-            Lexed {
-                path: source.path(),
-                made: &made,
-            },
-            out,
-        ),
+        Ok(made) => {
+            let pair = Pair {
+                one,
+                other: lexed(source, other, &made),
+                is_json: task.order.is_json,
+            };
+            compare_with(alloc, pair, out)
+        }
         Err(refusal) => Err(refused(alloc, part, task.is_colored, refusal)),
     }
 }
@@ -368,12 +449,23 @@ fn lexer_in<'w>(
 fn no_lexer(alloc: Global, file: &str, name: Option<&str>) -> Failure<'static>
     ensures { IsNoMisuse result }
 {
-    let made = match name {
-        Some(name) => format!(in alloc; "error: no enum `{name}` in {file} derives `Logos`\n"),
-        None => format!(in alloc; "error: no enum in {file} derives `Logos`\n"),
-    };
-    match made {
+    let mut page = Page::new(alloc, false);
+    page.push("error: no enum ");
+    push_name(&mut page, name);
+    page.push("in ");
+    page.push_shown(file);
+    page.push(" derives `Logos`\n");
+    match page.finish() {
         Ok(text) => Failure::Refused(text),
         Err(_) => Failure::Memory,
+    }
+}
+
+/// Pushes the name of an enum, if one is given.
+fn push_name(page: &mut Page, name: Option<&str>) {
+    if let Some(name) = name {
+        page.push("`");
+        page.push_shown(name);
+        page.push("` ");
     }
 }

@@ -1,13 +1,17 @@
 //! The note about callbacks, of which none was called.
 
-use crate::counts::{Counts, name_at};
-use logos_codegen::code::CodeLeaf;
+use crate::counts::{Counts, code_name_at};
+use logos_code::code::CodeLeaf;
 use logos_report::Page;
 use std::alloc::{AllocError, Global};
 
-/// Returns a note that names each variant with items of a leaf that has a callback. It is empty if there
-/// is no such variant.
-pub(crate) fn note_of(
+/// Returns a note that names each variant with items of a leaf that has a callback. It is empty if
+/// there is no such variant.
+///
+/// # Errors
+///
+/// Returns `AllocError` if memory runs out.
+pub fn note_of(
     alloc: Global,
     leaves: &[CodeLeaf<'_>],
     counts: &Counts,
@@ -32,11 +36,11 @@ fn variant_at<'l>(leaves: &'l [CodeLeaf<'_>], counts: &Counts, number: usize) ->
     if leaf.callback.is_none() {
         return None;
     }
-    name_at(leaves, number)
+    code_name_at(leaves, number)
 }
 
-/// Pushes a variant, unless it is the last one. Returns the last one that was pushed, or an empty text if
-/// there is none.
+/// Pushes a variant, unless it is the last one. Returns the last one that was pushed, or an empty
+/// text if there is none.
 fn push_variant<'l>(page: &mut Page, variant: Option<&'l str>, last: &'l str) -> &'l str {
     let Some(variant) = variant else {
         return last;

@@ -1,20 +1,24 @@
 //! How many items there were of each kind.
 
-use logos_answers::push_number;
-use logos_codegen::code::CodeLeaf;
-use logos_codegen::leaf::VariantKind;
+use crate::lines::push_number;
+use crate::names::variant_of;
+use logos_code::code::CodeLeaf;
 use std::alloc::{AllocError, Global};
 
 /// How many items there were of each leaf, and how many errors.
 #[derive(Drop)]
-pub(crate) struct Counts {
+pub struct Counts {
     by_leaf: Vec<usize>,
     errors: usize,
 }
 
 impl Counts {
     /// Returns counts of no item, for this many leaves.
-    pub(crate) fn new(alloc: Global, leaves: usize) -> Result<Counts, AllocError> {
+    ///
+    /// # Errors
+    ///
+    /// Returns `AllocError` if memory runs out.
+    pub fn new(alloc: Global, leaves: usize) -> Result<Counts, AllocError> {
         let mut by_leaf = Vec::new(alloc);
         for _ in 0..leaves {
             by_leaf.push(0)?;
@@ -24,20 +28,24 @@ impl Counts {
 
     /// Counts an item of a leaf.
     #[inline(always)]
-    pub(crate) fn count_token(&mut self, leaf: usize) {
+    pub fn count_token(&mut self, leaf: usize) {
         if let Some(count) = self.by_leaf.get_mut(leaf) {
             *count = count.saturating_add(1);
         }
     }
 
     /// Counts an error.
-    pub(crate) fn count_error(&mut self) {
+    pub fn count_error(&mut self) {
         self.errors = self.errors.saturating_add(1);
     }
 
     /// Adds a line for each variant with the number of its items, and one with that of errors. The
     /// leaves of a variant follow one another.
-    pub(crate) fn push_lines(
+    ///
+    /// # Errors
+    ///
+    /// Returns `AllocError` if memory runs out. Some lines may be added then.
+    pub fn push_lines(
         &self,
         block: &mut Vec<u8>,
         leaves: &[CodeLeaf<'_>],
@@ -64,18 +72,18 @@ impl Counts {
     }
 }
 
-/// Adds the line of a variant at its last leaf. `sum` is the number of the items of the leaves of the
-/// variant up to this one. Returns what the next leaf adds to: the sum, or 0 where a variant ends.
+/// Adds the line of a variant at its last leaf. `sum` is the number of the items of the leaves of
+/// the variant up to this one. Returns what the next leaf adds to: the sum, or 0 where a variant ends.
 fn push_sum(
     block: &mut Vec<u8>,
     leaves: &[CodeLeaf<'_>],
     number: usize,
     sum: usize,
 ) -> Result<usize, AllocError> {
-    let Some(name) = name_at(leaves, number) else {
+    let Some(name) = code_name_at(leaves, number) else {
         return Ok(0);
     };
-    if name_at(leaves, number.saturating_add(1)) == Some(name) {
+    if code_name_at(leaves, number.saturating_add(1)) == Some(name) {
         return Ok(sum);
     }
     push_count(block, name, sum)?;
@@ -83,24 +91,19 @@ fn push_sum(
 }
 
 /// Returns the name of the variant of a leaf; `None` for a skip, and where there is no such leaf.
-pub(crate) fn name_at<'l>(leaves: &'l [CodeLeaf<'_>], number: usize) -> Option<&'l str> {
+pub fn code_name_at<'l>(leaves: &'l [CodeLeaf<'_>], number: usize) -> Option<&'l str> {
     match leaves.get(number) {
         Some(leaf) => variant_of(&leaf.kind),
         None => None,
     }
 }
 
-/// Returns the name of a variant.
-fn variant_of<'l>(kind: &'l VariantKind<'_>) -> Option<&'l str> {
-    match kind {
-        VariantKind::Unit(name) => Some(name.text),
-        VariantKind::Value(name, _) => Some(name.text),
-        VariantKind::Skip => None,
-    }
-}
-
 /// Adds a line with a name and a number.
-pub(crate) fn push_count(block: &mut Vec<u8>, name: &str, count: usize) -> Result<(), AllocError> {
+///
+/// # Errors
+///
+/// Returns `AllocError` if memory runs out. A part of the line may be added then.
+pub fn push_count(block: &mut Vec<u8>, name: &str, count: usize) -> Result<(), AllocError> {
     block.extend_from_slice(name.as_bytes())?;
     block.extend_from_slice(b": ")?;
     push_number(block, count)?;
