@@ -1,5 +1,5 @@
 -- The lines about what leaves find, and where they lose.
-use Rattle.std.specs.Prelude.{◌≡◌, ℕ, zero, suc, Bool, List, [], ◌++◌, Option, Some, None, codes, MatchBool, MatchOption}
+use Rattle.std.specs.Prelude.{◌≡◌, ℕ, zero, suc, Bool, List, [], ◌++◌, Option, Some, None, codes, MatchOption}
 use Rattle.logos_automaton.specs.Munch.{Rule}
 use Rattle.logos_evidence.specs.declared.matching.Match.{Match}
 use Rattle.logos_evidence.specs.Examples.{HasNoExample, IsShortestExample}
@@ -70,12 +70,3 @@ module _ (leaves : List Leaf) (utf8 : Bool) where
   -- A page gained the lines about so many leaves, from a number on.
   abbrev pub ShowsExamples : ℕ → ℕ → PageValue → PageValue → Type 0
   ShowsExamples leaf count old new = (text : List ℕ) × AreExampleLines leaf count text × Gains text old new
-
--- Which leaf takes an input.
-abbrev pub taken_text : List Leaf → LossValue → List ℕ
-taken_text leaves loss = leaf_text leaves loss.winner ++ (codes " takes " ++ quoted loss.input)
-
--- A page gained which leaf takes a shortest match of a leaf, if one does.
-abbrev pub ShowsTaker : List Leaf → Bool → ℕ → Bool → PageValue → PageValue → Type 0
-ShowsTaker leaves utf8 leaf is_there old new =
-    MatchBool is_there ((loss : LossValue) × IsLostTo (rules_of leaves) utf8 leaf loss × Gains (taken_text leaves loss) old new) (NeverLoses (rules_of leaves) utf8 leaf × (new ≡ old))

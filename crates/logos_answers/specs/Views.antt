@@ -1,3 +1,3 @@
 -- Definitions that clauses cite, and that name types of this crate.
 pub use Rattle.logos_answers.specs.Comparing.{IsCompared, compared_by}
-pub use Rattle.logos_answers.specs.Examples.{IsEvidence, IsLostTo, ShowsExample, ShowsExamples, ShowsTaker, evidence_line, found_text, loss_text, loss_value}
+pub use Rattle.logos_answers.specs.Examples.{IsEvidence, IsLostTo, ShowsExample, ShowsExamples, evidence_line, found_text, loss_text, loss_value}

@@ -80,41 +80,6 @@ pub fn evidence_of(alloc: Global, graph: &Graph<'_>, leaf: usize) -> Result<Evid
     Ok(Evidence { found, loss })
 }
 
-/// Pushes which leaf takes a shortest match of another leaf of a graph without faults, and returns
-/// whether there is one.
-///
-/// # Errors
-///
-/// Returns `AllocError` if memory runs out. Nothing is pushed then.
-pub fn push_taker(
-    alloc: Global,
-    page: &mut Page,
-    graph: &Graph<'_>,
-    leaf: usize,
-) -> Result<bool, AllocError>
-    ensures { IfOk result (λ is_there. IsGraphOf graph.now.leaves graph.now.utf8 graph.now →
-        graph.now.faults ≡ [] →
-        shown.ShowsTaker graph.now.leaves graph.now.utf8 leaf is_there page.old page.new) }
-{
-    match loss_of(alloc, graph, leaf)? {
-        Some(loss) => {
-            push_taken(page, graph.leaves(), &loss.input, loss.winner);
-            Ok(true)
-        }
-        None => Ok(false),
-    }
-}
-
-/// Pushes which leaf takes an input.
-fn push_taken(page: &mut Page, leaves: &[Leaf<'_>], input: &[u8], winner: usize)
-    ensures { Gains (leaf_text leaves.now winner ++ (codes " takes " ++ quoted input.now))
-        page.old page.new }
-{
-    push_leaf(page, leaves, winner);
-    page.push(" takes ");
-    push_quoted(page, input);
-}
-
 /// Returns where a leaf loses.
 fn loss_of(alloc: Global, graph: &Graph<'_>, leaf: usize) -> Result<Option<Loss>, AllocError>
     ensures { IfOk result (λ loss. IsGraphOf graph.now.leaves graph.now.utf8 graph.now →

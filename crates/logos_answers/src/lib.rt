@@ -24,7 +24,7 @@ pub use callbacks::push_callbacks;
 pub use comparing::{Compared, compare_lexers};
 pub use counts::{Counts, code_name_at, push_count};
 pub use differing::{Finding, Lexed, finding_of, push_difference, push_modes};
-pub use examples::{Evidence, Loss, evidence_of, push_examples, push_taker};
+pub use examples::{Evidence, Loss, evidence_of, push_examples};
 pub use expecting::push_standing;
 pub use inputs::{first_of, push_inputs};
 pub use lines::{LINE, push_item, push_number};
