@@ -12,8 +12,8 @@ is_one_line (byte ∷ next ∷ rest) = not (byte == 10) && is_one_line (next ∷
 abbrev pub is_time : List ℕ → Bool
 is_time text = starts_with (λ one other. one == other) text (codes "milliseconds: ") && is_one_line text
 
--- A text without its last line, if that says how long something took. Whether a line begins with the
--- text is given.
+-- A text without its last line, if that says how long something took. Whether a line begins with
+-- the text is given.
 abbrev pub timeless_from : Bool → List ℕ → List ℕ
 timeless_from begins [] = []
 timeless_from begins (byte ∷ rest) = if begins && is_time (byte ∷ rest) then [] else byte ∷ timeless_from (byte == 10) rest

@@ -10,8 +10,8 @@ use Rattle.logos_answers.specs.Quoting.{literal}
 abbrev pub input_line : List ℕ → List ℕ
 input_line input = literal input ++ codes "\n"
 
--- Of inputs that together pass all edges of a graph, which are so many, a page gained the lines of the
--- first ones, at most so many.
+-- Of inputs that together pass all edges of a graph, which are so many, a page gained the lines of
+-- the first ones, at most so many.
 pub record ShowsInputs (graph : List GraphState) (utf8 : Bool) (most count : ℕ) (old new : PageValue) : Type 0 where
   pub inputs : List (List ℕ)
   pub covering : AreCoveringInputs graph utf8 inputs

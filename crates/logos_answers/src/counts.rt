@@ -73,7 +73,8 @@ impl Counts {
 }
 
 /// Adds the line of a variant at its last leaf. `sum` is the number of the items of the leaves of
-/// the variant up to this one. Returns what the next leaf adds to: the sum, or 0 where a variant ends.
+/// the variant up to this one. Returns what the next leaf adds to: the sum, or 0 where a variant
+/// ends.
 fn push_sum(
     block: &mut Vec<u8>,
     leaves: &[CodeLeaf<'_>],

@@ -5,8 +5,8 @@ use Rattle.json.specs.Token.{Token, number}
 use Rattle.json.specs.Lex.{tokens}
 use Rattle.json.specs.Print.{print}
 
--- Lines as a value: the bytes of all whole lines and of what stands in front of them, the tokens of the
--- last line, and whether they have all that was pushed.
+-- Lines as a value: the bytes of all whole lines and of what stands in front of them, the tokens of
+-- the last line, and whether they have all that was pushed.
 pub record LinesValue : Type 0 where
   pub before : List ℕ
   pub tokens : List Token

@@ -1,10 +1,9 @@
 //! Lines of JSON that grow.
 
 ghost use Rattle.std.specs.Prelude.{◌≡◌, ◌↔◌, ◌∷◌, [], true, IfOk, IsOk, IsTrue, decimal, option_map};
-ghost use Rattle.std.specs.List.{flat_map};
-ghost use Rattle.json.specs.Token.{begin_array, begin_object, boolean, end_array, end_object, key, null, number, string};
-ghost use Rattle.logos_json.specs.Lines.{Ends, Gains};
-ghost use Rattle.logos_json.specs.Members.{bool_member, byte_tokens, bytes_member, list_member, maybe_bytes, maybe_number, maybe_text, null_member, number_member, text_member};
+ghost use Rattle.logos_json.specs.Words.{Ends, Gains, bool_member, byte_tokens, bytes_member, flat_map, list_member, maybe_bytes};
+ghost use Rattle.logos_json.specs.Words.{maybe_number, maybe_text, null_member, number_member, text_member};
+ghost use Rattle.logos_json.specs.Words.{begin_array, begin_object, boolean, end_array, end_object, key, null, number, string};
 
 use json::Writer;
 use std::alloc::{AllocError, Global};

@@ -4,7 +4,8 @@ use Rattle.json.specs.Token.{Token, key}
 use Rattle.logos_json.specs.Members.{bool_member, bytes_member, maybe_number, maybe_text, object}
 use Rattle.logos_answers.specs.declared.differing.Finding.{Finding}
 
--- What a lexer finds, as a member: its leaf and its variant, which are null for an error, and its text.
+-- What a lexer finds, as a member: its leaf and its variant, which are null for an error, and its
+-- text.
 abbrev pub finding_members : Finding → List Token
 finding_members finding =
     maybe_number (codes "leaf") finding.leaf ++ (maybe_text (codes "variant") (option_map (λ text. text.now) finding.variant) ++ bytes_member (codes "text") finding.bytes.now)

@@ -39,6 +39,14 @@ pub(crate) struct Input<'w, 'i> {
     pub(crate) is_json: bool,
 }
 
+/// A place of an input: the path and the bytes of the input, and the place.
+#[derive(Clone, Copy)]
+pub(crate) struct Spot<'w, 'i> {
+    pub(crate) path: &'w str,
+    pub(crate) bytes: &'i [u8],
+    pub(crate) place: Position,
+}
+
 /// Writes what matches from a place of an input, as lines of text.
 ///
 /// # Errors
@@ -48,22 +56,21 @@ pub(crate) struct Input<'w, 'i> {
 pub(crate) fn write_matches<O: Write>(
     alloc: Global,
     graph: &Graph<'_>,
-    input: Input<'_, '_>,
-    place: Position,
+    spot: Spot<'_, '_>,
     out: &mut O,
 ) -> Result<(), Failure<'static>>
     ensures failed { IfErr result IsNoMisuse }
     ensures printed { OnOk result (IsGraphOf graph.now.leaves graph.now.utf8 graph.now →
-        AllStart (rules_of graph.now.leaves) → IsBytes input.entry.bytes.now →
-        PrintsMatches graph.now.leaves input.entry.bytes.now place
+        AllStart (rules_of graph.now.leaves) → IsBytes spot.entry.bytes.now →
+        PrintsMatches graph.now.leaves spot.entry.bytes.now spot.entry.place
         (O.contents out.old) (O.contents out.new)) }
 {
-    let Some(from) = offset_of(input.bytes, place) else {
-        return Err(no_place(alloc, input.path, place));
+    let Some(from) = offset_of(spot.bytes, spot.place) else {
+        return Err(no_place(alloc, spot.path, spot.place));
     };
     let mut page = Page::new(alloc, false);
-    push_place(&mut page, place);
-    push_matches(alloc, &mut page, graph, input.bytes, from)?;
+    push_place(&mut page, spot.place);
+    push_matches(alloc, &mut page, graph, spot.bytes, from)?;
     let text = page.finish()?;
     print_bytes(text.as_str().as_bytes(), out)
 }
@@ -77,21 +84,20 @@ pub(crate) fn write_matches<O: Write>(
 pub(crate) fn write_match_records<O: Write>(
     alloc: Global,
     graph: &Graph<'_>,
-    input: Input<'_, '_>,
-    place: Position,
+    spot: Spot<'_, '_>,
     out: &mut O,
 ) -> Result<(), Failure<'static>>
     ensures failed { IfErr result IsNoMisuse }
     ensures printed { OnOk result (IsGraphOf graph.now.leaves graph.now.utf8 graph.now →
-        AllStart (rules_of graph.now.leaves) → IsBytes input.entry.bytes.now →
-        PrintsMatchRecords graph.now.leaves input.entry.bytes.now place
+        AllStart (rules_of graph.now.leaves) → IsBytes spot.entry.bytes.now →
+        PrintsMatchRecords graph.now.leaves spot.entry.bytes.now spot.entry.place
         (O.contents out.old) (O.contents out.new)) }
 {
-    let Some(from) = offset_of(input.bytes, place) else {
-        return Err(no_place(alloc, input.path, place));
+    let Some(from) = offset_of(spot.bytes, spot.place) else {
+        return Err(no_place(alloc, spot.path, spot.place));
     };
     let mut lines = JsonLines::new(alloc, Vec::new(alloc));
-    push_match_records(alloc, &mut lines, graph, input.bytes, from)?;
+    push_match_records(alloc, &mut lines, graph, spot.bytes, from)?;
     let bytes = lines.finish()?;
     print_bytes(&bytes, out)
 }
@@ -287,24 +293,23 @@ fn comparison_bytes(
     compared: &Compared,
 ) -> Result<Vec<u8>, AllocError> {
     if pair.is_json {
-        compared_record(alloc, pair.one, pair.other, compared)
+        compared_record(alloc, pair, compared)
     } else {
-        Ok(compared_page(alloc, pair.one, pair.other, compared)?.into_bytes())
+        Ok(compared_page(alloc, pair, compared)?.into_bytes())
     }
 }
 
 /// Returns the lines about a comparison of two lexers.
 fn compared_page(
     alloc: Global,
-    one: Lexed<'_, '_>,
-    other: Lexed<'_, '_>,
+    pair: Pair<'_, '_, '_>,
     compared: &Compared,
 ) -> Result<String, AllocError> {
     let mut page = Page::new(alloc, false);
     match compared {
         Compared::Same => page.push("the same lexer\n"),
-        Compared::OtherMode => push_modes(&mut page, one, other),
-        Compared::Differ(input) => push_difference(alloc, &mut page, one, other, input)?,
+        Compared::OtherMode => push_modes(&mut page, pair.one, pair.other),
+        Compared::Differ(input) => push_difference(alloc, &mut page, pair.one, pair.other, input)?,
     }
     page.finish()
 }
@@ -312,17 +317,20 @@ fn compared_page(
 /// Returns the object of a comparison of two lexers.
 fn compared_record(
     alloc: Global,
-    one: Lexed<'_, '_>,
-    other: Lexed<'_, '_>,
+    pair: Pair<'_, '_, '_>,
     compared: &Compared,
 ) -> Result<Vec<u8>, AllocError> {
     let mut lines = JsonLines::new(alloc, Vec::new(alloc));
     match compared {
         Compared::Same => push_same_record(&mut lines),
         Compared::OtherMode => {
-            push_modes_record(&mut lines, one.graph.utf8_mode(), other.graph.utf8_mode())
+            push_modes_record(
+                &mut lines,
+                pair.one.graph.utf8_mode(),
+                pair.other.graph.utf8_mode(),
+            )
         }
-        Compared::Differ(input) => push_findings(alloc, &mut lines, one, other, input)?,
+        Compared::Differ(input) => push_findings(alloc, &mut lines, pair, input)?,
     }
     lines.finish()
 }
@@ -331,12 +339,11 @@ fn compared_record(
 fn push_findings(
     alloc: Global,
     lines: &mut JsonLines,
-    one: Lexed<'_, '_>,
-    other: Lexed<'_, '_>,
+    pair: Pair<'_, '_, '_>,
     input: &[u8],
 ) -> Result<(), AllocError> {
-    let found = finding_of(alloc, one, input)?;
-    let found_by_other = finding_of(alloc, other, input)?;
+    let found = finding_of(alloc, pair.one, input)?;
+    let found_by_other = finding_of(alloc, pair.other, input)?;
     push_difference_record(lines, input, found, found_by_other);
     Ok(())
 }

@@ -3,8 +3,8 @@
 #![tactic(auto)]
 
 mod asking;
+mod comparing;
 mod items;
-mod options;
 mod reading;
 mod running;
 mod showing;

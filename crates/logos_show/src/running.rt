@@ -5,17 +5,18 @@ ghost use Rattle.logos_host.specs.Failures.{status_of};
 ghost use Rattle.logos_show.specs.Orders.{IsNoMisuse, asked};
 
 use crate::asking::{
-    Input, Judgment, Pair, Standing, compare_with, write_input_records, write_inputs,
-    write_match_records, write_matches, write_standing,
+    Input, Spot, Standing, write_input_records, write_inputs, write_match_records, write_matches,
+    write_standing,
 };
+use crate::comparing::compare;
 use crate::items::{write_item_records, write_items};
-use crate::options::{Order, Question, Request, TAKEN, request_of};
 use crate::reading::{chosen, print_bytes, read_bytes, refused, text_at, text_of};
 use crate::showing::{Form, PageStyle, SHAPE, Shown, shown_of};
-use logos_answers::Lexed;
+use logos_codegen::graph::Graph;
 use logos_codegen::{Generated, generate};
 use logos_host::{Failure, Files, report, with_nearest};
 use logos_lines::Position;
+use logos_questions::{Order, Question, Request, TAKEN, request_of};
 use logos_report::{Page, Part, Source};
 use logos_rust_file::{FoundEnum, enums_in};
 use std::alloc::Global;
@@ -101,10 +102,10 @@ fn failed<E: Write>(failure: &Failure<'_>, err: &mut E) -> u8
 
 /// An order that is carried out.
 #[derive(Clone, Copy)]
-struct Task<'w> {
-    order: Order<'w>,
+pub(crate) struct Task<'w> {
+    pub(crate) order: Order<'w>,
     /// Whether messages have colors.
-    is_colored: bool,
+    pub(crate) is_colored: bool,
 }
 
 /// Does what is asked for, and returns whether what was to be compared is the same.
@@ -170,7 +171,7 @@ fn answer<'w, F: Files, C: Clock, O: Write, E: Write + IsTerminal>(
 {
     let done = match task.order.question {
         Question::Leaves | Question::Examples => show(alloc, task, host, out),
-        Question::Inputs(most) => give_inputs(alloc, task, most, host, out),
+        Question::Inputs(_) => give_inputs(alloc, task, host, out),
         Question::Items(input) => lex(alloc, task, input, None, host, out),
         Question::Matches(input, place) => lex(alloc, task, input, Some(place), host, out),
         Question::Comparison(other) => return compare(alloc, task, other, host, out),
@@ -222,7 +223,6 @@ fn form_of(order: Order<'_>) -> Form {
 fn give_inputs<'w, F: Files, C: Clock, O: Write, E: Write + IsTerminal>(
     alloc: Global,
     task: Task<'w>,
-    most: usize,
     host: &mut Host<'_, F, C, E>,
     out: &mut O,
 ) -> Result<(), Failure<'w>>
@@ -231,7 +231,7 @@ fn give_inputs<'w, F: Files, C: Clock, O: Write, E: Write + IsTerminal>(
     let path = task.order.file;
     let text = text_at(path, host.files)?;
     let source = Source::new(alloc, path, text.as_str())?;
-    let note = inputs_by_file(alloc, task, &source, most, out)?;
+    let note = inputs_by_file(alloc, task, &source, out)?;
     let _ = host.err.write_all(note.as_bytes());
     let _ = host.err.flush();
     Ok(())
@@ -242,7 +242,6 @@ fn inputs_by_file<'w, O: Write>(
     alloc: Global,
     task: Task<'w>,
     source: &Source<'_>,
-    most: usize,
     out: &mut O,
 ) -> Result<String, Failure<'w>>
     ensures { IfErr result IsNoMisuse }
@@ -250,7 +249,7 @@ fn inputs_by_file<'w, O: Write>(
     let one = lexer_in(alloc, task, source)?;
     let part = part_of(source, one);
     match generate(alloc, text_of(source, one), SHAPE) {
-        Ok(made) => inputs_by_lexer(alloc, task, &made, most, out),
+        Ok(made) => inputs_by_lexer(alloc, task.order, &made, out),
         Err(refusal) => Err(refused(alloc, part, task.is_colored, refusal)),
     }
 }
@@ -258,17 +257,25 @@ fn inputs_by_file<'w, O: Write>(
 /// Writes inputs by a lexer, and returns the note about them.
 fn inputs_by_lexer<O: Write>(
     alloc: Global,
-    task: Task<'_>,
+    order: Order<'_>,
     made: &Generated<'_>,
-    most: usize,
     out: &mut O,
 ) -> Result<String, Failure<'static>>
     ensures { IfErr result IsNoMisuse }
 {
-    if task.order.is_json {
+    let most = most_of(order.question);
+    if order.is_json {
         write_input_records(alloc, &made.graph, most, out)
     } else {
         write_inputs(alloc, &made.graph, most, out)
+    }
+}
+
+/// Returns how many inputs are asked for.
+fn most_of(question: Question<'_>) -> usize {
+    match question {
+        Question::Inputs(most) => most,
+        _ => 0,
     }
 }
 
@@ -317,7 +324,7 @@ fn lex_by_file<'w, F: Files, C: Clock, O: Write, E: Write + IsTerminal>(
 }
 
 /// Returns the part of a file that is an enum.
-fn part_of<'f, 's>(source: &'f Source<'s>, one: FoundEnum) -> Part<'f, 's> {
+pub(crate) fn part_of<'f, 's>(source: &'f Source<'s>, one: FoundEnum) -> Part<'f, 's> {
     Part {
         source,
         offset: one.span.from,
@@ -334,98 +341,56 @@ fn lex_by_lexer<'w, F: Files, C: Clock, O: Write, E: Write + IsTerminal>(
 ) -> Result<(), Failure<'w>>
     ensures { IfErr result IsNoMisuse }
 {
-    match (input.place, input.is_json) {
-        (Some(place), false) => write_matches(alloc, &made.graph, input, place, out),
-        (Some(place), true) => write_match_records(alloc, &made.graph, input, place, out),
-        (None, is_json) => {
-            let note = if is_json {
-                write_item_records(alloc, &made.code, input.bytes, out)?
-            } else {
-                write_items(alloc, &made.code, input.bytes, host.clock, out)?
-            };
-            let _ = host.err.write_all(note.as_bytes());
-            let _ = host.err.flush();
-            Ok(())
-        }
+    if let Some(place) = input.place {
+        let spot = Spot {
+            path: input.path,
+            bytes: input.bytes,
+            place,
+        };
+        return match_by_lexer(alloc, &made.graph, spot, input.is_json, out);
     }
-}
-
-/// Writes whether the lexer of another file is the same, and returns that.
-fn compare<'w, F: Files, C: Clock, O: Write, E: Write + IsTerminal>(
-    alloc: Global,
-    task: Task<'w>,
-    other: &'w str,
-    host: &mut Host<'_, F, C, E>,
-    out: &mut O,
-) -> Result<Standing, Failure<'w>>
-    ensures { IfErr result IsNoMisuse }
-{
-    let path = task.order.file;
-    let text = text_at(path, host.files)?;
-    let other_text = text_at(other, host.files)?;
-    let source = Source::new(alloc, path, text.as_str())?;
-    let other_source = Source::new(alloc, other, other_text.as_str())?;
-    let Judgment { standing, note } = compare_files(alloc, task, &source, &other_source, out)?;
+    let note = items_by_lexer(alloc, made, input, host.clock, out)?;
     let _ = host.err.write_all(note.as_bytes());
     let _ = host.err.flush();
-    Ok(standing)
+    Ok(())
 }
 
-/// Writes whether the lexers of two files are the same, and returns that with a note.
-fn compare_files<'w, O: Write>(
+/// Writes the items of an input, and returns the note about them.
+fn items_by_lexer<C: Clock, O: Write>(
     alloc: Global,
-    task: Task<'w>,
-    source: &Source<'_>,
-    other: &Source<'_>,
+    made: &Generated<'_>,
+    input: Input<'_, '_>,
+    clock: &C,
     out: &mut O,
-) -> Result<Judgment, Failure<'w>>
+) -> Result<String, Failure<'static>>
     ensures { IfErr result IsNoMisuse }
 {
-    let one = lexer_in(alloc, task, source)?;
-    let part = part_of(source, one);
-    match generate(alloc, text_of(source, one), SHAPE) {
-        Ok(made) => compare_to(alloc, task, lexed(source, one, &made), other, out),
-        Err(refusal) => Err(refused(alloc, part, task.is_colored, refusal)),
+    if input.is_json {
+        write_item_records(alloc, &made.code, input.bytes, out)
+    } else {
+        write_items(alloc, &made.code, input.bytes, clock, out)
     }
 }
 
-/// Returns a lexer with the path of its file and the text of its enum.
-fn lexed<'m, 's>(source: &'m Source<'_>, one: FoundEnum, made: &'m Generated<'s>) -> Lexed<'m, 's> {
-    Lexed {
-        path: source.path(),
-        text: text_of(source, one),
-        graph: &made.graph,
-        code: &made.code,
-    }
-}
-
-/// Writes whether a lexer and that of another file are the same, and returns that with a note.
-fn compare_to<'w, O: Write>(
+/// Writes what matches from a place of an input.
+fn match_by_lexer<O: Write>(
     alloc: Global,
-    task: Task<'w>,
-    one: Lexed<'_, '_>,
-    source: &Source<'_>,
+    graph: &Graph<'_>,
+    spot: Spot<'_, '_>,
+    is_json: bool,
     out: &mut O,
-) -> Result<Judgment, Failure<'w>>
+) -> Result<(), Failure<'static>>
     ensures { IfErr result IsNoMisuse }
 {
-    let other = lexer_in(alloc, task, source)?;
-    let part = part_of(source, other);
-    match generate(alloc, text_of(source, other), SHAPE) {
-        Ok(made) => {
-            let pair = Pair {
-                one,
-                other: lexed(source, other, &made),
-                is_json: task.order.is_json,
-            };
-            compare_with(alloc, pair, out)
-        }
-        Err(refusal) => Err(refused(alloc, part, task.is_colored, refusal)),
+    if is_json {
+        write_match_records(alloc, graph, spot, out)
+    } else {
+        write_matches(alloc, graph, spot, out)
     }
 }
 
 /// Returns the enum of a file whose lexer is asked for.
-fn lexer_in<'w>(
+pub(crate) fn lexer_in<'w>(
     alloc: Global,
     task: Task<'w>,
     source: &Source<'_>,

@@ -1,15 +1,9 @@
 //! What the words of a command line ask for.
 
 ghost use Rattle.std.specs.Prelude.{◌≡◌, IfErr, IfOk, None, Some, is_some, map, option_map, string_bytes};
-ghost use Rattle.logos_host.specs.Failures.{status_of};
-ghost use Rattle.logos_host.specs.WordSteps.{use_value};
-ghost use Rattle.logos_show.specs.Orders.{asked, asked_given, given_nothing, given_value, order_given};
-ghost use Rattle.logos_show.specs.Orders.{given_or, path_named, request_value, with_flag};
-ghost use Rattle.logos_show.specs.Orders.{with_color, with_found, with_input, with_name, with_path};
-ghost use Rattle.logos_show.specs.Orders.{order_asked, question_given, question_value, with_expected};
-ghost use Rattle.logos_show.specs.Orders.{with_json, with_most, with_place, with_topic, with_value, with_word, with_words};
-ghost use Rattle.logos_host.specs.Colors.{color_named};
-ghost use Rattle.logos_answers.specs.Places.{number_named, place_named};
+ghost use Rattle.logos_questions.specs.Words.{asked, asked_given, color_named, given_nothing, given_or, given_value, number_named, order_asked, order_given};
+ghost use Rattle.logos_questions.specs.Words.{path_named, place_named, question_given, question_value, request_value, status_of, use_value, with_color, with_expected};
+ghost use Rattle.logos_questions.specs.Words.{with_flag, with_found, with_input, with_json, with_most, with_name, with_path, with_place, with_topic, with_value, with_word, with_words};
 
 use logos_answers::{number_by_text, place_by_word};
 use logos_host::{Color, Failure, OptionName, Progress, Use, color_by_name, next_step};
@@ -17,7 +11,7 @@ use logos_lines::Position;
 
 /// What is asked for.
 #[derive(Clone, Copy)]
-pub(crate) enum Request<'w> {
+pub enum Request<'w> {
     Help,
     Version,
     Show(Order<'w>),
@@ -25,23 +19,23 @@ pub(crate) enum Request<'w> {
 
 /// A file, and what is asked of its lexers.
 #[derive(Clone, Copy)]
-pub(crate) struct Order<'w> {
+pub struct Order<'w> {
     /// The path of the file.
-    pub(crate) file: &'w str,
-    pub(crate) question: Question<'w>,
+    pub file: &'w str,
+    pub question: Question<'w>,
     /// Whether the answer is JSON.
-    pub(crate) is_json: bool,
+    pub is_json: bool,
     /// The path of a stored answer, if the answer is to be compared with one.
-    pub(crate) expected: Option<&'w str>,
+    pub expected: Option<&'w str>,
     /// The name of the enum that is meant. If none is given all are shown, and the first one lexes.
-    pub(crate) name: Option<&'w str>,
+    pub name: Option<&'w str>,
     /// When messages have colors.
-    pub(crate) color: Color,
+    pub color: Color,
 }
 
 /// What is asked of the lexers of a file.
 #[derive(Clone, Copy)]
-pub(crate) enum Question<'w> {
+pub enum Question<'w> {
     /// Their leaves.
     Leaves,
     /// The items of the file at this path.
@@ -89,7 +83,7 @@ struct Given<'w> {
 }
 
 /// The options that the program takes.
-pub(crate) const TAKEN: [OptionName; 10] = [
+pub const TAKEN: [OptionName; 10] = [
     OptionName::At,
     OptionName::Color,
     OptionName::Compare,
@@ -110,7 +104,7 @@ const STANDARD_INPUT: &str = "/dev/stdin";
 /// # Errors
 ///
 /// Returns `Misuse` or `UnknownOption` if they are not a command.
-pub(crate) fn request_of(words: &[String]) -> Result<Request<'_>, Failure<'_>>
+pub fn request_of(words: &[String]) -> Result<Request<'_>, Failure<'_>>
     ensures asked { IfOk result (λ request.
         asked (map string_bytes words.now) ≡ Some (request_value request)) }
     ensures misuse { IfErr result (λ failure.

@@ -1,10 +1,10 @@
 -- The words of a command line, one after another.
 use Rattle.std.proofs.Common.{◌≡◌, ◌<◌, ◌+◌, ℕ, suc, List, [], ◌∷◌, Option, Some, None, length, get_or, drop, map, sym, ap, ◌∙◌, refl, arith}
 use Rattle.std.proofs.Math.Seq.{drop-cons}
-use Rattle.logos_show.specs.Orders.{GivenValue, with_word, with_words}
+use Rattle.logos_questions.specs.Orders.{GivenValue, with_word, with_words}
 
 module _ {A : Type 0} (f : A → List ℕ) (words : List A) (i : ℕ) (given : GivenValue) where
-  -- the next word gives this
+  -- The next word gives this.
   next_word : (item : A) → i < length words → item ≡ get_or words i item →
       with_words (Some given) (map f (drop i words)) ≡ with_words (with_word given (f item)) (map f (drop (i + 1) words))
   next_word item l e =

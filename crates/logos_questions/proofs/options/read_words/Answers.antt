@@ -1,6 +1,6 @@
 use Rattle.std.proofs.Common.{◌∙◌, string_bytes}
-use Rattle.logos_show.proofs.WordLemmas.{word_read, word_refused}
-use Rattle.logos_show.proofs.options.read_words.Goals as goal
+use Rattle.logos_questions.proofs.WordLemmas.{word_read, word_refused}
+use Rattle.logos_questions.proofs.options.read_words.Goals as goal
 
 pub loop-word-preserved : goal.loop-word-preserved
 loop-word-preserved c =
