@@ -23,7 +23,7 @@ use Rattle.logos_answers.specs.Places.{number_named, place_named}
 use Rattle.logos_lines.specs.declared.place.Position.{Position}
 
 -- What is asked of the lexers of a file: their leaves; the items of an input, by its path; what
--- matches from a place of an input; examples of what leaves find; at most so many inputs that
+-- matches from a position of an input; examples of what leaves find; at most so many inputs that
 -- together pass all edges; or whether the lexer of another file, by its path, is the same.
 pub data QuestionValue : Type 0 where
   leaves : QuestionValue
@@ -86,7 +86,7 @@ with_path given word = if is_some given.file then with_input given word else Som
 abbrev pub with_topic : GivenValue → Topic → Option GivenValue
 with_topic given topic = if is_some given.topic then None else Some (record given { topic = Some topic })
 
--- A place from which matches are asked for.
+-- A position from which matches are asked for.
 abbrev pub with_place : GivenValue → Option Position → Option GivenValue
 with_place given None = None
 with_place given (Some place) = with_topic given (topics.Matches place)

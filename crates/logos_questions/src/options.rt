@@ -40,7 +40,7 @@ pub enum Question<'w> {
     Leaves,
     /// The items of the file at this path.
     Items(&'w str),
-    /// What matches from a place of the file at this path.
+    /// What matches from a position of the file at this path.
     Matches(&'w str, Position),
     /// For each leaf a text that it finds, and one where it loses.
     Examples,
@@ -53,7 +53,7 @@ pub enum Question<'w> {
 /// What an option asks of lexers.
 #[derive(Clone, Copy)]
 enum Topic {
-    /// What matches from a place.
+    /// What matches from a position.
     Matches(Position),
     Examples,
     /// At most so many inputs.
@@ -426,7 +426,7 @@ fn read_most<'w>(given: Given<'w>, word: &'w str) -> Result<Given<'w>, Failure<'
     }
 }
 
-/// Reads the place from which matches are asked for.
+/// Reads the position from which matches are asked for.
 fn read_place<'w>(given: Given<'w>, word: &'w str) -> Result<Given<'w>, Failure<'w>>
     ensures given { IfOk result (λ next. with_place (given_value given.entry)
         (place_named word.now) ≡ Some (given_value next)) }
