@@ -1,10 +1,11 @@
 -- Objects, one after another.
-use Rattle.std.proofs.Common.{◌≡◌, ◌≤◌, ◌<◌, ◌+◌, ℕ, suc, List, [], ◌∷◌, ◌++◌, length, get_or, drop, map, sym, ap, ◌∙◌, arith, subst}
+use Rattle.std.proofs.Common.{◌≡◌, ◌≤◌, ◌<◌, ◌+◌, ℕ, suc, List, [], ◌∷◌, ◌++◌, length, get_or, take, drop, map, sym, ap, ◌∙◌, arith, subst}
 use Rattle.std.proofs.Math.Seq.{drop-cons}
 use Rattle.std.proofs.Math.ListN.{drop_of_length-le}
 use Rattle.std.proofs.lemmas.List.{at_drop_more, at_drop_all}
 use Rattle.std.specs.List.{flat_map}
 use Rattle.json.specs.Token.{Token, begin_object, end_object}
+use Rattle.logos_answers.proofs.InputLemmas.{map_take}
 use Rattle.logos_inspect.specs.declared.leaves.LeafRow.{LeafRow}
 use Rattle.logos_json.proofs.LineLemmas.{gains_then, one_put, puts_nothing, puts_then}
 use Rattle.logos_json.specs.Lines.{Ends, Gains, LinesValue, Puts}
@@ -35,11 +36,18 @@ no_leaf name rows i lines l = subst (λ list. Puts (leaf_objects name i list) li
 
 module _ {X : Type 0} (bytes : X → List ℕ) (f : List ℕ → List (List Token)) (xs : List X) (k : ℕ) where
   -- The lines of the next input, and those of the rest.
-  pub next_input : (d : X) {old middle new : LinesValue} → k < length xs → Puts (f (bytes (get_or xs k d))) old middle → Puts (flat_map f (map bytes (drop (k + 1) xs))) middle new →
+  pub next_input : (x : X) {old middle new : LinesValue} → k < length xs → x ≡ get_or xs k x → Puts (f (bytes x)) old middle → Puts (flat_map f (map bytes (drop (k + 1) xs))) middle new →
       Puts (flat_map f (map bytes (drop k xs))) old new
-  next_input d {old} {middle} {new} l one rest =
-      subst (λ lines. Puts lines old new) (sym (at_drop_more (λ ys. flat_map f (map bytes ys)) xs k d l)) (puts_then one rest)
+  next_input x {old} {middle} {new} l e one rest =
+      subst (λ lines. Puts lines old new)
+      (ap (λ y. f (bytes y) ++ flat_map f (map bytes (drop (k + 1) xs))) e ∙ sym (at_drop_more (λ ys. flat_map f (map bytes ys)) xs k x l)) (puts_then one rest)
 
   -- No input is left.
   pub no_input : (lines : LinesValue) → length xs ≤ k → Puts (flat_map f (map bytes (drop k xs))) lines lines
   no_input lines l = subst (λ shown. Puts shown lines lines) (sym (at_drop_all (λ ys. flat_map f (map bytes ys)) xs k l)) (puts_nothing lines)
+
+-- The lines of the first inputs of a list, by other names of it.
+pub first_put : {X : Type 0} (bytes : X → List ℕ) (f : List ℕ → List (List Token)) (most : ℕ) (xs given first : List X) {old new : LinesValue} → first ≡ take most given → given ≡ xs →
+    Puts (flat_map f (map bytes first)) old new → Puts (flat_map f (take most (map bytes xs))) old new
+first_put bytes f most xs given first {old} {new} e same p =
+    subst (λ ys. Puts (flat_map f ys) old new) (ap (map bytes) e ∙ ap (λ ys. map bytes (take most ys)) same ∙ map_take bytes most xs) p
