@@ -8,7 +8,7 @@ use Rattle.json.specs.Token.{Token}
 use Rattle.json.specs.Lex as lex
 use Rattle.json.specs.Print.{print, print_from}
 use Rattle.logos_json.proofs.QuietLemmas.{quiet_print}
-use Rattle.logos_json.specs.Lines.{AreLines, AreQuiet, Ends, Gains, IsLine, LinesValue, Puts}
+use Rattle.logos_json.specs.Lines.{AreLines, AreQuiet, Ends, Finishes, Gains, IsLine, LinesValue, Puts}
 use Rattle.logos_json.specs.Members.{byte_tokens, bytes_member, list_member, text_member}
 
 quiet_both : (one other : List Token) → AreQuiet one → AreQuiet other → AreQuiet (one ++ other)
@@ -85,6 +85,13 @@ none_put f xs k lines l = subst (λ shown. Puts shown lines lines) (sym (at_drop
 pub printed_nothing : (before bytes : List ℕ) (shown : List Token) → bytes ≡ before ++ print shown → shown ≡ [] → bytes ≡ before
 unfolding print_from
 printed_nothing before bytes shown is e = is ∙ ap (λ tokens. before ++ print tokens) e ∙ append-nil before
+
+-- The bytes of lines in front of which nothing stands.
+pub put_text : (shown : List (List Token)) (first last : LinesValue) (bytes : List ℕ) → first.before ≡ [] → first.tokens ≡ [] → Puts shown first last → Finishes last bytes → AreLines shown bytes
+put_text shown first last bytes e t puts finishes =
+    let all = puts.whole t finishes.whole in
+    let is : bytes ≡ all.1 = finishes.is (puts.ended t) ∙ all.2 ∙ ap (λ x. x ++ all.1) e in
+    subst (AreLines shown) (sym is) all.3
 
 -- Bytes that are not UTF-8 do not pass the test.
 not_utf8 : (bytes : List ℕ) → ¬ IsUtf8 bytes → is_utf8 bytes ≡ false

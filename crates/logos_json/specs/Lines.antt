@@ -39,6 +39,11 @@ pub record Ends (old new : LinesValue) : Type 0 where
   pub reads : tokens (print old.tokens) ≡ old.tokens
   pub utf8 : IsUtf8 (print old.tokens)
 
+-- These are the bytes of lines that have all that was pushed, if the last one was ended.
+pub record Finishes (lines : LinesValue) (bytes : List ℕ) : Type 0 where
+  pub whole : IsTrue lines.is_whole
+  pub is : lines.tokens ≡ [] → bytes ≡ lines.before
+
 -- These bytes are a line of JSON: LF ends it and stands nowhere else in it, and what it reads as is
 -- these tokens.
 pub record IsLine (shown : List Token) (line : List ℕ) : Type 0 where

@@ -1,7 +1,7 @@
 //! Lines of JSON that grow.
 
 ghost use Rattle.std.specs.Prelude.{◌≡◌, ◌↔◌, ◌∷◌, [], true, IfOk, IsOk, IsTrue, decimal, option_map};
-ghost use Rattle.logos_json.specs.Words.{Ends, Gains, bool_member, byte_tokens, bytes_member, flat_map, list_member, maybe_bytes};
+ghost use Rattle.logos_json.specs.Words.{Ends, Finishes, Gains, bool_member, byte_tokens, bytes_member, flat_map, list_member, maybe_bytes};
 ghost use Rattle.logos_json.specs.Words.{maybe_number, maybe_text, null_member, number_member, text_member};
 ghost use Rattle.logos_json.specs.Words.{begin_array, begin_object, boolean, end_array, end_object, key, null, number, string};
 
@@ -233,7 +233,7 @@ impl JsonLines {
     /// Returns `AllocError` if memory ran out for any part of them.
     pub fn finish(self) -> Result<Vec<u8>, AllocError>
         ensures whole { IsOk result ↔ IsTrue self.is_whole }
-        ensures bytes { IfOk result (λ out. self.tokens ≡ [] → out.items ≡ self.before) }
+        ensures bytes { IfOk result (λ out. Finishes self out.items) }
     {
         if self.is_whole {
             Ok(self.writer.into_inner())

@@ -4,7 +4,7 @@ use Rattle.std.specs.List.{flat_map}
 use Rattle.json.specs.Token.{Token}
 use Rattle.logos_evidence.specs.Covering.{AreCoveringInputs}
 use Rattle.logos_graph.specs.Graph.{GraphState}
-use Rattle.logos_json.specs.Lines.{LinesValue, Puts}
+use Rattle.logos_json.specs.Lines.{AreLines, LinesValue, Puts}
 use Rattle.logos_json.specs.Members.{bytes_member, object}
 
 -- The line of an input.
@@ -18,3 +18,11 @@ pub record PutsInputs (graph : List GraphState) (utf8 : Bool) (most count : ℕ)
   pub covering : AreCoveringInputs graph utf8 inputs
   pub all : count ≡ length inputs
   pub put : Puts (flat_map input_lines (take most inputs)) old new
+
+-- Of inputs that together pass all edges of a graph, which are so many, these bytes are the lines
+-- of the first ones, at most so many.
+pub record AreInputRecords (graph : List GraphState) (utf8 : Bool) (most count : ℕ) (text : List ℕ) : Type 0 where
+  pub inputs : List (List ℕ)
+  pub covering : AreCoveringInputs graph utf8 inputs
+  pub all : count ≡ length inputs
+  pub lines : AreLines (flat_map input_lines (take most inputs)) text

@@ -7,7 +7,7 @@ use Rattle.logos_answers.specs.Names.{variant_text}
 use Rattle.logos_evidence.specs.declared.matching.Match.{Match}
 use Rattle.logos_evidence.specs.Matching.{AreMatches, IsWinner}
 use Rattle.logos_graph.specs.View.{rules_of}
-use Rattle.logos_json.specs.Lines.{LinesValue, Puts}
+use Rattle.logos_json.specs.Lines.{AreLines, LinesValue, Puts}
 use Rattle.logos_json.specs.Members.{bool_member, bytes_member, maybe_text, number_member, object}
 use Rattle.logos_pattern.specs.declared.leaf.Leaf.{Leaf}
 
@@ -33,3 +33,11 @@ pub record PutsMatches (leaves : List Leaf) (input : List ℕ) (from : ℕ) (old
   pub all : AreMatches (rules_of leaves) input from matches
   pub put : ((matches ≡ []) × (new ≡ old)) ⊎ ((m : Match) × IsWinner matches m ×
       Puts (flat_map (match_lines leaves input from m.leaf) (longest_from matches 0 (length leaves))) old new)
+
+-- These bytes are the lines of the longest match of each leaf that matches from an offset of an
+-- input: none if no leaf matches.
+pub record AreMatchRecords (leaves : List Leaf) (input : List ℕ) (from : ℕ) (text : List ℕ) : Type 0 where
+  pub matches : List Match
+  pub all : AreMatches (rules_of leaves) input from matches
+  pub lines : ((matches ≡ []) × (text ≡ [])) ⊎ ((m : Match) × IsWinner matches m ×
+      AreLines (flat_map (match_lines leaves input from m.leaf) (longest_from matches 0 (length leaves))) text)

@@ -2,7 +2,7 @@
 
 ghost use Rattle.std.specs.Prelude.{◌≡◌, ◌∷◌, [], IfOk, map};
 ghost use Rattle.std.specs.List.{flat_map};
-ghost use Rattle.logos_records.specs.Words.{Puts, PutsInputs, input_lines, object};
+ghost use Rattle.logos_records.specs.Words.{AreInputRecords, Puts, PutsInputs, input_lines, object};
 
 use logos_answers::first_of;
 use logos_evidence::covering_inputs;
@@ -10,13 +10,36 @@ use logos_graph::graph::Graph;
 use logos_json::JsonLines;
 use std::alloc::{AllocError, Global};
 
-/// Pushes an object for each of the first inputs of those that together pass all edges of a graph,
-/// at most `most` objects, and returns how many inputs there are in all.
+/// Lines about inputs, and how many inputs there are in all.
+#[derive(Drop)]
+pub struct InputRecords {
+    pub bytes: Vec<u8>,
+    pub count: usize,
+}
+
+/// Returns the lines of the first inputs of those that together pass all edges of a graph, an object
+/// for each, at most `most` lines, and how many inputs there are in all.
 ///
 /// # Errors
 ///
-/// Returns `AllocError` if memory runs out. Nothing is pushed then.
-pub fn push_input_records(
+/// Returns `AllocError` if memory runs out.
+pub fn input_records(
+    alloc: Global,
+    graph: &Graph<'_>,
+    most: usize,
+) -> Result<InputRecords, AllocError>
+    ensures { IfOk result (λ made.
+        AreInputRecords graph.now.states graph.now.utf8 most made.count made.bytes.items) }
+{
+    let mut lines = JsonLines::new(alloc, Vec::new(alloc));
+    let count = push_input_records(alloc, &mut lines, graph, most)?;
+    let bytes = lines.finish()?;
+    Ok(InputRecords { bytes, count })
+}
+
+/// Pushes an object for each of the first inputs of those that together pass all edges of a graph,
+/// at most `most` objects, and returns how many inputs there are in all.
+fn push_input_records(
     alloc: Global,
     lines: &mut JsonLines,
     graph: &Graph<'_>,

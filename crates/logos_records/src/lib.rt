@@ -12,8 +12,8 @@ mod matches;
 
 pub use comparing::{push_difference_record, push_modes_record, push_same_record};
 pub use examples::{NamedGraph, push_example_records};
-pub use inputs::push_input_records;
+pub use inputs::{InputRecords, input_records};
 pub use items::{ItemRecord, push_item_record};
 pub use leaves::{push_cost_record, push_leaf_records};
 pub use logos_json::JsonLines;
-pub use matches::push_match_records;
+pub use matches::match_records;

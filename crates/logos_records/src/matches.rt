@@ -1,8 +1,8 @@
 //! The objects of what matches from an offset of an input.
 
-ghost use Rattle.std.specs.Prelude.{◌≡◌, ◌≤◌, OnOk, Some, length};
+ghost use Rattle.std.specs.Prelude.{◌≡◌, ◌≤◌, IfOk, OnOk, Some, length};
 ghost use Rattle.std.specs.List.{flat_map};
-ghost use Rattle.logos_records.specs.Words.{AllStart, Gains, IsBytes, IsGraphOf, Puts, PutsMatches, rules_of};
+ghost use Rattle.logos_records.specs.Words.{AllStart, AreMatchRecords, Gains, IsBytes, IsGraphOf, Puts, PutsMatches, rules_of};
 ghost use Rattle.logos_records.specs.Words.{end_members, match_lines, named_leaf};
 
 use logos_answers::{bytes_between, longest_of, variant_at};
@@ -21,13 +21,32 @@ struct Start<'a, 's> {
     winner: usize,
 }
 
-/// Pushes an object for each leaf that matches from an offset of an input, with its longest match
-/// from there, and whether a lexer takes that match.
+/// Returns the lines about what matches from an offset of an input: an object for each leaf that
+/// matches from there, with its longest match, and whether a lexer takes that match.
 ///
 /// # Errors
 ///
-/// Returns `AllocError` if memory runs out. Nothing is pushed then.
-pub fn push_match_records(
+/// Returns `AllocError` if memory runs out.
+pub fn match_records(
+    alloc: Global,
+    graph: &Graph<'_>,
+    input: &[u8],
+    from: usize,
+) -> Result<Vec<u8>, AllocError>
+    requires { from ≤ length input.now }
+    ensures { IfOk result (λ bytes. IsGraphOf graph.now.leaves graph.now.utf8 graph.now →
+        AllStart (rules_of graph.now.leaves) → IsBytes input.now →
+        AreMatchRecords graph.now.leaves input.now from bytes.items) }
+{
+    let mut lines = JsonLines::new(alloc, Vec::new(alloc));
+    push_match_records(alloc, &mut lines, graph, input, from)?;
+    let bytes = lines.finish()?;
+    Ok(bytes)
+}
+
+/// Pushes an object for each leaf that matches from an offset of an input, with its longest match
+/// from there, and whether a lexer takes that match.
+fn push_match_records(
     alloc: Global,
     lines: &mut JsonLines,
     graph: &Graph<'_>,

@@ -1,24 +1,23 @@
 -- What is printed about lexers.
 pub use Rattle.logos_answers.specs.Comparing.{IsCompared}
 pub use Rattle.logos_graph.specs.View.{GraphValue}
-use Rattle.std.specs.Prelude.{◌≡◌, ◌≢◌, ◌⊎◌, ℕ, Bool, List, [], ◌++◌, Option, codes, decimal, length, take}
+use Rattle.std.specs.Prelude.{◌≡◌, ◌≢◌, ℕ, Bool, List, ◌++◌, Option, codes, decimal, take}
 use Rattle.std.specs.List.{flat_map}
 use Rattle.std.specs.Io.KnownBytes.{Appends}
 use Rattle.logos_answers.specs.Inputs.{input_line}
-use Rattle.logos_answers.specs.Matches.{AreLines, longest_from}
+use Rattle.logos_answers.specs.Matches.{AreLines}
 use Rattle.logos_answers.specs.Offsets.{IsOffsetOf}
 use Rattle.logos_answers.specs.declared.comparing.Compared.{Compared}
 use Rattle.logos_answers.specs.declared.comparing.Compared.TheVariants as compared
 use Rattle.logos_evidence.specs.Covering.{AreCoveringInputs}
-use Rattle.logos_evidence.specs.Matching.{AreMatches, IsWinner}
+use Rattle.logos_evidence.specs.Matching.{AreMatches}
 use Rattle.logos_evidence.specs.declared.matching.Match.{Match}
 use Rattle.logos_graph.specs.Graph.{GraphState}
 use Rattle.logos_graph.specs.View.{rules_of}
-use Rattle.logos_json.specs.Lines.{AreLines as AreObjects}
 use Rattle.logos_lines.specs.declared.place.Position.{Position}
 use Rattle.logos_pattern.specs.declared.leaf.Leaf.{Leaf}
-use Rattle.logos_records.specs.Inputs.{input_lines}
-use Rattle.logos_records.specs.Matches.{match_lines}
+use Rattle.logos_records.specs.Inputs.{AreInputRecords}
+use Rattle.logos_records.specs.Matches.{AreMatchRecords}
 use Rattle.logos_show.specs.declared.asking.Standing.{Standing}
 use Rattle.logos_show.specs.declared.asking.Standing.TheVariants.{Different, Same}
 
@@ -36,19 +35,12 @@ pub record PrintsMatches (leaves : List Leaf) (input : List ℕ) (place : Positi
   pub lines : AreLines leaves input from matches text
   pub printed : Appends old new (place_line place ++ text)
 
--- These bytes are the lines of JSON about all matches from an offset: none if there is none.
-abbrev pub AreMatchObjects : List Leaf → List ℕ → ℕ → List Match → List ℕ → Type 0
-AreMatchObjects leaves input from matches text =
-    ((matches ≡ []) × (text ≡ [])) ⊎ ((m : Match) × IsWinner matches m × AreObjects (flat_map (match_lines leaves input from m.leaf) (longest_from matches 0 (length leaves))) text)
-
 -- Standard output got the lines of JSON about all matches from a place of an input.
 pub record PrintsMatchRecords (leaves : List Leaf) (input : List ℕ) (place : Position) (old new : Option (List ℕ)) : Type 0 where
   pub from : ℕ
   pub at : IsOffsetOf input place from
-  pub matches : List Match
-  pub all : AreMatches (rules_of leaves) input from matches
   pub text : List ℕ
-  pub lines : AreMatchObjects leaves input from matches text
+  pub lines : AreMatchRecords leaves input from text
   pub printed : Appends old new text
 
 -- Standard output got the first inputs, at most so many, of those that together pass all edges of a
@@ -60,10 +52,9 @@ pub record PrintsInputs (graph : List GraphState) (utf8 : Bool) (most : ℕ) (ol
 
 -- The same as lines of JSON.
 pub record PrintsInputRecords (graph : List GraphState) (utf8 : Bool) (most : ℕ) (old new : Option (List ℕ)) : Type 0 where
-  pub inputs : List (List ℕ)
-  pub covering : AreCoveringInputs graph utf8 inputs
+  pub count : ℕ
   pub text : List ℕ
-  pub lines : AreObjects (flat_map input_lines (take most inputs)) text
+  pub lines : AreInputRecords graph utf8 most count text
   pub printed : Appends old new text
 
 -- The verdict on two lexers is that of a comparison.

@@ -15,7 +15,7 @@ use logos_codegen::graph::Graph;
 use logos_host::Failure;
 use logos_lines::Position;
 use logos_records::{
-    JsonLines, push_difference_record, push_input_records, push_match_records, push_modes_record,
+    JsonLines, input_records, match_records, push_difference_record, push_modes_record,
     push_same_record,
 };
 use logos_report::Page;
@@ -96,9 +96,7 @@ pub(crate) fn write_match_records<O: Write>(
     let Some(from) = offset_of(spot.bytes, spot.place) else {
         return Err(no_place(alloc, spot.path, spot.place));
     };
-    let mut lines = JsonLines::new(alloc, Vec::new(alloc));
-    push_match_records(alloc, &mut lines, graph, spot.bytes, from)?;
-    let bytes = lines.finish()?;
+    let bytes = match_records(alloc, graph, spot.bytes, from)?;
     print_bytes(&bytes, out)
 }
 
@@ -172,11 +170,9 @@ pub(crate) fn write_input_records<O: Write>(
     ensures printed { OnOk result (PrintsInputRecords graph.now.states graph.now.utf8 most
         (O.contents out.old) (O.contents out.new)) }
 {
-    let mut lines = JsonLines::new(alloc, Vec::new(alloc));
-    let count = push_input_records(alloc, &mut lines, graph, most)?;
-    let note = note_of_cut(alloc, most, count)?;
-    let bytes = lines.finish()?;
-    print_bytes(&bytes, out)?;
+    let made = input_records(alloc, graph, most)?;
+    let note = note_of_cut(alloc, most, made.count)?;
+    print_bytes(&made.bytes, out)?;
     Ok(note)
 }
 
