@@ -17,8 +17,8 @@ pub struct InputRecords {
     pub count: usize,
 }
 
-/// Returns the lines of the first inputs of those that together pass all edges of a graph, an object
-/// for each, at most `most` lines, and how many inputs there are in all.
+/// Returns the lines of the first inputs of those that together pass all edges of a graph, an
+/// object for each, at most `most` lines, and how many inputs there are in all.
 ///
 /// # Errors
 ///
