@@ -22,17 +22,37 @@ struct Known<'l> {
 /// # Errors
 ///
 /// Returns `AllocError` if memory runs out. Nothing is pushed then.
-pub fn push_callbacks(
+pub fn push_callbacks<'l>(
     alloc: Global,
     page: &mut Page,
-    one: Lexed<'_, '_>,
-    other: Lexed<'_, '_>,
+    one: Lexed<'l, '_>,
+    other: Lexed<'l, '_>,
 ) -> Result<(), AllocError> {
     let known = known_of(alloc, one)?;
-    let known_to_other = known_of(alloc, other)?;
+    push_differing(alloc, page, &known, other)
+}
+
+/// Pushes the note about a lexer and what is known of another one.
+fn push_differing<'l>(
+    alloc: Global,
+    page: &mut Page,
+    known: &Known<'l>,
+    other: Lexed<'l, '_>,
+) -> Result<(), AllocError> {
+    let other = known_of(alloc, other)?;
+    push_names_of(alloc, page, known, &other)
+}
+
+/// Pushes the note about two lexers, by what is known of them.
+fn push_names_of<'l>(
+    alloc: Global,
+    page: &mut Page,
+    known: &Known<'l>,
+    other: &Known<'l>,
+) -> Result<(), AllocError> {
     let mut differing = IndexSet::new(alloc);
-    add_differing(&mut differing, &known, &known_to_other)?;
-    add_differing(&mut differing, &known_to_other, &known)?;
+    add_differing(&mut differing, known, other)?;
+    add_differing(&mut differing, other, known)?;
     push_note(page, differing.as_slice());
     Ok(())
 }
@@ -86,7 +106,7 @@ fn callback_of<'l>(text: &'l str, leaf: &Leaf<'_>) -> &'l str {
 fn add_differing<'l>(
     differing: &mut IndexSet<&'l str>,
     known: &Known<'l>,
-    other: &Known<'_>,
+    other: &Known<'l>,
 ) -> Result<(), AllocError> {
     for pair in known.callbacks.as_slice() {
         add_if_differing(differing, *pair, other)?;
@@ -98,7 +118,7 @@ fn add_differing<'l>(
 fn add_if_differing<'l>(
     differing: &mut IndexSet<&'l str>,
     pair: (&'l str, &'l str),
-    other: &Known<'_>,
+    other: &Known<'l>,
 ) -> Result<(), AllocError> {
     if !other.variants.contains(&pair.0) | other.callbacks.contains(&pair) {
         return Ok(());

@@ -272,10 +272,10 @@ fn standing_of(compared: &Compared) -> Standing
 }
 
 /// Returns the note about callbacks that are written in another way.
-fn callback_note(
+fn callback_note<'l>(
     alloc: Global,
-    one: Lexed<'_, '_>,
-    other: Lexed<'_, '_>,
+    one: Lexed<'l, '_>,
+    other: Lexed<'l, '_>,
 ) -> Result<String, AllocError> {
     let mut page = Page::new(alloc, false);
     push_callbacks(alloc, &mut page, one, other)?;
