@@ -13,6 +13,7 @@ use logos_lines::Cursor;
 use logos_records::{ItemRecord, JsonLines, push_item_record};
 use std::alloc::{AllocError, Global};
 use std::io::Write;
+use std::mem;
 use std::time::{Clock, Duration};
 
 /// How many bytes a block has at least when it is written.
@@ -84,107 +85,112 @@ pub(crate) fn write_item_records<O: Write>(
 ) -> Result<String, Failure<'static>>
     ensures { IfErr result IsNoMisuse }
 {
-    let mut counts = Counts::new(alloc, code.leaves().len())?;
-    let emit = |_leaf: LeafId, _slice: &[u8]| Action::Emit;
-    let block = match Lexer::new_bytes(code, input, emit) {
-        Ok(lexer) => {
-            let mut lexer = lexer;
-            let records = Records {
-                alloc,
-                leaves: code.leaves(),
-                input,
-            };
-            write_records(&mut lexer, records, &mut counts, out)?
-        }
-        Err(error) => {
-            return Err(Failure::NotUtf8 {
-                valid_up_to: error.valid_up_to,
-            });
-        }
+    let mut records = Records {
+        alloc,
+        block: Vec::with_capacity(alloc, BLOCK + BLOCK / 16)?,
+        counts: Counts::new(alloc, code.leaves().len())?,
     };
+    write_all_records(code, input, &mut records, out)?;
     // The note is made first, so that nothing is printed if memory runs out.
-    let note = note_of(alloc, code.leaves(), &counts)?;
-    print_bytes(&block, out)?;
+    let note = note_of(alloc, code.leaves(), &records.counts)?;
+    print_bytes(&records.block, out)?;
     Ok(note)
 }
 
-/// What the objects of items are made of.
-#[derive(Clone, Copy)]
-struct Records<'c, 's> {
+/// Where the objects of items go.
+#[derive(Drop)]
+struct Records {
     alloc: Global,
-    leaves: &'c [CodeLeaf<'s>],
-    input: &'c [u8],
+    /// The objects that are not written yet.
+    block: Vec<u8>,
+    counts: Counts,
 }
 
-/// Writes an object for each item that a lexer still gives, by blocks, and counts them. Returns the last
-/// block.
+/// Writes an object for each item of an input, by blocks. The last block is left to the caller.
+fn write_all_records<O: Write>(
+    code: &Code<'_>,
+    input: &[u8],
+    records: &mut Records,
+    out: &mut O,
+) -> Result<(), Failure<'static>>
+    ensures { IfErr result IsNoMisuse }
+{
+    let emit = |_leaf: LeafId, _slice: &[u8]| Action::Emit;
+    match Lexer::new_bytes(code, input, emit) {
+        Ok(lexer) => {
+            let mut lexer = lexer;
+            write_records(&mut lexer, code.leaves(), records, out)
+        }
+        Err(error) => Err(Failure::NotUtf8 {
+            valid_up_to: error.valid_up_to,
+        }),
+    }
+}
+
+/// Writes an object for each item that a lexer still gives, by blocks.
 fn write_records<C: Fn(LeafId, &[u8]) -> Action, O: Write>(
     lexer: &mut Lexer<'_, '_, '_, C>,
-    records: Records<'_, '_>,
-    counts: &mut Counts,
+    leaves: &[CodeLeaf<'_>],
+    records: &mut Records,
     out: &mut O,
-) -> Result<Vec<u8>, Failure<'static>>
+) -> Result<(), Failure<'static>>
     requires { C.IsAlwaysCallable lexer.old.callback }
     ensures { IfErr result IsNoMisuse }
 {
-    let mut cursor = Cursor::new(records.input);
-    let mut block = Vec::with_capacity(records.alloc, BLOCK + BLOCK / 16)?;
+    let mut cursor = Cursor::new(lexer.remainder());
     while let Some(item) = lexer.next() {
-        count_item(counts, &item);
-        let record = record_of(records.leaves, &mut cursor, item);
-        block = with_record(records.alloc, block, record)?;
-        write_if_full(&mut block, out)?;
+        add_record(records, leaves, &mut cursor, item)?;
+        write_if_full(&mut records.block, out)?;
     }
-    Ok(block)
+    Ok(())
 }
 
-/// Counts an item.
-fn count_item(counts: &mut Counts, item: &Item<'_>) {
-    match item {
-        Item::Token { leaf, .. } => counts.count_token(leaf.0),
-        Item::Error { .. } => counts.count_error(),
-    }
-}
-
-/// Returns a block with one more object.
-fn with_record(
-    alloc: Global,
-    block: Vec<u8>,
-    record: ItemRecord<'_>,
-) -> Result<Vec<u8>, AllocError> {
-    let mut lines = JsonLines::new(alloc, block);
-    push_item_record(&mut lines, record);
-    lines.finish()
-}
-
-/// Returns what the object of an item shows.
-fn record_of<'i>(
-    leaves: &'i [CodeLeaf<'_>],
+/// Adds the object of an item, and counts it.
+fn add_record(
+    records: &mut Records,
+    leaves: &[CodeLeaf<'_>],
     cursor: &mut Cursor<'_>,
-    item: Item<'i>,
-) -> ItemRecord<'i> {
+    item: Item<'_>,
+) -> Result<(), AllocError> {
     match item {
         Item::Token { leaf, span, slice } => {
             cursor.go_to(span.from);
-            ItemRecord {
+            records.counts.count_token(leaf.0);
+            let record = ItemRecord {
                 position: cursor.position(),
                 from: span.from,
                 leaf: Some(leaf.0),
                 variant: code_name_at(leaves, leaf.0),
                 bytes: slice,
-            }
+            };
+            push_record(records.alloc, &mut records.block, record)
         }
         Item::Error { span, slice, .. } => {
             cursor.go_to(span.from);
-            ItemRecord {
+            records.counts.count_error();
+            let record = ItemRecord {
                 position: cursor.position(),
                 from: span.from,
                 leaf: None,
                 variant: None,
                 bytes: slice,
-            }
+            };
+            push_record(records.alloc, &mut records.block, record)
         }
     }
+}
+
+/// Adds an object to a block. If memory runs out the block is empty.
+fn push_record(
+    alloc: Global,
+    block: &mut Vec<u8>,
+    record: ItemRecord<'_>,
+) -> Result<(), AllocError> {
+    let out = mem::replace(block, Vec::new(alloc));
+    let mut lines = JsonLines::new(alloc, out);
+    push_item_record(&mut lines, record);
+    *block = lines.finish()?;
+    Ok(())
 }
 
 /// Returns the heads of the lines of these leaves.
