@@ -209,7 +209,7 @@ fn push_character(block: &mut Vec<u8>, character: char) -> Result<(), AllocError
 fn push_number_escape(block: &mut Vec<u8>, code: u32) -> Result<(), AllocError> {
     block.extend_from_slice(b"\\u{")?;
     if code > 0xFFFF {
-        push_two_digits(block, (code / 65_536) as u8)?;
+        push_two_digits(block, (code / 65_536 % 256) as u8)?;
     }
     push_two_digits(block, (code / 256 % 256) as u8)?;
     push_two_digits(block, (code % 256) as u8)?;

@@ -7,6 +7,6 @@ pub returns : goal.returns
 returns c = record {
   inputs = map (λ input. input.items) c.in_ok-inputs.inputs.items;
   covering = c.in_ok-inputs.ensures;
-  all = c.len.ensures ∙ map_length (λ input. input.items) c.in_ok-inputs.inputs.items;
+  all = c.len.ensures ∙ c.in_ok-inputs.inputs.ok.0 ∙ map_length (λ input. input.items) c.in_ok-inputs.inputs.items;
   gained = first_shown (λ input. input.items) input_line c.args.most c.in_ok-inputs.inputs.items c.deref.result.now c.first_of.result.now c.first_of.ensures c.deref.ensures.value c.push_literals.ensures;
 }
