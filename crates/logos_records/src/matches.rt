@@ -88,8 +88,9 @@ fn push_found(lines: &mut JsonLines, start: Start<'_, '_>, found: Option<Match>)
     ensures { Puts (match_lines start.entry.leaves.now start.entry.input.now start.entry.from
         start.entry.winner found) lines.old lines.new }
 {
-    if let Some(found) = found {
-        push_match(lines, start, found);
+    match found {
+        Some(found) => push_match(lines, start, found),
+        None => {}
     }
 }
 
