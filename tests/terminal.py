@@ -1,11 +1,15 @@
 #!/usr/bin/env python3
-"""Feeds each character that a terminal obeys, or does not show, through the places of a report, and looks for it in what is printed.
+"""Feeds each character that a terminal obeys, or does not show, through the places of a report and of an answer, and looks for it in
+what is printed.
 
-  terminal.py LOGOS_CLI
+  terminal.py LOGOS_CLI LOGOS_SHOW
 
-The places are a comment and a pattern in the lines of a source, the message of a fault that quotes a pattern, and the path of the
-file. Each character in each place counts as one. The last line is `terminal: N passed, M failed`."""
+The places of a report are a comment and a pattern in the lines of a source, the message of a fault that quotes a pattern, and the path
+of the file. The answers are those of `logos_show` about a pattern or an input that holds the character, and the paths that they name.
+What `--inputs` prints must also read back as the character. Each character in each place counts as one. The last line is
+`terminal: N passed, M failed`."""
 import os
+import re
 import subprocess
 import sys
 import tempfile
@@ -23,36 +27,80 @@ PLACES = {
 }
 
 
-def printed(program, room, name, source):
-    """Returns what the program prints for a source under a name."""
-    path = os.path.join(room, name)
-    with open(path, "w", encoding="utf-8", newline="") as out:
-        out.write("#[derive(Logos)]\n" + source + "\n")
-    ran = subprocess.run([program, name], cwd=room, capture_output=True, check=False)
-    os.remove(path)
+# Questions to `logos_show`, each with the words, what else has to be printed, and the files. `{}` is the character.
+FOUND = '#[derive(Logos)] enum E {{ #[token("{}")] A }}'
+ANY = '#[derive(Logos)] enum E {{ #[regex("[^a]+")] A }}'
+QUESTIONS = {
+    "a table": (["t.rs"], "jump tables", {"t.rs": FOUND}),
+    "an example": (["t.rs", "--examples"], "finds ", {"t.rs": FOUND}),
+    "a comparison": (["t.rs", "u.rs", "--compare"], "differ on ", {"t.rs": FOUND, "u.rs": ANY}),
+    "an item": (["t.rs", "i"], "errors: 0", {"t.rs": ANY, "i": "{}é"}),
+    "an item of bytes": (["t.rs", "i"], "errors: 0", {"t.rs": ANY.replace("enum", "#[logos(utf8 = false)] enum"), "i": "{}é"}),
+    "a match": (["t.rs", "i", "--at", "1:1"], "wins", {"t.rs": ANY, "i": "{}"}),
+    "a stored answer": (["t.rs", "i", "--expect", "l"], "is another", {"t.rs": ANY, "i": "b", "l": "{}"}),
+}
+# The same with a path that has the character.
+PATHS = {
+    "the path of a table": (["t{}.rs"], "jump tables", {"t{}.rs": ANY}),
+    "the path of a lexer": (["t{}.rs", "u.rs", "--compare"], "differ on ", {"t{}.rs": FOUND.replace("{}", "b"), "u.rs": ANY}),
+    "the path of an input": (["t.rs", "i{}", "--at", "9:9"], "has no column", {"t.rs": ANY, "i{}": "b"}),
+    "the path of a stored answer": (["t.rs", "i", "--expect", "l{}"], "is another", {"t.rs": ANY, "i": "b", "l{}": ""}),
+    "a file without a lexer": (["t{}.rs", "i"], "derives `Logos`", {"t{}.rs": "", "i": ""}),
+}
+ESCAPES = {"n": "\n", "r": "\r", "t": "\t", '"': '"', "\\": "\\"}
+
+
+def printed(program, room, words, files):
+    """Returns what the program prints where these files are."""
+    for name, text in files.items():
+        with open(os.path.join(room, name), "w", encoding="utf-8", newline="") as out:
+            out.write(text)
+    ran = subprocess.run([program, *words], cwd=room, capture_output=True, check=False)
+    for name in files:
+        os.remove(os.path.join(room, name))
     return ran.stdout.decode() + ran.stderr.decode()
 
 
+def read_back(line):
+    """Returns the text of a string literal of Rust on one line."""
+    text = re.sub(r"\\(?:x(..)|u\{(\w+)\}|(.))", lambda m: chr(int(m[1] or m[2], 16)) if m[1] or m[2] else ESCAPES[m[3]], line[1:-1])
+    return text if line[0] == line[-1] == '"' else None
+
+
 def main():
-    program = os.path.realpath(sys.argv[1])
+    program, show = (os.path.realpath(word) for word in sys.argv[1:3])
     passed, failed = 0, []
 
-    def look(place, c, text):
+    def look(place, c, text, wanted):
         nonlocal passed
         body = text.replace("\n", "")
-        if "error[" in text and chr(c) not in body:
+        if wanted in text and chr(c) not in body:
             passed += 1
         else:
             failed.append(f"U+{c:04X} in {place}")
+
+    def ask(place, question, c):
+        words, wanted, files = question
+        files = {name.format(chr(c)): text.format(chr(c)) for name, text in files.items()}
+        look(place, c, printed(show, room, [word.format(chr(c)) for word in words], files), wanted)
 
     with tempfile.TemporaryDirectory() as room:
         for c in WANTED:
             for place, source in PLACES.items():
                 # LF ends a line, and CR is read in front of LF alone.
                 if c not in (10, 13):
-                    look(place, c, printed(program, room, "t.rs", source.format(chr(c))))
+                    look(place, c, printed(program, room, ["t.rs"], {"t.rs": f"#[derive(Logos)]\n{source.format(chr(c))}\n"}), "error[")
+            for place, question in QUESTIONS.items():
+                if c not in (10, 13):
+                    ask(place, question, c)
+            if c not in (10, 13):
+                text = printed(show, room, ["t.rs", "--inputs", "9"], {"t.rs": FOUND.format(chr(c))})
+                look("an input", c, text, "" if read_back(text[:-1]) == chr(c) else "an input that reads back")
             if c not in (0, 10):  # a path has no NUL, and each line ends in LF
-                look("a path", c, printed(program, room, f"t{chr(c)}.rs", "enum E { #[regex] A }"))
+                path = f"t{chr(c)}.rs"
+                look("a path", c, printed(program, room, [path], {path: "#[derive(Logos)]\nenum E { #[regex] A }\n"}), "error[")
+                for place, question in PATHS.items():
+                    ask(place, question, c)
     for line in failed:
         print(f"terminal: {line}")
     print(f"terminal: {passed} passed, {len(failed)} failed")

@@ -4,7 +4,7 @@ use Rattle.std.proofs.lemmas.List.{at_drop_more, at_drop_all}
 use Rattle.std.proofs.lemmas.Str.{IsUtf8-from_is_utf8, is_utf8-from_IsUtf8}
 use Rattle.std.specs.List.{flat_map}
 use Rattle.std.specs.Str.{IsUtf8, chars, is_utf8}
-use Rattle.logos_answers.specs.Quoting.{shown_byte, shown_bytes, shown_character}
+use Rattle.logos_answers.specs.Quoting.{byte_literal, literal, shown_byte, shown_bytes, shown_character, string_literal}
 use Rattle.logos_report.specs.Pages.{PageValue, Gains}
 use Rattle.logos_report.proofs.PageLemmas.{gains_nothing, gains_then}
 
@@ -36,3 +36,10 @@ utf8_shown bytes u = rw (is_utf8-from_IsUtf8 bytes u) refl
 
 pub other_shown : (bytes : List ℕ) → ¬ IsUtf8 bytes → shown_bytes bytes ≡ flat_map shown_byte bytes
 other_shown bytes other = rw (not_utf8 bytes other) refl
+
+-- the literal of bytes that are UTF-8, and of others
+pub utf8_literal : (bytes : List ℕ) → IsUtf8 bytes → literal bytes ≡ string_literal bytes
+utf8_literal bytes u = rw (is_utf8-from_IsUtf8 bytes u) refl
+
+pub other_literal : (bytes : List ℕ) → ¬ IsUtf8 bytes → literal bytes ≡ byte_literal bytes
+other_literal bytes other = rw (not_utf8 bytes other) refl

@@ -2,6 +2,8 @@ pub mod ComparedLemmas
 pub mod DigitLemmas
 pub mod ExampleLemmas
 pub mod GainLemmas
+pub mod InputLemmas
 pub mod LongestLemmas
 pub mod NumberLemmas
 pub mod SplitLemmas
+pub mod TimeLemmas

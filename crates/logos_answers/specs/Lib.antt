@@ -1,5 +1,7 @@
 pub mod Comparing
 pub mod Examples
+pub mod Expecting
+pub mod Inputs
 pub mod Matches
 pub mod Names
 pub mod Offsets

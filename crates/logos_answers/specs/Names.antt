@@ -1,5 +1,5 @@
 -- The names of leaves.
-use Rattle.std.specs.Prelude.{◌≡◌, ◌↔◌, ℕ, List, [], ◌++◌, Option, Some, None, option_map, codes, decimal, slice_get}
+use Rattle.std.specs.Prelude.{◌≡◌, ◌↔◌, ℕ, List, [], ◌++◌, Option, Some, None, option_and_then, option_map, codes, decimal, slice_get}
 use Rattle.logos_pattern.specs.declared.leaf.Leaf.{Leaf}
 use Rattle.logos_pattern.specs.declared.leaf.VariantKind.{VariantKind}
 use Rattle.logos_pattern.specs.declared.leaf.VariantKind.TheVariants.{Skip, Unit as UnitVariant, Value}
@@ -29,6 +29,10 @@ name_at leaves leaf = name_or_none (slice_get leaves leaf)
 -- A leaf, by its name and its number.
 abbrev pub leaf_text : List Leaf → ℕ → List ℕ
 leaf_text leaves leaf = codes "`" ++ (name_at leaves leaf ++ (codes "` (leaf " ++ (decimal leaf ++ codes ")")))
+
+-- The variant of the leaf with a number. A skip has none.
+abbrev pub variant_text : List Leaf → ℕ → Option (List ℕ)
+variant_text leaves leaf = option_and_then (λ (it : Leaf). variant_name it.kind) (slice_get leaves leaf)
 
 -- The variant of the leaf with a number, where there is such a leaf: `Some None` for a skip.
 abbrev pub variant_at : List Leaf → ℕ → Option (Option (List ℕ))

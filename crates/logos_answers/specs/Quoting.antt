@@ -105,3 +105,14 @@ closing bytes = if nat_lt 60 (length bytes) then codes "\".." else codes "\""
 -- Bytes in quotes.
 abbrev pub quoted : List ℕ → List ℕ
 quoted bytes = codes "\"" ++ (shown_bytes (clipped bytes) ++ closing bytes)
+
+-- A text as a literal of Rust, and bytes that are none.
+abbrev pub string_literal : List ℕ → List ℕ
+string_literal text = codes "\"" ++ (shown_text text ++ codes "\"")
+
+abbrev pub byte_literal : List ℕ → List ℕ
+byte_literal bytes = codes "b\"" ++ (shown_others bytes ++ codes "\"")
+
+-- Bytes as a literal of Rust, of which nothing is left out.
+abbrev pub literal : List ℕ → List ℕ
+literal bytes = if is_utf8 bytes then string_literal bytes else byte_literal bytes

@@ -15,18 +15,19 @@ use std::alloc::{AllocError, Global};
 
 /// What a leaf finds, and where it loses.
 #[derive(Drop)]
-struct Evidence {
+pub struct Evidence {
     /// A shortest input on which a lexer finds a match of the leaf first, if there is one.
-    found: Option<Vec<u8>>,
+    pub found: Option<Vec<u8>>,
     /// A shortest input on which it matches and another leaf is found first, if there is one.
-    loss: Option<Loss>,
+    pub loss: Option<Loss>,
 }
 
 /// An input on which a leaf matches and another one is found.
 #[derive(Drop)]
-struct Loss {
-    input: Vec<u8>,
-    winner: usize,
+pub struct Loss {
+    pub input: Vec<u8>,
+    /// The number of the leaf that is found.
+    pub winner: usize,
 }
 
 /// Pushes a line for each leaf of a graph without faults: a shortest input on which a lexer finds a
@@ -63,8 +64,12 @@ fn push_example(
     Ok(())
 }
 
-/// Returns what a leaf finds, and where it loses.
-fn evidence_of(alloc: Global, graph: &Graph<'_>, leaf: usize) -> Result<Evidence, AllocError>
+/// Returns what a leaf of a graph without faults finds, and where it loses.
+///
+/// # Errors
+///
+/// Returns `AllocError` if memory runs out.
+pub fn evidence_of(alloc: Global, graph: &Graph<'_>, leaf: usize) -> Result<Evidence, AllocError>
     ensures { IfOk result (λ evidence. IsGraphOf graph.now.leaves graph.now.utf8 graph.now →
         graph.now.faults ≡ [] → shown.IsEvidence (rules_of graph.now.leaves) graph.now.utf8 leaf
         (option_map (λ input. input.items) evidence.found)

@@ -1,6 +1,7 @@
 //! An answer that is compared with a stored one.
 
-ghost use Rattle.std.specs.Prelude.{◌≡◌, true};
+ghost use Rattle.std.specs.Prelude.{◌≡◌, ◌≤◌, ◌↔◌, IsTrue, drop, length, take};
+ghost use Rattle.logos_answers.specs.Words.{IsLineStart, timeless};
 
 use crate::quoting::push_quoted;
 use logos_lines::Cursor;
@@ -13,28 +14,23 @@ const TIME: &[u8] = b"milliseconds: ";
 /// column of the stored one they differ first, and both lines. The line of the time that was taken
 /// is not compared. `path` is that of the stored answer.
 pub fn push_standing(page: &mut Page, path: &str, stored: &[u8], made: &[u8]) -> bool
-    ensures { stored.now ≡ made.now → result ≡ true }
+    ensures { IsTrue result ↔ (timeless stored.now ≡ timeless made.now) }
 {
-    if is_same(stored, made) {
+    let stored = without_time(stored);
+    let made = without_time(made);
+    let is_same = stored == made;
+    if is_same {
         page.push("as expected\n");
-        return true;
+    } else {
+        push_difference(page, path, stored, made);
     }
-    push_difference(page, path, without_time(stored), without_time(made));
-    false
-}
-
-/// Returns whether two answers are the same, but for the time that was taken.
-fn is_same(stored: &[u8], made: &[u8]) -> bool
-    ensures { stored.now ≡ made.now → result ≡ true }
-{
-    if stored == made {
-        return true;
-    }
-    without_time(stored) == without_time(made)
+    is_same
 }
 
 /// Returns an answer without its last line, if that has the time.
-fn without_time(answer: &[u8]) -> &[u8] {
+fn without_time(answer: &[u8]) -> &[u8]
+    ensures { result.now ≡ timeless answer.now }
+{
     let start = line_start(answer, answer.len().saturating_sub(1));
     if tail_of(answer, start).starts_with(TIME) {
         return front_of(answer, start);
@@ -43,15 +39,21 @@ fn without_time(answer: &[u8]) -> &[u8] {
 }
 
 /// Returns the offset after the last LF before an offset.
-fn line_start(text: &[u8], at: usize) -> usize {
-    match front_of(text, at).iter().rposition(|byte| *byte == b'\n') {
-        Some(end) => end.saturating_add(1),
-        None => 0,
+fn line_start(text: &[u8], at: usize) -> usize
+    requires { at ≤ length text.now }
+    ensures { IsLineStart text.now at result }
+{
+    let mut start = at;
+    while start > 0 && text[start - 1] != b'\n' {
+        start -= 1;
     }
+    start
 }
 
 /// Returns the bytes before an offset.
-fn front_of(text: &[u8], at: usize) -> &[u8] {
+fn front_of(text: &[u8], at: usize) -> &[u8]
+    ensures { result.now ≡ take at text.now }
+{
     match text.get(..at) {
         Some(front) => front,
         None => text,
@@ -59,7 +61,9 @@ fn front_of(text: &[u8], at: usize) -> &[u8] {
 }
 
 /// Returns the bytes from an offset on.
-fn tail_of(text: &[u8], at: usize) -> &[u8] {
+fn tail_of(text: &[u8], at: usize) -> &[u8]
+    ensures { result.now ≡ drop at text.now }
+{
     match text.get(at..) {
         Some(tail) => tail,
         None => &[],
@@ -76,7 +80,9 @@ fn push_difference(page: &mut Page, path: &str, stored: &[u8], made: &[u8]) {
 }
 
 /// Returns how many bytes two texts begin with alike.
-fn common_length(one: &[u8], other: &[u8]) -> usize {
+fn common_length(one: &[u8], other: &[u8]) -> usize
+    ensures { result ≤ length one.now }
+{
     let mut at = 0;
     while at < one.len() && at < other.len() && one[at] == other[at] {
         at += 1;
@@ -98,7 +104,7 @@ fn push_place(page: &mut Page, path: &str, text: &[u8], at: usize) {
     let mut cursor = Cursor::new(text);
     cursor.go_to(at);
     let position = cursor.position();
-    page.push(path);
+    page.push_shown(path);
     page.push(":");
     page.push_number(position.line);
     page.push(":");

@@ -1,24 +1,37 @@
-//! Answers about a lexer, as lines of text: its items, what matches from a point, what a leaf
-//! finds, whether two lexers are the same, and whether an answer is a stored one.
+//! Answers about a lexer, as lines of text: its leaves, its items, what matches from a point, what
+//! a leaf finds, inputs that pass all of its edges, whether two lexers are the same, and whether an
+//! answer is a stored one.
 
 #![tactic(auto)]
 
+mod callbacks;
 mod comparing;
+mod counts;
+mod differing;
 mod examples;
 mod expecting;
+mod inputs;
 mod lines;
 mod matches;
 mod names;
+mod notes;
 mod offsets;
 mod places;
 mod quoting;
+mod table;
 
+pub use callbacks::push_callbacks;
 pub use comparing::{Compared, compare_lexers};
-pub use examples::push_examples;
+pub use counts::{Counts, code_name_at, push_count};
+pub use differing::{Finding, Lexed, finding_of, push_difference, push_modes};
+pub use examples::{Evidence, Loss, evidence_of, push_examples};
 pub use expecting::push_standing;
+pub use inputs::{first_of, push_inputs};
 pub use lines::{LINE, push_item, push_number};
-pub use matches::{push_first, push_matches};
-pub use names::push_leaf;
+pub use matches::{bytes_between, longest_of, push_first, push_matches};
+pub use names::{name_at, push_leaf, variant_at, variant_of};
+pub use notes::note_of;
 pub use offsets::offset_of;
-pub use places::place_by_word;
+pub use places::{number_by_text, place_by_word};
 pub use quoting::push_quoted;
+pub use table::{push_costs, push_rows};

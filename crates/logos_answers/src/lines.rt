@@ -2,6 +2,7 @@
 
 ghost use Rattle.std.specs.Prelude.{◌≡◌, ◌<◌, ◌≤◌, ◌+◌, length};
 
+use crate::quoting::is_hidden;
 use itoa::write_digits;
 use logos_lines::Position;
 use std::alloc::AllocError;
@@ -197,8 +198,28 @@ fn push_character(block: &mut Vec<u8>, character: char) -> Result<(), AllocError
     if code < 128 {
         return push_byte(block, code as u8);
     }
+    if is_hidden(code) {
+        return push_number_escape(block, code);
+    }
     let mut bytes = [0; 4];
     block.extend_from_slice(character.encode_utf8(&mut bytes).as_bytes())
+}
+
+/// Adds the escape of a character that is not shown as it is, by its number.
+fn push_number_escape(block: &mut Vec<u8>, code: u32) -> Result<(), AllocError> {
+    block.extend_from_slice(b"\\u{")?;
+    if code > 0xFFFF {
+        push_two_digits(block, (code / 65_536 % 256) as u8)?;
+    }
+    push_two_digits(block, (code / 256 % 256) as u8)?;
+    push_two_digits(block, (code % 256) as u8)?;
+    block.extend_from_slice(b"}")
+}
+
+/// Adds the two hexadecimal digits of a byte.
+fn push_two_digits(block: &mut Vec<u8>, byte: u8) -> Result<(), AllocError> {
+    let digits = [hexadecimal_digit(byte / 16), hexadecimal_digit(byte % 16)];
+    block.extend_from_slice(&digits)
 }
 
 /// Adds a byte, or its escape.

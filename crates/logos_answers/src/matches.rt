@@ -77,8 +77,13 @@ pub fn push_first(
     Ok(true)
 }
 
-/// Returns the last match of each leaf among these, which is its longest one.
-fn longest_of(
+/// Returns the last match of each leaf among these, which is its longest one where they stand in
+/// the order of their ends.
+///
+/// # Errors
+///
+/// Returns `AllocError` if memory runs out.
+pub fn longest_of(
     alloc: Global,
     count: usize,
     matches: &[Match],
@@ -180,7 +185,7 @@ fn unit_of(count: usize) -> &'static str
 }
 
 /// Returns the bytes of an input between two offsets, or none if it does not have these.
-fn bytes_between(input: &[u8], from: usize, to: usize) -> &[u8]
+pub fn bytes_between(input: &[u8], from: usize, to: usize) -> &[u8]
     ensures { result.now ≡ shown.bytes_between input.now from to }
 {
     match input.get(from..to) {

@@ -1,19 +1,30 @@
 //! The names of leaves.
 
 ghost use Rattle.std.specs.Prelude.{◌≡◌, option_map};
-ghost use Rattle.logos_answers.specs.Words.{Gains, leaf_name, leaf_text, name_at, variant_name};
+ghost use Rattle.logos_answers.specs.Words.{Gains, leaf_name, leaf_text, name_at, variant_name, variant_text};
 
 use logos_pattern::leaf::{Leaf, VariantKind};
 use logos_report::Page;
 
 /// Returns the name of the variant of a kind, or `None` for a skip.
-pub(crate) fn variant_of<'l>(kind: &'l VariantKind<'_>) -> Option<&'l str>
+pub fn variant_of<'l>(kind: &'l VariantKind<'_>) -> Option<&'l str>
     ensures { option_map (λ name. name.now) result ≡ variant_name kind.now }
 {
     match kind {
         VariantKind::Unit(name) => Some(name.text),
         VariantKind::Value(name, _) => Some(name.text),
         VariantKind::Skip => None,
+    }
+}
+
+/// Returns the variant of the leaf with a number, or `None` for a skip and where there is no such
+/// leaf.
+pub fn variant_at<'l>(leaves: &'l [Leaf<'_>], leaf: usize) -> Option<&'l str>
+    ensures { option_map (λ name. name.now) result ≡ variant_text leaves.now leaf }
+{
+    match leaves.get(leaf) {
+        Some(leaf) => variant_of(&leaf.kind),
+        None => None,
     }
 }
 
@@ -28,7 +39,7 @@ fn leaf_name<'l>(leaf: &'l Leaf<'_>) -> &'l str
 }
 
 /// Returns the name of the leaf with a number, or an empty text if there is no such leaf.
-pub(crate) fn name_at<'l>(leaves: &'l [Leaf<'_>], leaf: usize) -> &'l str
+pub fn name_at<'l>(leaves: &'l [Leaf<'_>], leaf: usize) -> &'l str
     ensures { result.now ≡ name_at leaves.now leaf }
 {
     match leaves.get(leaf) {

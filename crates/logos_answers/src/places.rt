@@ -28,8 +28,9 @@ fn place_of(line: Option<usize>, column: Option<usize>) -> Option<Position>
     }
 }
 
-/// Returns the number that a text is, from 1 on.
-fn number_by_text(text: &str) -> Option<usize>
+/// Returns the number that a text is, from 1 on, or `None` if it is none. It has at most seventeen
+/// digits.
+pub fn number_by_text(text: &str) -> Option<usize>
     ensures { result ≡ number_named text.now }
 {
     digits_after(0, text.as_bytes())

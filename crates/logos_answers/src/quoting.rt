@@ -18,6 +18,35 @@ pub fn push_quoted(page: &mut Page, bytes: &[u8])
     page.push(closing(bytes));
 }
 
+/// Pushes bytes as a literal of Rust: a string if they are UTF-8, and a byte string if not. It
+/// stands on one line, and no byte is left out.
+pub(crate) fn push_literal(page: &mut Page, bytes: &[u8])
+    ensures { Gains (shown.literal bytes.now) page.old page.new }
+{
+    match str::from_utf8(bytes) {
+        Ok(text) => push_string(page, text),
+        Err(_) => push_byte_string(page, bytes),
+    }
+}
+
+/// Pushes a text as a literal of Rust.
+fn push_string(page: &mut Page, text: &str)
+    ensures { Gains (shown.string_literal text.now) page.old page.new }
+{
+    page.push("\"");
+    push_text(page, text);
+    page.push("\"");
+}
+
+/// Pushes bytes that are not UTF-8 as a literal of Rust.
+fn push_byte_string(page: &mut Page, bytes: &[u8])
+    ensures { Gains (shown.byte_literal bytes.now) page.old page.new }
+{
+    page.push("b\"");
+    push_bytes(page, bytes);
+    page.push("\"");
+}
+
 /// Returns the bytes that are shown of these.
 fn clipped(bytes: &[u8]) -> &[u8]
     ensures { result.now ≡ shown.clipped bytes.now }
@@ -196,7 +225,7 @@ fn hex_digit(number: u32) -> char
 }
 
 /// Returns whether a character is not shown as it is.
-fn is_hidden(number: u32) -> bool
+pub(crate) fn is_hidden(number: u32) -> bool
     ensures { result ≡ shown.is_hidden number }
 {
     is_hidden_low(number)

@@ -1,7 +1,7 @@
 -- The options of a command line.
 use Rattle.std.specs.Prelude.{ℕ, List, Bool, true, false, Option, Some, None, if◌then◌else◌, bytes_eq, codes}
 use Rattle.logos_host.specs.declared.options.OptionName.{OptionName}
-use Rattle.logos_host.specs.declared.options.OptionName.TheVariants.{At, Check, Color, Compare, Derive, Enum, Examples, Expect, Help, MessageFormat, Output, Shape, Version}
+use Rattle.logos_host.specs.declared.options.OptionName.TheVariants.{At, Check, Color, Compare, Derive, Enum, Examples, Expect, Help, Inputs, Json, MessageFormat, Output, Shape, Version}
 
 -- the options with a word of one letter
 abbrev pub letter_named : List ℕ → Option OptionName
@@ -19,7 +19,9 @@ question_named word =
     else (if bytes_eq word (codes "--compare") then Some Compare
     else (if bytes_eq word (codes "--examples") then Some Examples
     else (if bytes_eq word (codes "--expect") then Some Expect
-    else None)))
+    else (if bytes_eq word (codes "--inputs") then Some Inputs
+    else (if bytes_eq word (codes "--json") then Some Json
+    else None)))))
 
 -- the last other options of the alphabet
 abbrev pub later_named : List ℕ → Option OptionName
@@ -59,6 +61,8 @@ takes_value Enum = true
 takes_value Examples = false
 takes_value Expect = true
 takes_value Help = false
+takes_value Inputs = true
+takes_value Json = false
 takes_value MessageFormat = true
 takes_value Output = true
 takes_value Shape = true

@@ -15,6 +15,8 @@ pub enum OptionName {
     Examples,
     Expect,
     Help,
+    Inputs,
+    Json,
     MessageFormat,
     Output,
     Shape,
@@ -49,6 +51,8 @@ impl OptionName {
             OptionName::Examples => "--examples",
             OptionName::Expect => "--expect",
             OptionName::Help => "--help",
+            OptionName::Inputs => "--inputs",
+            OptionName::Json => "--json",
             OptionName::MessageFormat => "--message-format",
             OptionName::Output => "--output",
             OptionName::Shape => "--shape",
@@ -66,6 +70,7 @@ impl OptionName {
                 | OptionName::Color
                 | OptionName::Enum
                 | OptionName::Expect
+                | OptionName::Inputs
                 | OptionName::MessageFormat
                 | OptionName::Output
                 | OptionName::Shape
@@ -148,6 +153,12 @@ fn by_question(word: &str) -> Option<OptionName>
     }
     if word == "--expect" {
         return Some(OptionName::Expect);
+    }
+    if word == "--inputs" {
+        return Some(OptionName::Inputs);
+    }
+    if word == "--json" {
+        return Some(OptionName::Json);
     }
     None
 }

@@ -1,16 +1,23 @@
 -- What is printed about lexers.
-use Rattle.std.specs.Prelude.{◌≡◌, ◌≢◌, ℕ, List, ◌++◌, Option, codes, decimal}
+pub use Rattle.logos_answers.specs.Comparing.{IsCompared}
+pub use Rattle.logos_graph.specs.View.{GraphValue}
+use Rattle.std.specs.Prelude.{◌≡◌, ◌≢◌, ℕ, Bool, List, ◌++◌, Option, codes, decimal, take}
+use Rattle.std.specs.List.{flat_map}
 use Rattle.std.specs.Io.KnownBytes.{Appends}
-use Rattle.logos_answers.specs.Comparing.{IsCompared}
+use Rattle.logos_answers.specs.Inputs.{input_line}
 use Rattle.logos_answers.specs.Matches.{AreLines}
 use Rattle.logos_answers.specs.Offsets.{IsOffsetOf}
 use Rattle.logos_answers.specs.declared.comparing.Compared.{Compared}
 use Rattle.logos_answers.specs.declared.comparing.Compared.TheVariants as compared
+use Rattle.logos_evidence.specs.Covering.{AreCoveringInputs}
 use Rattle.logos_evidence.specs.Matching.{AreMatches}
 use Rattle.logos_evidence.specs.declared.matching.Match.{Match}
-use Rattle.logos_graph.specs.View.{GraphValue, rules_of}
+use Rattle.logos_graph.specs.Graph.{GraphState}
+use Rattle.logos_graph.specs.View.{rules_of}
 use Rattle.logos_lines.specs.declared.place.Position.{Position}
 use Rattle.logos_pattern.specs.declared.leaf.Leaf.{Leaf}
+use Rattle.logos_records.specs.Inputs.{AreInputRecords}
+use Rattle.logos_records.specs.Matches.{AreMatchRecords}
 use Rattle.logos_show.specs.declared.asking.Standing.{Standing}
 use Rattle.logos_show.specs.declared.asking.Standing.TheVariants.{Different, Same}
 
@@ -27,6 +34,28 @@ pub record PrintsMatches (leaves : List Leaf) (input : List ℕ) (place : Positi
   pub text : List ℕ
   pub lines : AreLines leaves input from matches text
   pub printed : Appends old new (place_line place ++ text)
+
+-- Standard output got the lines of JSON about all matches from a place of an input.
+pub record PrintsMatchRecords (leaves : List Leaf) (input : List ℕ) (place : Position) (old new : Option (List ℕ)) : Type 0 where
+  pub from : ℕ
+  pub at : IsOffsetOf input place from
+  pub text : List ℕ
+  pub lines : AreMatchRecords leaves input from text
+  pub printed : Appends old new text
+
+-- Standard output got the first inputs, at most so many, of those that together pass all edges of a
+-- graph.
+pub record PrintsInputs (graph : List GraphState) (utf8 : Bool) (most : ℕ) (old new : Option (List ℕ)) : Type 0 where
+  pub inputs : List (List ℕ)
+  pub covering : AreCoveringInputs graph utf8 inputs
+  pub printed : Appends old new (flat_map input_line (take most inputs))
+
+-- The same as lines of JSON.
+pub record PrintsInputRecords (graph : List GraphState) (utf8 : Bool) (most : ℕ) (old new : Option (List ℕ)) : Type 0 where
+  pub count : ℕ
+  pub text : List ℕ
+  pub lines : AreInputRecords graph utf8 most count text
+  pub printed : Appends old new text
 
 -- The verdict on two lexers is that of a comparison.
 abbrev pub IsJudged : GraphValue → GraphValue → Standing → Type 0

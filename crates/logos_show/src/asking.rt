@@ -2,22 +2,24 @@
 
 ghost use Rattle.std.specs.Prelude.{◌≡◌, [], IfErr, IfOk, OnOk};
 ghost use Rattle.logos_answers.specs.Words.{AllStart, Gains, IsBytes, IsGraphOf, rules_of};
-ghost use Rattle.logos_show.specs.Answers.{IsJudged, PrintsMatches, place_line};
+ghost use Rattle.logos_show.specs.Answers.{GraphValue, IsCompared, IsJudged, PrintsInputRecords, PrintsInputs};
+ghost use Rattle.logos_show.specs.Answers.{PrintsMatchRecords, PrintsMatches, place_line};
 ghost use Rattle.logos_show.specs.Orders.{IsNoMisuse};
 
 use crate::reading::print_bytes;
 use logos_answers::{
-    Compared, compare_lexers, offset_of, push_first, push_matches, push_quoted, push_standing,
+    Compared, Lexed, compare_lexers, finding_of, offset_of, push_callbacks, push_difference,
+    push_inputs, push_matches, push_modes, push_standing,
 };
-use logos_codegen::Generated;
-use logos_codegen::code::Code;
 use logos_codegen::graph::Graph;
-use logos_codegen::leaf::LeafId;
-use logos_codegen::machine::{Action, Item, Lexer};
 use logos_host::Failure;
 use logos_lines::Position;
+use logos_records::{
+    JsonLines, input_records, match_records, push_difference_record, push_modes_record,
+    push_same_record,
+};
 use logos_report::Page;
-use std::alloc::Global;
+use std::alloc::{AllocError, Global};
 use std::io::Write;
 
 /// Whether what was to be compared is the same.
@@ -27,22 +29,25 @@ pub(crate) enum Standing {
     Different,
 }
 
-/// A lexer, and the path of its file.
-#[derive(Clone, Copy)]
-pub(crate) struct Lexed<'m, 's> {
-    pub(crate) path: &'m str,
-    pub(crate) made: &'m Generated<'s>,
-}
-
 /// An input: its path, its bytes, and the place that is asked for, if one is.
 #[derive(Clone, Copy)]
 pub(crate) struct Input<'w, 'i> {
     pub(crate) path: &'w str,
     pub(crate) bytes: &'i [u8],
     pub(crate) place: Option<Position>,
+    /// Whether the answer is JSON.
+    pub(crate) is_json: bool,
 }
 
-/// Writes what matches from a place of an input.
+/// A place of an input: the path and the bytes of the input, and the place.
+#[derive(Clone, Copy)]
+pub(crate) struct Spot<'w, 'i> {
+    pub(crate) path: &'w str,
+    pub(crate) bytes: &'i [u8],
+    pub(crate) place: Position,
+}
+
+/// Writes what matches from a place of an input, as lines of text.
 ///
 /// # Errors
 ///
@@ -51,24 +56,48 @@ pub(crate) struct Input<'w, 'i> {
 pub(crate) fn write_matches<O: Write>(
     alloc: Global,
     graph: &Graph<'_>,
-    input: Input<'_, '_>,
-    place: Position,
+    spot: Spot<'_, '_>,
     out: &mut O,
 ) -> Result<(), Failure<'static>>
     ensures failed { IfErr result IsNoMisuse }
     ensures printed { OnOk result (IsGraphOf graph.now.leaves graph.now.utf8 graph.now →
-        AllStart (rules_of graph.now.leaves) → IsBytes input.entry.bytes.now →
-        PrintsMatches graph.now.leaves input.entry.bytes.now place
+        AllStart (rules_of graph.now.leaves) → IsBytes spot.entry.bytes.now →
+        PrintsMatches graph.now.leaves spot.entry.bytes.now spot.entry.place
         (O.contents out.old) (O.contents out.new)) }
 {
-    let Some(from) = offset_of(input.bytes, place) else {
-        return Err(no_place(alloc, input.path, place));
+    let Some(from) = offset_of(spot.bytes, spot.place) else {
+        return Err(no_place(alloc, spot.path, spot.place));
     };
     let mut page = Page::new(alloc, false);
-    push_place(&mut page, place);
-    push_matches(alloc, &mut page, graph, input.bytes, from)?;
+    push_place(&mut page, spot.place);
+    push_matches(alloc, &mut page, graph, spot.bytes, from)?;
     let text = page.finish()?;
     print_bytes(text.as_str().as_bytes(), out)
+}
+
+/// Writes what matches from a place of an input, as lines of JSON.
+///
+/// # Errors
+///
+/// Returns `Refused` if the input does not have the place, `Output` if writing fails, and `Memory` if
+/// memory runs out.
+pub(crate) fn write_match_records<O: Write>(
+    alloc: Global,
+    graph: &Graph<'_>,
+    spot: Spot<'_, '_>,
+    out: &mut O,
+) -> Result<(), Failure<'static>>
+    ensures failed { IfErr result IsNoMisuse }
+    ensures printed { OnOk result (IsGraphOf graph.now.leaves graph.now.utf8 graph.now →
+        AllStart (rules_of graph.now.leaves) → IsBytes spot.entry.bytes.now →
+        PrintsMatchRecords graph.now.leaves spot.entry.bytes.now spot.entry.place
+        (O.contents out.old) (O.contents out.new)) }
+{
+    let Some(from) = offset_of(spot.bytes, spot.place) else {
+        return Err(no_place(alloc, spot.path, spot.place));
+    };
+    let bytes = match_records(alloc, graph, spot.bytes, from)?;
+    print_bytes(&bytes, out)
 }
 
 /// Pushes the line that names a place.
@@ -86,11 +115,78 @@ fn push_place(page: &mut Page, place: Position)
 fn no_place(alloc: Global, path: &str, place: Position) -> Failure<'static>
     ensures { IsNoMisuse result }
 {
-    let Position { line, column } = place;
-    match format!(in alloc; "error: {path} has no column {column} in line {line}\n") {
+    let mut page = Page::new(alloc, false);
+    page.push("error: ");
+    page.push_shown(path);
+    page.push(" has no column ");
+    page.push_number(place.column);
+    page.push(" in line ");
+    page.push_number(place.line);
+    page.push("\n");
+    match page.finish() {
         Ok(text) => Failure::Refused(text),
         Err(_) => Failure::Memory,
     }
+}
+
+/// Writes at most so many inputs of those that together pass all edges of a graph, as literals of Rust.
+/// Returns a note that says how many were left out, which is empty if none was.
+///
+/// # Errors
+///
+/// Returns `Output` if writing fails, and `Memory` if memory runs out.
+pub(crate) fn write_inputs<O: Write>(
+    alloc: Global,
+    graph: &Graph<'_>,
+    most: usize,
+    out: &mut O,
+) -> Result<String, Failure<'static>>
+    ensures failed { IfErr result IsNoMisuse }
+    ensures printed { OnOk result (PrintsInputs graph.now.states graph.now.utf8 most
+        (O.contents out.old) (O.contents out.new)) }
+{
+    let mut page = Page::new(alloc, false);
+    let count = push_inputs(alloc, &mut page, graph, most)?;
+    // The note is made first, so that nothing is printed if memory runs out.
+    let note = note_of_cut(alloc, most, count)?;
+    let text = page.finish()?;
+    print_bytes(text.as_str().as_bytes(), out)?;
+    Ok(note)
+}
+
+/// Writes at most so many inputs of those that together pass all edges of a graph, as lines of JSON.
+/// Returns a note that says how many were left out, which is empty if none was.
+///
+/// # Errors
+///
+/// Returns `Output` if writing fails, and `Memory` if memory runs out.
+pub(crate) fn write_input_records<O: Write>(
+    alloc: Global,
+    graph: &Graph<'_>,
+    most: usize,
+    out: &mut O,
+) -> Result<String, Failure<'static>>
+    ensures failed { IfErr result IsNoMisuse }
+    ensures printed { OnOk result (PrintsInputRecords graph.now.states graph.now.utf8 most
+        (O.contents out.old) (O.contents out.new)) }
+{
+    let made = input_records(alloc, graph, most)?;
+    let note = note_of_cut(alloc, most, made.count)?;
+    print_bytes(&made.bytes, out)?;
+    Ok(note)
+}
+
+/// Returns the note that says how many of so many inputs were left out, which is empty if none was.
+fn note_of_cut(alloc: Global, most: usize, count: usize) -> Result<String, AllocError> {
+    let mut page = Page::new(alloc, false);
+    if most < count {
+        page.push("note: ");
+        page.push_number(most);
+        page.push(" of ");
+        page.push_number(count);
+        page.push(" inputs: some edges that inputs pass may be passed by none of these\n");
+    }
+    page.finish()
 }
 
 /// Writes whether an answer is the stored one at a path, and returns that. If not, writes where they
@@ -117,6 +213,22 @@ pub(crate) fn write_standing<O: Write>(
     Ok(Standing::Different)
 }
 
+/// Two lexers that are compared, and whether the answer is JSON.
+#[derive(Clone, Copy)]
+pub(crate) struct Pair<'m, 's, 't> {
+    pub(crate) one: Lexed<'m, 's>,
+    pub(crate) other: Lexed<'m, 't>,
+    pub(crate) is_json: bool,
+}
+
+/// What a comparison of two lexers gives.
+#[derive(Drop)]
+pub(crate) struct Judgment {
+    pub(crate) standing: Standing,
+    /// A note about callbacks, which is empty if there is nothing to say.
+    pub(crate) note: String,
+}
+
 /// Writes whether two lexers are the same, and returns that. If they differ, writes a shortest input at
 /// whose beginning they find different things, and what each of them finds there.
 ///
@@ -125,109 +237,109 @@ pub(crate) fn write_standing<O: Write>(
 /// Returns `Output` if writing fails, and `Memory` if memory runs out.
 pub(crate) fn compare_with<O: Write>(
     alloc: Global,
-    one: Lexed<'_, '_>,
-    other: Lexed<'_, '_>,
+    pair: Pair<'_, '_, '_>,
     out: &mut O,
-) -> Result<Standing, Failure<'static>>
+) -> Result<Judgment, Failure<'static>>
     ensures failed { IfErr result IsNoMisuse }
-    ensures judged { IfOk result (λ standing.
-        IsGraphOf one.entry.made.now.graph.leaves one.entry.made.now.graph.utf8
-        one.entry.made.now.graph →
-        IsGraphOf other.entry.made.now.graph.leaves other.entry.made.now.graph.utf8
-        other.entry.made.now.graph →
-        one.entry.made.now.graph.faults ≡ [] → other.entry.made.now.graph.faults ≡ [] →
-        IsJudged one.entry.made.now.graph other.entry.made.now.graph standing) }
+    ensures judged { IfOk result (λ judgment.
+        IsGraphOf pair.entry.one.graph.now.leaves pair.entry.one.graph.now.utf8
+        pair.entry.one.graph.now →
+        IsGraphOf pair.entry.other.graph.now.leaves pair.entry.other.graph.now.utf8
+        pair.entry.other.graph.now →
+        pair.entry.one.graph.now.faults ≡ [] → pair.entry.other.graph.now.faults ≡ [] →
+        IsJudged pair.entry.one.graph.now pair.entry.other.graph.now judgment.standing) }
 {
-    match compare_lexers(alloc, &one.made.graph, &other.made.graph)? {
-        Compared::Same => {
-            print_bytes(b"the same lexer\n", out)?;
-            Ok(Standing::Same)
-        }
-        Compared::OtherMode => {
-            write_modes(alloc, one, other, out)?;
-            Ok(Standing::Different)
-        }
-        Compared::Differ(input) => {
-            write_difference(alloc, one, other, &input, out)?;
-            Ok(Standing::Different)
-        }
+    let compared = compare_lexers(alloc, pair.one.graph, pair.other.graph)?;
+    let bytes = comparison_bytes(alloc, pair, &compared)?;
+    let note = callback_note(alloc, pair.one, pair.other)?;
+    print_bytes(&bytes, out)?;
+    Ok(Judgment {
+        standing: standing_of(&compared),
+        note,
+    })
+}
+
+/// Returns whether two lexers are the same, by their comparison.
+fn standing_of(compared: &Compared) -> Standing
+    ensures { (one other : GraphValue) → IsCompared one other compared.now →
+        IsJudged one other result }
+{
+    match compared {
+        Compared::Same => Standing::Same,
+        Compared::Differ(_) => Standing::Different,
+        Compared::OtherMode => Standing::Different,
     }
 }
 
-/// Writes which inputs two lexers read.
-fn write_modes<O: Write>(
+/// Returns the note about callbacks that are written in another way.
+fn callback_note<'l>(
     alloc: Global,
-    one: Lexed<'_, '_>,
-    other: Lexed<'_, '_>,
-    out: &mut O,
-) -> Result<(), Failure<'static>>
-    ensures { IfErr result IsNoMisuse }
-{
+    one: Lexed<'l, '_>,
+    other: Lexed<'l, '_>,
+) -> Result<String, AllocError> {
     let mut page = Page::new(alloc, false);
-    push_mode(&mut page, one);
-    push_mode(&mut page, other);
-    print_bytes(page.finish()?.as_str().as_bytes(), out)
+    push_callbacks(alloc, &mut page, one, other)?;
+    page.finish()
 }
 
-/// Pushes the line that says which inputs a lexer reads.
-fn push_mode(page: &mut Page, one: Lexed<'_, '_>) {
-    page.push(one.path);
-    if one.made.graph.utf8_mode() {
-        page.push(" reads UTF-8\n");
+/// Returns what is printed about a comparison of two lexers.
+fn comparison_bytes(
+    alloc: Global,
+    pair: Pair<'_, '_, '_>,
+    compared: &Compared,
+) -> Result<Vec<u8>, AllocError> {
+    if pair.is_json {
+        compared_record(alloc, pair, compared)
     } else {
-        page.push(" reads any bytes\n");
+        Ok(compared_page(alloc, pair, compared)?.into_bytes())
     }
 }
 
-/// Writes an input on which two lexers differ, and what they find there first.
-fn write_difference<O: Write>(
+/// Returns the lines about a comparison of two lexers.
+fn compared_page(
     alloc: Global,
-    one: Lexed<'_, '_>,
-    other: Lexed<'_, '_>,
-    input: &[u8],
-    out: &mut O,
-) -> Result<(), Failure<'static>>
-    ensures { IfErr result IsNoMisuse }
-{
+    pair: Pair<'_, '_, '_>,
+    compared: &Compared,
+) -> Result<String, AllocError> {
     let mut page = Page::new(alloc, false);
-    page.push("the lexers differ on ");
-    push_quoted(&mut page, input);
-    page.push("\n");
-    push_finding(alloc, &mut page, one, input)?;
-    push_finding(alloc, &mut page, other, input)?;
-    print_bytes(page.finish()?.as_str().as_bytes(), out)
+    match compared {
+        Compared::Same => page.push("the same lexer\n"),
+        Compared::OtherMode => push_modes(&mut page, pair.one, pair.other),
+        Compared::Differ(input) => push_difference(alloc, &mut page, pair.one, pair.other, input)?,
+    }
+    page.finish()
 }
 
-/// Pushes the line that says what a lexer finds at the beginning of an input.
-fn push_finding(
+/// Returns the object of a comparison of two lexers.
+fn compared_record(
     alloc: Global,
-    page: &mut Page,
-    one: Lexed<'_, '_>,
-    input: &[u8],
-) -> Result<(), Failure<'static>>
-    ensures { IfErr result IsNoMisuse }
-{
-    page.push(one.path);
-    page.push(" finds ");
-    if !push_first(alloc, page, &one.made.graph, input)? {
-        push_error(page, &one.made.code, input);
+    pair: Pair<'_, '_, '_>,
+    compared: &Compared,
+) -> Result<Vec<u8>, AllocError> {
+    let mut lines = JsonLines::new(alloc, Vec::new(alloc));
+    match compared {
+        Compared::Same => push_same_record(&mut lines),
+        Compared::OtherMode => {
+            push_modes_record(
+                &mut lines,
+                pair.one.graph.utf8_mode(),
+                pair.other.graph.utf8_mode(),
+            )
+        }
+        Compared::Differ(input) => push_findings(alloc, &mut lines, pair, input)?,
     }
-    page.push("\n");
-    Ok(())
+    lines.finish()
 }
 
-/// Pushes the error at the beginning of an input, or that there is nothing.
-fn push_error(page: &mut Page, code: &Code<'_>, input: &[u8]) {
-    let emit = |_leaf: LeafId, _slice: &[u8]| Action::Emit;
-    let Ok(lexer) = Lexer::new_bytes(code, input, emit) else {
-        return;
-    };
-    let mut lexer = lexer;
-    match lexer.next() {
-        Some(Item::Error { slice, .. }) => {
-            page.push("an error, ");
-            push_quoted(page, slice);
-        }
-        _ => page.push("nothing"),
-    }
+/// Pushes the object of an input on which two lexers differ.
+fn push_findings(
+    alloc: Global,
+    lines: &mut JsonLines,
+    pair: Pair<'_, '_, '_>,
+    input: &[u8],
+) -> Result<(), AllocError> {
+    let found = finding_of(alloc, pair.one, input)?;
+    let found_by_other = finding_of(alloc, pair.other, input)?;
+    push_difference_record(lines, input, found, found_by_other);
+    Ok(())
 }

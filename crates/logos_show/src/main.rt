@@ -3,14 +3,11 @@
 #![tactic(auto)]
 
 mod asking;
-mod counts;
+mod comparing;
 mod items;
-mod notes;
-mod options;
 mod reading;
 mod running;
 mod showing;
-mod table;
 mod warnings;
 
 use logos_host::{Disk, refuse_words, words};

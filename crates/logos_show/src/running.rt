@@ -4,15 +4,20 @@ ghost use Rattle.std.specs.Prelude.{◌≡◌, ◌≤◌, ◌↔◌, None, IfErr
 ghost use Rattle.logos_host.specs.Failures.{status_of};
 ghost use Rattle.logos_show.specs.Orders.{IsNoMisuse, asked};
 
-use crate::asking::{Input, Lexed, Standing, compare_with, write_matches, write_standing};
-use crate::items::write_items;
-use crate::options::{Order, Question, Request, TAKEN, request_of};
+use crate::asking::{
+    Input, Spot, Standing, write_input_records, write_inputs, write_match_records, write_matches,
+    write_standing,
+};
+use crate::comparing::compare;
+use crate::items::{write_item_records, write_items};
 use crate::reading::{chosen, print_bytes, read_bytes, refused, text_at, text_of};
-use crate::showing::{PageStyle, SHAPE, Shown, shown_of};
+use crate::showing::{Form, PageStyle, SHAPE, Shown, shown_of};
+use logos_codegen::graph::Graph;
 use logos_codegen::{Generated, generate};
 use logos_host::{Failure, Files, report, with_nearest};
 use logos_lines::Position;
-use logos_report::{Part, Source};
+use logos_questions::{Order, Question, Request, TAKEN, request_of};
+use logos_report::{Page, Part, Source};
 use logos_rust_file::{FoundEnum, enums_in};
 use std::alloc::Global;
 use std::io::{IsTerminal, Write};
@@ -22,6 +27,7 @@ pub(crate) const USAGE: &str = "\
 usage: logos_show FILE [INPUT] [--enum NAME] [--color always|never|auto]
        logos_show FILE INPUT --at LINE:COLUMN
        logos_show FILE --examples
+       logos_show FILE --inputs N
        logos_show OLD NEW --compare
 ";
 
@@ -40,6 +46,9 @@ options:
       --at L:C      print what matches from line L, column C of INPUT
       --examples    print for each leaf a shortest text that it finds, and one
                     where another leaf is found in its place
+      --inputs N    print at most N inputs that together pass every edge of the
+                    lexer's graph, a literal of Rust on each line
+      --json        print an object of JSON on each line
       --expect LIST compare what would be printed with the file LIST; status 1
                     if they differ in more than the time that was taken
       --compare     print whether the lexers of two files find the same, or a
@@ -93,10 +102,10 @@ fn failed<E: Write>(failure: &Failure<'_>, err: &mut E) -> u8
 
 /// An order that is carried out.
 #[derive(Clone, Copy)]
-struct Task<'w> {
-    order: Order<'w>,
+pub(crate) struct Task<'w> {
+    pub(crate) order: Order<'w>,
     /// Whether messages have colors.
-    is_colored: bool,
+    pub(crate) is_colored: bool,
 }
 
 /// Does what is asked for, and returns whether what was to be compared is the same.
@@ -162,6 +171,7 @@ fn answer<'w, F: Files, C: Clock, O: Write, E: Write + IsTerminal>(
 {
     let done = match task.order.question {
         Question::Leaves | Question::Examples => show(alloc, task, host, out),
+        Question::Inputs(_) => give_inputs(alloc, task, host, out),
         Question::Items(input) => lex(alloc, task, input, None, host, out),
         Question::Matches(input, place) => lex(alloc, task, input, Some(place), host, out),
         Question::Comparison(other) => return compare(alloc, task, other, host, out),
@@ -186,19 +196,86 @@ fn show<'w, F: Files, C: Clock, O: Write, E: Write + IsTerminal>(
     }
     let style = PageStyle {
         is_colored: task.is_colored,
-        has_examples: asks_examples(task.order.question),
+        form: form_of(task.order),
     };
-    let Shown { tables, warnings } = shown_of(alloc, &source, style, task.order.name)?;
+    let Shown {
+        tables,
+        records,
+        warnings,
+    } = shown_of(alloc, &source, style, task.order.name)?;
     let _ = host.err.write_all(warnings.as_bytes());
     let _ = host.err.flush();
-    print_bytes(tables.as_str().as_bytes(), out)
+    print_bytes(tables.as_str().as_bytes(), out)?;
+    print_bytes(&records, out)
 }
 
-/// Returns whether examples are asked for.
-fn asks_examples(question: Question<'_>) -> bool {
+/// Returns in which form the lexers of a file are shown.
+fn form_of(order: Order<'_>) -> Form {
+    match (order.question, order.is_json) {
+        (Question::Examples, false) => Form::Examples,
+        (Question::Examples, true) => Form::ExampleRecords,
+        (_, false) => Form::Tables,
+        (_, true) => Form::LeafRecords,
+    }
+}
+
+/// Writes inputs that together pass all edges of the graph of a lexer, at most so many.
+fn give_inputs<'w, F: Files, C: Clock, O: Write, E: Write + IsTerminal>(
+    alloc: Global,
+    task: Task<'w>,
+    host: &mut Host<'_, F, C, E>,
+    out: &mut O,
+) -> Result<(), Failure<'w>>
+    ensures { IfErr result IsNoMisuse }
+{
+    let path = task.order.file;
+    let text = text_at(path, host.files)?;
+    let source = Source::new(alloc, path, text.as_str())?;
+    let note = inputs_by_file(alloc, task, &source, out)?;
+    let _ = host.err.write_all(note.as_bytes());
+    let _ = host.err.flush();
+    Ok(())
+}
+
+/// Writes inputs by the lexer of a file that is asked for, and returns the note about them.
+fn inputs_by_file<'w, O: Write>(
+    alloc: Global,
+    task: Task<'w>,
+    source: &Source<'_>,
+    out: &mut O,
+) -> Result<String, Failure<'w>>
+    ensures { IfErr result IsNoMisuse }
+{
+    let one = lexer_in(alloc, task, source)?;
+    let part = part_of(source, one);
+    match generate(alloc, text_of(source, one), SHAPE) {
+        Ok(made) => inputs_by_lexer(alloc, task.order, &made, out),
+        Err(refusal) => Err(refused(alloc, part, task.is_colored, refusal)),
+    }
+}
+
+/// Writes inputs by a lexer, and returns the note about them.
+fn inputs_by_lexer<O: Write>(
+    alloc: Global,
+    order: Order<'_>,
+    made: &Generated<'_>,
+    out: &mut O,
+) -> Result<String, Failure<'static>>
+    ensures { IfErr result IsNoMisuse }
+{
+    let most = most_of(order.question);
+    if order.is_json {
+        write_input_records(alloc, &made.graph, most, out)
+    } else {
+        write_inputs(alloc, &made.graph, most, out)
+    }
+}
+
+/// Returns how many inputs are asked for.
+fn most_of(question: Question<'_>) -> usize {
     match question {
-        Question::Examples => true,
-        _ => false,
+        Question::Inputs(most) => most,
+        _ => 0,
     }
 }
 
@@ -221,6 +298,7 @@ fn lex<'w, F: Files, C: Clock, O: Write, E: Write + IsTerminal>(
         path: input,
         bytes: bytes.as_slice(),
         place,
+        is_json: task.order.is_json,
     };
     lex_by_file(alloc, task, &source, input, host, out)
 }
@@ -246,7 +324,7 @@ fn lex_by_file<'w, F: Files, C: Clock, O: Write, E: Write + IsTerminal>(
 }
 
 /// Returns the part of a file that is an enum.
-fn part_of<'f, 's>(source: &'f Source<'s>, one: FoundEnum) -> Part<'f, 's> {
+pub(crate) fn part_of<'f, 's>(source: &'f Source<'s>, one: FoundEnum) -> Part<'f, 's> {
     Part {
         source,
         offset: one.span.from,
@@ -264,87 +342,55 @@ fn lex_by_lexer<'w, F: Files, C: Clock, O: Write, E: Write + IsTerminal>(
     ensures { IfErr result IsNoMisuse }
 {
     if let Some(place) = input.place {
-        return write_matches(alloc, &made.graph, input, place, out);
+        let spot = Spot {
+            path: input.path,
+            bytes: input.bytes,
+            place,
+        };
+        return match_by_lexer(alloc, &made.graph, spot, input.is_json, out);
     }
-    let note = write_items(alloc, &made.code, input.bytes, host.clock, out)?;
+    let note = items_by_lexer(alloc, made, input, host.clock, out)?;
     let _ = host.err.write_all(note.as_bytes());
     let _ = host.err.flush();
     Ok(())
 }
 
-/// Writes whether the lexer of another file is the same, and returns that.
-fn compare<'w, F: Files, C: Clock, O: Write, E: Write + IsTerminal>(
+/// Writes the items of an input, and returns the note about them.
+fn items_by_lexer<C: Clock, O: Write>(
     alloc: Global,
-    task: Task<'w>,
-    other: &'w str,
-    host: &mut Host<'_, F, C, E>,
+    made: &Generated<'_>,
+    input: Input<'_, '_>,
+    clock: &C,
     out: &mut O,
-) -> Result<Standing, Failure<'w>>
+) -> Result<String, Failure<'static>>
     ensures { IfErr result IsNoMisuse }
 {
-    let path = task.order.file;
-    let text = text_at(path, host.files)?;
-    let other_text = text_at(other, host.files)?;
-    let source = Source::new(alloc, path, text.as_str())?;
-    let other_source = Source::new(alloc, other, other_text.as_str())?;
-    compare_files(alloc, task, &source, &other_source, out)
-}
-
-/// Writes whether the lexers of two files are the same, and returns that.
-fn compare_files<'w, O: Write>(
-    alloc: Global,
-    task: Task<'w>,
-    source: &Source<'_>,
-    other: &Source<'_>,
-    out: &mut O,
-) -> Result<Standing, Failure<'w>>
-    ensures { IfErr result IsNoMisuse }
-{
-    let one = lexer_in(alloc, task, source)?;
-    let part = part_of(source, one);
-    match generate(alloc, text_of(source, one), SHAPE) {
-        Ok(made) => compare_to(
-            alloc,
-            task,
-            Lexed {
-                path: source.path(),
-                made: &made,
-            },
-            other,
-            out,
-        ),
-        Err(refusal) => Err(refused(alloc, part, task.is_colored, refusal)),
+    if input.is_json {
+        write_item_records(alloc, &made.code, input.bytes, out)
+    } else {
+        write_items(alloc, &made.code, input.bytes, clock, out)
     }
 }
 
-/// Writes whether a lexer and that of another file are the same, and returns that.
-fn compare_to<'w, O: Write>(
+/// Writes what matches from a place of an input.
+fn match_by_lexer<O: Write>(
     alloc: Global,
-    task: Task<'w>,
-    one: Lexed<'_, '_>,
-    source: &Source<'_>,
+    graph: &Graph<'_>,
+    spot: Spot<'_, '_>,
+    is_json: bool,
     out: &mut O,
-) -> Result<Standing, Failure<'w>>
+) -> Result<(), Failure<'static>>
     ensures { IfErr result IsNoMisuse }
 {
-    let other = lexer_in(alloc, task, source)?;
-    let part = part_of(source, other);
-    match generate(alloc, text_of(source, other), SHAPE) {
-        Ok(made) => compare_with(
-            alloc,
-            one,
-            Lexed {
-                path: source.path(),
-                made: &made,
-            },
-            out,
-        ),
-        Err(refusal) => Err(refused(alloc, part, task.is_colored, refusal)),
+    if is_json {
+        write_match_records(alloc, graph, spot, out)
+    } else {
+        write_matches(alloc, graph, spot, out)
     }
 }
 
 /// Returns the enum of a file whose lexer is asked for.
-fn lexer_in<'w>(
+pub(crate) fn lexer_in<'w>(
     alloc: Global,
     task: Task<'w>,
     source: &Source<'_>,
@@ -368,12 +414,23 @@ fn lexer_in<'w>(
 fn no_lexer(alloc: Global, file: &str, name: Option<&str>) -> Failure<'static>
     ensures { IsNoMisuse result }
 {
-    let made = match name {
-        Some(name) => format!(in alloc; "error: no enum `{name}` in {file} derives `Logos`\n"),
-        None => format!(in alloc; "error: no enum in {file} derives `Logos`\n"),
-    };
-    match made {
+    let mut page = Page::new(alloc, false);
+    page.push("error: no enum ");
+    push_name(&mut page, name);
+    page.push("in ");
+    page.push_shown(file);
+    page.push(" derives `Logos`\n");
+    match page.finish() {
         Ok(text) => Failure::Refused(text),
         Err(_) => Failure::Memory,
+    }
+}
+
+/// Pushes the name of an enum, if one is given.
+fn push_name(page: &mut Page, name: Option<&str>) {
+    if let Some(name) = name {
+        page.push("`");
+        page.push_shown(name);
+        page.push("` ");
     }
 }

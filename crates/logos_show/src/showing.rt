@@ -3,13 +3,17 @@ ghost use Rattle.std.specs.Prelude.{IfErr};
 ghost use Rattle.logos_show.specs.Orders.{IsNoMisuse};
 
 use crate::reading::{has_name, refused, text_of};
-use crate::table::{push_table, push_title};
 use crate::warnings::{push_unmarked, push_warnings};
-use logos_answers::push_examples;
+use logos_answers::{push_costs, push_examples, push_rows};
+use logos_codegen::error::Memory;
 use logos_codegen::generator::Config;
 use logos_codegen::{Generated, generate};
 use logos_host::Failure;
+use logos_inspect::{LeafRow, costs_of, row_of};
 use logos_lines::LineIndex;
+use logos_records::{
+    JsonLines, NamedGraph, push_cost_record, push_example_records, push_leaf_records,
+};
 use logos_report::{Page, Part, Source};
 use logos_rust_file::{FoundEnum, enums_in};
 use std::alloc::Global;
@@ -22,9 +26,20 @@ pub(crate) const SHAPE: Config = Config {
 /// What is shown of a file.
 #[derive(Drop)]
 pub(crate) struct Shown {
-    /// The tables of its lexers.
+    /// The tables of its lexers, or their examples.
     pub(crate) tables: String,
+    /// The same as lines of JSON. One of both is empty.
+    pub(crate) records: Vec<u8>,
     pub(crate) warnings: String,
+}
+
+/// In which form the lexers of a file are shown.
+#[derive(Clone, Copy)]
+pub(crate) enum Form {
+    Tables,
+    Examples,
+    LeafRecords,
+    ExampleRecords,
 }
 
 /// How a file is shown.
@@ -32,19 +47,20 @@ pub(crate) struct Shown {
 pub(crate) struct PageStyle {
     /// Whether faults and warnings are shown in colors.
     pub(crate) is_colored: bool,
-    /// Whether examples of what leaves find are shown in place of tables.
-    pub(crate) has_examples: bool,
+    pub(crate) form: Form,
 }
 
 /// The pages of what is shown of a file.
 #[derive(Drop)]
 struct Pages {
     tables: Page,
+    records: JsonLines,
     warnings: Page,
     style: PageStyle,
 }
 
-/// An enum of a file: where it begins there, the lines of the file, its own text, and whether it derives `Logos`.
+/// An enum of a file: where it begins there, the lines of the file, its own text, and whether it
+/// derives `Logos`.
 #[derive(Clone, Copy)]
 pub(crate) struct EnumInFile<'f, 's> {
     pub(crate) part: Part<'f, 's>,
@@ -75,6 +91,7 @@ pub(crate) fn shown_of(
     let lines = LineIndex::new(alloc, source.text())?;
     let mut pages = Pages {
         tables: Page::new(alloc, false),
+        records: JsonLines::new(alloc, Vec::new(alloc)),
         warnings: Page::new(alloc, style.is_colored),
         style,
     };
@@ -83,6 +100,7 @@ pub(crate) fn shown_of(
     }
     Ok(Shown {
         tables: pages.tables.finish()?,
+        records: pages.records.finish()?,
         warnings: pages.warnings.finish()?,
     })
 }
@@ -148,7 +166,7 @@ fn push_lexer(
     }
 }
 
-/// Adds the table of a lexer or its examples, and the warnings of its leaves.
+/// Adds the leaves of a lexer or its examples, and the warnings of its leaves.
 fn push_made(
     alloc: Global,
     pages: &mut Pages,
@@ -157,13 +175,93 @@ fn push_made(
 ) -> Result<(), Failure<'static>>
     ensures { IfErr result IsNoMisuse }
 {
-    if pages.style.has_examples {
-        push_title(&mut pages.tables, one.part, made);
-        push_examples(alloc, &mut pages.tables, &made.graph)?;
-        pages.tables.push("\n");
-    } else {
-        push_table(alloc, &mut pages.tables, one, made)?;
-    }
+    push_form(alloc, pages, one, made)?;
     push_unmarked(alloc, &mut pages.warnings, one.part, &made.graph)?;
     Ok(())
+}
+
+/// Adds the leaves of a lexer or its examples, in the form that is asked for.
+fn push_form(
+    alloc: Global,
+    pages: &mut Pages,
+    one: EnumInFile<'_, '_>,
+    made: &Generated<'_>,
+) -> Result<(), Memory> {
+    let named = NamedGraph {
+        name: made.name.text,
+        graph: &made.graph,
+    };
+    match pages.style.form {
+        Form::Tables => push_table(alloc, &mut pages.tables, one, made),
+        Form::Examples => push_example_lines(alloc, &mut pages.tables, one.part, made),
+        Form::LeafRecords => push_leaves(alloc, &mut pages.records, one, made),
+        Form::ExampleRecords => match push_example_records(alloc, &mut pages.records, named) {
+            Ok(()) => Ok(()),
+            Err(_) => Err(Memory),
+        },
+    }
+}
+
+/// Adds the leaves of the lexer of an enum, and what the lexer costs.
+fn push_table(
+    alloc: Global,
+    page: &mut Page,
+    one: EnumInFile<'_, '_>,
+    made: &Generated<'_>,
+) -> Result<(), Memory> {
+    let rows = rows_of(alloc, one, made)?;
+    push_title(page, one.part, made);
+    push_rows(page, &rows);
+    push_costs(page, costs_of(&made.code));
+    Ok(())
+}
+
+/// Adds the examples of the leaves of a lexer.
+fn push_example_lines(
+    alloc: Global,
+    page: &mut Page,
+    part: Part<'_, '_>,
+    made: &Generated<'_>,
+) -> Result<(), Memory> {
+    push_title(page, part, made);
+    push_examples(alloc, page, &made.graph)?;
+    page.push("\n");
+    Ok(())
+}
+
+/// Adds the leaves of the lexer of an enum and what it costs, as lines of JSON.
+fn push_leaves(
+    alloc: Global,
+    lines: &mut JsonLines,
+    one: EnumInFile<'_, '_>,
+    made: &Generated<'_>,
+) -> Result<(), Memory> {
+    let rows = rows_of(alloc, one, made)?;
+    push_leaf_records(lines, made.name.text, &rows);
+    push_cost_record(lines, made.name.text, costs_of(&made.code));
+    Ok(())
+}
+
+/// Returns the rows of the leaves of an enum.
+fn rows_of<'l>(
+    alloc: Global,
+    one: EnumInFile<'_, 'l>,
+    made: &'l Generated<'_>,
+) -> Result<Vec<LeafRow<'l>>, Memory> {
+    let mut rows = Vec::new(alloc);
+    for leaf in made.graph.leaves() {
+        rows.push(row_of(alloc, one.lines, one.part.offset, one.text, leaf)?)?;
+    }
+    Ok(rows)
+}
+
+/// Adds the name of the enum and its position.
+fn push_title(page: &mut Page, part: Part<'_, '_>, made: &Generated<'_>) {
+    page.push("enum ");
+    page.push(made.name.text);
+    page.push(" (");
+    page.push_shown(part.source.path());
+    page.push(":");
+    page.push_number(part.position(made.name.span.from).line);
+    page.push(")\n\n");
 }

@@ -1,0 +1,19 @@
+-- The lines of inputs that together pass all edges of a graph.
+use Rattle.std.specs.Prelude.{◌≡◌, ℕ, Bool, List, ◌++◌, codes, length, take}
+use Rattle.std.specs.List.{flat_map}
+use Rattle.logos_evidence.specs.Covering.{AreCoveringInputs}
+use Rattle.logos_graph.specs.Graph.{GraphState}
+use Rattle.logos_report.specs.Pages.{Gains, PageValue}
+use Rattle.logos_answers.specs.Quoting.{literal}
+
+-- The line of an input: a literal of Rust.
+abbrev pub input_line : List ℕ → List ℕ
+input_line input = literal input ++ codes "\n"
+
+-- Of inputs that together pass all edges of a graph, which are so many, a page gained the lines of
+-- the first ones, at most so many.
+pub record ShowsInputs (graph : List GraphState) (utf8 : Bool) (most count : ℕ) (old new : PageValue) : Type 0 where
+  pub inputs : List (List ℕ)
+  pub covering : AreCoveringInputs graph utf8 inputs
+  pub all : count ≡ length inputs
+  pub gained : Gains (flat_map input_line (take most inputs)) old new

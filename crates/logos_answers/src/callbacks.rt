@@ -1,0 +1,149 @@
+//! Callbacks of two lexers that are written in different ways.
+
+use crate::differing::Lexed;
+use crate::names::variant_of;
+use indexmap::IndexSet;
+use logos_pattern::leaf::Leaf;
+use logos_report::Page;
+use std::alloc::{AllocError, Global};
+
+/// What is looked up in a lexer.
+#[derive(Drop)]
+struct Known<'l> {
+    /// The names of its variants, and `skip` if it has skips.
+    variants: IndexSet<&'l str>,
+    /// The same with the callbacks of their leaves. A callback that is missing is an empty text.
+    callbacks: IndexSet<(&'l str, &'l str)>,
+}
+
+/// Pushes a note that names each variant that two lexers have, and for which their callbacks are
+/// written in different ways. Pushes nothing if there is no such variant.
+///
+/// # Errors
+///
+/// Returns `AllocError` if memory runs out. Nothing is pushed then.
+pub fn push_callbacks<'l>(
+    alloc: Global,
+    page: &mut Page,
+    one: Lexed<'l, '_>,
+    other: Lexed<'l, '_>,
+) -> Result<(), AllocError> {
+    let known = known_of(alloc, one)?;
+    push_differing(alloc, page, &known, other)
+}
+
+/// Pushes the note about a lexer and what is known of another one.
+fn push_differing<'l>(
+    alloc: Global,
+    page: &mut Page,
+    known: &Known<'l>,
+    other: Lexed<'l, '_>,
+) -> Result<(), AllocError> {
+    let other = known_of(alloc, other)?;
+    push_names_of(alloc, page, known, &other)
+}
+
+/// Pushes the note about two lexers, by what is known of them.
+fn push_names_of<'l>(
+    alloc: Global,
+    page: &mut Page,
+    known: &Known<'l>,
+    other: &Known<'l>,
+) -> Result<(), AllocError> {
+    let mut differing = IndexSet::new(alloc);
+    add_differing(&mut differing, known, other)?;
+    add_differing(&mut differing, other, known)?;
+    push_note(page, differing.as_slice());
+    Ok(())
+}
+
+/// Returns the variants of a lexer, and their callbacks.
+fn known_of<'l>(alloc: Global, one: Lexed<'l, '_>) -> Result<Known<'l>, AllocError> {
+    let mut known = Known {
+        variants: IndexSet::new(alloc),
+        callbacks: IndexSet::new(alloc),
+    };
+    for leaf in one.graph.leaves() {
+        add_leaf(&mut known, name_of(leaf), callback_of(one.text, leaf))?;
+    }
+    Ok(known)
+}
+
+/// Adds the variant of a leaf and its callback.
+fn add_leaf<'l>(known: &mut Known<'l>, name: &'l str, callback: &'l str) -> Result<(), AllocError> {
+    match known.variants.insert_full(name) {
+        Ok(_) => {}
+        Err(_) => return Err(AllocError),
+    }
+    match known.callbacks.insert_full((name, callback)) {
+        Ok(_) => Ok(()),
+        Err(_) => Err(AllocError),
+    }
+}
+
+/// Returns the name of the variant of a leaf, or `skip`.
+fn name_of<'l>(leaf: &'l Leaf<'_>) -> &'l str {
+    match variant_of(&leaf.kind) {
+        Some(name) => name,
+        None => "skip",
+    }
+}
+
+/// Returns the callback of a leaf as it is written, or an empty text if it has none.
+fn callback_of<'l>(text: &'l str, leaf: &Leaf<'_>) -> &'l str {
+    let Some(callback) = &leaf.callback else {
+        return "";
+    };
+    let span = callback.span();
+    match text.get(span.from..span.to) {
+        Some(written) => written,
+        None => "",
+    }
+}
+
+/// Adds the variants that both lexers have, and of which one has a callback that the other one does
+/// not have.
+fn add_differing<'l>(
+    differing: &mut IndexSet<&'l str>,
+    known: &Known<'l>,
+    other: &Known<'l>,
+) -> Result<(), AllocError> {
+    for pair in known.callbacks.as_slice() {
+        add_if_differing(differing, *pair, other)?;
+    }
+    Ok(())
+}
+
+/// Adds the variant of a pair, if the other lexer has the variant without this callback.
+fn add_if_differing<'l>(
+    differing: &mut IndexSet<&'l str>,
+    pair: (&'l str, &'l str),
+    other: &Known<'l>,
+) -> Result<(), AllocError> {
+    if !other.variants.contains(&pair.0) | other.callbacks.contains(&pair) {
+        return Ok(());
+    }
+    match differing.insert_full(pair.0) {
+        Ok(_) => Ok(()),
+        Err(_) => Err(AllocError),
+    }
+}
+
+/// Pushes the note about these variants, if there are some.
+fn push_note(page: &mut Page, variants: &[&str]) {
+    if variants.is_empty() {
+        return;
+    }
+    page.push("note: the callbacks of ");
+    push_names(page, variants);
+    page.push(" are written in another way: what they do is not compared\n");
+}
+
+/// Pushes names, with commas between them.
+fn push_names(page: &mut Page, names: &[&str]) {
+    for number in 0..names.len() {
+        page.push(if number == 0 { "`" } else { ", `" });
+        page.push(names[number]);
+        page.push("`");
+    }
+}

@@ -1,0 +1,58 @@
+//! Inputs that together pass all edges of a graph.
+
+ghost use Rattle.std.specs.Prelude.{◌≡◌, IfOk, map, take};
+ghost use Rattle.std.specs.List.{flat_map};
+ghost use Rattle.logos_answers.specs.Words.{Gains, ShowsInputs, input_line};
+
+use crate::quoting::push_literal;
+use logos_evidence::covering_inputs;
+use logos_graph::graph::Graph;
+use logos_report::Page;
+use std::alloc::{AllocError, Global};
+
+/// Pushes a line for each of the first inputs of those that together pass all edges of a graph, at
+/// most `most` lines, and returns how many inputs there are in all. A line is a literal of Rust.
+///
+/// # Errors
+///
+/// Returns `AllocError` if memory runs out. Nothing is pushed then.
+pub fn push_inputs(
+    alloc: Global,
+    page: &mut Page,
+    graph: &Graph<'_>,
+    most: usize,
+) -> Result<usize, AllocError>
+    ensures { IfOk result (λ count.
+        ShowsInputs graph.now.states graph.now.utf8 most count page.old page.new) }
+{
+    let inputs = covering_inputs(alloc, graph)?;
+    push_literals(page, first_of(&inputs, most));
+    Ok(inputs.len())
+}
+
+/// Returns the first inputs of these, at most so many.
+pub fn first_of(inputs: &[Vec<u8>], most: usize) -> &[Vec<u8>]
+    ensures { result.now ≡ take most inputs.now }
+{
+    match inputs.get(..most) {
+        Some(first) => first,
+        None => inputs,
+    }
+}
+
+/// Pushes a line for each of these inputs.
+fn push_literals(page: &mut Page, inputs: &[Vec<u8>])
+    ensures { Gains (flat_map input_line (map (λ input. input.items) inputs.now)) page.old page.new }
+{
+    for input in inputs {
+        push_line(page, input);
+    }
+}
+
+/// Pushes the line of an input.
+fn push_line(page: &mut Page, input: &[u8])
+    ensures { Gains (input_line input.now) page.old page.new }
+{
+    push_literal(page, input);
+    page.push("\n");
+}

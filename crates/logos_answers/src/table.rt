@@ -1,0 +1,143 @@
+//! The leaves of a lexer as a table.
+
+use logos_inspect::{Costs, LeafRow};
+use logos_report::{Page, digits};
+use std::cmp::max;
+
+/// How many columns of a page a tab is shown in.
+const TAB: usize = 4;
+
+/// How many characters the columns of a table have.
+#[derive(Clone, Copy)]
+struct Widths {
+    variant: usize,
+    pattern: usize,
+    callback: usize,
+}
+
+/// Pushes a table: the heads of its columns, and the rows of leaves with their numbers.
+pub fn push_rows(page: &mut Page, rows: &[LeafRow<'_>]) {
+    let widths = widths_of(rows);
+    push_heads(page, widths);
+    for number in 0..rows.len() {
+        push_row(page, number, rows[number], widths);
+    }
+}
+
+/// Pushes what a lexer costs.
+pub fn push_costs(page: &mut Page, costs: Costs) {
+    page.push("\n");
+    push_cost(page, "states", costs.states);
+    push_cost(page, "bit tables", costs.bit_tables);
+    push_cost(page, "jump tables", costs.jump_tables);
+    page.push("\n");
+}
+
+/// Returns what stands in the column of variants: the variant, or `skip`.
+fn variant_cell<'l>(row: LeafRow<'l>) -> &'l str {
+    match row.variant {
+        Some(name) => name,
+        None => "skip",
+    }
+}
+
+/// Returns what stands in the column of patterns: the first line of the literal.
+fn pattern_cell<'l>(row: LeafRow<'l>) -> &'l str {
+    first_line(row.pattern)
+}
+
+/// Returns what stands in the column of callbacks: the first line of the callback, or `-`.
+fn callback_cell<'l>(row: LeafRow<'l>) -> &'l str {
+    match row.callback {
+        Some(text) => first_line(text),
+        None => "-",
+    }
+}
+
+/// Returns the text before the first LF.
+fn first_line(text: &str) -> &str {
+    match text.split_once('\n') {
+        Some((line, _)) => line,
+        None => text,
+    }
+}
+
+/// Returns the widths of the columns that hold these rows and the heads.
+fn widths_of(rows: &[LeafRow<'_>]) -> Widths {
+    let mut widths = Widths {
+        variant: 7,
+        pattern: 7,
+        callback: 8,
+    };
+    for row in rows {
+        widths = widened(widths, *row);
+    }
+    widths
+}
+
+/// Returns the widths that hold one more row.
+fn widened(widths: Widths, row: LeafRow<'_>) -> Widths {
+    Widths {
+        variant: max(widths.variant, width_of(variant_cell(row))),
+        pattern: max(widths.pattern, width_of(pattern_cell(row))),
+        callback: max(widths.callback, width_of(callback_cell(row))),
+    }
+}
+
+/// Returns how many characters a text is shown with.
+fn width_of(text: &str) -> usize {
+    let mut width: usize = 0;
+    for character in text.chars() {
+        width = width.saturating_add(columns_of(character));
+    }
+    width
+}
+
+/// Returns how many characters are shown for one.
+fn columns_of(character: char) -> usize {
+    if character == '\t' { TAB } else { 1 }
+}
+
+/// Pushes the heads of the columns.
+fn push_heads(page: &mut Page, widths: Widths) {
+    page.push("leaf  ");
+    push_cell(page, "variant", widths.variant);
+    push_cell(page, "kind", 5);
+    push_cell(page, "pattern", widths.pattern);
+    push_cell(page, "priority", 16);
+    push_cell(page, "callback", widths.callback);
+    page.push("line\n");
+}
+
+/// Pushes a row.
+fn push_row(page: &mut Page, number: usize, row: LeafRow<'_>, widths: Widths) {
+    push_right(page, number, 4);
+    push_cell(page, variant_cell(row), widths.variant);
+    push_cell(page, if row.is_token { "token" } else { "regex" }, 5);
+    push_cell(page, pattern_cell(row), widths.pattern);
+    push_right(page, row.priority, 6);
+    push_cell(page, if row.is_default { "default" } else { "" }, 8);
+    push_cell(page, callback_cell(row), widths.callback);
+    page.push_number(row.line);
+    page.push("\n");
+}
+
+/// Pushes a text as a terminal can show it, with spaces up to a width and two more after it.
+fn push_cell(page: &mut Page, text: &str, width: usize) {
+    page.push_shown(text);
+    page.push_times(" ", width.saturating_sub(width_of(text)).saturating_add(2));
+}
+
+/// Pushes a number, with spaces in front of it up to a width, and two spaces after it.
+fn push_right(page: &mut Page, number: usize, width: usize) {
+    page.push_times(" ", width.saturating_sub(digits(number)));
+    page.push_number(number);
+    page.push("  ");
+}
+
+/// Pushes a line with a name and a number.
+fn push_cost(page: &mut Page, name: &str, count: usize) {
+    push_cell(page, name, 11);
+    page.push_number(count);
+    page.push("\n");
+}

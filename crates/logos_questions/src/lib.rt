@@ -1,0 +1,7 @@
+//! What the words of the command line of `logos_show` ask for.
+
+#![tactic(auto)]
+
+mod options;
+
+pub use options::{Order, Question, Request, TAKEN, request_of};

@@ -1,0 +1,3 @@
+pub mod ExampleLemmas
+pub mod MatchLemmas
+pub mod RecordLemmas

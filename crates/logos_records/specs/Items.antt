@@ -1,0 +1,17 @@
+-- The object of an item.
+use Rattle.std.specs.Prelude.{List, ◌++◌, codes, option_map}
+use Rattle.json.specs.Token.{Token}
+use Rattle.logos_json.specs.Members.{bytes_member, maybe_number, maybe_text, number_member}
+use Rattle.logos_records.specs.declared.items.ItemRecord.{ItemRecord}
+
+-- Where an item begins: its line, its column, and its offset in bytes.
+abbrev pub place_members : ItemRecord → List Token
+place_members item = number_member (codes "line") item.position.line ++ (number_member (codes "column") item.position.column ++ number_member (codes "from") item.from)
+
+-- What an item is: its leaf and its variant, which are null for an error, and its text.
+abbrev pub kind_members : ItemRecord → List Token
+kind_members item =
+    maybe_number (codes "leaf") item.leaf ++ (maybe_text (codes "variant") (option_map (λ text. text.now) item.variant) ++ bytes_member (codes "text") item.bytes.now)
+
+abbrev pub item_members : ItemRecord → List Token
+item_members item = place_members item ++ kind_members item

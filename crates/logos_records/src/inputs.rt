@@ -1,0 +1,73 @@
+//! The objects of inputs that together pass all edges of a graph.
+
+ghost use Rattle.std.specs.Prelude.{◌≡◌, ◌∷◌, [], IfOk, map};
+ghost use Rattle.std.specs.List.{flat_map};
+ghost use Rattle.logos_records.specs.Words.{AreInputRecords, Puts, PutsInputs, input_lines, object};
+
+use logos_answers::first_of;
+use logos_evidence::covering_inputs;
+use logos_graph::graph::Graph;
+use logos_json::JsonLines;
+use std::alloc::{AllocError, Global};
+
+/// Lines about inputs, and how many inputs there are in all.
+#[derive(Drop)]
+pub struct InputRecords {
+    pub bytes: Vec<u8>,
+    pub count: usize,
+}
+
+/// Returns the lines of the first inputs of those that together pass all edges of a graph, an
+/// object for each, at most `most` lines, and how many inputs there are in all.
+///
+/// # Errors
+///
+/// Returns `AllocError` if memory runs out.
+pub fn input_records(
+    alloc: Global,
+    graph: &Graph<'_>,
+    most: usize,
+) -> Result<InputRecords, AllocError>
+    ensures { IfOk result (λ made.
+        AreInputRecords graph.now.states graph.now.utf8 most made.count made.bytes.items) }
+{
+    let mut lines = JsonLines::new(alloc, Vec::new(alloc));
+    let count = push_input_records(alloc, &mut lines, graph, most)?;
+    let bytes = lines.finish()?;
+    Ok(InputRecords { bytes, count })
+}
+
+/// Pushes an object for each of the first inputs of those that together pass all edges of a graph,
+/// at most `most` objects, and returns how many inputs there are in all.
+fn push_input_records(
+    alloc: Global,
+    lines: &mut JsonLines,
+    graph: &Graph<'_>,
+    most: usize,
+) -> Result<usize, AllocError>
+    ensures { IfOk result (λ count.
+        PutsInputs graph.now.states graph.now.utf8 most count lines.old lines.new) }
+{
+    let inputs = covering_inputs(alloc, graph)?;
+    push_each(lines, first_of(&inputs, most));
+    Ok(inputs.len())
+}
+
+/// Pushes an object for each of these inputs.
+fn push_each(lines: &mut JsonLines, inputs: &[Vec<u8>])
+    ensures { Puts (flat_map input_lines (map (λ input. input.items) inputs.now)) lines.old lines.new }
+{
+    for input in inputs {
+        push_input_record(lines, input);
+    }
+}
+
+/// Pushes the object of an input.
+fn push_input_record(lines: &mut JsonLines, input: &[u8])
+    ensures { Puts (input_lines input.now) lines.old lines.new }
+{
+    lines.begin_object();
+    lines.push_bytes("input", input);
+    lines.end_object();
+    lines.end_line();
+}

@@ -1,0 +1,51 @@
+//! The object of an item.
+
+ghost use Rattle.std.specs.Prelude.{◌≡◌, ◌∷◌, []};
+ghost use Rattle.logos_records.specs.Words.{Gains, Puts, object};
+ghost use Rattle.logos_records.specs.Items.{item_members, kind_members, place_members};
+
+use logos_json::JsonLines;
+use logos_lines::Position;
+
+/// An item of an input, as its object shows it.
+#[derive(Clone, Copy)]
+pub struct ItemRecord<'i> {
+    /// The line and the column at which it begins.
+    pub position: Position,
+    /// The offset at which it begins, in bytes.
+    pub from: usize,
+    /// The leaf of a match, or `None` for an error.
+    pub leaf: Option<usize>,
+    /// The variant of a match, or `None` for an error.
+    pub variant: Option<&'i str>,
+    pub bytes: &'i [u8],
+}
+
+/// Pushes the object of an item.
+pub fn push_item_record(lines: &mut JsonLines, item: ItemRecord<'_>)
+    ensures { Puts (object (item_members item.entry) ∷ []) lines.old lines.new }
+{
+    lines.begin_object();
+    push_place_members(lines, item);
+    push_kind_members(lines, item);
+    lines.end_object();
+    lines.end_line();
+}
+
+/// Pushes where an item begins.
+fn push_place_members(lines: &mut JsonLines, item: ItemRecord<'_>)
+    ensures { Gains (place_members item.entry) lines.old lines.new }
+{
+    lines.push_number("line", item.position.line);
+    lines.push_number("column", item.position.column);
+    lines.push_number("from", item.from);
+}
+
+/// Pushes what an item is.
+fn push_kind_members(lines: &mut JsonLines, item: ItemRecord<'_>)
+    ensures { Gains (kind_members item.entry) lines.old lines.new }
+{
+    lines.push_maybe_number("leaf", item.leaf);
+    lines.push_maybe_text("variant", item.variant);
+    lines.push_bytes("text", item.bytes);
+}

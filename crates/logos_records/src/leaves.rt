@@ -1,0 +1,62 @@
+//! The objects of leaves, and of what a lexer costs.
+
+ghost use Rattle.std.specs.Prelude.{◌≡◌, ◌∷◌, []};
+ghost use Rattle.logos_records.specs.Words.{Gains, Puts, object};
+ghost use Rattle.logos_records.specs.Leaves.{cost_members, leaf_members, leaf_objects, name_members, shape_members};
+
+use logos_inspect::{Costs, LeafRow};
+use logos_json::JsonLines;
+
+/// Pushes an object for each leaf of the lexer of an enum, with the number of the leaf.
+pub fn push_leaf_records(lines: &mut JsonLines, name: &str, rows: &[LeafRow<'_>])
+    ensures { Puts (leaf_objects name.now 0 rows.now) lines.old lines.new }
+{
+    for number in 0..rows.len() {
+        push_leaf_record(lines, name, number, rows[number]);
+    }
+}
+
+/// Pushes the object of a leaf.
+fn push_leaf_record(lines: &mut JsonLines, name: &str, number: usize, row: LeafRow<'_>)
+    ensures { Puts (object (leaf_members name.now number row.entry) ∷ []) lines.old lines.new }
+{
+    lines.begin_object();
+    push_name_members(lines, name, number, row);
+    push_shape_members(lines, row);
+    lines.end_object();
+    lines.end_line();
+}
+
+/// Pushes the names of an enum and of a variant, and the number of a leaf.
+fn push_name_members(lines: &mut JsonLines, name: &str, number: usize, row: LeafRow<'_>)
+    ensures { Gains (name_members name.now number row.entry) lines.old lines.new }
+{
+    lines.push_text("enum", name);
+    lines.push_number("leaf", number);
+    lines.push_maybe_text("variant", row.variant);
+    lines.push_text("kind", if row.is_token { "token" } else { "regex" });
+}
+
+/// Pushes what is shown of a leaf beside its names.
+fn push_shape_members(lines: &mut JsonLines, row: LeafRow<'_>)
+    ensures { Gains (shape_members row.entry) lines.old lines.new }
+{
+    lines.push_text("pattern", row.pattern);
+    lines.push_number("priority", row.priority);
+    lines.push_bool("default", row.is_default);
+    lines.push_maybe_text("callback", row.callback);
+    lines.push_number("line", row.line);
+}
+
+/// Pushes the object of what the lexer of an enum costs.
+pub fn push_cost_record(lines: &mut JsonLines, name: &str, costs: Costs)
+    ensures { Puts (object (cost_members name.now costs) ∷ []) lines.old lines.new }
+{
+    lines.begin_object();
+    lines.push_text("enum", name);
+    lines.push_number("states", costs.states);
+    lines.push_number("bit_tables", costs.bit_tables);
+    lines.push_number("jump_tables", costs.jump_tables);
+    lines.end_object();
+    lines.end_line();
+}

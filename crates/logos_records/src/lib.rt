@@ -1,0 +1,19 @@
+//! Answers about a lexer, as lines of JSON: its leaves, its items, what matches from a point, what
+//! a leaf finds, inputs that pass all of its edges, and whether two lexers are the same.
+
+#![tactic(auto)]
+
+mod comparing;
+mod examples;
+mod inputs;
+mod items;
+mod leaves;
+mod matches;
+
+pub use comparing::{push_difference_record, push_modes_record, push_same_record};
+pub use examples::{NamedGraph, push_example_records};
+pub use inputs::{InputRecords, input_records};
+pub use items::{ItemRecord, push_item_record};
+pub use leaves::{push_cost_record, push_leaf_records};
+pub use logos_json::JsonLines;
+pub use matches::match_records;

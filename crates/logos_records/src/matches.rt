@@ -1,0 +1,127 @@
+//! The objects of what matches from an offset of an input.
+
+ghost use Rattle.std.specs.Prelude.{◌≡◌, ◌≤◌, IfOk, OnOk, Some, length};
+ghost use Rattle.std.specs.List.{flat_map};
+ghost use Rattle.logos_records.specs.Words.{AllStart, AreMatchRecords, Gains, IsBytes, IsGraphOf, Puts, PutsMatches, rules_of};
+ghost use Rattle.logos_records.specs.Words.{end_members, match_lines, named_leaf};
+
+use logos_answers::{bytes_between, longest_of, variant_at};
+use logos_evidence::{Match, matches_from, winner};
+use logos_graph::graph::Graph;
+use logos_json::JsonLines;
+use logos_pattern::leaf::Leaf;
+use std::alloc::{AllocError, Global};
+
+/// An offset of an input, from which leaves match, and the leaf whose match a lexer takes.
+#[derive(Clone, Copy)]
+struct Start<'a, 's> {
+    leaves: &'a [Leaf<'s>],
+    input: &'a [u8],
+    from: usize,
+    winner: usize,
+}
+
+/// Returns the lines about what matches from an offset of an input: an object for each leaf that
+/// matches from there, with its longest match, and whether a lexer takes that match.
+///
+/// # Errors
+///
+/// Returns `AllocError` if memory runs out.
+pub fn match_records(
+    alloc: Global,
+    graph: &Graph<'_>,
+    input: &[u8],
+    from: usize,
+) -> Result<Vec<u8>, AllocError>
+    requires { from ≤ length input.now }
+    ensures { IfOk result (λ bytes. IsGraphOf graph.now.leaves graph.now.utf8 graph.now →
+        AllStart (rules_of graph.now.leaves) → IsBytes input.now →
+        AreMatchRecords graph.now.leaves input.now from bytes.items) }
+{
+    let mut lines = JsonLines::new(alloc, Vec::new(alloc));
+    push_match_records(alloc, &mut lines, graph, input, from)?;
+    let bytes = lines.finish()?;
+    Ok(bytes)
+}
+
+/// Pushes an object for each leaf that matches from an offset of an input, with its longest match
+/// from there, and whether a lexer takes that match.
+fn push_match_records(
+    alloc: Global,
+    lines: &mut JsonLines,
+    graph: &Graph<'_>,
+    input: &[u8],
+    from: usize,
+) -> Result<(), AllocError>
+    requires { from ≤ length input.now }
+    ensures { OnOk result (IsGraphOf graph.now.leaves graph.now.utf8 graph.now →
+        AllStart (rules_of graph.now.leaves) → IsBytes input.now →
+        PutsMatches graph.now.leaves input.now from lines.old lines.new) }
+{
+    let matches = matches_from(alloc, graph, input, from)?;
+    let Some(best) = winner(&matches) else {
+        return Ok(());
+    };
+    let longest = longest_of(alloc, graph.leaves().len(), &matches)?;
+    let start = Start {
+        leaves: graph.leaves(),
+        input,
+        from,
+        winner: best.leaf,
+    };
+    push_each(lines, start, &longest);
+    Ok(())
+}
+
+/// Pushes the objects of the leaves that match.
+fn push_each(lines: &mut JsonLines, start: Start<'_, '_>, longest: &[Option<Match>])
+    ensures { Puts (flat_map (match_lines start.entry.leaves.now start.entry.input.now
+        start.entry.from start.entry.winner) longest.now) lines.old lines.new }
+{
+    for found in longest {
+        push_found(lines, start, *found);
+    }
+}
+
+/// Pushes the object of a leaf, if it matches.
+fn push_found(lines: &mut JsonLines, start: Start<'_, '_>, found: Option<Match>)
+    ensures { Puts (match_lines start.entry.leaves.now start.entry.input.now start.entry.from
+        start.entry.winner found) lines.old lines.new }
+{
+    match found {
+        Some(found) => push_match(lines, start, found),
+        None => {}
+    }
+}
+
+/// Pushes the object of a match.
+fn push_match(lines: &mut JsonLines, start: Start<'_, '_>, found: Match)
+    ensures { Puts (match_lines start.entry.leaves.now start.entry.input.now start.entry.from
+        start.entry.winner (Some found)) lines.old lines.new }
+{
+    lines.begin_object();
+    push_leaf_members(lines, start.leaves, found.leaf);
+    lines.push_number("priority", found.priority);
+    push_end(lines, start, found);
+    lines.end_object();
+    lines.end_line();
+}
+
+/// Pushes the number of a leaf, and its variant.
+pub(crate) fn push_leaf_members(lines: &mut JsonLines, leaves: &[Leaf<'_>], leaf: usize)
+    ensures { Gains (named_leaf leaves.now leaf) lines.old lines.new }
+{
+    lines.push_number("leaf", leaf);
+    lines.push_maybe_text("variant", variant_at(leaves, leaf));
+}
+
+/// Pushes how far a match goes, its text, and whether a lexer takes it.
+fn push_end(lines: &mut JsonLines, start: Start<'_, '_>, found: Match)
+    ensures { Gains (end_members start.entry.input.now start.entry.from start.entry.winner found)
+        lines.old lines.new }
+{
+    lines.push_number("from", start.from);
+    lines.push_number("to", found.end);
+    lines.push_bytes("text", bytes_between(start.input, start.from, found.end));
+    lines.push_bool("wins", found.leaf == start.winner);
+}

@@ -1,0 +1,91 @@
+//! Two lexers, compared.
+
+ghost use Rattle.std.specs.Prelude.{IfErr};
+ghost use Rattle.logos_show.specs.Orders.{IsNoMisuse};
+
+use crate::asking::{Judgment, Pair, Standing, compare_with};
+use crate::reading::{refused, text_at, text_of};
+use crate::running::{Host, Task, lexer_in, part_of};
+use crate::showing::SHAPE;
+use logos_answers::Lexed;
+use logos_codegen::{Generated, generate};
+use logos_host::{Failure, Files};
+use logos_report::Source;
+use logos_rust_file::FoundEnum;
+use std::alloc::Global;
+use std::io::{IsTerminal, Write};
+use std::time::Clock;
+
+/// Writes whether the lexer of another file is the same, and returns that.
+pub(crate) fn compare<'w, F: Files, C: Clock, O: Write, E: Write + IsTerminal>(
+    alloc: Global,
+    task: Task<'w>,
+    other: &'w str,
+    host: &mut Host<'_, F, C, E>,
+    out: &mut O,
+) -> Result<Standing, Failure<'w>>
+    ensures { IfErr result IsNoMisuse }
+{
+    let path = task.order.file;
+    let text = text_at(path, host.files)?;
+    let other_text = text_at(other, host.files)?;
+    let source = Source::new(alloc, path, text.as_str())?;
+    let other_source = Source::new(alloc, other, other_text.as_str())?;
+    let Judgment { standing, note } = compare_files(alloc, task, &source, &other_source, out)?;
+    let _ = host.err.write_all(note.as_bytes());
+    let _ = host.err.flush();
+    Ok(standing)
+}
+
+/// Writes whether the lexers of two files are the same, and returns that with a note.
+fn compare_files<'w, O: Write>(
+    alloc: Global,
+    task: Task<'w>,
+    source: &Source<'_>,
+    other: &Source<'_>,
+    out: &mut O,
+) -> Result<Judgment, Failure<'w>>
+    ensures { IfErr result IsNoMisuse }
+{
+    let one = lexer_in(alloc, task, source)?;
+    let part = part_of(source, one);
+    match generate(alloc, text_of(source, one), SHAPE) {
+        Ok(made) => compare_to(alloc, task, lexed(source, one, &made), other, out),
+        Err(refusal) => Err(refused(alloc, part, task.is_colored, refusal)),
+    }
+}
+
+/// Returns a lexer with the path of its file and the text of its enum.
+fn lexed<'m, 's>(source: &'m Source<'_>, one: FoundEnum, made: &'m Generated<'s>) -> Lexed<'m, 's> {
+    Lexed {
+        path: source.path(),
+        text: text_of(source, one),
+        graph: &made.graph,
+        code: &made.code,
+    }
+}
+
+/// Writes whether a lexer and that of another file are the same, and returns that with a note.
+fn compare_to<'w, O: Write>(
+    alloc: Global,
+    task: Task<'w>,
+    one: Lexed<'_, '_>,
+    source: &Source<'_>,
+    out: &mut O,
+) -> Result<Judgment, Failure<'w>>
+    ensures { IfErr result IsNoMisuse }
+{
+    let other = lexer_in(alloc, task, source)?;
+    let part = part_of(source, other);
+    match generate(alloc, text_of(source, other), SHAPE) {
+        Ok(made) => {
+            let pair = Pair {
+                one,
+                other: lexed(source, other, &made),
+                is_json: task.order.is_json,
+            };
+            compare_with(alloc, pair, out)
+        }
+        Err(refusal) => Err(refused(alloc, part, task.is_colored, refusal)),
+    }
+}
