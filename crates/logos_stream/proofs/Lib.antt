@@ -1,0 +1,4 @@
+pub mod FrontLemmas
+pub mod TailLemmas
+pub mod WindowLemmas
+pub mod NextLemmas

@@ -1,0 +1,12 @@
+//! Items of a stream: an input of any length that is lexed while it is read.
+
+#![tactic(auto)]
+
+mod front;
+mod item;
+mod stream;
+mod tail;
+mod window;
+
+pub use item::{StreamItem, Streamed};
+pub use stream::Stream;
