@@ -2,3 +2,4 @@ pub mod FrontLemmas
 pub mod TailLemmas
 pub mod WindowLemmas
 pub mod NextLemmas
+pub mod WholeLemmas

@@ -115,10 +115,32 @@ module _ (utf8 : Bool) (part : List ℕ) (most : ℕ) (over : Bool) (before firs
   -- and what callers see of it
   pub moved_past : {R : Type 0} (reader : R) (offset next bound wanted : ℕ) → next ≡ min (offset + to) (2 ^ 64 - 1) →
       GoesPast {R = R} to
-      (record { reader = reader; utf8 = utf8; skipped = slice_range part before first; slice = slice_range part first at; lexed = slice_range part at ready; after = drop ready part;
-        is_last = last; is_over = over; offset = offset; bound = bound; wanted = wanted })
-      (record { reader = reader; utf8 = utf8; skipped = slice_range part at (at + from); slice = slice_range part (at + from) (at + to); lexed = slice_range part (at + to) ready; after = drop ready part;
-        is_last = last; is_over = over; offset = next; bound = bound; wanted = wanted })
+      (record {
+        reader = reader;
+        utf8 = utf8;
+        skipped = slice_range part before first;
+        slice = slice_range part first at;
+        lexed = slice_range part at ready;
+        after = drop ready part;
+        is_last = last;
+        is_over = over;
+        offset = offset;
+        bound = bound;
+        wanted = wanted;
+      })
+      (record {
+        reader = reader;
+        utf8 = utf8;
+        skipped = slice_range part at (at + from);
+        slice = slice_range part (at + from) (at + to);
+        lexed = slice_range part (at + to) ready;
+        after = drop ready part;
+        is_last = last;
+        is_over = over;
+        offset = next;
+        bound = bound;
+        wanted = wanted;
+      })
   moved_past reader offset next bound wanted sum = record {
     utf8 = refl;
     reader = refl;
@@ -201,10 +223,32 @@ module _ (utf8 : Bool) (part : List ℕ) (most : ℕ) (was : Bool) (before first
   pub reads_on : {R : Type 0} (remaining : R → Option (List ℕ)) (reader new_reader : R) (offset bound wanted new_bound new_wanted : ℕ) (over : Bool) → IsFalse last → new_bound ≡ bound →
       Consumes (remaining reader) (remaining new_reader) added → (IsFalse over → 0 < length added) → (IsTrue over → IsAtEnd (remaining new_reader)) →
       ReadsOn {R = R} remaining
-      (record { reader = reader; utf8 = utf8; skipped = slice_range part before first; slice = slice_range part first at; lexed = slice_range part at ready; after = drop ready part;
-        is_last = last; is_over = was; offset = offset; bound = bound; wanted = wanted })
-      (record { reader = new_reader; utf8 = utf8; skipped = slice_range next 0 0; slice = slice_range next 0 0; lexed = slice_range next 0 (ready - at + tail.valid); after = drop (ready - at + tail.valid) next;
-        is_last = tail.is_at_fault || over; is_over = over; offset = offset; bound = new_bound; wanted = new_wanted })
+      (record {
+        reader = reader;
+        utf8 = utf8;
+        skipped = slice_range part before first;
+        slice = slice_range part first at;
+        lexed = slice_range part at ready;
+        after = drop ready part;
+        is_last = last;
+        is_over = was;
+        offset = offset;
+        bound = bound;
+        wanted = wanted;
+      })
+      (record {
+        reader = new_reader;
+        utf8 = utf8;
+        skipped = slice_range next 0 0;
+        slice = slice_range next 0 0;
+        lexed = slice_range next 0 (ready - at + tail.valid);
+        after = drop (ready - at + tail.valid) next;
+        is_last = tail.is_at_fault || over;
+        is_over = over;
+        offset = offset;
+        bound = new_bound;
+        wanted = new_wanted;
+      })
   reads_on remaining reader new_reader offset bound wanted new_bound new_wanted over begun same consumed some end = record {
     utf8 = refl;
     offset = refl;

@@ -5,4 +5,5 @@ pub mod WindowValue
 pub mod StreamValue
 pub mod Moves
 pub mod Nexts
+pub mod Wholes
 pub mod Views

@@ -5,3 +5,4 @@ pub use Rattle.logos_stream.specs.Nexts.{DoesNext}
 pub use Rattle.logos_stream.specs.StreamValue.{KeepsCode, StreamValue, at_start}
 pub use Rattle.logos_stream.specs.Tails.{IsTail}
 pub use Rattle.logos_stream.specs.WindowValue.{GoesPast, IsWindow, ReadsOn, StaysUnread, WindowValue, nothing_read, unread_length}
+pub use Rattle.logos_stream.specs.Wholes.{StreamsAreOfTheWhole}

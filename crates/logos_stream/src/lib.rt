@@ -4,6 +4,7 @@
 
 mod front;
 mod item;
+pub mod laws;
 mod stream;
 mod tail;
 mod window;

@@ -17,9 +17,19 @@ returns-clause-past g c =
     (subst (λ (v : WindowValue g.row.R.Denot). c.args.to ≤ length v.lexed) (sym c.self.view_is) c.requires.within)
     s.parts.reader s.offset c.saturating_add-self-inside.result s.bound s.wanted c.saturating_add-self-inside.ensures in
     subst (λ (v : WindowValue g.row.R.Denot). GoesPast {R = g.row.R.Denot} c.args.to v
-    (record { reader = s.parts.reader; utf8 = s.is_utf8; skipped = slice_range s.parts.part s.at (s.at + c.args.from); slice = slice_range s.parts.part (s.at + c.args.from) (s.at + c.args.to);
-      lexed = slice_range s.parts.part (s.at + c.args.to) s.ready; after = drop s.ready s.parts.part; is_last = s.is_last; is_over = s.parts.is_over; offset = c.saturating_add-self-inside.result;
-      bound = s.bound; wanted = s.wanted })) c.self.view_is made
+    (record {
+      reader = s.parts.reader;
+      utf8 = s.is_utf8;
+      skipped = slice_range s.parts.part s.at (s.at + c.args.from);
+      slice = slice_range s.parts.part (s.at + c.args.from) (s.at + c.args.to);
+      lexed = slice_range s.parts.part (s.at + c.args.to) s.ready;
+      after = drop s.ready s.parts.part;
+      is_last = s.is_last;
+      is_over = s.parts.is_over;
+      offset = c.saturating_add-self-inside.result;
+      bound = s.bound;
+      wanted = s.wanted;
+    })) c.self.view_is made
 
 pub returns-clause-slice : goal.returns-clause-slice
 returns-clause-slice g c =

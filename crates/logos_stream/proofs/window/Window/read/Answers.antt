@@ -37,12 +37,43 @@ returns-clause-read g c =
     e.added c.read.new.self.part (e.part ∙ ap (λ l. l ++ e.added) p.part) c.tail_of-tail.result tail
     g.R.Read.remaining s.parts.reader c.read.new.self.reader s.offset s.bound s.wanted s.bound s.wanted c.read.new.self.is_over c.if-self.false refl consumed e.goes_on (λ h. (e.over h).1) in
     let now = subst (λ (b : Bool). ReadsOn {R = g.row.R.Denot} g.R.Read.remaining
-      (record { reader = s.parts.reader; utf8 = s.is_utf8; skipped = slice_range s.parts.part s.before s.from; slice = slice_range s.parts.part s.from s.at; lexed = slice_range s.parts.part s.at s.ready;
-        after = drop s.ready s.parts.part; is_last = s.is_last; is_over = s.parts.is_over; offset = s.offset; bound = s.bound; wanted = s.wanted })
-      (record { reader = c.read.new.self.reader; utf8 = s.is_utf8; skipped = slice_range c.read.new.self.part 0 0; slice = slice_range c.read.new.self.part 0 0;
-        lexed = slice_range c.read.new.self.part 0 (far + c.tail_of-tail.result.valid); after = drop (far + c.tail_of-tail.result.valid) c.read.new.self.part;
-        is_last = c.tail_of-tail.result.is_at_fault || b; is_over = c.read.new.self.is_over; offset = s.offset; bound = s.bound; wanted = s.wanted })) (sym c.is_last.ensures) made in
+    (record {
+      reader = s.parts.reader;
+      utf8 = s.is_utf8;
+      skipped = slice_range s.parts.part s.before s.from;
+      slice = slice_range s.parts.part s.from s.at;
+      lexed = slice_range s.parts.part s.at s.ready;
+      after = drop s.ready s.parts.part;
+      is_last = s.is_last;
+      is_over = s.parts.is_over;
+      offset = s.offset;
+      bound = s.bound;
+      wanted = s.wanted;
+    })
+    (record {
+      reader = c.read.new.self.reader;
+      utf8 = s.is_utf8;
+      skipped = slice_range c.read.new.self.part 0 0;
+      slice = slice_range c.read.new.self.part 0 0;
+      lexed = slice_range c.read.new.self.part 0 (far + c.tail_of-tail.result.valid);
+      after = drop (far + c.tail_of-tail.result.valid) c.read.new.self.part;
+      is_last = c.tail_of-tail.result.is_at_fault || b;
+      is_over = c.read.new.self.is_over;
+      offset = s.offset;
+      bound = s.bound;
+      wanted = s.wanted;
+    })) (sym c.is_last.ensures) made in
     subst (λ (v : WindowValue g.row.R.Denot). ReadsOn {R = g.row.R.Denot} g.R.Read.remaining v
-      (record { reader = c.read.new.self.reader; utf8 = s.is_utf8; skipped = slice_range c.read.new.self.part 0 0; slice = slice_range c.read.new.self.part 0 0;
-        lexed = slice_range c.read.new.self.part 0 (far + c.tail_of-tail.result.valid); after = drop (far + c.tail_of-tail.result.valid) c.read.new.self.part;
-        is_last = c.tail_of-tail.result.is_at_fault || c.is_last.result; is_over = c.read.new.self.is_over; offset = s.offset; bound = s.bound; wanted = s.wanted })) c.self.view_is now
+    (record {
+      reader = c.read.new.self.reader;
+      utf8 = s.is_utf8;
+      skipped = slice_range c.read.new.self.part 0 0;
+      slice = slice_range c.read.new.self.part 0 0;
+      lexed = slice_range c.read.new.self.part 0 (far + c.tail_of-tail.result.valid);
+      after = drop (far + c.tail_of-tail.result.valid) c.read.new.self.part;
+      is_last = c.tail_of-tail.result.is_at_fault || c.is_last.result;
+      is_over = c.read.new.self.is_over;
+      offset = s.offset;
+      bound = s.bound;
+      wanted = s.wanted;
+    })) c.self.view_is now
