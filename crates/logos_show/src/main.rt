@@ -10,6 +10,7 @@ mod options;
 mod reading;
 mod running;
 mod showing;
+mod streaming;
 mod table;
 mod warnings;
 

@@ -94,7 +94,7 @@ pub(crate) const TAKEN: [OptionName; 8] = [
 ];
 
 /// The path of standard input.
-const STANDARD_INPUT: &str = "/dev/stdin";
+pub(crate) const STANDARD_INPUT: &str = "/dev/stdin";
 
 /// Returns what the words ask for.
 ///

@@ -1,7 +1,7 @@
 -- What a lexer at the start of some bytes finds there.
 use denote.Param.Members.{Shared}
 use denote.Ref.{Bor}
-use Rattle.std.proofs.Common.{◌≡◌, ◌∙◌, ℕ, ◌<◌, ◌≤◌, Bool, true, false, if◌then◌else◌, List, [], ◌∷◌, ◌++◌, length, Option, Some, None, option_map, slice_range, refl, sym, ap, subst, arith}
+use Rattle.std.proofs.Common.{◌≡◌, ℕ, ◌≤◌, Bool, true, false, if◌then◌else◌, List, [], ◌∷◌, ◌++◌, length, Some, slice_range, refl, subst, arith}
 use Rattle.std.proofs.lemmas.List.{append-nil}
 use Rattle.logos_automaton.specs.Munch.{Use}
 use Rattle.logos_code.specs.Code.{CodeValue}
@@ -9,17 +9,16 @@ use Rattle.logos_code.specs.Items.{Callback, Search, Item, token, error, items_o
 use Rattle.logos_code.specs.Runs.{CodeFinds, RunsOn}
 use Rattle.logos_code.specs.declared.action.Action.{Action}
 use Rattle.logos_code.specs.declared.action.Action.TheVariants.{Emit, Skip, Error}
-use Rattle.logos_code.specs.Runs.{Runs}
 use Rattle.logos_hir.specs.declared.leaf.LeafId.{LeafId}
-use Rattle.logos_machine.specs.LexerValue.{LexerValue, HasSpan, Gives, Ends, answers_of, begun, item_of}
+use Rattle.logos_machine.specs.LexerValue.{LexerValue, HasSpan, Gives, answers_of, begun, item_of}
 use Rattle.logos_machine.specs.Streams.{first_stand, LooksPast}
-use Rattle.logos_machine.specs.Within.{DoesWithin, GivesWithin, KeepsGiven, Waits}
+use Rattle.logos_machine.specs.Within.{DoesWithin, GivesWithin, KeepsGiven}
 use Rattle.logos_machine.specs.declared.machine.Item.{Item as TheItem}
 use Rattle.logos_machine.specs.declared.machine.part.Within.{Within}
 use Rattle.logos_machine.specs.declared.machine.part.Within.TheVariants.{Item as Given, More, End}
 use Rattle.logos_stream.specs.declared.item.StreamItem.{StreamItem}
 use Rattle.logos_stream.specs.declared.item.StreamItem.TheVariants as kinds
-use Rattle.logos_stream.specs.Fronts.{FindsUpTo, IsFirst, IsOver, IsWaiting, IsWithout, end_of, item_in, item_with, start_of}
+use Rattle.logos_stream.specs.Fronts.{IsFirst, IsOver, IsWaiting, IsWithout, end_of, item_in, item_with, start_of}
 
 -- the bytes of an item are those at its span
 abbrev HasSlice : List ℕ → Item → Type 0

@@ -1,11 +1,11 @@
 -- What comes next in a stream, from what comes first in the bytes that can be lexed.
-use Rattle.std.proofs.Common.{◌≡◌, ◌⊎◌, inl, inr, ℕ, ◌<◌, Bool, false, List, ◌++◌, refl, sym, subst, IsTrue}
+use Rattle.std.proofs.Common.{◌≡◌, ◌⊎◌, inl, inr, ℕ, ◌<◌, false, List, ◌++◌}
 use Rattle.logos_code.specs.Code.{CodeValue}
 use Rattle.logos_code.specs.Items.{Callback}
 use Rattle.logos_machine.specs.Streams.{LooksPast, RunsOver, first_stand, passes_none}
 use Rattle.logos_stream.specs.Fronts.{IsFirst, IsOver, IsWaiting, end_of, item_in}
 use Rattle.logos_stream.specs.Moves.{Finishes, Gives, Waits, WaitsAt}
-use Rattle.logos_stream.specs.Nexts.{DoesNext, FinishesNext, WaitsNext}
+use Rattle.logos_stream.specs.Nexts.{DoesNext, WaitsNext}
 use Rattle.logos_stream.specs.WindowValue.{WindowValue, unread_length}
 use Rattle.logos_stream.specs.declared.item.StreamItem.{StreamItem}
 use Rattle.logos_stream.specs.declared.item.Streamed.{Streamed}

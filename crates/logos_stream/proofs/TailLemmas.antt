@@ -1,12 +1,12 @@
 -- The longest beginning that is UTF-8, and what is after it.
-use Rattle.std.proofs.Common.{◌≡◌, inr, ℕ, ◌+◌, ◌<◌, Bool, IsTrue, List, length, take, drop, sym, subst, arith}
+use Rattle.std.proofs.Common.{◌≡◌, inr, ℕ, ◌+◌, Bool, IsTrue, List, take, drop, sym, subst, arith}
 use Rattle.std.proofs.Math.Seq.{take-add}
 use Rattle.std.proofs.lemmas.List.{length-drop}
 use Rattle.std.proofs.lemmas.Str.{IsUtf8-append, IsUtf8-nil}
 use Rattle.std.specs.Option.{is_some}
 use Rattle.std.specs.Str.{IsUtf8, IsValidUpTo}
 use Rattle.std.specs.Str.Lossy.{utf8_error_len}
-use Rattle.logos_stream.specs.Tails.{IsNoText, IsTail}
+use Rattle.logos_stream.specs.Tails.{IsTail}
 
 pub rest_is_no_text : (bytes : List ℕ) (n : ℕ) → IsValidUpTo bytes n → IsValidUpTo (drop n bytes) 0
 rest_is_no_text bytes n v = record {

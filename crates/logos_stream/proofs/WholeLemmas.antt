@@ -1,5 +1,5 @@
 -- The items of a stream are those of all that was read.
-use Rattle.std.proofs.Common.{◌≡◌, ◌∙◌, ℕ, ◌+◌, ◌<◌, ◌≤◌, ◌^◌, Bool, true, false, IsTrue, List, [], ◌∷◌, ◌++◌, append_assoc, append-nil, length, take, drop, map, Option, refl, sym, ap, subst, arith}
+use Rattle.std.proofs.Common.{◌≡◌, ◌∙◌, ℕ, ◌+◌, ◌<◌, ◌^◌, Bool, true, false, List, [], ◌∷◌, ◌++◌, append_assoc, append-nil, length, take, drop, Option, refl, sym, ap, subst, arith}
 use Rattle.std.proofs.lemmas.List.{length-append, length-take, take-append-drop, take_all}
 use Rattle.logos_code.specs.Code.{CodeValue}
 use Rattle.logos_code.specs.Headline.{IsSound}
@@ -11,7 +11,7 @@ use Rattle.logos_machine.proofs.PartLemmas.{next_first, parts_are_of_the_whole}
 use Rattle.logos_stream.specs.Fronts.{FindsUpTo, end_of, item_in, item_with}
 use Rattle.logos_stream.specs.Nexts.{FinishesNext, GivesNext, WaitsNext}
 use Rattle.logos_stream.specs.Wholes.{AreFound, HasGiven, StreamsAreOfTheWhole}
-use Rattle.logos_stream.specs.WindowValue.{GoesPast, ReadsOn, WindowValue, nothing_read}
+use Rattle.logos_stream.specs.WindowValue.{GoesPast, ReadsOn, WindowValue}
 use Rattle.logos_stream.specs.declared.item.StreamItem.{StreamItem}
 
 module _ (code : CodeValue) (callback : Callback) where

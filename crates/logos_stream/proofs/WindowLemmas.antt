@@ -1,5 +1,5 @@
 -- The bytes of a part, as a window moves on in them and more are read.
-use Rattle.std.proofs.Common.{◌≡◌, ◌∙◌, ◌⊎◌, inl, inr, ⊎_elim, ℕ, zero, suc, ◌+◌, ◌-◌, ◌<◌, ◌≤◌, ◌^◌, min, Bool, true, false, ◌||◌, IsTrue, IsFalse, List, [], ◌++◌, append_assoc, append-nil, length, take, drop, slice_range, Option, None, Some, IsUtf8, IsCharBoundary, refl, sym, ap, subst, arith}
+use Rattle.std.proofs.Common.{◌≡◌, ◌∙◌, ◌⊎◌, inl, inr, ⊎_elim, ℕ, zero, suc, ◌+◌, ◌-◌, ◌<◌, ◌≤◌, ◌^◌, min, Bool, true, false, ◌||◌, IsTrue, IsFalse, List, [], ◌++◌, append-nil, length, take, drop, slice_range, Option, None, Some, IsUtf8, IsCharBoundary, refl, sym, ap, subst, arith}
 use Rattle.std.specs.Io.KnownBytes.{Consumes, IsAtEnd}
 use Rattle.std.proofs.Math.Seq.{take-add}
 use Rattle.std.proofs.lemmas.List.{drop-append-le, drop-drop, drop-take, length-append, length-drop, length-take, take-append-drop, take-append-le, take-take, take_all}

@@ -5,31 +5,32 @@ use Rattle.logos_stream.specs.Tails.{IsNoText}
 
 pub record WindowValue (R : Type 0) : Type 0 where
   pub reader : R
-  -- whether a text is read
+  -- Whether a text is read
   pub utf8 : Bool
-  -- the bytes that the last move passed without an item, and those at the span of its item
+  -- The bytes that the last move passed without an item, and those at the span of its item
   pub skipped : List ℕ
   pub slice : List ℕ
-  -- the bytes after these that can be lexed
+  -- The bytes after these that can be lexed
   pub lexed : List ℕ
-  -- the bytes that were read after them: of a text, a character that is not whole, or what is not UTF-8
+  -- The bytes that were read after them: of a text, a character that is not whole, or what is not
+  -- UTF-8
   pub after : List ℕ
-  -- whether `lexed` are the last bytes that are lexed
+  -- Whether `lexed` are the last bytes that are lexed
   pub is_last : Bool
-  -- whether the reader came to its end
+  -- Whether the reader came to its end
   pub is_over : Bool
-  -- how many bytes of the stream are before `lexed`, up to the greatest number
+  -- How many bytes of the stream are before `lexed`, up to the greatest number
   pub offset : ℕ
-  -- how many bytes may be in memory
+  -- How many bytes may be in memory
   pub bound : ℕ
-  -- how many bytes there have to be for the next try
+  -- How many bytes there have to be for the next try
   pub wanted : ℕ
 
--- how many bytes were read after the last item
+-- How many bytes were read after the last item
 abbrev pub unread_length : {R : Type 0} → WindowValue R → ℕ
 unread_length window = length window.lexed + length window.after
 
--- a stream before its first byte
+-- A stream before its first byte
 abbrev pub nothing_read : {R : Type 0} → Bool → R → ℕ → WindowValue R
 nothing_read utf8 reader bound = record {
   reader = reader;
@@ -45,13 +46,14 @@ nothing_read utf8 reader bound = record {
   wanted = 0;
 }
 
--- Nothing after the last bytes is lexed: there is nothing, or, of a text, what is no character, or none that is whole.
+-- Nothing after the last bytes is lexed: there is nothing, or, of a text, bytes that
+-- begin no character, or one that is not whole.
 abbrev pub HasEnded : Bool → Bool → List ℕ → Type 0
 HasEnded utf8 is_over after = ((after ≡ []) × IsTrue is_over)
     ⊎ (IsTrue utf8 × ((at_fault : Bool) × IsNoText at_fault after × (IsTrue is_over ⊎ IsTrue at_fault)))
 
--- The invariant of a window, whose part has these bytes: the offsets are in order, what can be lexed of a text is UTF-8, and nothing is lexed after
--- the last bytes.
+-- The invariant of a window, whose part has these bytes: the offsets are in order, what can be
+-- lexed of a text is UTF-8, and nothing is lexed after the last bytes.
 pub record IsWindow (utf8 : Bool) (part : List ℕ) (most : ℕ) (is_over : Bool) (before from at ready : ℕ) (is_last : Bool) (limit least : ℕ) : Type 0 where
   pub skipped : before ≤ from
   pub span : from ≤ at
@@ -75,7 +77,8 @@ pub record GoesPast {R : Type 0} (to : ℕ) (old new : WindowValue R) : Type 0 w
   pub offset : old.offset + to < 2 ^ 64 → new.offset ≡ old.offset + to
   pub bound : new.bound ≡ old.bound
 
--- What a reader gives is added to the bytes, of which more can be lexed; after the last ones nothing is read.
+-- What a reader gives is added to the bytes, of which more can be lexed; after the last ones
+-- nothing is read.
 pub record ReadsOn {R : Type 0} (remaining : R → Option (List ℕ)) (old new : WindowValue R) : Type 0 where
   pub utf8 : new.utf8 ≡ old.utf8
   pub offset : new.offset ≡ old.offset
@@ -83,7 +86,7 @@ pub record ReadsOn {R : Type 0} (remaining : R → Option (List ℕ)) (old new :
   pub added : List ℕ
   pub consumed : Consumes (remaining old.reader) (remaining new.reader) added
   pub bytes : new.lexed ++ new.after ≡ (old.lexed ++ old.after) ++ added
-  -- the bytes that can be lexed grow by these
+  -- The bytes that can be lexed grow by these
   pub grown : List ℕ
   pub lexed : new.lexed ≡ old.lexed ++ grown
   pub last : IsTrue old.is_last → (grown ≡ []) × IsTrue new.is_last

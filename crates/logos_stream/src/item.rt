@@ -27,8 +27,8 @@ pub enum Streamed {
     More,
     /// What comes next depends on more bytes than may be in memory.
     TooLong,
-    /// The bytes at `Stream::offset` are not UTF-8, and the lexer reads text. All items of the text
-    /// before them were returned.
+    /// The bytes at `Stream::offset` are not UTF-8, and the lexer reads text. All items of the
+    /// text before them were returned.
     NotUtf8,
     /// The end of the stream.
     End,

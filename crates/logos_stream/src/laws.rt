@@ -1,5 +1,5 @@
-//! Laws of the definitions. The contract of a function here is a law. To use it in a proof, call the
-//! function: the call does nothing.
+//! Laws of the definitions. The contract of a function here is a law. To use it in a proof, call
+//! the function: the call does nothing.
 
 ghost use Rattle.logos_stream.specs.Words.{answers_of};
 ghost use Rattle.logos_stream.specs.Views.{StreamsAreOfTheWhole};

@@ -17,8 +17,8 @@ use std::marker::Model;
 
 /// A run of a code value on what a reader gives. Offsets and lengths count bytes.
 ///
-/// No more than a bound is in memory, whatever the length of the stream. In UTF-8 mode the bytes are
-/// tested as they are read.
+/// No more than a bound is in memory, whatever the length of the stream. In UTF-8 mode the bytes
+/// are tested as they are read.
 ///
 /// ```text
 /// let mut stream = Stream::new(alloc, &code, reader, bound, callback)?;
@@ -53,8 +53,8 @@ impl<'c, 's, R, C> Model for Stream<'c, 's, R, C> {
 }
 
 impl<'c, 's, R: Read + Drop, C: Fn(LeafId, &[u8]) -> Action + Copy> Stream<'c, 's, R, C> {
-    /// Makes a stream before its first byte. At most `bound` bytes of it are in memory at a time. The
-    /// callback is asked for each match of a leaf that has one.
+    /// Makes a stream before its first byte. At most `bound` bytes of it are in memory at a time.
+    /// The callback is asked for each match of a leaf that has one.
     ///
     /// # Errors
     ///
@@ -76,8 +76,8 @@ impl<'c, 's, R: Read + Drop, C: Fn(LeafId, &[u8]) -> Action + Copy> Stream<'c, '
         })
     }
 
-    /// Returns what comes next. An item is returned only if it is the next one whatever follows what
-    /// was read. After another answer each call returns the same, until `read` has read.
+    /// Returns what comes next. An item is returned only if it is the next one whatever follows
+    /// what was read. After another answer each call returns the same, until `read` has read.
     pub fn next(&mut self) -> Streamed
         requires { C.IsAlwaysCallable self.old.callback }
         ensures keeps { KeepsCode self.old self.new }

@@ -170,8 +170,8 @@ impl<R: Read + Drop> Window<R> {
         self.parts.part().len() - self.at
     }
 
-    /// Passes an item that was found in the bytes that can be lexed, and returns it with its span in
-    /// the stream.
+    /// Passes an item that was found in the bytes that can be lexed, and returns it with its span
+    /// in the stream.
     pub(crate) fn give(&mut self, item: StreamItem) -> Streamed
         requires order { start_of item < end_of item }
         requires within { end_of item ≤ length self.old.lexed }

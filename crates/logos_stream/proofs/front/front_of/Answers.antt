@@ -1,7 +1,4 @@
-use Rattle.std.proofs.Common.{◌≡◌, ap, sym, subst}
-use Rattle.logos_machine.specs.LexerValue.{answers_of}
-use Rattle.logos_machine.specs.Within.{DoesWithin}
-use Rattle.logos_machine.specs.declared.machine.part.Within.TheVariants.{Item as Given, More, End}
+use Rattle.std.proofs.Common.{ap, sym}
 use Rattle.logos_stream.proofs.FrontLemmas.{item_first, over_first, waits_first}
 use Rattle.logos_stream.proofs.front.front_of.Goals as goal
 

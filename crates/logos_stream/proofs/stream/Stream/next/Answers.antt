@@ -1,4 +1,4 @@
-use Rattle.std.proofs.Common.{◌≡◌, ◌<◌, false, refl, ap, subst}
+use Rattle.std.proofs.Common.{◌≡◌, ◌<◌, false, refl, subst}
 use Rattle.logos_machine.specs.LexerValue.{answers_of}
 use Rattle.logos_stream.specs.Moves.{Waits}
 use Rattle.logos_stream.specs.StreamValue.{StreamValue}

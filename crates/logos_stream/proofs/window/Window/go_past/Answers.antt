@@ -1,4 +1,4 @@
-use Rattle.std.proofs.Common.{◌≡◌, ◌<◌, ◌≤◌, ◌∙◌, IsTrue, IsCharBoundary, ◌+◌, drop, length, slice_range, sym, ap, subst}
+use Rattle.std.proofs.Common.{◌<◌, ◌≤◌, ◌∙◌, IsTrue, IsCharBoundary, ◌+◌, drop, length, slice_range, sym, ap, subst}
 use Rattle.logos_stream.specs.WindowValue.{GoesPast, WindowValue}
 use Rattle.logos_stream.proofs.WindowLemmas.{moved_past, moved_slice, moved_window}
 use Rattle.logos_stream.proofs.window.Window.go_past.Goals as goal

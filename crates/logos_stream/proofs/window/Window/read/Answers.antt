@@ -1,4 +1,4 @@
-use Rattle.std.proofs.Common.{◌≡◌, ◌∙◌, ◌++◌, ◌+◌, ◌-◌, ◌||◌, ℕ, Bool, IsTrue, List, drop, slice_range, refl, sym, ap, subst}
+use Rattle.std.proofs.Common.{◌∙◌, ◌++◌, ◌+◌, ◌-◌, ◌||◌, ℕ, Bool, IsTrue, List, drop, slice_range, refl, sym, ap, subst}
 use Rattle.std.specs.Io.KnownBytes.{Consumes}
 use Rattle.logos_stream.specs.Tails.{IsTail}
 use Rattle.logos_stream.specs.WindowValue.{IsWindow, ReadsOn, WindowValue}
