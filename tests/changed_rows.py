@@ -47,6 +47,7 @@ PARTS = {
     "texts": ("tests/texts/letters.tailcall.txt", "impl < 's >", "impl < 't >"),
     "strips": ("tests/generated/stripped.py", "'Logos'", "'Lagos'"),
     "guide": ("docs/GUIDE.md", "token 1 0..1", "token 1 0..2"),
+    "streams": ("tests/streams.py", "MOST = 16 * 1024", "MOST = 15 * 1024"),
     "terminal": ("tests/terminal.py", "not in body", "in body"),
     "faults": ("docs/FAULTS.md", "7..8 Lexical: unreadable source: Unbalanced", "7..9 Lexical: unreadable source: Unbalanced"),
 }

@@ -104,6 +104,7 @@ TAKEN = {
     "texts": {"a source": every(removed("tests/texts/jumps.*"), without("tests/texts/run.sh", r" jumps", ""))},
     "strips": {"the sources that are made": without("tests/generated/strips.py", r"^SOURCES = 600", "SOURCES = 0")},
     "guide": {"the page": without("tests/guide.sh", r"^check_page docs/GUIDE[^\n]*\n")},
+    "streams": {"the long streams": without("tests/streams.py", r" a_token_that_is_too_long, memory_stays,")},
     "terminal": {"all places but one": without("tests/terminal.py", r'^    "the line of a pattern".*?^}', "}")},
     "faults": {"the entries": without("docs/FAULTS.md", r"^### .*?(?=^## |\Z)")},
 }

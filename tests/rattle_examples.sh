@@ -22,7 +22,7 @@ trap 'rm -rf "$room"' EXIT
 names=()
 
 # The libraries that an example may use.
-libraries='indexmap logos_automaton logos_code logos_codegen logos_host logos_lines logos_machine'
+libraries='indexmap logos_automaton logos_code logos_codegen logos_host logos_lines logos_machine logos_stream'
 
 # Makes the other repository: the library as it stands, and its list.
 make_repository() {

@@ -7,9 +7,9 @@ enum Log {
     Address,
     #[regex(r"\[[0-9]{2}/(Jan|Feb|Mar|Apr|May|Jun|Jul|Aug|Sep|Oct|Nov|Dec)/[0-9]{4}(:[0-9]{2}){3} [+\-][0-9]{4}\]")]
     Date,
-    #[regex(r#""(GET|HEAD|POST|PUT|DELETE|PATCH|OPTIONS|CONNECT|TRACE) [^" ]* HTTP/[0-9]+(\.[0-9]+)?""#)]
+    #[regex(r#""(GET|HEAD|POST|PUT|DELETE|PATCH|OPTIONS|CONNECT|TRACE) [^" \n]* HTTP/[0-9]+(\.[0-9]+)?""#)]
     Request,
-    #[regex(br#""([^"\\]|\\[^\n])*""#)]
+    #[regex(br#""([^"\\\n]|\\[^\n])*""#)]
     Quoted,
     #[regex("[1-5][0-9]{2}", priority = 20)]
     Status,
@@ -19,9 +19,11 @@ enum Log {
     Nothing,
     #[regex(r"[a-zA-Z_][a-zA-Z0-9_.\-]*")]
     Name,
+    #[token("\n")]
+    LineEnd,
     // What is close to a token.
-    #[regex(br#""([^"\\]|\\[^\n])*"#)]
+    #[regex(br#""([^"\\\n]|\\[^\n])*"#)]
     Unclosed,
-    #[regex(r"\[[^\]]*\]", priority = 1)]
+    #[regex(r"\[[^\]\n]*\]", priority = 1)]
     OtherDate,
 }

@@ -1,6 +1,6 @@
 """Makes sources, reads each with the plain reader, runs the program on it, and compares what both find.
 
-The words are the program's path and, where just these sources are wanted, their seeds.
+The words are the paths of the program and of the program of calls and, where just these sources are wanted, their seeds.
 """
 
 import os
@@ -95,6 +95,20 @@ def compare_chart(reading, found):
     return None
 
 
+def stream(calls, source, reading, inputs, random):
+    """Compares the items of the inputs as streams, each cut into pieces at random, of which some cannot be read the first time. Gives how many there are."""
+    requests, wanted = [], []
+    for text in inputs:
+        sizes = [random.choice([0, 1, 1, 2, 3, 5, 8, 40, 300]) for _ in range(random.randint(1, 12))] + [random.randint(1, 9)]
+        words = len(source.encode()), len(text), len(text) + random.randint(1, 9), ','.join(map(str, sizes))
+        requests.append(' '.join(map(str, words)).encode() + b'\n' + source.encode() + text)
+        valid = valid_up_to(text) if reading.utf8 else len(text)
+        wanted += [*reading.items(text[:valid]), f'{"end" if valid == len(text) else "NotUtf8"} {valid}']
+    done = subprocess.run([calls, 'streams'], input=b''.join(requests), capture_output=True, check=False)
+    expect(f'streams of {inputs}', (0, ended(wanted), ['']), (done.returncode, done.stdout.decode().split('\n'), done.stderr.decode().split('\n')))
+    return len(inputs)
+
+
 def valid_up_to(text):
     try:
         text.decode()
@@ -138,16 +152,17 @@ def made(seed):
     raise TooLarge(f'seed {seed}')
 
 
-def judge(program, seed):
-    """What came of a source: its faults' codes, the number of comparisons, the forms of an accepted one, and the difference or None."""
+def judge(program, calls, seed):
+    """What came of a source: its faults' codes, the numbers of comparisons and of streams, the forms of an accepted one, and the difference or None."""
     source, reading, inputs = made(seed)
     forms = [] if reading.faults.list else [form for form in FORMS if MET[form]]
     with tempfile.TemporaryDirectory() as room:
         try:
             compared = compare(program, room, source, reading, inputs)
+            streamed = 0 if reading.faults.list else stream(calls, source, reading, inputs, Random(seed))
         except Difference as difference:
-            return [], 0, [], f'seed {seed}: {difference}\n{source}'
-    return [code for code, _, _ in reading.faults.list], compared, forms, None
+            return [], 0, 0, [], f'seed {seed}: {difference}\n{source}'
+    return [code for code, _, _ in reading.faults.list], compared, streamed, forms, None
 
 
 def judge_kept(program):
@@ -160,25 +175,25 @@ def judge_kept(program):
             expect(f'{source} as the reader has it', (1, [''], ended(Reading(source).lines())), found)
 
 
-def main(program, seeds):
+def main(program, calls, seeds):
     try:
         judge_kept(program)
     except Difference as difference:
         print(f'generated: {difference}', file=sys.stderr)
         return 1
-    codes, forms, refused, accepted, compared = Counter(), Counter(), 0, 0, 0
+    codes, forms, refused, accepted, compared, streamed = Counter(), Counter(), 0, 0, 0, 0
     # What is looked up once for all sources is there before the workers are.
     partners()
     runs_of_categories()
     with ProcessPoolExecutor(len(os.sched_getaffinity(0))) as workers:
-        for found, comparisons, met, difference in workers.map(judge, [program] * len(seeds), seeds, chunksize=4):
+        for found, comparisons, streams, met, difference in workers.map(judge, [program] * len(seeds), [calls] * len(seeds), seeds, chunksize=4):
             if difference:
                 workers.shutdown(cancel_futures=True)
                 print(f'generated: {difference}', file=sys.stderr)
                 return 1
             codes.update(found)
             forms.update(met)
-            refused, accepted, compared = refused + bool(found), accepted + (not found), compared + comparisons
+            refused, accepted, compared, streamed = refused + bool(found), accepted + (not found), compared + comparisons, streamed + streams
     print('generated:', ', '.join(f'{code} {codes[code]}' for code in sorted(codes)))
     print('generated: accepted sources with', ', '.join(f'{form} {forms[form]}' for form in FORMS))
     missed = [code for code in (*TEXTS, *SHAPES) if code not in codes]
@@ -187,11 +202,12 @@ def main(program, seeds):
         print('generated: too few sources had', ', '.join(missed), file=sys.stderr)
         return 1
     print(f'generated: {refused} sources are refused and {accepted} accepted as the plain reader has it, in {compared} comparisons')
-    print(f'{refused + accepted} passed, 0 failed')
+    print(f'generated: the items of {streamed} streams that are cut into pieces are those of the whole')
+    print(f'{refused + accepted + streamed} passed, 0 failed')
     return 0
 
 
 ALL = [*range(SOURCES), *PATTERNS, *WORDS]
 
 if __name__ == '__main__':
-    sys.exit(main(sys.argv[1], [int(seed) for seed in sys.argv[2:]] or ALL))
+    sys.exit(main(sys.argv[1], sys.argv[2], [int(seed) for seed in sys.argv[3:]] or ALL))

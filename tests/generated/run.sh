@@ -7,6 +7,8 @@
 # inputs, and the chart of the least graph. The program must print the same. Where a pattern looks, the reader follows the printed chart byte by
 # byte beside what is left of the patterns: it finds the same matches, no two of its states are alike, and each edge and each mark is of use.
 #
+# It also cuts the inputs into pieces at random: read so, as streams, they have the same items.
+#
 # Then it makes some hundred small sets of rules: patterns with looks and classes of all forms anywhere in them, and words and repeated words. All
 # words of three or four letters stand in one input of each set, and some stand alone, so that they end with the input.
 #
@@ -29,7 +31,7 @@ shift $(($# < 2 ? $# : 2))
 export PYTHONDONTWRITEBYTECODE=1
 room=$(mktemp -d)
 trap 'rm -rf "$room"' EXIT
-python3 "$here/main.py" "$program" "$@" | tee "$room/sources"
+python3 "$here/main.py" "$program" "$calls" "$@" | tee "$room/sources"
 [ $# = 0 ] || exit 0
 
 for rows in changed automata expressions; do

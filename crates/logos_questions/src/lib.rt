@@ -4,4 +4,4 @@
 
 mod options;
 
-pub use options::{Order, Question, Request, TAKEN, request_of};
+pub use options::{Order, Question, Request, STANDARD_INPUT, TAKEN, request_of};

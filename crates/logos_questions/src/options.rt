@@ -97,7 +97,7 @@ pub const TAKEN: [OptionName; 10] = [
 ];
 
 /// The path of standard input.
-const STANDARD_INPUT: &str = "/dev/stdin";
+pub const STANDARD_INPUT: &str = "/dev/stdin";
 
 /// Returns what the words ask for.
 ///

@@ -17,22 +17,30 @@ use std::mem;
 use std::time::{Clock, Duration};
 
 /// How many bytes a block has at least when it is written.
-const BLOCK: usize = 65_536;
+pub(crate) const BLOCK: usize = 65_536;
 
 /// What names an error in its line.
-const ERROR: &[u8] = b"  <error>  \"";
+pub(crate) const ERROR: &[u8] = b"  <error>  \"";
 
 /// Where the lines of items go.
 #[derive(Drop)]
-struct Lines {
+pub(crate) struct Lines {
     /// The lines that are not written yet.
-    block: Vec<u8>,
+    pub(crate) block: Vec<u8>,
     /// Where a short line is put together.
-    line: [u8; LINE],
-    counts: Counts,
+    pub(crate) line: [u8; LINE],
+    pub(crate) counts: Counts,
     /// For each leaf the part of a line between the position and the text: its variant, with what
     /// stands around it.
-    heads: Vec<Vec<u8>>,
+    pub(crate) heads: Vec<Vec<u8>>,
+}
+
+/// What is counted of a whole input.
+#[derive(Clone, Copy)]
+pub(crate) struct Totals {
+    pub(crate) bytes: usize,
+    /// The milliseconds that lexing and writing took, if there is a clock.
+    pub(crate) passed: Option<usize>,
 }
 
 /// Writes a line for each item of an input, and then what was counted. Returns a note about callbacks,
@@ -50,20 +58,14 @@ pub(crate) fn write_items<O: Write, C: Clock>(
 ) -> Result<String, Failure<'static>>
     ensures { IfErr result IsNoMisuse }
 {
-    let mut lines = Lines {
-        block: Vec::with_capacity(alloc, BLOCK + BLOCK / 16)?,
-        line: [0; LINE],
-        counts: Counts::new(alloc, code.leaves().len())?,
-        heads: heads_of(alloc, code.leaves())?,
-    };
+    let mut lines = no_lines(alloc, code)?;
     let start = now(clock);
     write_all(code, input, &mut lines, out)?;
-    let passed = milliseconds(start, now(clock));
-    lines.counts.push_lines(&mut lines.block, code.leaves())?;
-    push_count(&mut lines.block, "bytes", input.len())?;
-    if let Some(passed) = passed {
-        push_count(&mut lines.block, "milliseconds", passed)?;
-    }
+    let totals = Totals {
+        bytes: input.len(),
+        passed: milliseconds(start, now(clock)),
+    };
+    push_totals(code, &mut lines, totals)?;
     // The note is made first, so that nothing is printed if memory runs out.
     let note = note_of(alloc, code.leaves(), &lines.counts)?;
     print_bytes(&lines.block, out)?;
@@ -193,6 +195,30 @@ fn push_record(
     Ok(())
 }
 
+/// Makes lines of no item.
+pub(crate) fn no_lines(alloc: Global, code: &Code<'_>) -> Result<Lines, AllocError> {
+    Ok(Lines {
+        block: Vec::with_capacity(alloc, BLOCK + BLOCK / 16)?,
+        line: [0; LINE],
+        counts: Counts::new(alloc, code.leaves().len())?,
+        heads: heads_of(alloc, code.leaves())?,
+    })
+}
+
+/// Adds what was counted of a whole input.
+pub(crate) fn push_totals(
+    code: &Code<'_>,
+    lines: &mut Lines,
+    totals: Totals,
+) -> Result<(), AllocError> {
+    lines.counts.push_lines(&mut lines.block, code.leaves())?;
+    push_count(&mut lines.block, "bytes", totals.bytes)?;
+    if let Some(passed) = totals.passed {
+        push_count(&mut lines.block, "milliseconds", passed)?;
+    }
+    Ok(())
+}
+
 /// Returns the heads of the lines of these leaves.
 fn heads_of(alloc: Global, leaves: &[CodeLeaf<'_>]) -> Result<Vec<Vec<u8>>, AllocError> {
     let mut heads = Vec::new(alloc);
@@ -214,7 +240,7 @@ fn head_of(alloc: Global, name: Option<&str>) -> Result<Vec<u8>, AllocError> {
 }
 
 /// Returns the time, if there is a clock.
-fn now<C: Clock>(clock: &C) -> Option<Duration> {
+pub(crate) fn now<C: Clock>(clock: &C) -> Option<Duration> {
     match clock.monotonic() {
         Ok(time) => Some(time),
         Err(_) => None,
@@ -222,7 +248,7 @@ fn now<C: Clock>(clock: &C) -> Option<Duration> {
 }
 
 /// Returns the milliseconds between two times.
-fn milliseconds(start: Option<Duration>, end: Option<Duration>) -> Option<usize> {
+pub(crate) fn milliseconds(start: Option<Duration>, end: Option<Duration>) -> Option<usize> {
     let passed = end?.checked_sub(start?)?;
     match usize::try_from(passed.as_millis()) {
         Ok(milliseconds) => Some(milliseconds),
@@ -301,7 +327,7 @@ fn add_item(lines: &mut Lines, cursor: &mut Cursor<'_>, item: Item<'_>) -> Resul
 
 /// Returns the head of the lines of a leaf.
 #[inline(always)]
-fn head_at(heads: &[Vec<u8>], leaf: usize) -> &[u8] {
+pub(crate) fn head_at(heads: &[Vec<u8>], leaf: usize) -> &[u8] {
     match heads.get(leaf) {
         Some(head) => head.as_slice(),
         None => &[],
@@ -310,7 +336,10 @@ fn head_at(heads: &[Vec<u8>], leaf: usize) -> &[u8] {
 
 /// Writes a block that is full, and empties it.
 #[inline(always)]
-fn write_if_full<O: Write>(block: &mut Vec<u8>, out: &mut O) -> Result<(), Failure<'static>>
+pub(crate) fn write_if_full<O: Write>(
+    block: &mut Vec<u8>,
+    out: &mut O,
+) -> Result<(), Failure<'static>>
     ensures { IfErr result IsNoMisuse }
 {
     match write_full(block, BLOCK, out) {

@@ -8,6 +8,7 @@ mod items;
 mod reading;
 mod running;
 mod showing;
+mod streaming;
 mod warnings;
 
 use logos_host::{Disk, refuse_words, words};

@@ -12,15 +12,16 @@ use crate::comparing::compare;
 use crate::items::{write_item_records, write_items};
 use crate::reading::{chosen, print_bytes, read_bytes, refused, text_at, text_of};
 use crate::showing::{Form, PageStyle, SHAPE, Shown, shown_of};
+use crate::streaming::write_streamed;
 use logos_codegen::graph::Graph;
 use logos_codegen::{Generated, generate};
 use logos_host::{Failure, Files, report, with_nearest};
 use logos_lines::Position;
-use logos_questions::{Order, Question, Request, TAKEN, request_of};
+use logos_questions::{Order, Question, Request, STANDARD_INPUT, TAKEN, request_of};
 use logos_report::{Page, Part, Source};
 use logos_rust_file::{FoundEnum, enums_in};
 use std::alloc::Global;
-use std::io::{IsTerminal, Write};
+use std::io::{Input as StandardInput, IsTerminal, Write};
 use std::time::Clock;
 
 pub(crate) const USAGE: &str = "\
@@ -61,7 +62,8 @@ options:
 
 const VERSION: &str = "logos_show 0.1.0 (for logos 0.16)\n";
 
-/// What the program reads, and where messages go: files, a clock, and standard error.
+/// What the program reads, and where messages go: files, a clock, which also gives standard input, and
+/// standard error.
 #[derive(Drop)]
 pub(crate) struct Host<'h, F, C, E> {
     pub(crate) files: &'h mut F,
@@ -72,7 +74,7 @@ pub(crate) struct Host<'h, F, C, E> {
 /// Runs the program, and returns the exit status: 0 done, 1 refused, or two lexers differ, 2 for words
 /// that are not a command, 3 for files, outputs and memory. What is refused or fails has a message on
 /// standard error, and warnings go there too.
-pub(crate) fn run<F: Files, C: Clock, O: Write, E: Write + IsTerminal>(
+pub(crate) fn run<F: Files, C: Clock + StandardInput, O: Write, E: Write + IsTerminal>(
     alloc: Global,
     words: &[String],
     host: &mut Host<'_, F, C, E>,
@@ -109,7 +111,7 @@ pub(crate) struct Task<'w> {
 }
 
 /// Does what is asked for, and returns whether what was to be compared is the same.
-fn carry_out<'w, F: Files, C: Clock, O: Write, E: Write + IsTerminal>(
+fn carry_out<'w, F: Files, C: Clock + StandardInput, O: Write, E: Write + IsTerminal>(
     alloc: Global,
     request: Request<'w>,
     host: &mut Host<'_, F, C, E>,
@@ -142,7 +144,7 @@ fn as_same<'w>(done: Result<(), Failure<'w>>) -> Result<Standing, Failure<'w>>
 
 /// Answers what is asked of the lexers of a file, or compares the answer with a stored one. Returns
 /// whether what was to be compared is the same.
-fn answer_or_compare<'w, F: Files, C: Clock, O: Write, E: Write + IsTerminal>(
+fn answer_or_compare<'w, F: Files, C: Clock + StandardInput, O: Write, E: Write + IsTerminal>(
     alloc: Global,
     task: Task<'w>,
     host: &mut Host<'_, F, C, E>,
@@ -161,7 +163,7 @@ fn answer_or_compare<'w, F: Files, C: Clock, O: Write, E: Write + IsTerminal>(
 
 /// Answers what is asked of the lexers of a file, and returns whether what was to be compared is the
 /// same.
-fn answer<'w, F: Files, C: Clock, O: Write, E: Write + IsTerminal>(
+fn answer<'w, F: Files, C: Clock + StandardInput, O: Write, E: Write + IsTerminal>(
     alloc: Global,
     task: Task<'w>,
     host: &mut Host<'_, F, C, E>,
@@ -172,6 +174,7 @@ fn answer<'w, F: Files, C: Clock, O: Write, E: Write + IsTerminal>(
     let done = match task.order.question {
         Question::Leaves | Question::Examples => show(alloc, task, host, out),
         Question::Inputs(_) => give_inputs(alloc, task, host, out),
+        Question::Items(STANDARD_INPUT) if !task.order.is_json => lex_stream(alloc, task, host, out),
         Question::Items(input) => lex(alloc, task, input, None, host, out),
         Question::Matches(input, place) => lex(alloc, task, input, Some(place), host, out),
         Question::Comparison(other) => return compare(alloc, task, other, host, out),
@@ -276,6 +279,45 @@ fn most_of(question: Question<'_>) -> usize {
     match question {
         Question::Inputs(most) => most,
         _ => 0,
+    }
+}
+
+/// Writes the items of standard input as they are found.
+fn lex_stream<'w, F: Files, C: Clock + StandardInput, O: Write, E: Write + IsTerminal>(
+    alloc: Global,
+    task: Task<'w>,
+    host: &mut Host<'_, F, C, E>,
+    out: &mut O,
+) -> Result<(), Failure<'w>>
+    ensures { IfErr result IsNoMisuse }
+{
+    let path = task.order.file;
+    let text = text_at(path, host.files)?;
+    let source = Source::new(alloc, path, text.as_str())?;
+    let one = lexer_in(alloc, task, &source)?;
+    let part = part_of(&source, one);
+    let lexed = match generate(alloc, text_of(&source, one), SHAPE) {
+        Ok(made) => write_streamed(alloc, &made.code, host.clock, out),
+        Err(refusal) => Err(refused(alloc, part, task.is_colored, refusal)),
+    };
+    print_note(lexed, host.err)
+}
+
+/// Writes the note about the items of an input, if they were written.
+fn print_note<'w, E: Write>(
+    lexed: Result<String, Failure<'w>>,
+    err: &mut E,
+) -> Result<(), Failure<'w>>
+    requires { IfErr lexed IsNoMisuse }
+    ensures { IfErr result IsNoMisuse }
+{
+    match lexed {
+        Ok(note) => {
+            let _ = err.write_all(note.as_bytes());
+            let _ = err.flush();
+            Ok(())
+        }
+        Err(failure) => Err(failure),
     }
 }
 

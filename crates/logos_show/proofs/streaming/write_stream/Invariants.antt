@@ -1,0 +1,8 @@
+use Rattle.std.proofs.Common.{◌≡◌}
+use Rattle.logos_show.proofs.streaming.write_stream.Given as goal
+
+-- the callback stays
+abbrev pub invariant-loop : goal.invariant-loop
+invariant-loop g l = record {
+  same_callback : l.stream.callback ≡ l.fn.stream.callback;
+}

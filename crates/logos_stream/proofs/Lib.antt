@@ -1,0 +1,5 @@
+pub mod FrontLemmas
+pub mod TailLemmas
+pub mod WindowLemmas
+pub mod NextLemmas
+pub mod WholeLemmas

@@ -1,0 +1,71 @@
+//! What comes first in some bytes of an input.
+
+ghost use Rattle.std.specs.Prelude.{◌≡◌, IsTrue, IsUtf8};
+ghost use Rattle.logos_stream.specs.Words.{answers_of, begun, item_of};
+ghost use Rattle.logos_stream.specs.Views.{IsFront, IsWithout};
+
+use crate::item::StreamItem;
+use logos_code::action::Action;
+use logos_code::code::Code;
+use logos_hir::leaf::LeafId;
+use logos_machine::machine::{Item, Lexer, Within};
+
+/// What comes first in some bytes.
+#[derive(Clone, Copy)]
+pub(crate) enum Front {
+    /// An item, after matches that give none. Its span is that in the bytes.
+    Item(StreamItem),
+    /// No item up to this offset. What comes next depends on what follows the bytes.
+    Waits(usize),
+    /// No item, and nothing follows.
+    Ends,
+}
+
+/// Returns what comes first in some bytes. Unless they are the last ones, more may follow.
+pub(crate) fn front_of<C: Fn(LeafId, &[u8]) -> Action + Copy>(
+    code: &Code<'_>,
+    bytes: &[u8],
+    callback: C,
+    is_last: bool,
+) -> Front
+    requires callable { C.IsAlwaysCallable callback }
+    requires text { IsTrue code.now.utf8 → IsUtf8 bytes.now }
+    ensures { IsFront code.now (answers_of C.Fn callback) bytes.now is_last result }
+{
+    let mut lexer = lexer_on(code, bytes, callback);
+    match lexer.next_within(is_last) {
+        Within::Item(item) => Front::Item(without_slice(item)),
+        Within::More => Front::Waits(lexer.span().to),
+        Within::End => Front::Ends,
+    }
+}
+
+/// Returns an item without its slice.
+fn without_slice(item: Item<'_>) -> StreamItem
+    ensures { IsWithout (item_of item.entry) result }
+{
+    match item {
+        Item::Token { leaf, span, .. } => StreamItem::Token { leaf, span },
+        Item::Error { leaf, span, .. } => StreamItem::Error { leaf, span },
+    }
+}
+
+/// Makes a lexer at the start of some bytes, which are text if the lexer reads text.
+fn lexer_on<'c, 's, 'i, C: Fn(LeafId, &[u8]) -> Action + Copy>(
+    code: &'c Code<'s>,
+    bytes: &'i [u8],
+    callback: C,
+) -> Lexer<'c, 's, 'i, C>
+    requires callable { C.IsAlwaysCallable callback }
+    requires text { IsTrue code.now.utf8 → IsUtf8 bytes.now }
+    ensures { result ≡ begun code.now bytes.now callback }
+{
+    if code.is_utf8() {
+        // The bytes were tested when they were read, and a test takes time that grows with them.
+        return Lexer::new_str(code, unsafe { str::from_utf8_unchecked(bytes) }, callback);
+    }
+    match Lexer::new_bytes(code, bytes, callback) {
+        Ok(lexer) => lexer,
+        Err(_) => unreachable!(),
+    }
+}

@@ -1,0 +1,76 @@
+//! Items of a stream.
+
+ghost use Rattle.std.specs.Prelude.{◌≡◌, ◌+◌, ◌<◌, ◌^◌, List, ℕ};
+ghost use Rattle.logos_stream.specs.Views.{end_of, item_with, start_of};
+ghost use Rattle.logos_stream.specs.Words.{item_later};
+
+use logos_hir::leaf::LeafId;
+use logos_token::token::Span;
+
+/// An item of a stream, with its span in the stream in bytes. `Stream::slice` returns the bytes at
+/// its span.
+#[derive(Clone, Copy, Debug, PartialEq, Eq)]
+pub enum StreamItem {
+    /// A match.
+    Token { leaf: LeafId, span: Span },
+    /// Bytes that no leaf matches, if `leaf` is `None`, or a match that the callback of its leaf
+    /// refused.
+    Error { leaf: Option<LeafId>, span: Span },
+}
+
+/// What comes next in a stream.
+#[derive(Clone, Copy, Debug, PartialEq, Eq)]
+pub enum Streamed {
+    /// An item. It is the next one whatever follows.
+    Item(StreamItem),
+    /// What comes next depends on bytes that were not read: call `Stream::read`.
+    More,
+    /// What comes next depends on more bytes than may be in memory.
+    TooLong,
+    /// The bytes at `Stream::offset` are not UTF-8, and the lexer reads text. All items of the
+    /// text before them were returned.
+    NotUtf8,
+    /// The end of the stream.
+    End,
+}
+
+impl StreamItem {
+    /// Returns the span of the item.
+    pub fn span(self) -> Span
+        ensures from { result.from ≡ start_of self }
+        ensures to { result.to ≡ end_of self }
+    {
+        match self {
+            StreamItem::Token { span, .. } => span,
+            StreamItem::Error { span, .. } => span,
+        }
+    }
+}
+
+/// Returns the item as it stands so many bytes later.
+pub(crate) fn later(item: StreamItem, by: usize) -> StreamItem
+    ensures { by + start_of item < 2 ^ 64 → by + end_of item < 2 ^ 64 → (slice : List ℕ) →
+        item_with result slice ≡ item_later by (item_with item slice) }
+{
+    match item {
+        StreamItem::Token { leaf, span } => StreamItem::Token {
+            leaf,
+            span: span_later(span, by),
+        },
+        StreamItem::Error { leaf, span } => StreamItem::Error {
+            leaf,
+            span: span_later(span, by),
+        },
+    }
+}
+
+/// Returns the span so many bytes later.
+fn span_later(span: Span, by: usize) -> Span
+    ensures from { by + span.from < 2 ^ 64 → result.from ≡ by + span.from }
+    ensures to { by + span.to < 2 ^ 64 → result.to ≡ by + span.to }
+{
+    Span {
+        from: by.saturating_add(span.from),
+        to: by.saturating_add(span.to),
+    }
+}

@@ -1,0 +1,14 @@
+//! Laws of the definitions. The contract of a function here is a law. To use it in a proof, call
+//! the function: the call does nothing.
+
+ghost use Rattle.logos_stream.specs.Words.{answers_of};
+ghost use Rattle.logos_stream.specs.Views.{StreamsAreOfTheWhole};
+
+use logos_code::action::Action;
+use logos_hir::leaf::LeafId;
+use std::io::Read;
+
+/// The items that a stream gives, however it is read, are the items of all that was read.
+pub fn streams_are_of_the_whole<R: Read, C: Fn(LeafId, &[u8]) -> Action>(_reader: &R, callback: &C)
+    ensures { StreamsAreOfTheWhole R.remaining (answers_of C.Fn callback.now) }
+{}

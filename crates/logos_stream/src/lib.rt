@@ -1,0 +1,13 @@
+//! Items of a stream: an input of any length that is lexed while it is read.
+
+#![tactic(auto)]
+
+mod front;
+mod item;
+pub mod laws;
+mod stream;
+mod tail;
+mod window;
+
+pub use item::{StreamItem, Streamed};
+pub use stream::Stream;

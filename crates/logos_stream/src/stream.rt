@@ -1,0 +1,134 @@
+//! A stream: a reader, and the items of what it gives.
+
+ghost use Rattle.std.specs.Prelude.{◌≡◌, ◌<◌, IfOk, OnErr};
+ghost use Rattle.logos_stream.specs.Words.{answers_of};
+ghost use Rattle.logos_stream.specs.Views.{at_start, unread_length, DoesNext, KeepsCode, ReadsOn, StaysUnread};
+
+use crate::front::{Front, front_of};
+use crate::item::Streamed;
+use crate::window::Window;
+use logos_code::action::Action;
+use logos_code::code::Code;
+use logos_hir::leaf::LeafId;
+use std::alloc::{AllocError, Global};
+use std::io;
+use std::io::Read;
+use std::marker::Model;
+
+/// A run of a code value on what a reader gives. Offsets and lengths count bytes.
+///
+/// No more than a bound is in memory, whatever the length of the stream. In UTF-8 mode the bytes
+/// are tested as they are read.
+///
+/// ```text
+/// let mut stream = Stream::new(alloc, &code, reader, bound, callback)?;
+/// loop {
+///     match stream.next() {
+///         Streamed::Item(item) => use(item, stream.slice()),
+///         Streamed::More => stream.read()?,
+///         Streamed::TooLong | Streamed::NotUtf8 | Streamed::End => break,
+///     }
+/// }
+/// ```
+#[derive(Drop)]
+pub struct Stream<'c, 's, R, C> {
+    code: &'c Code<'s>,
+    callback: C,
+    window: Window<R>,
+}
+
+impl<'c, 's, R, C> Model for Stream<'c, 's, R, C> {
+    ghost use Rattle.std.specs.Prelude.{◌≡◌, []};
+    ghost use Rattle.logos_stream.specs.Words.{codes, named};
+    ghost use Rattle.logos_stream.specs.Views.{StreamValue};
+    ghost use Rattle.logos_type.specs.contracts.type_expr.Part as p;
+
+    ghost Value = { StreamValue R C };
+
+    ghost coded = { Prim.hlevel (codes, (p.the_row (record { mir = named 1; lft = [] })).coded) };
+
+    ghost view = { λ s. record { code = s.code.now; callback = s.callback; window = s.window } };
+
+    ghost invariant = { λ s. s.window.utf8 ≡ s.code.now.utf8 };
+}
+
+impl<'c, 's, R: Read + Drop, C: Fn(LeafId, &[u8]) -> Action + Copy> Stream<'c, 's, R, C> {
+    /// Makes a stream before its first byte. At most `bound` bytes of it are in memory at a time.
+    /// The callback is asked for each match of a leaf that has one.
+    ///
+    /// # Errors
+    ///
+    /// Returns `AllocError` if memory runs out.
+    pub fn new(
+        alloc: Global,
+        code: &'c Code<'s>,
+        reader: R,
+        bound: usize,
+        callback: C,
+    ) -> Result<Stream<'c, 's, R, C>, AllocError>
+        ensures { IfOk result (λ stream. stream ≡ at_start code.now reader bound callback) }
+    {
+        let window = Window::new(alloc, code.is_utf8(), reader, bound)?;
+        Ok(Stream {
+            code,
+            callback,
+            window,
+        })
+    }
+
+    /// Returns what comes next. An item is returned only if it is the next one whatever follows
+    /// what was read. After another answer each call returns the same, until `read` has read.
+    pub fn next(&mut self) -> Streamed
+        requires { C.IsAlwaysCallable self.old.callback }
+        ensures keeps { KeepsCode self.old self.new }
+        ensures does { DoesNext self.old.code (answers_of C.Fn self.old.callback)
+            self.old.window self.new.window result }
+    {
+        if self.window.is_short() {
+            return self.window.wait_longer();
+        }
+        let is_last = self.window.is_last();
+        match front_of(self.code, self.window.lexed(), self.callback, is_last) {
+            Front::Item(item) => self.window.give(item),
+            Front::Waits(to) => self.window.wait(to),
+            Front::Ends => self.window.finish(),
+        }
+    }
+
+    /// Reads once, if the last bytes were not read yet. After `More` there is room for more bytes.
+    ///
+    /// # Errors
+    ///
+    /// Returns what the reader returns. What was read before stays, and reading can go on.
+    pub fn read(&mut self) -> io::Result<()>
+        requires { unread_length self.old.window < self.old.window.bound }
+        ensures keeps { KeepsCode self.old self.new }
+        ensures read { IfOk result (λ _. ReadsOn R.remaining self.old.window self.new.window) }
+        ensures failed { OnErr result
+            (StaysUnread R.remaining self.old.window self.new.window) }
+    {
+        self.window.read()
+    }
+
+    /// Returns the bytes that the last call of `next` passed without an item. `read` drops them.
+    pub fn skipped(&self) -> &[u8]
+        ensures { result.now ≡ self.now.window.skipped }
+    {
+        self.window.skipped()
+    }
+
+    /// Returns the bytes at the span of the item that the last call of `next` returned, if it did.
+    /// `read` drops them.
+    pub fn slice(&self) -> &[u8]
+        ensures { result.now ≡ self.now.window.slice }
+    {
+        self.window.slice()
+    }
+
+    /// Returns how many bytes of the stream were passed, up to the greatest number.
+    pub fn offset(&self) -> usize
+        ensures { result ≡ self.now.window.offset }
+    {
+        self.window.offset()
+    }
+}
