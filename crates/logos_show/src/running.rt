@@ -174,7 +174,9 @@ fn answer<'w, F: Files, C: Clock + StandardInput, O: Write, E: Write + IsTermina
     let done = match task.order.question {
         Question::Leaves | Question::Examples => show(alloc, task, host, out),
         Question::Inputs(_) => give_inputs(alloc, task, host, out),
-        Question::Items(STANDARD_INPUT) if !task.order.is_json => lex_stream(alloc, task, host, out),
+        Question::Items(STANDARD_INPUT) if !task.order.is_json => lex_stream(
+            alloc, task, host, out,
+        ),
         Question::Items(input) => lex(alloc, task, input, None, host, out),
         Question::Matches(input, place) => lex(alloc, task, input, Some(place), host, out),
         Question::Comparison(other) => return compare(alloc, task, other, host, out),
