@@ -20,6 +20,7 @@ use crate::options::{Order, Request, TAKEN, request_of};
 use logos_host::{
     ComparableFiles, Failure, Files, Standing, read_text, report, with_nearest, write_through,
 };
+use logos_causes::Showing;
 use logos_report::Source;
 use std::alloc::{AllocError, Global};
 use std::io;
@@ -27,6 +28,7 @@ use std::io::{IsTerminal, Write};
 
 pub(crate) const USAGE: &str = "\
 usage: logos_cli INPUT [-o FILE] [-c] [--shape tables|tailcall|state_machine]
+                 [--deny-warnings] [--message-format human|json]
                  [--color always|never|auto]
        logos_cli --derive [--shape SHAPE] [--message-format human|json] -
 ";
@@ -47,12 +49,14 @@ options:
                      tailcall: a function for each state
                      state_machine: one loop over a state
       --color WHEN   always, never or auto (on a terminal; the default)
+      --deny-warnings
+                     write nothing, with status 1, if there are warnings
       --derive       read one enum from standard input, and print its
                      implementation for `#[derive(Logos)]`: identifiers stand
                      for what the user wrote
       --message-format FORMAT
                      human: a report (the default)
-                     json: with `--derive`, a line of JSON for each message
+                     json: a line of JSON for each message
   -h, --help         print this text
   -V, --version      print the version
       --             what follows is INPUT, even if it begins with `-`
@@ -163,7 +167,12 @@ fn run_order<F: ComparableFiles, O: Write, E: Write + IsTerminal>(
         return failed(&Failure::OwnOutput(path), err);
     }
     let is_colored = order.color.is_on(err.is_terminal());
-    match expansion_of(alloc, order, is_colored, files) {
+    let showing = Showing {
+        format: order.format,
+        is_colored,
+        denies: order.denies,
+    };
+    match expansion_of(alloc, order, showing, files) {
         Ok(expansion) => deliver_and_end(alloc, order, &expansion, files, out, err),
         Err(failure) => failed(&failure, err),
     }
@@ -187,9 +196,11 @@ fn own_output<'w, F: ComparableFiles>(order: Order<'w>, files: &F) -> Option<&'w
 fn expansion_of<'w, F: ComparableFiles>(
     alloc: Global,
     order: Order<'w>,
-    is_colored: bool,
+    showing: Showing,
     files: &mut F,
 ) -> Result<Expansion, Failure<'w>>
+    requires format { showing.format ≡ (order_value order).format }
+    requires denies { showing.denies ≡ (order_value order).denies }
     ensures done { IfOk result (λ made. Reads F.read_gives files.old (order_value order.entry).input
         (λ text read. (files.new ≡ read)
         × IsExpanded (order_value order.entry).shape text made.bytes.items)) }
@@ -204,7 +215,7 @@ fn expansion_of<'w, F: ComparableFiles>(
         Ok(source) => source,
         Err(AllocError) => return Err(Failure::Memory),
     };
-    expand(alloc, &source, order.shape, is_colored)
+    expand(alloc, &source, order.shape, showing)
 }
 
 /// Warns, delivers an expansion, and ends.
@@ -226,7 +237,7 @@ fn deliver_and_end<F: ComparableFiles, O: Write, E: Write>(
     ensures silent { result.status ≡ 1 → Keeps (O.contents out.old) (O.contents out.new) }
     ensures known { (result.status ≤ 3) × (result.status ≢ 2) }
 {
-    let is_warned = warn(order.input, expansion, err);
+    let is_warned = warn_all(order, expansion, err);
     match deliver(alloc, order, &expansion.bytes, files, out) {
         Ok(()) => Ending {
             status: 0,
@@ -247,6 +258,18 @@ fn failed_after<E: Write>(is_warned: bool, failure: &Failure<'_>, err: &mut E) -
         status: ending.status,
         is_written: is_warned & ending.is_written,
     }
+}
+
+/// Writes the warnings of an expansion, and warns if nothing was expanded. Returns whether standard
+/// error took all of it.
+fn warn_all<E: Write>(order: Order<'_>, expansion: &Expansion, err: &mut E) -> bool
+    ensures { IsTrue result → (text : List ℕ)
+        × Appends (E.contents err.old) (E.contents err.new) text }
+{
+    if !expansion.warnings.is_empty() {
+        return write_through(&expansion.warnings, err).is_ok();
+    }
+    warn(order.input, expansion, err)
 }
 
 /// Warns if nothing was expanded. Returns whether standard error took the warning.

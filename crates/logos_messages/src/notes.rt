@@ -7,7 +7,7 @@ ghost use Rattle.logos_messages.specs.Tokens.{list_member, note_tokens, nothing_
 
 use crate::line::Line;
 use crate::messages::Shown;
-use logos_report::{Meeting, Part, Start, help_of};
+use logos_report::{Part, Start, help_of};
 use logos_token::error::SpannedError;
 
 /// Pushes the notes and the help of a fault, as a member.
@@ -30,22 +30,14 @@ fn push_starts(line: &mut Line, starts: &[Start])
     }
 }
 
-/// Pushes what is known of a set of ambiguous leaves, or else what to do about a fault.
+/// Pushes what is known of a set of ambiguous leaves, and what to do about a fault.
 fn push_advice(line: &mut Line, shown: Shown<'_, '_, '_>)
     ensures { GivesNotes line.old line.new }
 {
-    match shown.member {
-        Some(member) => push_meeting(line, member.meeting),
-        None => push_help(line, shown.part, shown.fault),
+    if let Some(member) = shown.member {
+        push_one(line, "note", member.meeting.note.as_str());
     }
-}
-
-/// Pushes on what text leaves meet, and which priority would decide.
-fn push_meeting(line: &mut Line, meeting: &Meeting)
-    ensures { GivesNotes line.old line.new }
-{
-    push_one(line, "note", meeting.note.as_str());
-    push_one(line, "help", meeting.help.as_str());
+    push_help(line, shown.part, shown.fault);
 }
 
 /// Pushes a note or a help.

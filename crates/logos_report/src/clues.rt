@@ -23,10 +23,8 @@ pub struct Clues {
 pub struct Meeting {
     /// The names of the leaves, in the order of their faults.
     pub names: Vec<String>,
-    /// On what text they meet.
+    /// On what text they meet, and which priority would decide.
     pub note: String,
-    /// Which priority would decide.
-    pub help: String,
 }
 
 /// A pattern that can look at what stands before its first byte.

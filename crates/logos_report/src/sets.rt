@@ -11,7 +11,7 @@ ghost use Rattle.logos_report.specs.Turns.{turn_value};
 use crate::clues::{Meeting, Member, Start, Turn};
 use crate::faults::{push_fault, push_head, push_marked};
 use crate::frame::{Marks, push_frame_with, push_offset};
-use crate::notes::{Shown, push_note, push_notes};
+use crate::notes::{Shown, push_help, push_note, push_notes};
 use crate::page::{Page, Style};
 use crate::source::Part;
 use logos_token::error::SpannedError;
@@ -45,7 +45,13 @@ fn push_member(page: &mut Page, part: Part<'_, '_>, fault: &SpannedError, member
         (fault_of fault.now)) page.old page.new }
 {
     let width = push_place_of(page, part, fault, member);
-    push_end(page, width, member);
+    let shown = Shown {
+        part,
+        faults: &[],
+        fault,
+        width,
+    };
+    push_end(page, shown, member);
 }
 
 /// Pushes the place of a fault of a set of ambiguous leaves, and in front of the first one the line
@@ -80,22 +86,22 @@ fn push_begin(page: &mut Page, part: Part<'_, '_>, fault: &SpannedError, label: 
 }
 
 /// Pushes what is known of a set of ambiguous leaves, if this is the last of its faults.
-fn push_end(page: &mut Page, width: usize, member: Member<'_>)
+fn push_end(page: &mut Page, shown: Shown<'_, '_, '_>, member: Member<'_>)
     ensures { Shows [] page.old page.new }
 {
     if member.is_last() {
-        push_meeting(page, width, member.meeting);
+        push_meeting(page, shown, member.meeting);
     }
 }
 
-/// Pushes on what text leaves meet and which priority would decide, and an empty line.
-fn push_meeting(page: &mut Page, width: usize, meeting: &Meeting)
+/// Pushes on what text leaves meet and what to do, and an empty line.
+fn push_meeting(page: &mut Page, shown: Shown<'_, '_, '_>, meeting: &Meeting)
     ensures { Shows [] page.old page.new }
 {
-    push_note(page, width, "note", meeting.note.as_str());
+    push_note(page, shown.width, "note", meeting.note.as_str());
     page.push("\n");
-    push_note(page, width, "help", meeting.help.as_str());
-    page.push("\n\n");
+    push_help(page, shown);
+    page.push("\n");
 }
 
 /// Pushes a fault that is none of a known set, with the patterns that explain it.

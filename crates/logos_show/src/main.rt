@@ -11,7 +11,6 @@ mod reading;
 mod running;
 mod showing;
 mod table;
-mod warnings;
 
 use logos_host::{Disk, refuse_words, words};
 use running::{Host, USAGE, run};

@@ -7,12 +7,15 @@ ghost use Rattle.logos_show.specs.Orders.{asked, asked_given, given_nothing, giv
 ghost use Rattle.logos_show.specs.Orders.{given_or, path_named, request_value, with_flag};
 ghost use Rattle.logos_show.specs.Orders.{with_color, with_found, with_input, with_name, with_path};
 ghost use Rattle.logos_show.specs.Orders.{order_asked, question_given, question_value, with_expected};
-ghost use Rattle.logos_show.specs.Orders.{with_place, with_topic, with_value, with_word, with_words};
+ghost use Rattle.logos_show.specs.Orders.{with_format, with_place, with_topic, with_value, with_word, with_words};
 ghost use Rattle.logos_host.specs.Colors.{color_named};
+ghost use Rattle.logos_host.specs.Formats.{format_named};
 ghost use Rattle.logos_answers.specs.Places.{place_named};
 
 use logos_answers::place_by_word;
-use logos_host::{Color, Failure, OptionName, Progress, Use, color_by_name, next_step};
+use logos_host::{
+    Color, Failure, MessageFormat, OptionName, Progress, Use, color_by_name, format_by_name, next_step,
+};
 use logos_lines::Position;
 
 /// What is asked for.
@@ -33,6 +36,10 @@ pub(crate) struct Order<'w> {
     pub(crate) expected: Option<&'w str>,
     /// The name of the enum that is meant. If none is given all are shown, and the first one lexes.
     pub(crate) name: Option<&'w str>,
+    /// How messages are written.
+    pub(crate) format: MessageFormat,
+    /// Whether a file with warnings is refused.
+    pub(crate) denies: bool,
     /// When messages have colors.
     pub(crate) color: Color,
 }
@@ -75,6 +82,8 @@ struct Given<'w> {
     input: Option<&'w str>,
     name: Option<&'w str>,
     color: Option<Color>,
+    format: Option<MessageFormat>,
+    denies: bool,
     topic: Option<Topic>,
     expected: Option<&'w str>,
     answer: Option<Answer>,
@@ -82,14 +91,16 @@ struct Given<'w> {
 }
 
 /// The options that the program takes.
-pub(crate) const TAKEN: [OptionName; 8] = [
+pub(crate) const TAKEN: [OptionName; 10] = [
     OptionName::At,
     OptionName::Color,
     OptionName::Compare,
+    OptionName::DenyWarnings,
     OptionName::Enum,
     OptionName::Examples,
     OptionName::Expect,
     OptionName::Help,
+    OptionName::MessageFormat,
     OptionName::Version,
 ];
 
@@ -126,6 +137,8 @@ fn read_words(words: &[String]) -> Result<Given<'_>, Failure<'_>>
         input: None,
         name: None,
         color: None,
+        format: None,
+        denies: false,
         topic: None,
         expected: None,
         answer: None,
@@ -176,6 +189,8 @@ fn order_given(given: Given<'_>) -> Result<Request<'_>, Failure<'_>>
             question,
             expected: given.expected,
             name: given.name,
+            format: format_or_human(given.format),
+            denies: given.denies,
             color: color_or_auto(given.color),
         })),
         Err(failure) => Err(failure),
@@ -218,6 +233,16 @@ fn color_or_auto(color: Option<Color>) -> Color
     match color {
         Some(color) => color,
         None => Color::Auto,
+    }
+}
+
+/// Returns how messages are written: as is given, or as a report.
+fn format_or_human(format: Option<MessageFormat>) -> MessageFormat
+    ensures { result ≡ given_or MessageFormat.Human format }
+{
+    match format {
+        Some(format) => format,
+        None => MessageFormat::Human,
     }
 }
 
@@ -360,6 +385,11 @@ fn read_flag<'w>(given: Given<'w>, option: OptionName) -> Result<Given<'w>, Fail
             answer: Some(Answer::Version),
             ..given
         }),
+        OptionName::DenyWarnings if given.denies => Err(twice(option)),
+        OptionName::DenyWarnings => Ok(Given {
+            denies: true,
+            ..given
+        }),
         OptionName::Compare => read_topic(given, option, Topic::Comparison),
         OptionName::Examples => read_topic(given, option, Topic::Examples),
         _ => Err(unknown(option)),
@@ -416,6 +446,7 @@ fn read_value<'w>(
         OptionName::Color => read_color(given, value),
         OptionName::At => read_place(given, value),
         OptionName::Expect => read_expected(given, value),
+        OptionName::MessageFormat => read_format(given, value),
         _ => Err(unknown(option)),
     }
 }
@@ -468,5 +499,24 @@ fn read_color<'w>(given: Given<'w>, name: &'w str) -> Result<Given<'w>, Failure<
             ..given
         }),
         (None, None) => Err(misuse("`--color` is `always`, `never` or `auto`, not", name)),
+    }
+}
+
+/// Reads how messages are written.
+fn read_format<'w>(given: Given<'w>, name: &'w str) -> Result<Given<'w>, Failure<'w>>
+    ensures given { IfOk result (λ next.
+        with_format (given_value given.entry) given.entry.format (format_named name.now)
+        ≡ Some (given_value next)) }
+    ensures misuse { IfErr result (λ failure.
+        (with_format (given_value given.entry) given.entry.format (format_named name.now) ≡ None)
+        × (status_of failure ≡ 2)) }
+{
+    match (given.format, format_by_name(name)) {
+        (Some(_), _) => Err(twice(OptionName::MessageFormat)),
+        (None, Some(format)) => Ok(Given {
+            format: Some(format),
+            ..given
+        }),
+        (None, None) => Err(misuse("`--message-format` is `human` or `json`, not", name)),
     }
 }

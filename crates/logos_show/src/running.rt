@@ -9,6 +9,7 @@ use crate::items::write_items;
 use crate::options::{Order, Question, Request, TAKEN, request_of};
 use crate::reading::{chosen, print_bytes, read_bytes, refused, text_at, text_of};
 use crate::showing::{PageStyle, SHAPE, Shown, shown_of};
+use logos_causes::Showing;
 use logos_codegen::{Generated, generate};
 use logos_host::{Failure, Files, report, with_nearest};
 use logos_lines::Position;
@@ -23,6 +24,7 @@ usage: logos_show FILE [INPUT] [--enum NAME] [--color always|never|auto]
        logos_show FILE INPUT --at LINE:COLUMN
        logos_show FILE --examples
        logos_show OLD NEW --compare
+       [--deny-warnings] [--message-format human|json]
 ";
 
 const HELP: &str = "\
@@ -45,6 +47,12 @@ options:
       --compare     print whether the lexers of two files find the same, or a
                     shortest text on which they do not; status 1 if they differ
       --color WHEN  always, never or auto (on a terminal; the default)
+      --deny-warnings
+                    without INPUT: print nothing, with status 1, if there are
+                    warnings
+      --message-format FORMAT
+                    human: faults and warnings as a report (the default)
+                    json: a line of JSON for each
   -h, --help        print this text
   -V, --version     print the version
       --            what follows are FILE and INPUT, even if they begin with `-`
@@ -95,8 +103,8 @@ fn failed<E: Write>(failure: &Failure<'_>, err: &mut E) -> u8
 #[derive(Clone, Copy)]
 struct Task<'w> {
     order: Order<'w>,
-    /// Whether messages have colors.
-    is_colored: bool,
+    /// How messages are shown.
+    showing: Showing,
 }
 
 /// Does what is asked for, and returns whether what was to be compared is the same.
@@ -112,8 +120,12 @@ fn carry_out<'w, F: Files, C: Clock, O: Write, E: Write + IsTerminal>(
         Request::Help => print_bytes(HELP.as_bytes(), out),
         Request::Version => print_bytes(VERSION.as_bytes(), out),
         Request::Show(order) => {
-            let is_colored = order.color.is_on(host.err.is_terminal());
-            let task = Task { order, is_colored };
+            let showing = Showing {
+                format: order.format,
+                is_colored: order.color.is_on(host.err.is_terminal()),
+                denies: order.denies,
+            };
+            let task = Task { order, showing };
             return answer_or_compare(alloc, task, host, out);
         }
     };
@@ -185,11 +197,11 @@ fn show<'w, F: Files, C: Clock, O: Write, E: Write + IsTerminal>(
         let _ = lexer_in(alloc, task, &source)?;
     }
     let style = PageStyle {
-        is_colored: task.is_colored,
+        showing: task.showing,
         has_examples: asks_examples(task.order.question),
     };
     let Shown { tables, warnings } = shown_of(alloc, &source, style, task.order.name)?;
-    let _ = host.err.write_all(warnings.as_bytes());
+    let _ = host.err.write_all(&warnings);
     let _ = host.err.flush();
     print_bytes(tables.as_str().as_bytes(), out)
 }
@@ -241,7 +253,7 @@ fn lex_by_file<'w, F: Files, C: Clock, O: Write, E: Write + IsTerminal>(
     let part = part_of(source, one);
     match generate(alloc, text_of(source, one), SHAPE) {
         Ok(made) => lex_by_lexer(alloc, &made, input, host, out),
-        Err(refusal) => Err(refused(alloc, part, task.is_colored, refusal)),
+        Err(refusal) => Err(refused(alloc, part, task.showing, refusal)),
     }
 }
 
@@ -313,7 +325,7 @@ fn compare_files<'w, O: Write>(
             other,
             out,
         ),
-        Err(refusal) => Err(refused(alloc, part, task.is_colored, refusal)),
+        Err(refusal) => Err(refused(alloc, part, task.showing, refusal)),
     }
 }
 
@@ -339,7 +351,7 @@ fn compare_to<'w, O: Write>(
             },
             out,
         ),
-        Err(refusal) => Err(refused(alloc, part, task.is_colored, refusal)),
+        Err(refusal) => Err(refused(alloc, part, task.showing, refusal)),
     }
 }
 
@@ -355,7 +367,7 @@ fn lexer_in<'w>(
         Ok(found) => found,
         Err(refusal) => {
             let whole = Part { source, offset: 0 };
-            return Err(refused(alloc, whole, task.is_colored, refusal));
+            return Err(refused(alloc, whole, task.showing, refusal));
         }
     };
     match chosen(alloc, source, &found, task.order.name)? {

@@ -2,10 +2,10 @@
 ghost use Rattle.std.specs.Prelude.{IfErr};
 ghost use Rattle.logos_show.specs.Orders.{IsNoMisuse};
 
-use crate::reading::{has_name, refused, text_of};
+use crate::reading::{has_name, refused, refused_after, text_of};
 use crate::table::{push_table, push_title};
-use crate::warnings::{push_unmarked, push_warnings};
 use logos_answers::push_examples;
+use logos_causes::{Showing, Warned, add_lexer, add_passed, add_text, denial_text, warning_text};
 use logos_codegen::generator::Config;
 use logos_codegen::{Generated, generate};
 use logos_host::Failure;
@@ -13,6 +13,7 @@ use logos_lines::LineIndex;
 use logos_report::{Page, Part, Source};
 use logos_rust_file::{FoundEnum, enums_in};
 use std::alloc::Global;
+use std::mem;
 
 /// The shape of the code whose tables are counted. The other one has as many.
 pub(crate) const SHAPE: Config = Config {
@@ -24,14 +25,15 @@ pub(crate) const SHAPE: Config = Config {
 pub(crate) struct Shown {
     /// The tables of its lexers.
     pub(crate) tables: String,
-    pub(crate) warnings: String,
+    /// What is written of its warnings.
+    pub(crate) warnings: Vec<u8>,
 }
 
 /// How a file is shown.
 #[derive(Clone, Copy)]
 pub(crate) struct PageStyle {
-    /// Whether faults and warnings are shown in colors.
-    pub(crate) is_colored: bool,
+    /// How faults and warnings are shown.
+    pub(crate) showing: Showing,
     /// Whether examples of what leaves find are shown in place of tables.
     pub(crate) has_examples: bool,
 }
@@ -40,7 +42,7 @@ pub(crate) struct PageStyle {
 #[derive(Drop)]
 struct Pages {
     tables: Page,
-    warnings: Page,
+    warned: Vec<Warned>,
     style: PageStyle,
 }
 
@@ -70,21 +72,48 @@ pub(crate) fn shown_of(
     let whole = Part { source, offset: 0 };
     let found = match enums_in(alloc, source.text()) {
         Ok(found) => found,
-        Err(refusal) => return Err(refused(alloc, whole, style.is_colored, refusal)),
+        Err(refusal) => return Err(refused(alloc, whole, style.showing, refusal)),
     };
     let lines = LineIndex::new(alloc, source.text())?;
     let mut pages = Pages {
         tables: Page::new(alloc, false),
-        warnings: Page::new(alloc, style.is_colored),
+        warned: Vec::new(alloc),
         style,
     };
     for one in &found {
         push_named(alloc, &mut pages, enum_in(source, &lines, *one), name)?;
     }
+    add_passed(alloc, source.text(), &found, &mut pages.warned)?;
+    shown_by(alloc, source, pages)
+}
+
+/// Returns what is shown of a file with these pages.
+fn shown_by(alloc: Global, source: &Source<'_>, pages: Pages) -> Result<Shown, Failure<'static>>
+    ensures { IfErr result IsNoMisuse }
+{
+    let showing = pages.style.showing;
+    if showing.denies && !pages.warned.is_empty() {
+        return Err(denied(alloc, source, showing, &pages.warned));
+    }
     Ok(Shown {
+        warnings: warning_text(alloc, source, showing, &pages.warned)?,
         tables: pages.tables.finish()?,
-        warnings: pages.warnings.finish()?,
     })
+}
+
+/// Returns the refusal of a file whose warnings are denied.
+fn denied(
+    alloc: Global,
+    source: &Source<'_>,
+    showing: Showing,
+    warned: &[Warned],
+) -> Failure<'static>
+    ensures { IsNoMisuse result }
+{
+    match denial_text(alloc, source, showing, warned) {
+        Ok(text) => Failure::Refused(text),
+        Err(_) => Failure::Memory,
+    }
 }
 
 /// Returns an enum with its position in a file.
@@ -127,7 +156,7 @@ fn push_enum(
 ) -> Result<(), Failure<'static>>
     ensures { IfErr result IsNoMisuse }
 {
-    push_warnings(alloc, &mut pages.warnings, one)?;
+    add_text(alloc, one.text, one.part.offset, one.derives, &mut pages.warned)?;
     if one.derives {
         push_lexer(alloc, pages, one)?;
     }
@@ -144,7 +173,10 @@ fn push_lexer(
 {
     match generate(alloc, one.text, SHAPE) {
         Ok(made) => push_made(alloc, pages, one, &made),
-        Err(refusal) => Err(refused(alloc, one.part, pages.style.is_colored, refusal)),
+        Err(refusal) => {
+            let warned = mem::replace(&mut pages.warned, Vec::new(alloc));
+            Err(refused_after(alloc, one.part, pages.style.showing, refusal, warned))
+        }
     }
 }
 
@@ -164,6 +196,6 @@ fn push_made(
     } else {
         push_table(alloc, &mut pages.tables, one, made)?;
     }
-    push_unmarked(alloc, &mut pages.warnings, one.part, &made.graph)?;
+    add_lexer(alloc, one.text, one.part.offset, &made.graph, &mut pages.warned)?;
     Ok(())
 }

@@ -95,6 +95,15 @@ mistake_value (Conditional span) = conditional span
 mistake_value (NoPattern span) = no_pattern span
 mistake_value (NoDerive span) = no_derive span
 
+-- what a mistake is about
+abbrev pub span_of : MistakeValue → Span
+span_of (misspelled name intended span) = span
+span_of (qualified span) = span
+span_of (useless span) = span
+span_of (conditional span) = span
+span_of (no_pattern span) = span
+span_of (no_derive span) = span
+
 -- whether an attribute with this name has no effect there: `logos` on a variant
 abbrev pub is_useless : Site → List ℕ → Bool
 is_useless OnEnum name = false

@@ -4,7 +4,11 @@
 
 mod attributes;
 mod helper;
+mod messages;
 mod mistakes;
+mod passed;
 
 pub use helper::{Helper, intended_helper};
+pub use messages::enum_warnings;
 pub use mistakes::{Mistake, mistakes_of};
+pub use passed::passed_over;
