@@ -46,7 +46,7 @@ fn item_warnings(
 
 /// Returns the warning about a mistake in the enum with this name.
 fn warning_of(alloc: Global, name: &str, mistake: Mistake<'_>) -> Result<Warning, AllocError>
-    ensures { IfOk result (λ warning. warning.span ≡ span_of (mistake_value mistake)) }
+    ensures { IfOk result (λ warning. warning.span ≡ span_of (mistake_value mistake.entry)) }
 {
     match mistake {
         Mistake::Misspelled {

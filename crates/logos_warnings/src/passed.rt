@@ -102,16 +102,25 @@ fn add_derive(run: Tokens<'_, '_>, found: &mut Vec<Span>) -> Result<(), AllocErr
     let Some(rest) = after_word("derive", run) else {
         return Ok(());
     };
-    let Some(TokenTree::Group(group)) = rest.first() else {
-        return Ok(());
-    };
-    if (group.delimiter == Delimiter::Parenthesis) & lists_macro(group.run()) {
-        found.push(Span {
-            from: run.span().from,
-            to: rest.before(rest.rest()).span().to,
-        })?;
+    match rest.first() {
+        Some(tree) if is_list(tree) => {
+            found.push(Span {
+                from: run.span().from,
+                to: tree.span().to,
+            })?;
+            Ok(())
+        }
+        _ => Ok(()),
     }
-    Ok(())
+}
+
+/// Returns whether a token is a list in parentheses that has the derive macro.
+fn is_list(tree: TokenTree<'_, '_>) -> bool {
+    match tree {
+        TokenTree::Group(group) => (group.delimiter == Delimiter::Parenthesis)
+            & lists_macro(group.run()),
+        _ => false,
+    }
 }
 
 /// Returns whether an entry of a list ends with `Logos`.
