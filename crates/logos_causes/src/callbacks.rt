@@ -3,7 +3,7 @@
 use logos_pattern::leaf::{Callback, InlineCallback, Leaf};
 use logos_report::Warning;
 use logos_token::error::Memory;
-use logos_token::token::{Delimiter, Span, TokenError, TokenTree, Tokens, tokenize};
+use logos_token::token::{Delimiter, Group, Span, TokenError, TokenTree, Tokens, tokenize};
 use logos_token::util::begins_with;
 use std::alloc::Global;
 
@@ -30,21 +30,20 @@ fn add_callback(
     warnings: &mut Vec<Warning>,
 ) -> Result<(), Memory> {
     match callback {
-        Callback::Label(label) => add_label(alloc, label.run(), warnings),
+        Callback::Label(label) => add_label(label.run(), warnings),
         Callback::Inline(closure) => add_closure(alloc, source, closure, warnings),
     }
 }
 
 /// Adds a warning.
 fn add(
-    alloc: Global,
     span: Span,
     message: &str,
     help: &'static str,
     warnings: &mut Vec<Warning>,
 ) -> Result<(), Memory> {
     warnings.push(Warning {
-        message: String::from_str(alloc, message)?,
+        message: String::from_str(*warnings.allocator(), message)?,
         span,
         note: None,
         help: Some(help),
@@ -56,11 +55,10 @@ fn add(
 const PATH: &str = "write the path of a function, or a closure with one parameter, as `|lex| ..`";
 
 /// Adds the warning of a callback that is not a closure, if it has one.
-fn add_label(alloc: Global, label: Tokens<'_, '_>, warnings: &mut Vec<Warning>) -> Result<(), Memory> {
+fn add_label(label: Tokens<'_, '_>, warnings: &mut Vec<Warning>) -> Result<(), Memory> {
     let span = label.span();
     if names_option(label) {
         return add(
-            alloc,
             span,
             "an option without a value is a callback of this name",
             "write its value, as in `priority = 3` or `ignore(case)`",
@@ -69,7 +67,6 @@ fn add_label(alloc: Global, label: Tokens<'_, '_>, warnings: &mut Vec<Warning>) 
     }
     if !is_path(label) {
         return add(
-            alloc,
             span,
             "this callback is neither the path of a function nor a closure",
             PATH,
@@ -131,13 +128,13 @@ fn add_closure(
     closure: &InlineCallback<'_>,
     warnings: &mut Vec<Warning>,
 ) -> Result<(), Memory> {
-    add_escapes(alloc, closure.body.run(), warnings)?;
+    add_escapes(closure.body.run(), warnings)?;
     let span = closure.span;
     let Some(text) = source.get(span.from..span.to) else {
         return Ok(());
     };
     match tokenize(alloc, text) {
-        Ok(stream) => add_body(alloc, span.from, after_bars(stream.run()), warnings),
+        Ok(stream) => add_body(span.from, after_bars(stream.run()), warnings),
         Err(TokenError::Memory) => Err(Memory),
         Err(_) => Ok(()),
     }
@@ -150,16 +147,13 @@ fn after_bars<'t, 's>(closure: Tokens<'t, 's>) -> Tokens<'t, 's> {
 
 /// Adds the warnings of the body of a closure, whose text begins in the source at an offset.
 fn add_body(
-    alloc: Global,
     offset: usize,
     body: Tokens<'_, '_>,
     warnings: &mut Vec<Warning>,
 ) -> Result<(), Memory> {
     match body.first() {
-        Some(TokenTree::Group(group)) => {
-            add_group(alloc, offset, group.delimiter, group.run(), body, warnings)
-        }
-        Some(TokenTree::Punct(_)) => add_type(alloc, offset, body, warnings),
+        Some(TokenTree::Group(group)) => { add_group(offset, group, body.rest(), warnings) }
+        Some(TokenTree::Punct(_)) => add_type(offset, body, warnings),
         _ => Ok(()),
     }
 }
@@ -168,29 +162,22 @@ const BRACES: &str = "put all of the body in braces";
 
 /// Adds the warning of a body that begins with a group, if more follows or its brackets matter.
 fn add_group(
-    alloc: Global,
     offset: usize,
-    delimiter: Delimiter,
-    inside: Tokens<'_, '_>,
-    body: Tokens<'_, '_>,
+    group: Group<'_, '_>,
+    rest: Tokens<'_, '_>,
     warnings: &mut Vec<Warning>,
 ) -> Result<(), Memory> {
-    let rest = body.rest();
     if !rest.is_empty() {
-        let span = moved(rest.span(), offset);
         return add(
-            alloc,
-            span,
+            moved(rest.span(), offset),
             "the body of this closure ends before this, which is dropped",
             BRACES,
             warnings,
         );
     }
-    if loses_brackets(delimiter, inside) {
-        let span = moved(body.span(), offset);
+    if loses_brackets(group.delimiter, group.run()) {
         return add(
-            alloc,
-            span,
+            moved(group.span, offset),
             "the body of this closure loses its outer brackets",
             BRACES,
             warnings,
@@ -222,14 +209,12 @@ fn has_comma(run: Tokens<'_, '_>) -> bool {
 
 /// Adds the warning of a body that begins with the type of its value.
 fn add_type(
-    alloc: Global,
     offset: usize,
     body: Tokens<'_, '_>,
     warnings: &mut Vec<Warning>,
 ) -> Result<(), Memory> {
     if begins_with('-', body) && begins_with('>', body.rest()) {
         return add(
-            alloc,
             moved(body.span(), offset),
             "the type in front of the body of this closure becomes a part of the body",
             "leave the type out, or write a function and name it",
@@ -240,35 +225,25 @@ fn add_type(
 }
 
 /// Adds a warning for each token of a body that leaves more than the closure.
-fn add_escapes(
-    alloc: Global,
-    body: Tokens<'_, '_>,
-    warnings: &mut Vec<Warning>,
-) -> Result<(), Memory> {
+fn add_escapes(body: Tokens<'_, '_>, warnings: &mut Vec<Warning>) -> Result<(), Memory> {
     let mut rest = body;
     while let Some(tree) = rest.first() {
-        add_escape(alloc, tree, warnings)?;
+        add_escape(tree, warnings)?;
         rest = rest.rest();
     }
     Ok(())
 }
 
 /// Adds a warning for a token of a body, if it leaves more than the closure.
-fn add_escape(
-    alloc: Global,
-    tree: TokenTree<'_, '_>,
-    warnings: &mut Vec<Warning>,
-) -> Result<(), Memory> {
+fn add_escape(tree: TokenTree<'_, '_>, warnings: &mut Vec<Warning>) -> Result<(), Memory> {
     match tree {
         TokenTree::Ident(name) if name.text == "return" => add(
-            alloc,
             name.span,
             "`return` leaves the function into which this closure is written, not the closure",
             "write a function and name it, as in `callback = parse`",
             warnings,
         ),
         TokenTree::Punct(punct) if punct.character == '?' => add(
-            alloc,
             punct.span,
             "`?` leaves the function into which this closure is written, not the closure",
             "write a function and name it, as in `callback = parse`",

@@ -2,7 +2,7 @@
 
 use crate::names::{name_of, text_with};
 use logos_answers::push_quoted;
-use logos_evidence::{Match, loses, matches_from, winner};
+use logos_evidence::{loses, matches_from, winner};
 use logos_graph::graph::Graph;
 use logos_inspect::marked_leaves;
 use logos_pattern::leaf::Leaf;
@@ -22,7 +22,7 @@ pub(crate) fn add_hidden(
     let mut count: usize = 0;
     for number in 0..graph.leaves().len() {
         if marked.get(number) == Some(&false) {
-            add_leaf(alloc, graph, number, count < SEARCHED, warnings)?;
+            add_leaf(graph, number, count < SEARCHED, warnings)?;
             count = count.saturating_add(1);
         }
     }
@@ -31,18 +31,18 @@ pub(crate) fn add_hidden(
 
 /// Adds the warning of a leaf that is never found.
 fn add_leaf(
-    alloc: Global,
     graph: &Graph<'_>,
     number: usize,
     is_searched: bool,
     warnings: &mut Vec<Warning>,
 ) -> Result<(), AllocError> {
+    let alloc = *warnings.allocator();
     let Some(leaf) = graph.leaves().get(number) else {
         return Ok(());
     };
     let mut warning = warning_of(alloc, leaf)?;
     if is_searched {
-        explain(alloc, graph, number, leaf, &mut warning)?;
+        explain(alloc, graph, number, &mut warning)?;
     }
     warnings.push(warning)?;
     Ok(())
@@ -69,7 +69,6 @@ fn explain(
     alloc: Global,
     graph: &Graph<'_>,
     number: usize,
-    leaf: &Leaf<'_>,
     warning: &mut Warning,
 ) -> Result<(), AllocError> {
     let Some(bytes) = loses(alloc, graph, number)? else {
@@ -82,18 +81,27 @@ fn explain(
     let Some(other) = graph.leaves().get(taken.leaf) else {
         return Ok(());
     };
-    warning.note = Some(note_of(alloc, &bytes, taken, leaf, other)?);
+    let is_same = has_pattern(graph.leaves(), number, other.pattern.source());
+    warning.note = Some(note_of(alloc, &bytes, other, is_same)?);
     warning.also = Some(other.span);
     Ok(())
 }
 
-/// Returns which leaf is found in the place of another one, and on what text.
+/// Returns whether the leaf with a number has a pattern that is written like this.
+fn has_pattern(leaves: &[Leaf<'_>], number: usize, pattern: &str) -> bool {
+    match leaves.get(number) {
+        Some(leaf) => leaf.pattern.source() == pattern,
+        None => false,
+    }
+}
+
+/// Returns which leaf is found in the place of another one, on what text, and whether their patterns
+/// are the same.
 fn note_of(
     alloc: Global,
     bytes: &[u8],
-    taken: Match,
-    leaf: &Leaf<'_>,
     other: &Leaf<'_>,
+    is_same: bool,
 ) -> Result<String, AllocError> {
     let mut page = Page::new(alloc, false);
     page.push("on ");
@@ -101,8 +109,8 @@ fn note_of(
     page.push(" `");
     page.push(name_of(other));
     page.push("` is found, with priority ");
-    page.push_number(taken.priority);
-    if leaf.pattern.source() == other.pattern.source() {
+    page.push_number(other.priority);
+    if is_same {
         page.push(": its pattern is the same");
     }
     page.finish()

@@ -1,6 +1,6 @@
 //! What is known of the sets of ambiguous leaves of a graph.
 
-ghost use Rattle.std.specs.Prelude.{IsTrue};
+ghost use Rattle.std.specs.Prelude.{◌≤◌, IsTrue, length};
 ghost use Rattle.std.specs.List.Sorted.{IsStrictlyIncreasing};
 
 use crate::names::name_of;
@@ -16,11 +16,7 @@ use std::alloc::{AllocError, Global};
 const SEARCHED: usize = 10;
 
 /// Returns what is known of each set of ambiguous leaves of a graph, in order.
-pub(crate) fn meetings_of(
-    alloc: Global,
-    graph: &Graph<'_>,
-) -> Result<Vec<Meeting>, AllocError>
-{
+pub(crate) fn meetings_of(alloc: Global, graph: &Graph<'_>) -> Result<Vec<Meeting>, AllocError> {
     let mut meetings = Vec::new(alloc);
     for fault in graph.errors() {
         add_fault(alloc, graph, fault, &mut meetings)?;
@@ -91,7 +87,11 @@ fn note_of(
     is_searched: bool,
 ) -> Result<String, AllocError> {
     let mut page = Page::new(alloc, false);
-    page.push(if set.len() == 2 { "both match " } else { "all match " });
+    page.push(if set.len() == 2 {
+        "both match "
+    } else {
+        "all match "
+    });
     if is_searched {
         push_text(alloc, &mut page, graph, set)?;
     } else {
@@ -129,7 +129,11 @@ fn push_text(
     set: &[usize],
 ) -> Result<(), AllocError> {
     match text_of(alloc, graph, set)? {
-        Some(bytes) => push_found(alloc, page, graph, set, &bytes),
+        Some(bytes) => {
+            let matches = matches_from(alloc, graph, &bytes, 0)?;
+            push_found(page, &bytes, end_of(&matches, set).min(bytes.len()));
+            Ok(())
+        }
         None => {
             page.push("a same text");
             Ok(())
@@ -138,11 +142,7 @@ fn push_text(
 }
 
 /// Returns a shortest input that begins with a text on which exactly the leaves of a set meet.
-fn text_of(
-    alloc: Global,
-    graph: &Graph<'_>,
-    set: &[usize],
-) -> Result<Option<Vec<u8>>, AllocError> {
+fn text_of(alloc: Global, graph: &Graph<'_>, set: &[usize]) -> Result<Option<Vec<u8>>, AllocError> {
     if set.is_empty() | !ascends(set) {
         return Ok(None);
     }
@@ -164,23 +164,16 @@ fn ascends(set: &[usize]) -> bool
     true
 }
 
-/// Pushes the text on which the leaves of a set meet, and what follows it in this input, if
-/// something has to.
-fn push_found(
-    alloc: Global,
-    page: &mut Page,
-    graph: &Graph<'_>,
-    set: &[usize],
-    input: &[u8],
-) -> Result<(), AllocError> {
-    let matches = matches_from(alloc, graph, input, 0)?;
-    let end = end_of(&matches, set).min(input.len());
+/// Pushes the text on which leaves meet, which is the beginning of an input up to an end, and what
+/// follows it there, if something has to.
+fn push_found(page: &mut Page, input: &[u8], end: usize)
+    requires { end ≤ length input.now }
+{
     push_quoted(page, &input[..end]);
     if end < input.len() {
         page.push(" in front of ");
         push_quoted(page, &input[end..]);
     }
-    Ok(())
 }
 
 /// Returns where a match of exactly these leaves ends, or the largest number.

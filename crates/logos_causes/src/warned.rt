@@ -24,6 +24,8 @@ pub struct Warned {
 /// How what is wrong with a file is shown.
 #[derive(Clone, Copy)]
 pub struct Showing {
+    /// Where memory for messages comes from.
+    pub alloc: Global,
     pub format: MessageFormat,
     /// Whether messages have colors.
     pub is_colored: bool,
@@ -46,38 +48,64 @@ pub fn add_warnings(
 /// Adds the warnings of the text of an enum that begins at an offset of a file, and that derives
 /// `Logos` or not.
 pub fn add_text(
-    alloc: Global,
     text: &str,
     offset: usize,
     derives: bool,
     warned: &mut Vec<Warned>,
 ) -> Result<(), Memory> {
-    let warnings = enum_warnings(alloc, text, derives)?;
+    let warnings = enum_warnings(*warned.allocator(), text, derives)?;
     add_warnings(offset, warnings, warned)
 }
 
 /// Adds the warnings of the lexer of an enum, whose text begins at an offset of a file.
 pub fn add_lexer(
-    alloc: Global,
     text: &str,
     offset: usize,
     graph: &Graph<'_>,
     warned: &mut Vec<Warned>,
 ) -> Result<(), Memory> {
-    let warnings = lexer_warnings(alloc, text, graph)?;
+    let warnings = lexer_warnings(*warned.allocator(), text, graph)?;
     add_warnings(offset, warnings, warned)
 }
 
 /// Adds the warnings of entries of `derive` that are passed over in a file with these enums.
-pub fn add_passed(
-    alloc: Global,
-    text: &str,
-    found: &[FoundEnum],
-    warned: &mut Vec<Warned>,
-) -> Result<(), Memory> {
+pub fn add_passed(text: &str, found: &[FoundEnum], warned: &mut Vec<Warned>) -> Result<(), Memory> {
+    let alloc = *warned.allocator();
     let spans = spans_of(alloc, found)?;
     let warnings = passed_over(alloc, text, &spans)?;
     add_warnings(0, warnings, warned)
+}
+
+/// Adds the warning of a file with these enums of which none derives `Logos`, where it has to be a
+/// line of JSON or is denied. It is about the beginning of the file.
+pub fn add_missing(
+    showing: Showing,
+    found: &[FoundEnum],
+    warned: &mut Vec<Warned>,
+) -> Result<(), Memory> {
+    let is_asked = showing.denies | matches!(showing.format, MessageFormat::Json);
+    if !is_asked || has_lexer(found) {
+        return Ok(());
+    }
+    let mut warnings = Vec::new(showing.alloc);
+    warnings.push(Warning {
+        message: String::from_str(showing.alloc, "no enum in this file derives `Logos`")?,
+        span: Span { from: 0, to: 0 },
+        note: None,
+        help: None,
+        also: None,
+    })?;
+    add_warnings(0, warnings, warned)
+}
+
+/// Returns whether one of these enums derives `Logos`.
+pub fn has_lexer(found: &[FoundEnum]) -> bool {
+    for one in found {
+        if one.derives {
+            return true;
+        }
+    }
+    false
 }
 
 /// Returns the spans of those of these enums that derive `Logos`.
@@ -101,29 +129,32 @@ pub fn push_warned(page: &mut Page, source: &Source<'_>, warned: &[Warned])
     }
 }
 
-/// Returns what is written of warnings.
+/// Returns what is written of the warnings of a file. `is_missing` says whether none of its enums
+/// derives `Logos`, which is a line of the report.
 pub fn warning_text(
-    alloc: Global,
     source: &Source<'_>,
     showing: Showing,
     warned: &[Warned],
+    is_missing: bool,
 ) -> Result<Vec<u8>, Memory> {
     match showing.format {
-        MessageFormat::Human => warning_page(alloc, source, showing.is_colored, warned),
-        MessageFormat::Json => warning_lines(alloc, source, warned),
+        MessageFormat::Human => {
+            let mut page = Page::new(showing.alloc, showing.is_colored);
+            push_warned(&mut page, source, warned);
+            push_missing(&mut page, source, is_missing);
+            Ok(page.finish()?.into_bytes())
+        }
+        MessageFormat::Json => warning_lines(showing.alloc, source, warned),
     }
 }
 
-/// Returns a report of warnings.
-fn warning_page(
-    alloc: Global,
-    source: &Source<'_>,
-    is_colored: bool,
-    warned: &[Warned],
-) -> Result<Vec<u8>, Memory> {
-    let mut page = Page::new(alloc, is_colored);
-    push_warned(&mut page, source, warned);
-    Ok(page.finish()?.into_bytes())
+/// Pushes that no enum of a file derives `Logos`, if that is so.
+fn push_missing(page: &mut Page, source: &Source<'_>, is_missing: bool) {
+    if is_missing {
+        page.push("warning: no enum in ");
+        page.push_shown(source.path());
+        page.push(" derives `Logos`\n");
+    }
 }
 
 /// Returns a line of JSON for each warning.
@@ -142,12 +173,11 @@ pub fn warning_lines(
 
 /// Returns what is written of a file whose warnings are denied.
 pub fn denial_text(
-    alloc: Global,
     source: &Source<'_>,
     showing: Showing,
     warned: &[Warned],
 ) -> Result<String, Memory> {
-    let mut text = text_of(warning_text(alloc, source, showing, warned)?)?;
+    let mut text = text_of(warning_text(source, showing, warned, false)?)?;
     if let MessageFormat::Human = showing.format {
         text.push_str("error: warnings are denied by `--deny-warnings`\n")?;
     }

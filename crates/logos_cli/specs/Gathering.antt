@@ -4,7 +4,6 @@ use Rattle.std.specs.List.{flat_map}
 use Rattle.logos_host.specs.declared.message_format.MessageFormat.{MessageFormat}
 use Rattle.logos_host.specs.declared.message_format.MessageFormat.TheVariants.{Human, Json}
 use Rattle.logos_cli.specs.declared.options.Shape.{Shape}
-use Rattle.logos_causes.specs.declared.warned.Showing.{Showing}
 use Rattle.logos_codegen.specs.Source.{IsRefused}
 use Rattle.logos_cli.specs.declared.expanding.Gathered.{Gathered}
 use Rattle.logos_cli.specs.declared.expanding.Refused.{Refused}
@@ -81,5 +80,5 @@ abbrev pub IsCause : MessageFormat → Bool → Shape → SourceValue → List �
 IsCause format denies shape source shown = ShowsFaults format shape source shown ⊎ IsTrue denies
 
 -- the same, or memory ran out
-abbrev pub FailsFor : Showing → Shape → SourceValue → Failure → Type 0
-FailsFor showing shape source = FailsBy (IsRefusedFor (IsCause showing.format showing.denies shape source))
+abbrev pub FailsFor : MessageFormat → Bool → Shape → SourceValue → Failure → Type 0
+FailsFor format denies shape source = FailsBy (IsRefusedFor (IsCause format denies shape source))

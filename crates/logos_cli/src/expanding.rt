@@ -17,8 +17,8 @@ ghost use Rattle.logos_cli.specs.inside.Steps.{IsExpansionBy, IsPrintedWith};
 use crate::head::with_head;
 use crate::options::Shape;
 use logos_causes::{
-    Explained, Showing, Warned, add_lexer, add_passed, add_text, add_warnings, denial_text, explain,
-    push_warned, text_of, warning_lines, warning_text,
+    Explained, Showing, Warned, add_lexer, add_missing, add_passed, add_text, add_warnings,
+    denial_text, explain, push_warned, text_of, warning_lines, warning_text,
 };
 use logos_codegen::error::{Errors, Memory};
 use logos_codegen::generator::Config;
@@ -36,8 +36,6 @@ use std::alloc::{AllocError, Global};
 #[derive(Drop)]
 pub(crate) struct Expansion {
     pub(crate) bytes: Vec<u8>,
-    /// How many enums were expanded.
-    pub(crate) count: usize,
     /// What is written of the warnings.
     pub(crate) warnings: Vec<u8>,
 }
@@ -67,41 +65,34 @@ struct Gathered {
 /// fault of a file that cannot be read into tokens, after its warnings, or with these alone if they
 /// are denied. Returns `Memory` if memory runs out.
 pub(crate) fn expand<'w>(
-    alloc: Global,
     source: &Source<'_>,
     shape: Shape,
     showing: Showing,
 ) -> Result<Expansion, Failure<'w>>
     ensures done { IfOk result (λ made. IsExpanded shape source.now.text made.bytes.items) }
-    ensures denied { IfErr result (FailsFor showing shape source.now) }
+    ensures denied { IfErr result (FailsFor showing.format showing.denies shape source.now) }
 {
-    let found = match enums_in(alloc, source.text()) {
+    let found = match enums_in(showing.alloc, source.text()) {
         Ok(found) => found,
-        Err(refusal) => return Err(refused_whole(alloc, source, showing, refusal)),
+        Err(refusal) => return Err(refused_whole(source, showing, refusal)),
     };
-    expand_enums(alloc, source, shape, showing, &found)
+    expand_enums(source, shape, showing, &found)
 }
 
 /// Returns the refusal of a file that cannot be read into tokens.
-fn refused_whole<'w>(
-    alloc: Global,
-    source: &Source<'_>,
-    showing: Showing,
-    refusal: Refusal,
-) -> Failure<'w>
+fn refused_whole<'w>(source: &Source<'_>, showing: Showing, refusal: Refusal) -> Failure<'w>
     requires { Refuses (IsUnreadable source.now.text) refusal }
-    ensures { (shape : Shape) → FailsFor showing shape source.now result }
+    ensures { (shape : Shape) → FailsFor showing.format showing.denies shape source.now result }
 {
-    let mut refused = Vec::new(alloc);
-    match push_refusal(&mut refused, 0, refusal, Clues::none(alloc)) {
-        Ok(()) => refused_file(alloc, source, showing, &refused, &[]),
+    let mut refused = Vec::new(showing.alloc);
+    match push_refusal(&mut refused, 0, refusal, Clues::none(showing.alloc)) {
+        Ok(()) => refused_file(source, showing, &refused, &[]),
         Err(Memory) => Failure::Memory,
     }
 }
 
 /// Returns a file with these enums expanded.
 fn expand_enums<'w>(
-    alloc: Global,
     source: &Source<'_>,
     shape: Shape,
     showing: Showing,
@@ -111,20 +102,20 @@ fn expand_enums<'w>(
     requires order { AreInOrder 0 (map found_span found.now) (length source.now.text) }
     requires cut { All (IsFoundCut source.now.text) found.now }
     ensures done { IfOk result (λ made. IsExpanded shape source.now.text made.bytes.items) }
-    ensures denied { IfErr result (FailsFor showing shape source.now) }
+    ensures denied { IfErr result (FailsFor showing.format showing.denies shape source.now) }
 {
-    let mut warned = Vec::new(alloc);
-    let gathered = gather(alloc, source.text(), shape, found, &mut warned)?;
-    add_passed(alloc, source.text(), found, &mut warned)?;
+    let mut warned = Vec::new(showing.alloc);
+    let gathered = gather(source.text(), shape, found, &mut warned)?;
+    add_passed(source.text(), found, &mut warned)?;
+    add_missing(showing, found, &mut warned)?;
     if gathered.refused.is_empty() {
-        return accepted_file(alloc, source, shape, showing, &gathered.parts, &warned);
+        return accepted_file(source, shape, showing, &gathered.parts, &warned);
     }
-    Err(refused_file(alloc, source, showing, &gathered.refused, &warned))
+    Err(refused_file(source, showing, &gathered.refused, &warned))
 }
 
 /// Returns a file with parts replaced, unless its warnings are denied.
 fn accepted_file<'w>(
-    alloc: Global,
     source: &Source<'_>,
     shape: Shape,
     showing: Showing,
@@ -133,29 +124,23 @@ fn accepted_file<'w>(
 ) -> Result<Expansion, Failure<'w>>
     requires { AreInOrder 0 (map part_span parts.now) (length source.now.text) }
     ensures done { IfOk result (λ made. IsFileOf shape source.now.text parts.now made.bytes.items) }
-    ensures denied { IfErr result (FailsFor showing shape source.now) }
+    ensures denied { IfErr result (FailsFor showing.format showing.denies shape source.now) }
 {
     if showing.denies && !warned.is_empty() {
-        return Err(denied_file(alloc, source, showing, warned));
+        return Err(denied_file(source, showing, warned));
     }
     Ok(Expansion {
-        bytes: expanded_file(alloc, source, shape, parts)?,
-        count: parts.len(),
-        warnings: warning_text(alloc, source, showing, warned)?,
+        bytes: expanded_file(showing.alloc, source, shape, parts)?,
+        warnings: warning_text(source, showing, warned, parts.is_empty())?,
     })
 }
 
 /// Returns the refusal of a file for its warnings, which are denied.
-fn denied_file<'w>(
-    alloc: Global,
-    source: &Source<'_>,
-    showing: Showing,
-    warned: &[Warned],
-) -> Failure<'w>
+fn denied_file<'w>(source: &Source<'_>, showing: Showing, warned: &[Warned]) -> Failure<'w>
     requires { IsTrue showing.denies }
-    ensures { (shape : Shape) → FailsFor showing shape source.now result }
+    ensures { (shape : Shape) → FailsFor showing.format showing.denies shape source.now result }
 {
-    match denial_text(alloc, source, showing, warned) {
+    match denial_text(source, showing, warned) {
         Ok(text) => Failure::Refused(text),
         Err(Memory) => Failure::Memory,
     }
@@ -181,7 +166,6 @@ fn expanded_file(
 /// Returns the replacements of these enums of a file, and the faults of those that are refused. Adds
 /// their warnings.
 fn gather(
-    alloc: Global,
     text: &str,
     shape: Shape,
     found: &[FoundEnum],
@@ -193,19 +177,19 @@ fn gather(
     ensures order { IfOk result (λ gathered.
         AreInOrder 0 (map part_span gathered.parts.items) (length text.now)) }
 {
+    let alloc = *warned.allocator();
     let mut gathered = Gathered {
         parts: Vec::new(alloc),
         refused: Vec::new(alloc),
     };
     for one in found {
-        gather_enum(alloc, text, shape, *one, &mut gathered, warned)?;
+        gather_enum(text, shape, *one, &mut gathered, warned)?;
     }
     Ok(gathered)
 }
 
 /// Adds the replacement or the faults of an enum, if it derives `Logos`, and its warnings.
 fn gather_enum(
-    alloc: Global,
     text: &str,
     shape: Shape,
     one: FoundEnum,
@@ -217,17 +201,17 @@ fn gather_enum(
     ensures { OnOk result (GathersOne shape text.now one gathered.old gathered.new) }
 {
     let span = one.span;
-    add_text(alloc, &text[span.from..span.to], span.from, one.derives, warned)?;
+    add_text(&text[span.from..span.to], span.from, one.derives, warned)?;
     if !one.derives {
         return Ok(());
     }
-    match expanded(alloc, &text[span.from..span.to], shape, span.from, warned) {
+    match expanded(&text[span.from..span.to], shape, span.from, warned) {
         Ok(text) => {
             gathered.parts.push(Replacement { span, text })?;
             Ok(())
         }
         Err(refusal) => {
-            let clues = clues_of(alloc, &text[span.from..span.to], span.from, warned)?;
+            let clues = clues_of(&text[span.from..span.to], span.from, warned)?;
             push_refusal(&mut gathered.refused, span.from, refusal, clues)
         }
     }
@@ -235,13 +219,8 @@ fn gather_enum(
 
 /// Returns what is known of an enum that is refused, and adds its warnings. Its text begins at an
 /// offset of the file.
-fn clues_of(
-    alloc: Global,
-    text: &str,
-    offset: usize,
-    warned: &mut Vec<Warned>,
-) -> Result<Clues, Memory> {
-    let Explained { clues, warnings } = explain(alloc, text)?;
+fn clues_of(text: &str, offset: usize, warned: &mut Vec<Warned>) -> Result<Clues, Memory> {
+    let Explained { clues, warnings } = explain(*warned.allocator(), text)?;
     add_warnings(offset, warnings, warned)?;
     Ok(clues)
 }
@@ -301,7 +280,6 @@ const ATTRIBUTES: &str = "#[allow(unused, clippy::all)]\n#[rustfmt::skip]\n";
 /// Returns an enum without what belongs to the derive, and the implementation. Adds the warnings of
 /// its lexer. Its text begins at an offset of the file.
 fn expanded(
-    alloc: Global,
     source: &str,
     shape: Shape,
     offset: usize,
@@ -311,8 +289,9 @@ fn expanded(
         (λ text. IsExpansion shape source.now (string_bytes text)) }
     ensures refused { IfErr result (Refuses (IsRefused source.now)) }
 {
+    let alloc = *warned.allocator();
     match generate(alloc, source, config_of(shape)) {
-        Ok(made) => match add_lexer(alloc, source, offset, &made.graph, warned) {
+        Ok(made) => match add_lexer(source, offset, &made.graph, warned) {
             Ok(()) => expansion_by(alloc, source, shape, &made),
             Err(Memory) => Err(Refusal::Memory),
         },
@@ -383,16 +362,15 @@ fn under(alloc: Global, left: Tokens<'_, '_>, lexer: &str) -> Result<String, Mem
 
 /// Returns the refusal of a file, with the text of all its faults.
 fn refused_file<'w>(
-    alloc: Global,
     source: &Source<'_>,
     showing: Showing,
     refused: &[Refused],
     warned: &[Warned],
 ) -> Failure<'w>
     ensures { (shape : Shape) → AreRefused shape source.now.text refused.now →
-        FailsFor showing shape source.now result }
+        FailsFor showing.format showing.denies shape source.now result }
 {
-    match faults_text(alloc, source, showing, refused, warned) {
+    match faults_text(source, showing, refused, warned) {
         Ok(text) => Failure::Refused(text),
         Err(Memory) => Failure::Memory,
     }
@@ -400,7 +378,6 @@ fn refused_file<'w>(
 
 /// Returns what is written of all faults of a file, after its warnings.
 fn faults_text(
-    alloc: Global,
     source: &Source<'_>,
     showing: Showing,
     refused: &[Refused],
@@ -410,11 +387,11 @@ fn faults_text(
         (string_bytes text)) }
 {
     match showing.format {
-        MessageFormat::Human => match refusal_text(alloc, source, showing.is_colored, refused, warned) {
+        MessageFormat::Human => match refusal_text(source, showing, refused, warned) {
             Ok(text) => Ok(text),
             Err(AllocError) => Err(Memory),
         },
-        MessageFormat::Json => text_of(fault_lines(alloc, source, refused, warned)?),
+        MessageFormat::Json => text_of(fault_lines(showing.alloc, source, refused, warned)?),
     }
 }
 
@@ -430,7 +407,13 @@ fn fault_lines(
     let mut lines = warning_lines(alloc, source, warned)?;
     for one in refused {
         let offset = one.offset;
-        push_messages(alloc, &mut lines, Part { source, offset }, &one.errors, &one.clues)?;
+        push_messages(
+            alloc,
+            &mut lines,
+            Part { source, offset },
+            &one.errors,
+            &one.clues,
+        )?;
     }
     Ok(lines)
 }
@@ -439,16 +422,15 @@ fn fault_lines(
 /// each, a line with the name of its code and the first line of its message, and one with its place
 /// in the file stand in it.
 fn refusal_text(
-    alloc: Global,
     source: &Source<'_>,
-    is_colored: bool,
+    showing: Showing,
     refused: &[Refused],
     warned: &[Warned],
 ) -> Result<String, AllocError>
-    ensures { IfOk result (λ text. StandInOrder (refused_texts is_colored source.now refused.now)
-        (string_bytes text)) }
+    ensures { IfOk result (λ text. StandInOrder
+        (refused_texts showing.is_colored source.now refused.now) (string_bytes text)) }
 {
-    let mut page = Page::new(alloc, is_colored);
+    let mut page = Page::new(showing.alloc, showing.is_colored);
     push_warned(&mut page, source, warned);
     let count = push_refused(&mut page, source, refused);
     push_summary(&mut page, count);

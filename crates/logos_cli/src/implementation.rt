@@ -114,7 +114,13 @@ fn message_lines(source: &Source<'_>, errors: &Errors) -> Result<Vec<u8>, Memory
     let mut lines = Vec::new(alloc);
     push_version(alloc, &mut lines, PROGRAM)?;
     let Explained { clues, .. } = explain(alloc, source.text())?;
-    push_messages(alloc, &mut lines, Part { source, offset: 0 }, errors, &clues)?;
+    push_messages(
+        alloc,
+        &mut lines,
+        Part { source, offset: 0 },
+        errors,
+        &clues,
+    )?;
     Ok(lines)
 }
 

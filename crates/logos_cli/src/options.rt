@@ -13,7 +13,8 @@ ghost use Rattle.logos_host.specs.Formats.{format_named};
 
 use logos_codegen::generator::Config;
 use logos_host::{
-    Color, Failure, MessageFormat, OptionName, Progress, Use, color_by_name, format_by_name, next_step,
+    Color, Failure, MessageFormat, OptionName, Progress, Use, color_by_name, format_by_name,
+    next_step,
 };
 
 /// What is asked for.

@@ -17,18 +17,16 @@ ghost use Rattle.logos_host.specs.Reading.{Reads};
 use crate::answering::run_derive;
 use crate::expanding::{Expansion, expand};
 use crate::options::{Order, Request, TAKEN, request_of};
+use logos_causes::Showing;
 use logos_host::{
     ComparableFiles, Failure, Files, Standing, read_text, report, with_nearest, write_through,
 };
-use logos_causes::Showing;
 use logos_report::Source;
 use std::alloc::{AllocError, Global};
-use std::io;
 use std::io::{IsTerminal, Write};
 
 pub(crate) const USAGE: &str = "\
 usage: logos_cli INPUT [-o FILE] [-c] [--shape tables|tailcall|state_machine]
-                 [--deny-warnings] [--message-format human|json]
                  [--color always|never|auto]
        logos_cli --derive [--shape SHAPE] [--message-format human|json] -
 ";
@@ -167,12 +165,7 @@ fn run_order<F: ComparableFiles, O: Write, E: Write + IsTerminal>(
         return failed(&Failure::OwnOutput(path), err);
     }
     let is_colored = order.color.is_on(err.is_terminal());
-    let showing = Showing {
-        format: order.format,
-        is_colored,
-        denies: order.denies,
-    };
-    match expansion_of(alloc, order, showing, files) {
+    match expansion_of(alloc, order, is_colored, files) {
         Ok(expansion) => deliver_and_end(alloc, order, &expansion, files, out, err),
         Err(failure) => failed(&failure, err),
     }
@@ -196,11 +189,9 @@ fn own_output<'w, F: ComparableFiles>(order: Order<'w>, files: &F) -> Option<&'w
 fn expansion_of<'w, F: ComparableFiles>(
     alloc: Global,
     order: Order<'w>,
-    showing: Showing,
+    is_colored: bool,
     files: &mut F,
 ) -> Result<Expansion, Failure<'w>>
-    requires format { showing.format ≡ (order_value order).format }
-    requires denies { showing.denies ≡ (order_value order).denies }
     ensures done { IfOk result (λ made. Reads F.read_gives files.old (order_value order.entry).input
         (λ text read. (files.new ≡ read)
         × IsExpanded (order_value order.entry).shape text made.bytes.items)) }
@@ -215,7 +206,13 @@ fn expansion_of<'w, F: ComparableFiles>(
         Ok(source) => source,
         Err(AllocError) => return Err(Failure::Memory),
     };
-    expand(alloc, &source, order.shape, showing)
+    let showing = Showing {
+        alloc,
+        format: order.format,
+        is_colored,
+        denies: order.denies,
+    };
+    expand(&source, order.shape, showing)
 }
 
 /// Warns, delivers an expansion, and ends.
@@ -237,7 +234,7 @@ fn deliver_and_end<F: ComparableFiles, O: Write, E: Write>(
     ensures silent { result.status ≡ 1 → Keeps (O.contents out.old) (O.contents out.new) }
     ensures known { (result.status ≤ 3) × (result.status ≢ 2) }
 {
-    let is_warned = warn_all(order, expansion, err);
+    let is_warned = warn(&expansion.warnings, err);
     match deliver(alloc, order, &expansion.bytes, files, out) {
         Ok(()) => Ending {
             status: 0,
@@ -260,36 +257,15 @@ fn failed_after<E: Write>(is_warned: bool, failure: &Failure<'_>, err: &mut E) -
     }
 }
 
-/// Writes the warnings of an expansion, and warns if nothing was expanded. Returns whether standard
-/// error took all of it.
-fn warn_all<E: Write>(order: Order<'_>, expansion: &Expansion, err: &mut E) -> bool
+/// Writes what there is to say of the warnings of a file. Returns whether standard error took it.
+fn warn<E: Write>(warnings: &[u8], err: &mut E) -> bool
     ensures { IsTrue result → (text : List ℕ)
         × Appends (E.contents err.old) (E.contents err.new) text }
 {
-    if !expansion.warnings.is_empty() {
-        return write_through(&expansion.warnings, err).is_ok();
-    }
-    warn(order.input, expansion, err)
-}
-
-/// Warns if nothing was expanded. Returns whether standard error took the warning.
-fn warn<E: Write>(path: &str, expansion: &Expansion, err: &mut E) -> bool
-    ensures { IsTrue result → (text : List ℕ)
-        × Appends (E.contents err.old) (E.contents err.new) text }
-{
-    if expansion.count != 0 {
+    if warnings.is_empty() {
         return true;
     }
-    write_warning(path, err).is_ok()
-}
-
-/// Writes that nothing was expanded.
-fn write_warning<E: Write>(path: &str, err: &mut E) -> io::Result<()>
-    ensures { OnOk result ((text : List ℕ)
-        × Appends (E.contents err.old) (E.contents err.new) text) }
-{
-    writeln!(err, "warning: no enum in {path} derives `Logos`")?;
-    err.flush()
+    write_through(warnings, err).is_ok()
 }
 
 /// Writes the result to standard output or to the output file.

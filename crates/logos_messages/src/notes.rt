@@ -7,7 +7,7 @@ ghost use Rattle.logos_messages.specs.Tokens.{list_member, note_tokens, nothing_
 
 use crate::line::Line;
 use crate::messages::Shown;
-use logos_report::{Part, Start, help_of};
+use logos_report::{Member, Part, Start, help_of};
 use logos_token::error::SpannedError;
 
 /// Pushes the notes and the help of a fault, as a member.
@@ -34,10 +34,17 @@ fn push_starts(line: &mut Line, starts: &[Start])
 fn push_advice(line: &mut Line, shown: Shown<'_, '_, '_>)
     ensures { GivesNotes line.old line.new }
 {
-    if let Some(member) = shown.member {
+    push_known(line, shown.member);
+    push_help(line, shown.part, shown.fault);
+}
+
+/// Pushes what is known of a set of ambiguous leaves, if this is one of its faults.
+fn push_known(line: &mut Line, member: Option<Member<'_>>)
+    ensures { GivesNotes line.old line.new }
+{
+    if let Some(member) = member {
         push_one(line, "note", member.meeting.note.as_str());
     }
-    push_help(line, shown.part, shown.fault);
 }
 
 /// Pushes a note or a help.

@@ -14,7 +14,8 @@ ghost use Rattle.logos_answers.specs.Places.{place_named};
 
 use logos_answers::place_by_word;
 use logos_host::{
-    Color, Failure, MessageFormat, OptionName, Progress, Use, color_by_name, format_by_name, next_step,
+    Color, Failure, MessageFormat, OptionName, Progress, Use, color_by_name, format_by_name,
+    next_step,
 };
 use logos_lines::Position;
 

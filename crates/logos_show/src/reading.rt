@@ -62,12 +62,11 @@ pub(crate) fn refused(
 ) -> Failure<'static>
     ensures { IsNoMisuse result }
 {
-    refused_after(alloc, part, showing, refusal, Vec::new(alloc))
+    refused_after(part, showing, refusal, Vec::new(alloc))
 }
 
 /// Returns the refusal of a part of a file, with these warnings, those of the part, and its faults.
 pub(crate) fn refused_after(
-    alloc: Global,
     part: Part<'_, '_>,
     showing: Showing,
     refusal: Refusal,
@@ -78,7 +77,7 @@ pub(crate) fn refused_after(
     let Refusal::Errors(errors) = refusal else {
         return Failure::Memory;
     };
-    match refusal_text(alloc, part, showing, &errors, warned) {
+    match refusal_text(part, showing, &errors, warned) {
         Ok(text) => Failure::Refused(text),
         Err(Memory) => Failure::Memory,
     }
@@ -86,12 +85,12 @@ pub(crate) fn refused_after(
 
 /// Returns what is written of faults, after these warnings and those of the part.
 fn refusal_text(
-    alloc: Global,
     part: Part<'_, '_>,
     showing: Showing,
     errors: &Errors,
     warned: Vec<Warned>,
 ) -> Result<String, Memory> {
+    let alloc = showing.alloc;
     let mut all = warned;
     let Explained { clues, warnings } = explain(alloc, enum_at(alloc, part)?)?;
     add_warnings(part.offset, warnings, &mut all)?;

@@ -24,7 +24,6 @@ usage: logos_show FILE [INPUT] [--enum NAME] [--color always|never|auto]
        logos_show FILE INPUT --at LINE:COLUMN
        logos_show FILE --examples
        logos_show OLD NEW --compare
-       [--deny-warnings] [--message-format human|json]
 ";
 
 const HELP: &str = "\
@@ -121,6 +120,7 @@ fn carry_out<'w, F: Files, C: Clock, O: Write, E: Write + IsTerminal>(
         Request::Version => print_bytes(VERSION.as_bytes(), out),
         Request::Show(order) => {
             let showing = Showing {
+                alloc,
                 format: order.format,
                 is_colored: order.color.is_on(host.err.is_terminal()),
                 denies: order.denies,

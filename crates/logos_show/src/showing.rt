@@ -5,7 +5,10 @@ ghost use Rattle.logos_show.specs.Orders.{IsNoMisuse};
 use crate::reading::{has_name, refused, refused_after, text_of};
 use crate::table::{push_table, push_title};
 use logos_answers::push_examples;
-use logos_causes::{Showing, Warned, add_lexer, add_passed, add_text, denial_text, warning_text};
+use logos_causes::{
+    Showing, Warned, add_lexer, add_missing, add_passed, add_text, denial_text, has_lexer,
+    warning_text,
+};
 use logos_codegen::generator::Config;
 use logos_codegen::{Generated, generate};
 use logos_host::Failure;
@@ -83,34 +86,31 @@ pub(crate) fn shown_of(
     for one in &found {
         push_named(alloc, &mut pages, enum_in(source, &lines, *one), name)?;
     }
-    add_passed(alloc, source.text(), &found, &mut pages.warned)?;
-    shown_by(alloc, source, pages)
+    add_passed(source.text(), &found, &mut pages.warned)?;
+    add_missing(style.showing, &found, &mut pages.warned)?;
+    shown_by(source, pages, !has_lexer(&found))
 }
 
-/// Returns what is shown of a file with these pages.
-fn shown_by(alloc: Global, source: &Source<'_>, pages: Pages) -> Result<Shown, Failure<'static>>
+/// Returns what is shown of a file with these pages. `is_missing` says whether none of its enums
+/// derives `Logos`.
+fn shown_by(source: &Source<'_>, pages: Pages, is_missing: bool) -> Result<Shown, Failure<'static>>
     ensures { IfErr result IsNoMisuse }
 {
     let showing = pages.style.showing;
     if showing.denies && !pages.warned.is_empty() {
-        return Err(denied(alloc, source, showing, &pages.warned));
+        return Err(denied(source, showing, &pages.warned));
     }
     Ok(Shown {
-        warnings: warning_text(alloc, source, showing, &pages.warned)?,
+        warnings: warning_text(source, showing, &pages.warned, is_missing)?,
         tables: pages.tables.finish()?,
     })
 }
 
 /// Returns the refusal of a file whose warnings are denied.
-fn denied(
-    alloc: Global,
-    source: &Source<'_>,
-    showing: Showing,
-    warned: &[Warned],
-) -> Failure<'static>
+fn denied(source: &Source<'_>, showing: Showing, warned: &[Warned]) -> Failure<'static>
     ensures { IsNoMisuse result }
 {
-    match denial_text(alloc, source, showing, warned) {
+    match denial_text(source, showing, warned) {
         Ok(text) => Failure::Refused(text),
         Err(_) => Failure::Memory,
     }
@@ -156,7 +156,7 @@ fn push_enum(
 ) -> Result<(), Failure<'static>>
     ensures { IfErr result IsNoMisuse }
 {
-    add_text(alloc, one.text, one.part.offset, one.derives, &mut pages.warned)?;
+    add_text(one.text, one.part.offset, one.derives, &mut pages.warned)?;
     if one.derives {
         push_lexer(alloc, pages, one)?;
     }
@@ -175,7 +175,7 @@ fn push_lexer(
         Ok(made) => push_made(alloc, pages, one, &made),
         Err(refusal) => {
             let warned = mem::replace(&mut pages.warned, Vec::new(alloc));
-            Err(refused_after(alloc, one.part, pages.style.showing, refusal, warned))
+            Err(refused_after(one.part, pages.style.showing, refusal, warned))
         }
     }
 }
@@ -196,6 +196,6 @@ fn push_made(
     } else {
         push_table(alloc, &mut pages.tables, one, made)?;
     }
-    add_lexer(alloc, one.text, one.part.offset, &made.graph, &mut pages.warned)?;
+    add_lexer(one.text, one.part.offset, &made.graph, &mut pages.warned)?;
     Ok(())
 }

@@ -55,8 +55,7 @@ fn warning_of(alloc: Global, name: &str, mistake: Mistake<'_>) -> Result<Warning
             span,
         } => {
             let intended = intended.name();
-            let message =
-                format!(in alloc; "`{name}` looks like a misspelling of `{intended}`")?;
+            let message = format!(in alloc; "`{name}` looks like a misspelling of `{intended}`")?;
             Ok(warning(message, span, None))
         }
         Mistake::Qualified { span } => fixed(alloc, PATH, span, Some(PATH_HELP)),
@@ -76,11 +75,18 @@ fn warning_of(alloc: Global, name: &str, mistake: Mistake<'_>) -> Result<Warning
 }
 
 const PATH: &str = "no attribute of a lexer has a path";
+
 const PATH_HELP: &str = "write its name alone, as in `#[token(\"..\")]`";
+
 const USELESS: &str = "`logos` has no effect on a variant";
+
 const USELESS_HELP: &str = "write it in front of the enum";
-const CONDITION: &str = "the pattern of this variant belongs to the lexer, whatever this `cfg` says";
+
+const CONDITION: &str =
+    "the pattern of this variant belongs to the lexer, whatever this `cfg` says";
+
 const CONDITION_HELP: &str = "put the `cfg` in front of the enum, or derive the lexer in place";
+
 const PATTERN_HELP: &str = "write `#[token(\"..\")]` or `#[regex(\"..\")]` in front of a variant";
 
 /// Returns a warning with a fixed message.

@@ -8,6 +8,7 @@ use logos_token::util::{after_word, begins_with};
 use std::alloc::{AllocError, Global};
 
 const MESSAGE: &str = "this derive of `Logos` is passed over";
+
 const HELP: &str =
     "write `derive(Logos)` or `derive(logos::Logos)` on an enum outside of functions and macros";
 

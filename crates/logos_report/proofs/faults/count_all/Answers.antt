@@ -11,7 +11,7 @@ loop-fault-preserved c =
     let i = c.loop-fault.fault-index in
     let rest = faults_of (drop (i + 1) c.args.faults.now) in
     let next = next_errors c.args.faults.now i c.fault-item.result turn c.loop-fault-test.true ∙
-        ap (λ x. cond (begins_error turn (fault_of x)) 1 0 + errors_after (turn_after turn (fault_of x)) rest) (sym c.fault-item.is) in
+    ap (λ x. cond (begins_error turn (fault_of x)) 1 0 + errors_after (turn_after turn (fault_of x)) rest) (sym c.fault-item.is) in
     let one = c.from-count.ensures ∙ bit_is c.begins_error.result ∙ ap (λ (b : Bool). cond {A = ℕ} b 1 0) c.begins_error.ensures in
     let left = ap (λ (t : TurnValue). errors_after t rest) c.after-turn.ensures in
     let least = one_at_most (begins_error turn (fault_of c.fault-item.result)) in
