@@ -1,7 +1,7 @@
 //! Leaves that are never found, with what hides them.
 
 use crate::names::{name_of, text_with};
-use logos_answers::push_quoted;
+use crate::quoting::push_quoted;
 use logos_evidence::{loses, matches_from, winner};
 use logos_graph::graph::Graph;
 use logos_inspect::marked_leaves;

@@ -8,6 +8,7 @@ mod explaining;
 mod hidden;
 mod meetings;
 mod names;
+mod quoting;
 mod starts;
 mod warned;
 

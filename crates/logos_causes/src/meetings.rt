@@ -4,7 +4,7 @@ ghost use Rattle.std.specs.Prelude.{◌≤◌, IsTrue, length};
 ghost use Rattle.std.specs.List.Sorted.{IsStrictlyIncreasing};
 
 use crate::names::name_of;
-use logos_answers::push_quoted;
+use crate::quoting::push_quoted;
 use logos_evidence::{Match, matches_from, meeting};
 use logos_graph::graph::{Graph, GraphError};
 use logos_hir::leaf::LeafId;
@@ -143,7 +143,10 @@ fn push_text(
 
 /// Returns a shortest input that begins with a text on which exactly the leaves of a set meet.
 fn text_of(alloc: Global, graph: &Graph<'_>, set: &[usize]) -> Result<Option<Vec<u8>>, AllocError> {
-    if set.is_empty() | !ascends(set) {
+    if set.is_empty() {
+        return Ok(None);
+    }
+    if !ascends(set) {
         return Ok(None);
     }
     let found = meeting(alloc, graph, set)?;
