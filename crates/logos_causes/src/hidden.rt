@@ -95,8 +95,8 @@ fn has_pattern(leaves: &[Leaf<'_>], number: usize, pattern: &str) -> bool {
     }
 }
 
-/// Returns which leaf is found in the place of another one, on what text, and whether their patterns
-/// are the same.
+/// Returns which leaf is found in the place of another one, on what text, and whether their
+/// patterns are the same.
 fn note_of(
     alloc: Global,
     bytes: &[u8],

@@ -1,5 +1,5 @@
-//! Why a lexer has faults of its graph, and what of it is probably a mistake: where ambiguous leaves
-//! meet, which patterns look first, which leaves are never found, and what callbacks lose.
+//! Why a lexer has faults of its graph, and what of it is probably a mistake: where ambiguous
+//! leaves meet, which patterns look first, which leaves are never found, and what callbacks lose.
 
 #![tactic(auto)]
 

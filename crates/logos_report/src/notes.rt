@@ -4,8 +4,8 @@ ghost use Rattle.std.specs.Prelude.{[]};
 ghost use Rattle.logos_report.specs.Pages.{Shows};
 
 use crate::frame::push_place;
-use crate::help::help_of;
 use crate::page::{Page, Style};
+use crate::sight::help_of;
 use crate::source::Part;
 use logos_token::error::{FaultCode, SpannedError};
 

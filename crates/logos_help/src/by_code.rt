@@ -1,19 +1,13 @@
 //! What to do about a fault, by its code. `docs/FAULTS.md` has the same words, and
 //! `tests/lints/faults.py` compares them.
 
-use crate::help_by_sight::{
+use crate::by_sight::{
     help_for_body, help_for_closure, help_for_empty, help_for_ignore, help_for_named,
     help_for_nested, help_for_source,
 };
-use crate::help_for_pattern::{help_for_dot, help_for_kind};
-use crate::sight::{Sight, sight_at};
-use crate::source::Part;
+use crate::for_pattern::{help_for_dot, help_for_kind};
+use crate::sight::Sight;
 use logos_token::error::{FaultCode, SpannedError};
-
-/// Returns what to do about a fault of a part of a file, if there is something to say.
-pub fn help_of(part: Part<'_, '_>, fault: &SpannedError) -> Option<&'static str> {
-    help_for(fault, sight_at(part, fault.span))
-}
 
 const TWICE: &str = "keep one of them";
 
@@ -21,8 +15,9 @@ const NEST: &str = "nest less deep";
 
 const RENAME: &str = "rename it: a name has ASCII letters, digits and `_`";
 
-/// Returns what to do about a fault, by what stands at its place.
-fn help_for(fault: &SpannedError, sight: Sight<'_>) -> Option<&'static str> {
+/// Returns what to do about a fault, by its code and by what stands at its span, if there is
+/// something to say.
+pub fn help_for(fault: &SpannedError, sight: Sight<'_>) -> Option<&'static str> {
     let help = match fault.code {
         FaultCode::Previous => return None,
         FaultCode::Lexical => help_for_lexical(fault.message.as_str(), sight),
