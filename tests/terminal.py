@@ -3,8 +3,8 @@
 
   terminal.py LOGOS_CLI
 
-The places are a comment and a pattern in the lines of a source, the message of a fault that quotes a pattern, and the path of the
-file. Each character in each place counts as one. The last line is `terminal: N passed, M failed`."""
+The places are a comment and a pattern in the lines of a source, the message of a fault that quotes a pattern, the line of a warning,
+the text on which ambiguous leaves meet, and the path of the file. Each character in each place counts as one. The last line is `terminal: N passed, M failed`."""
 import os
 import subprocess
 import sys
@@ -20,6 +20,8 @@ PLACES = {
     "a line": 'enum E {{ /* {} */ #[regex] A }}',
     "the line of a pattern": 'enum E {{ #[regex("{}[")] A }}',
     "a message": 'enum E {{ #[regex("({})*")] A }}',
+    "a warning": 'enum E {{ #[tokn("{}")] #[regex] A }}',
+    "the text of ambiguous leaves": 'enum E {{ #[token("{0}", priority = 9)] A, #[regex("{0}|b", priority = 9)] B }}',
 }
 
 

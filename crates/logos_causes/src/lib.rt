@@ -14,6 +14,6 @@ mod warned;
 
 pub use explaining::{Explained, explain, lexer_warnings};
 pub use warned::{
-    Showing, Warned, add_lexer, add_missing, add_passed, add_text, add_warnings, denial_text,
-    has_lexer, push_warned, text_of, warning_lines, warning_text,
+    Showing, add_lexer, add_missing, add_passed, add_text, add_warnings, denial_text, has_lexer,
+    push_warned, text_of, warning_lines, warning_text,
 };

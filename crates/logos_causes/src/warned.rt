@@ -14,13 +14,6 @@ use logos_token::token::Span;
 use logos_warnings::{enum_warnings, passed_over};
 use std::alloc::{AllocError, Global};
 
-/// The warnings of a part of a file, and where that begins in the file.
-#[derive(Drop)]
-pub struct Warned {
-    pub offset: usize,
-    pub warnings: Vec<Warning>,
-}
-
 /// How what is wrong with a file is shown.
 #[derive(Clone, Copy)]
 pub struct Showing {
@@ -33,16 +26,36 @@ pub struct Showing {
     pub denies: bool,
 }
 
-/// Adds warnings of what begins at an offset of a file, if there are any.
+/// Adds warnings of what begins at an offset of a file. Their spans then count from the beginning
+/// of the file.
 pub fn add_warnings(
     offset: usize,
     warnings: Vec<Warning>,
-    warned: &mut Vec<Warned>,
+    warned: &mut Vec<Warning>,
 ) -> Result<(), Memory> {
-    if !warnings.is_empty() {
-        warned.push(Warned { offset, warnings })?;
+    for warning in warnings {
+        warned.push(moved(warning, offset))?;
     }
     Ok(())
+}
+
+/// Returns a warning whose spans count from another offset.
+fn moved(warning: Warning, offset: usize) -> Warning {
+    let mut moved = warning;
+    moved.span = moved_span(moved.span, offset);
+    moved.also = match moved.also {
+        Some(span) => Some(moved_span(span, offset)),
+        None => None,
+    };
+    moved
+}
+
+/// Returns a span that counts from an offset as one of the file.
+fn moved_span(span: Span, offset: usize) -> Span {
+    Span {
+        from: span.from.saturating_add(offset),
+        to: span.to.saturating_add(offset),
+    }
 }
 
 /// Adds the warnings of the text of an enum that begins at an offset of a file, and that derives
@@ -51,7 +64,7 @@ pub fn add_text(
     text: &str,
     offset: usize,
     derives: bool,
-    warned: &mut Vec<Warned>,
+    warned: &mut Vec<Warning>,
 ) -> Result<(), Memory> {
     let warnings = enum_warnings(*warned.allocator(), text, derives)?;
     add_warnings(offset, warnings, warned)
@@ -62,14 +75,18 @@ pub fn add_lexer(
     text: &str,
     offset: usize,
     graph: &Graph<'_>,
-    warned: &mut Vec<Warned>,
+    warned: &mut Vec<Warning>,
 ) -> Result<(), Memory> {
     let warnings = lexer_warnings(*warned.allocator(), text, graph)?;
     add_warnings(offset, warnings, warned)
 }
 
 /// Adds the warnings of entries of `derive` that are passed over in a file with these enums.
-pub fn add_passed(text: &str, found: &[FoundEnum], warned: &mut Vec<Warned>) -> Result<(), Memory> {
+pub fn add_passed(
+    text: &str,
+    found: &[FoundEnum],
+    warned: &mut Vec<Warning>,
+) -> Result<(), Memory> {
     let alloc = *warned.allocator();
     let spans = spans_of(alloc, found)?;
     let warnings = passed_over(alloc, text, &spans)?;
@@ -81,7 +98,7 @@ pub fn add_passed(text: &str, found: &[FoundEnum], warned: &mut Vec<Warned>) -> 
 pub fn add_missing(
     showing: Showing,
     found: &[FoundEnum],
-    warned: &mut Vec<Warned>,
+    warned: &mut Vec<Warning>,
 ) -> Result<(), Memory> {
     let is_asked = showing.denies | matches!(showing.format, MessageFormat::Json);
     if !is_asked || has_lexer(found) {
@@ -119,14 +136,11 @@ fn spans_of(alloc: Global, found: &[FoundEnum]) -> Result<Vec<Span>, AllocError>
     Ok(spans)
 }
 
-/// Pushes all these warnings.
-pub fn push_warned(page: &mut Page, source: &Source<'_>, warned: &[Warned])
+/// Pushes the warnings of a file.
+pub fn push_warned(page: &mut Page, source: &Source<'_>, warned: &[Warning])
     ensures { Shows [] page.old page.new }
 {
-    for one in warned {
-        let offset = one.offset;
-        push_warnings(page, Part { source, offset }, &one.warnings);
-    }
+    push_warnings(page, Part { source, offset: 0 }, warned);
 }
 
 /// Returns what is written of the warnings of a file. `is_missing` says whether none of its enums
@@ -134,7 +148,7 @@ pub fn push_warned(page: &mut Page, source: &Source<'_>, warned: &[Warned])
 pub fn warning_text(
     source: &Source<'_>,
     showing: Showing,
-    warned: &[Warned],
+    warned: &[Warning],
     is_missing: bool,
 ) -> Result<Vec<u8>, Memory> {
     match showing.format {
@@ -161,13 +175,10 @@ fn push_missing(page: &mut Page, source: &Source<'_>, is_missing: bool) {
 pub fn warning_lines(
     alloc: Global,
     source: &Source<'_>,
-    warned: &[Warned],
+    warned: &[Warning],
 ) -> Result<Vec<u8>, Memory> {
     let mut lines = Vec::new(alloc);
-    for one in warned {
-        let offset = one.offset;
-        push_warning_messages(alloc, &mut lines, Part { source, offset }, &one.warnings)?;
-    }
+    push_warning_messages(alloc, &mut lines, Part { source, offset: 0 }, warned)?;
     Ok(lines)
 }
 
@@ -175,7 +186,7 @@ pub fn warning_lines(
 pub fn denial_text(
     source: &Source<'_>,
     showing: Showing,
-    warned: &[Warned],
+    warned: &[Warning],
 ) -> Result<String, Memory> {
     let mut text = text_of(warning_text(source, showing, warned, false)?)?;
     if let MessageFormat::Human = showing.format {

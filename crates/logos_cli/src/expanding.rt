@@ -17,8 +17,8 @@ ghost use Rattle.logos_cli.specs.inside.Steps.{IsExpansionBy, IsPrintedWith};
 use crate::head::with_head;
 use crate::options::Shape;
 use logos_causes::{
-    Explained, Showing, Warned, add_lexer, add_missing, add_passed, add_text, add_warnings,
-    denial_text, explain, push_warned, text_of, warning_lines, warning_text,
+    Explained, Showing, add_lexer, add_missing, add_passed, add_text, add_warnings, denial_text,
+    explain, push_warned, text_of, warning_lines, warning_text,
 };
 use logos_codegen::error::{Errors, Memory};
 use logos_codegen::generator::Config;
@@ -27,7 +27,7 @@ use logos_codegen::{Generated, Refusal, generate, strip_attributes};
 use logos_host::{Failure, MessageFormat};
 use logos_layout::{lay_out, push_conditions, write_left};
 use logos_messages::push_messages;
-use logos_report::{Clues, Page, Part, Source, count_errors, push_faults, push_summary};
+use logos_report::{Clues, Page, Part, Source, Warning, count_errors, push_faults, push_summary};
 use logos_rust_file::{FoundEnum, Replacement, enums_in, replace};
 use logos_tables::tables;
 use std::alloc::{AllocError, Global};
@@ -120,7 +120,7 @@ fn accepted_file<'w>(
     shape: Shape,
     showing: Showing,
     parts: &[Replacement],
-    warned: &[Warned],
+    warned: &[Warning],
 ) -> Result<Expansion, Failure<'w>>
     requires { AreInOrder 0 (map part_span parts.now) (length source.now.text) }
     ensures done { IfOk result (λ made. IsFileOf shape source.now.text parts.now made.bytes.items) }
@@ -136,7 +136,7 @@ fn accepted_file<'w>(
 }
 
 /// Returns the refusal of a file for its warnings, which are denied.
-fn denied_file<'w>(source: &Source<'_>, showing: Showing, warned: &[Warned]) -> Failure<'w>
+fn denied_file<'w>(source: &Source<'_>, showing: Showing, warned: &[Warning]) -> Failure<'w>
     requires { IsTrue showing.denies }
     ensures { (shape : Shape) → FailsFor showing.format showing.denies shape source.now result }
 {
@@ -169,7 +169,7 @@ fn gather(
     text: &str,
     shape: Shape,
     found: &[FoundEnum],
-    warned: &mut Vec<Warned>,
+    warned: &mut Vec<Warning>,
 ) -> Result<Gathered, Memory>
     requires order { AreInOrder 0 (map found_span found.now) (length text.now) }
     requires cut { All (IsFoundCut text.now) found.now }
@@ -194,7 +194,7 @@ fn gather_enum(
     shape: Shape,
     one: FoundEnum,
     gathered: &mut Gathered,
-    warned: &mut Vec<Warned>,
+    warned: &mut Vec<Warning>,
 ) -> Result<(), Memory>
     requires order { one.span.from ≤ one.span.to }
     requires cut { IsFoundCut text.now one }
@@ -219,7 +219,7 @@ fn gather_enum(
 
 /// Returns what is known of an enum that is refused, and adds its warnings. Its text begins at an
 /// offset of the file.
-fn clues_of(text: &str, offset: usize, warned: &mut Vec<Warned>) -> Result<Clues, Memory> {
+fn clues_of(text: &str, offset: usize, warned: &mut Vec<Warning>) -> Result<Clues, Memory> {
     let Explained { clues, warnings } = explain(*warned.allocator(), text)?;
     add_warnings(offset, warnings, warned)?;
     Ok(clues)
@@ -283,7 +283,7 @@ fn expanded(
     source: &str,
     shape: Shape,
     offset: usize,
-    warned: &mut Vec<Warned>,
+    warned: &mut Vec<Warning>,
 ) -> Result<String, Refusal>
     ensures done { IfOk result
         (λ text. IsExpansion shape source.now (string_bytes text)) }
@@ -365,7 +365,7 @@ fn refused_file<'w>(
     source: &Source<'_>,
     showing: Showing,
     refused: &[Refused],
-    warned: &[Warned],
+    warned: &[Warning],
 ) -> Failure<'w>
     ensures { (shape : Shape) → AreRefused shape source.now.text refused.now →
         FailsFor showing.format showing.denies shape source.now result }
@@ -381,7 +381,7 @@ fn faults_text(
     source: &Source<'_>,
     showing: Showing,
     refused: &[Refused],
-    warned: &[Warned],
+    warned: &[Warning],
 ) -> Result<String, Memory>
     ensures { IfOk result (λ text. ShowsRefused showing.format source.now refused.now
         (string_bytes text)) }
@@ -400,7 +400,7 @@ fn fault_lines(
     alloc: Global,
     source: &Source<'_>,
     refused: &[Refused],
-    warned: &[Warned],
+    warned: &[Warning],
 ) -> Result<Vec<u8>, Memory>
     ensures { IfOk result (λ lines. EndsWithLines source.now refused.now lines.items) }
 {
@@ -425,7 +425,7 @@ fn refusal_text(
     source: &Source<'_>,
     showing: Showing,
     refused: &[Refused],
-    warned: &[Warned],
+    warned: &[Warning],
 ) -> Result<String, AllocError>
     ensures { IfOk result (λ text. StandInOrder
         (refused_texts showing.is_colored source.now refused.now) (string_bytes text)) }

@@ -5,8 +5,7 @@ ghost use Rattle.std.specs.Io.KnownBytes.{Appends};
 ghost use Rattle.logos_show.specs.Orders.{IsNoMisuse};
 
 use logos_causes::{
-    Explained, Showing, Warned, add_warnings, explain, push_warned, text_of as text_of_lines,
-    warning_lines,
+    Explained, Showing, add_warnings, explain, push_warned, text_of as text_of_lines, warning_lines,
 };
 use logos_codegen::Refusal;
 use logos_codegen::error::{Errors, Memory};
@@ -14,7 +13,7 @@ use logos_codegen::item::{ReadError, read_enum};
 use logos_codegen::token::{Span, TokenError, tokenize};
 use logos_host::{Failure, Files, MessageFormat, read_text, write_through};
 use logos_messages::push_messages;
-use logos_report::{Page, Part, Source, count_errors, push_faults, push_summary};
+use logos_report::{Page, Part, Source, Warning, count_errors, push_faults, push_summary};
 use logos_rust_file::{FoundEnum, enums_in};
 use std::alloc::Global;
 use std::io::Write;
@@ -70,7 +69,7 @@ pub(crate) fn refused_after(
     part: Part<'_, '_>,
     showing: Showing,
     refusal: Refusal,
-    warned: Vec<Warned>,
+    warned: Vec<Warning>,
 ) -> Failure<'static>
     ensures { IsNoMisuse result }
 {
@@ -88,7 +87,7 @@ fn refusal_text(
     part: Part<'_, '_>,
     showing: Showing,
     errors: &Errors,
-    warned: Vec<Warned>,
+    warned: Vec<Warning>,
 ) -> Result<String, Memory> {
     let alloc = showing.alloc;
     let mut all = warned;

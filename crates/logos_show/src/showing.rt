@@ -6,14 +6,13 @@ use crate::reading::{has_name, refused, refused_after, text_of};
 use crate::table::{push_table, push_title};
 use logos_answers::push_examples;
 use logos_causes::{
-    Showing, Warned, add_lexer, add_missing, add_passed, add_text, denial_text, has_lexer,
-    warning_text,
+    Showing, add_lexer, add_missing, add_passed, add_text, denial_text, has_lexer, warning_text,
 };
 use logos_codegen::generator::Config;
 use logos_codegen::{Generated, generate};
 use logos_host::Failure;
 use logos_lines::LineIndex;
-use logos_report::{Page, Part, Source};
+use logos_report::{Page, Part, Source, Warning};
 use logos_rust_file::{FoundEnum, enums_in};
 use std::alloc::Global;
 use std::mem;
@@ -45,7 +44,7 @@ pub(crate) struct PageStyle {
 #[derive(Drop)]
 struct Pages {
     tables: Page,
-    warned: Vec<Warned>,
+    warned: Vec<Warning>,
     style: PageStyle,
 }
 
@@ -107,7 +106,7 @@ fn shown_by(source: &Source<'_>, pages: Pages, is_missing: bool) -> Result<Shown
 }
 
 /// Returns the refusal of a file whose warnings are denied.
-fn denied(source: &Source<'_>, showing: Showing, warned: &[Warned]) -> Failure<'static>
+fn denied(source: &Source<'_>, showing: Showing, warned: &[Warning]) -> Failure<'static>
     ensures { IsNoMisuse result }
 {
     match denial_text(source, showing, warned) {
