@@ -210,19 +210,30 @@ fn gather_enum(
             gathered.parts.push(Replacement { span, text })?;
             Ok(())
         }
-        Err(refusal) => {
-            let clues = clues_of(&text[span.from..span.to], span.from, warned)?;
-            push_refusal(&mut gathered.refused, span.from, refusal, clues)
-        }
+        Err(refusal) => push_explained(
+            &text[span.from..span.to],
+            span.from,
+            refusal,
+            &mut gathered.refused,
+            warned,
+        ),
     }
 }
 
-/// Returns what is known of an enum that is refused, and adds its warnings. Its text begins at an
-/// offset of the file.
-fn clues_of(text: &str, offset: usize, warned: &mut Vec<Warning>) -> Result<Clues, Memory> {
+/// Pushes the faults of an enum with what is known of them, and adds its warnings. Its text begins at
+/// an offset of the file.
+fn push_explained(
+    text: &str,
+    offset: usize,
+    refusal: Refusal,
+    refused: &mut Vec<Refused>,
+    warned: &mut Vec<Warning>,
+) -> Result<(), Memory>
+    ensures { OnOk result (AddsRefusal offset refusal refused.old.items refused.new.items) }
+{
     let Explained { clues, warnings } = explain(*warned.allocator(), text)?;
     add_warnings(offset, warnings, warned)?;
-    Ok(clues)
+    push_refusal(refused, offset, refusal, clues)
 }
 
 /// Pushes the faults of what begins at an offset of the file, with what is known of them.
