@@ -201,22 +201,19 @@ fn gather_enum(
     ensures { OnOk result (GathersOne shape text.now one gathered.old gathered.new) }
 {
     let span = one.span;
-    add_text(&text[span.from..span.to], span.from, one.derives, warned)?;
+    let source = &text[span.from..span.to];
+    add_text(source, span.from, one.derives, warned)?;
     if !one.derives {
         return Ok(());
     }
-    match expanded(&text[span.from..span.to], shape, span.from, warned) {
+    match expanded(source, shape, span.from, warned) {
         Ok(text) => {
             gathered.parts.push(Replacement { span, text })?;
             Ok(())
         }
-        Err(refusal) => push_explained(
-            &text[span.from..span.to],
-            span.from,
-            refusal,
-            &mut gathered.refused,
-            warned,
-        ),
+        Err(refusal) => {
+            push_explained(source, span.from, refusal, &mut gathered.refused, warned)
+        }
     }
 }
 
