@@ -197,7 +197,7 @@ pub fn denial_text(
 
 /// Returns the text that these bytes spell.
 pub fn text_of(bytes: Vec<u8>) -> Result<String, Memory>
-    ensures { IfOk result (λ text. string_bytes text ≡ bytes.entry.items) }
+    ensures { IfOk result (λ text. string_bytes text ≡ bytes.items) }
 {
     match String::from_utf8(bytes) {
         Ok(text) => Ok(text),
