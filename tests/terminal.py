@@ -4,8 +4,8 @@ what is printed.
 
   terminal.py LOGOS_CLI LOGOS_SHOW
 
-The places of a report are a comment and a pattern in the lines of a source, the message of a fault that quotes a pattern, and the path
-of the file. The answers are those of `logos_show` about a pattern or an input that holds the character, and the paths that they name.
+The places of a report are a comment and a pattern in the lines of a source, the message of a fault that quotes a pattern, the line of a
+warning, the text on which ambiguous leaves meet, and the path of the file. The answers are those of `logos_show` about a pattern or an input that holds the character, and the paths that they name.
 What `--inputs` prints must also read back as the character. Each character in each place counts as one. The last line is
 `terminal: N passed, M failed`."""
 import os
@@ -24,6 +24,8 @@ PLACES = {
     "a line": 'enum E {{ /* {} */ #[regex] A }}',
     "the line of a pattern": 'enum E {{ #[regex("{}[")] A }}',
     "a message": 'enum E {{ #[regex("({})*")] A }}',
+    "a warning": 'enum E {{ #[tokn("{}")] #[regex] A }}',
+    "the text of ambiguous leaves": 'enum E {{ #[token("{0}", priority = 9)] A, #[regex("{0}|b", priority = 9)] B }}',
 }
 
 

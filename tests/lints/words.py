@@ -28,7 +28,7 @@ logos_byte_class logos_layout logos_places logos_reduce logos_report tests/calls
 """.split()
 # The crates whose comments have not the form yet.
 FORM_NOT_YET = """
-logos_automaton logos_byte_class logos_code logos_codegen logos_generator logos_graph logos_inspect logos_layout logos_machine
+logos_automaton logos_byte_class logos_code logos_codegen logos_generator logos_graph logos_inspect logos_layout logos_machine logos_warnings
 logos_places logos_reduce logos_search logos_tables logos_text logos_cli logos_commands logos_host logos_messages logos_report
 logos_show logos_program tests/calls
 """.split()
@@ -36,7 +36,7 @@ COLUMNS = 100
 # The crates and pages where a word is used, or is not replaced yet.
 USED_IN = {
     "place, outside of graphs": """
-logos_automaton logos_byte_class logos_code logos_codegen logos_generator logos_graph logos_inspect logos_machine logos_places logos_reduce logos_tables logos_text
+logos_automaton logos_byte_class logos_code logos_codegen logos_generator logos_graph logos_inspect logos_machine logos_places logos_warnings logos_reduce logos_tables logos_text
 logos_cli logos_commands logos_disk logos_host logos_report logos_show logos_program logos_type_reader tests/calls
 logos_derive logos_expansion logos_layout logos_messages logos_pieces logos_placeholder logos_spelling logos_written logos_search
 """.split()

@@ -211,6 +211,11 @@ pub refuses_then : {A E : Type 0} (result : Result A E) (shape : Shape) (text : 
     OnOk result (AddsRefusal one.span.from refusal old.refused.items new.refused.items) → new.parts.items ≡ old.parts.items → source ≡ text_at text one → one.derives ≡ true → OnOk result (GathersOne shape text one old new)
 refuses_then result shape text one refusal old new source h a p k e = ok_then result (λ b. refuses_one shape text one refusal old new source k e h b p) a
 
+-- what holds of a result gives something else of it
+pub wraps : {A E : Type 0} {One Other : A → Type 0} (result : Result A E) → ((a : A) → One a → Other a) → IfOk result One → IfOk result Other
+wraps (Ok done) f h = f done h
+wraps (Err error) f h = tt
+
 -- a list is not empty, by its length
 pub some_left : {A : Type 0} {n : ℕ} (items : List A) → n ≡ length items → (n == 0) ≡ false → 0 < length items
 some_left {n = n} [] e h = absurd (let z : (n == 0) ≡ true = rw e refl in cc)

@@ -3,3 +3,4 @@ pub mod RunLemmas
 pub mod ShownLemmas
 pub mod WordLemmas
 pub mod DeriveLemmas
+pub mod LineLemmas

@@ -9,7 +9,7 @@ use Rattle.logos_host.specs.Failures.{status_of}
 use Rattle.logos_host.specs.Messages.{message_of}
 use Rattle.logos_host.specs.Reading.{Reads}
 use Rattle.logos_cli.specs.Expanding.{IsExpanded}
-use Rattle.logos_cli.specs.Gathering.{FailsBy, FailsFor, IsRefusedFor, ShowsFaults}
+use Rattle.logos_cli.specs.Gathering.{FailsBy, FailsFor, IsCause, IsRefusedFor}
 use Rattle.logos_cli.specs.Orders.{OrderValue}
 use Rattle.logos_cli.specs.Runs.{IsCarriedOut, IsDelivered, IsDeniedOrder, IsOther}
 
@@ -85,10 +85,10 @@ written_after Shown failure is_warned is_written old middle new (inr r) s w t =
 module _ {F : Type 0} (gives makes : F → List ℕ → List ℕ → F → Type 0) (finds : F → List ℕ → List ℕ → Standing → F → Type 0) (order : OrderValue) where
   -- the file that was read has faults
   pub denied_faults : {A : Type 0} (result : Result A Failure) (files after : F) (text shown : List ℕ) → gives files order.input text after → shown ≡ text →
-      IfErr result (FailsFor order.shape (record { path = order.input; text = shown })) → IfErr result (FailsBy (IsRefusedFor (IsDeniedOrder gives makes finds order files after)))
+      IfErr result (FailsFor order.format order.denies order.shape (record { path = order.input; text = shown })) → IfErr result (FailsBy (IsRefusedFor (IsDeniedOrder gives makes finds order files after)))
   denied_faults (Ok done) files after text shown g e h = tt
   denied_faults (Err failure) files after text shown g e h =
-      fails_also (ShowsFaults order.shape (record { path = order.input; text = shown })) (IsDeniedOrder gives makes finds order files after) failure (λ says faults. record { bytes = text; after = after; given = g; holds = inl (refl, subst (λ t. ShowsFaults order.shape (record { path = order.input; text = t }) says) e faults) }) h
+      fails_also (IsCause order.format order.denies order.shape (record { path = order.input; text = shown })) (IsDeniedOrder gives makes finds order files after) failure (λ says faults. record { bytes = text; after = after; given = g; holds = inl (refl, subst (λ t. IsCause order.format order.denies order.shape (record { path = order.input; text = t }) says) e faults) }) h
 
   -- the file was read and expanded, and the result delivered
   pub carried_out : (files between after : F) (bytes : List ℕ) (old new : Option (List ℕ)) →

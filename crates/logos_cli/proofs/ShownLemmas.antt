@@ -8,6 +8,7 @@ use Rattle.logos_cli.specs.Gathering.{refused_texts}
 use Rattle.logos_report.specs.Faults.{faults_texts}
 use Rattle.logos_report.specs.Pages.{PageValue, Shows, StandInOrder}
 use Rattle.logos_report.specs.Places.{SourceValue}
+use Rattle.logos_report.specs.Turns.{sizes_of}
 use Rattle.logos_report.proofs.PageLemmas.{shows_nothing, shows_then, unseen}
 
 next_left : (refused : List Refused) (i : ℕ) (d : Refused) → i < length refused → drop i refused ≡ get_or refused i d ∷ drop (i + 1) refused
@@ -16,10 +17,10 @@ next_left refused i d l =
     drop-cons refused i d l ∙ ap (λ n. get_or refused i d ∷ drop n refused) k
 
 pub next_refused : (is_colored : Bool) (source : SourceValue) (refused : List Refused) (i : ℕ) (one : Refused) (old middle new : PageValue) → i < length refused → one ≡ get_or refused i one →
-    Shows (faults_texts is_colored source one.offset one.errors) old middle → Shows (refused_texts is_colored source (drop (i + 1) refused)) middle new → Shows (refused_texts is_colored source (drop i refused)) old new
+    Shows (faults_texts is_colored source one.offset (sizes_of one.clues) one.errors) old middle → Shows (refused_texts is_colored source (drop (i + 1) refused)) middle new → Shows (refused_texts is_colored source (drop i refused)) old new
 next_refused is_colored source refused i one old middle new l e s t =
     subst (λ list. Shows (refused_texts is_colored source list) old new) (sym (next_left refused i one l))
-    (shows_then (subst (λ x. Shows (faults_texts is_colored source x.offset x.errors) old middle) e s) t)
+    (shows_then (subst (λ x. Shows (faults_texts is_colored source x.offset (sizes_of x.clues) x.errors) old middle) e s) t)
 
 pub none_refused : (is_colored : Bool) (source : SourceValue) (refused : List Refused) (i : ℕ) (page : PageValue) → length refused ≤ i → Shows (refused_texts is_colored source (drop i refused)) page page
 none_refused is_colored source refused i page l = subst (λ list. Shows (refused_texts is_colored source list) page page) (sym (drop_of_length-le refused l)) (shows_nothing page)

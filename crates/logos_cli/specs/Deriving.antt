@@ -2,8 +2,8 @@
 use Rattle.std.specs.Prelude.{◌≡◌, ◌++◌, ℕ, List, Bool, codes}
 use Rattle.logos_code.specs.Code.{CodeValue}
 use Rattle.logos_cli.specs.Expanding.{IsLexerText, IsShown}
-use Rattle.logos_cli.specs.declared.options.MessageFormat.{MessageFormat}
-use Rattle.logos_cli.specs.declared.options.MessageFormat.TheVariants.{Human, Json}
+use Rattle.logos_host.specs.declared.message_format.MessageFormat.{MessageFormat}
+use Rattle.logos_host.specs.declared.message_format.MessageFormat.TheVariants.{Human, Json}
 use Rattle.logos_cli.specs.declared.options.Shape.{Shape}
 use Rattle.logos_derive.specs.Answers.{IsAnswer}
 use Rattle.logos_derive.specs.declared.answering.Answer.{Answer}
@@ -39,7 +39,8 @@ pub record AreFaultLines (source : SourceValue) (faults : List Fault) (lines : L
   pub line : IsLine (version_tokens (codes "logos_cli 0.1.0")) version
   pub are : AreMessages source 0 faults messages
 
--- What is shown of the faults of an enum: a report of all of them, in order, with or without colors, or lines of JSON.
+-- What is shown of the faults of an enum: a report of all of them, in order, with or without colors, where sets of ambiguous leaves
+-- with these sizes have one report each, or lines of JSON.
 abbrev pub ShowsErrors : MessageFormat → SourceValue → List Fault → List ℕ → Type 0
-ShowsErrors Human source faults shown = (is_colored : Bool) × StandInOrder (faults_texts is_colored source 0 faults) shown
+ShowsErrors Human source faults shown = (is_colored : Bool) × (sizes : List ℕ) × StandInOrder (faults_texts is_colored source 0 sizes faults) shown
 ShowsErrors Json source faults shown = AreFaultLines source faults shown

@@ -6,25 +6,28 @@ use Rattle.logos_host.specs.declared.options.OptionName.{OptionName}
 use Rattle.logos_host.specs.declared.options.OptionName.TheVariants as options
 use Rattle.logos_host.specs.declared.word_steps.Progress.{Progress}
 use Rattle.logos_host.specs.Colors.{color_named}
+use Rattle.logos_host.specs.Formats.{format_named}
 use Rattle.logos_host.specs.WordSteps.{StepValue, UseValue, path, flag, value, step}
 use Rattle.logos_cli.specs.declared.options.Shape.{Shape}
 use Rattle.logos_cli.specs.declared.options.Shape.TheVariants.{Code, Tables}
 use Rattle.logos_cli.specs.declared.options.Order.{Order}
 use Rattle.logos_cli.specs.declared.options.Request.{Request}
 use Rattle.logos_cli.specs.declared.options.DeriveOrder.{DeriveOrder}
-use Rattle.logos_cli.specs.declared.options.MessageFormat.{MessageFormat}
-use Rattle.logos_cli.specs.declared.options.MessageFormat.TheVariants.{Human, Json}
+use Rattle.logos_host.specs.declared.message_format.MessageFormat.{MessageFormat}
+use Rattle.logos_host.specs.declared.message_format.MessageFormat.TheVariants.{Human, Json}
 use Rattle.logos_cli.specs.declared.options.Request.TheVariants as requests
 use Rattle.logos_cli.specs.declared.options.Given.{Given}
 use Rattle.logos_cli.specs.declared.options.Answer.{Answer}
 use Rattle.logos_cli.specs.declared.options.Answer.TheVariants as answers
 
--- a file to expand: its path, the path of the file for the result, whether that is only compared, the shape of the lexers, and when messages have colors
+-- a file to expand: its path, the path of the file for the result, whether that is only compared, the shape of the lexers, how messages are written, whether warnings are denied, and when messages have colors
 pub record OrderValue : Type 0 where
   pub input : List ℕ
   pub output : Option (List ℕ)
   pub is_check : Bool
   pub shape : Shape
+  pub format : MessageFormat
+  pub denies : Bool
   pub color : Color
 
 -- what is asked for
@@ -42,10 +45,6 @@ shape_named name =
     else (if bytes_eq name (codes "tables") then Some Tables
     else None))
 
--- how messages are written, by its name
-abbrev pub format_named : List ℕ → Option MessageFormat
-format_named name = if bytes_eq name (codes "human") then Some Human else (if bytes_eq name (codes "json") then Some Json else None)
-
 -- What the words so far give. After an option that asks for a text no word is read.
 pub record GivenValue : Type 0 where
   pub input : Option (List ℕ)
@@ -54,13 +53,14 @@ pub record GivenValue : Type 0 where
   pub shape : Option Shape
   pub color : Option Color
   pub is_derive : Bool
+  pub denies : Bool
   pub format : Option MessageFormat
   pub answer : Option Answer
   pub progress : Progress
 
 -- what no words give
 abbrev pub given_nothing : GivenValue
-given_nothing = record { input = None; output = None; is_check = false; shape = None; color = None; is_derive = false; format = None; answer = None; progress = record { pending = None; is_over = false } }
+given_nothing = record { input = None; output = None; is_check = false; shape = None; color = None; is_derive = false; denies = false; format = None; answer = None; progress = record { pending = None; is_over = false } }
 
 -- what is given, or this
 abbrev pub given_or : {A : Type 0} → A → Option A → A
@@ -80,6 +80,7 @@ abbrev pub with_flag : GivenValue → OptionName → Option GivenValue
 with_flag given options.Help = Some (record given { answer = Some answers.Help })
 with_flag given options.Version = Some (record given { answer = Some answers.Version })
 with_flag given options.Check = if given.is_check then None else Some (record given { is_check = true })
+with_flag given options.DenyWarnings = if given.denies then None else Some (record given { denies = true })
 with_flag given options.Derive = if given.is_derive then None else Some (record given { is_derive = true })
 with_flag given option = None
 
@@ -136,25 +137,19 @@ with_words given [] = given
 with_words None (word ∷ rest) = None
 with_words (Some given) (word ∷ rest) = with_words (with_word given word) rest
 
--- whether messages are lines of JSON
-abbrev pub is_json : Option MessageFormat → Bool
-is_json (Some Json) = true
-is_json (Some Human) = false
-is_json None = false
-
 -- a file to expand; what is only compared needs a file for the result
 abbrev pub file_given : GivenValue → List ℕ → Option Asked
 file_given given input =
     if given.is_check && not (is_some given.output) then None
-    else (if is_json given.format then None
-    else Some (asks_expansion (record { input = input; output = given.output; is_check = given.is_check; shape = given_or Tables given.shape; color = given_or Auto given.color })))
+    else Some (asks_expansion (record { input = input; output = given.output; is_check = given.is_check; shape = given_or Tables given.shape; format = given_or Human given.format; denies = given.denies; color = given_or Auto given.color }))
 
 -- an enum to answer about, which is read from standard input; the answer is not for a file
 abbrev pub enum_given : GivenValue → List ℕ → Option Asked
 enum_given given input =
     if given.is_check || is_some given.output then None
+    else (if given.denies then None
     else (if bytes_eq input (codes "/dev/stdin") then Some (asks_derive (record { shape = given_or Tables given.shape; format = given_or Human given.format; color = given_or Auto given.color }))
-    else None)
+    else None))
 
 -- what is asked of the input, if there is one
 abbrev pub order_given : GivenValue → Option (List ℕ) → Option Asked
@@ -188,6 +183,7 @@ given_value given = record {
   shape = given.shape;
   color = given.color;
   is_derive = given.is_derive;
+  denies = given.denies;
   format = given.format;
   answer = given.answer;
   progress = given.progress;
@@ -199,6 +195,8 @@ order_value order = record {
   output = option_map (λ path. path.now) order.output;
   is_check = order.is_check;
   shape = order.shape;
+  format = order.format;
+  denies = order.denies;
   color = order.color;
 }
 

@@ -6,7 +6,7 @@ use Rattle.logos_host.specs.declared.comparing.Standing.{Standing}
 use Rattle.logos_host.specs.declared.comparing.Standing.TheVariants.{Same}
 use Rattle.logos_host.specs.Reading.{Reads}
 use Rattle.logos_cli.specs.Expanding.{IsExpanded}
-use Rattle.logos_cli.specs.Gathering.{ShowsFaults}
+use Rattle.logos_cli.specs.Gathering.{IsCause}
 use Rattle.logos_cli.specs.Deriving.{IsDerived, ShowsErrors, standard_input}
 use Rattle.logos_cli.specs.Orders.{Asked, asks_help, asks_version, asks_expansion, asks_derive, OrderValue}
 use Rattle.logos_cli.specs.declared.options.DeriveOrder.{DeriveOrder}
@@ -62,10 +62,10 @@ module _ {F : Type 0} (gives makes : F → List ℕ → List ℕ → F → Type 
   IsDone (asks_expansion order) files after old new = IsCarriedOut order files after old new
   IsDone (asks_derive order) files after old new = IsAnswered gives order files after old new
 
-  -- the file is read, and has faults, which this text shows; or its expansion was only to be compared, and is not what the other file has. No file is written.
+  -- the file is read, and has faults, which this text shows, or warnings, which are denied; or its expansion was only to be compared, and is not what the other file has. No file is written.
   abbrev pub IsDeniedOrder : OrderValue → F → F → List ℕ → Type 0
   IsDeniedOrder order files after shown =
-      Reads gives files order.input (λ text read. ((after ≡ read) × ShowsFaults order.shape (record { path = order.input; text = text }) shown)
+      Reads gives files order.input (λ text read. ((after ≡ read) × IsCause order.format order.denies order.shape (record { path = order.input; text = text }) shown)
       ⊎ (IsTrue order.is_check × ((bytes : List ℕ) × IsExpanded order.shape text bytes × IfSome order.output (λ path. IsOther finds path bytes read after))))
 
   -- what is asked for is refused, for what this text says

@@ -1,6 +1,6 @@
 //! A file with the derive of its lexers expanded.
 
-ghost use Rattle.std.specs.Prelude.{◌≡◌, ◌≤◌, ◌++◌, All, IfErr, IfOk, OnOk, length, map, string_bytes};
+ghost use Rattle.std.specs.Prelude.{◌≡◌, ◌≤◌, ◌++◌, All, IfErr, IfOk, IsTrue, OnOk, length, map, string_bytes};
 ghost use Rattle.logos_token.specs.Views.{tokens_of};
 ghost use Rattle.logos_codegen.specs.Source.{IsRefused};
 ghost use Rattle.logos_layout.specs.Layout.{IsLaidOut};
@@ -10,19 +10,24 @@ ghost use Rattle.logos_report.specs.Pages.{Shows, StandInOrder};
 ghost use Rattle.logos_rust_file.specs.Handed.{Refuses};
 ghost use Rattle.logos_cli.specs.Expanding.{IsExpanded, IsExpansion, IsFileOf, under};
 ghost use Rattle.logos_cli.specs.Expanding.{IsShown, IsUnreadable, config_of};
-ghost use Rattle.logos_cli.specs.Gathering.{AreRefused, FailsFor, GathersAll, refused_texts};
+ghost use Rattle.logos_cli.specs.Gathering.{AreRefused, EndsWithLines, FailsFor, GathersAll, ShowsRefused, refused_texts};
 ghost use Rattle.logos_cli.specs.inside.Steps.{AddsRefusal, GathersOne};
 ghost use Rattle.logos_cli.specs.inside.Steps.{IsExpansionBy, IsPrintedWith};
 
 use crate::head::with_head;
 use crate::options::Shape;
+use logos_causes::{
+    Explained, Showing, add_lexer, add_missing, add_passed, add_text, add_warnings, denial_text,
+    explain, push_warned, text_of, warning_lines, warning_text,
+};
 use logos_codegen::error::{Errors, Memory};
 use logos_codegen::generator::Config;
 use logos_codegen::token::Tokens;
 use logos_codegen::{Generated, Refusal, generate, strip_attributes};
-use logos_host::Failure;
+use logos_host::{Failure, MessageFormat};
 use logos_layout::{lay_out, push_conditions, write_left};
-use logos_report::{Page, Part, Source, count_errors, push_faults, push_summary};
+use logos_messages::push_messages;
+use logos_report::{Clues, Page, Part, Source, Warning, count_errors, push_faults, push_summary};
 use logos_rust_file::{FoundEnum, Replacement, enums_in, replace};
 use logos_tables::tables;
 use std::alloc::{AllocError, Global};
@@ -31,8 +36,8 @@ use std::alloc::{AllocError, Global};
 #[derive(Drop)]
 pub(crate) struct Expansion {
     pub(crate) bytes: Vec<u8>,
-    /// How many enums were expanded.
-    pub(crate) count: usize,
+    /// What is written of the warnings.
+    pub(crate) warnings: Vec<u8>,
 }
 
 /// The faults of an enum or of a whole file, and where that begins in the file.
@@ -40,6 +45,8 @@ pub(crate) struct Expansion {
 struct Refused {
     offset: usize,
     errors: Errors,
+    /// What is known of the faults of its graph.
+    clues: Clues,
 }
 
 /// The replacements of the enums of a file, and the faults of those that are refused.
@@ -50,68 +57,93 @@ struct Gathered {
 }
 
 /// Returns a file with each enum that derives `Logos` replaced by the enum without what belongs to
-/// the derive, and by the implementation. All other text stays as it is. `is_colored` says whether
-/// messages have colors.
+/// the derive, and by the implementation. All other text stays as it is.
 ///
 /// # Errors
 ///
 /// Returns `Refused` with all faults of all these enums, in the order of the file, or with the one
-/// fault of a file that cannot be read into tokens. Returns `Memory` if memory runs out.
+/// fault of a file that cannot be read into tokens, after its warnings, or with these alone if they
+/// are denied. Returns `Memory` if memory runs out.
 pub(crate) fn expand<'w>(
-    alloc: Global,
     source: &Source<'_>,
     shape: Shape,
-    is_colored: bool,
+    showing: Showing,
 ) -> Result<Expansion, Failure<'w>>
     ensures done { IfOk result (λ made. IsExpanded shape source.now.text made.bytes.items) }
-    ensures denied { IfErr result (FailsFor shape source.now) }
+    ensures denied { IfErr result (FailsFor showing.format showing.denies shape source.now) }
 {
-    let found = match enums_in(alloc, source.text()) {
+    let found = match enums_in(showing.alloc, source.text()) {
         Ok(found) => found,
-        Err(refusal) => return Err(refused_whole(alloc, source, is_colored, refusal)),
+        Err(refusal) => return Err(refused_whole(source, showing, refusal)),
     };
-    expand_enums(alloc, source, shape, is_colored, &found)
+    expand_enums(source, shape, showing, &found)
 }
 
 /// Returns the refusal of a file that cannot be read into tokens.
-fn refused_whole<'w>(
-    alloc: Global,
-    source: &Source<'_>,
-    is_colored: bool,
-    refusal: Refusal,
-) -> Failure<'w>
+fn refused_whole<'w>(source: &Source<'_>, showing: Showing, refusal: Refusal) -> Failure<'w>
     requires { Refuses (IsUnreadable source.now.text) refusal }
-    ensures { (shape : Shape) → FailsFor shape source.now result }
+    ensures { (shape : Shape) → FailsFor showing.format showing.denies shape source.now result }
 {
-    let mut refused = Vec::new(alloc);
-    match push_refusal(&mut refused, 0, refusal) {
-        Ok(()) => refused_file(alloc, source, is_colored, &refused),
+    let mut refused = Vec::new(showing.alloc);
+    match push_refusal(&mut refused, 0, refusal, Clues::none(showing.alloc)) {
+        Ok(()) => refused_file(source, showing, &refused, &[]),
         Err(Memory) => Failure::Memory,
     }
 }
 
 /// Returns a file with these enums expanded.
 fn expand_enums<'w>(
-    alloc: Global,
     source: &Source<'_>,
     shape: Shape,
-    is_colored: bool,
+    showing: Showing,
     found: &[FoundEnum],
 ) -> Result<Expansion, Failure<'w>>
     requires enums { AreEnumsOf source.now.text found.now }
     requires order { AreInOrder 0 (map found_span found.now) (length source.now.text) }
     requires cut { All (IsFoundCut source.now.text) found.now }
     ensures done { IfOk result (λ made. IsExpanded shape source.now.text made.bytes.items) }
-    ensures denied { IfErr result (FailsFor shape source.now) }
+    ensures denied { IfErr result (FailsFor showing.format showing.denies shape source.now) }
 {
-    let gathered = gather(alloc, source.text(), shape, found)?;
+    let mut warned = Vec::new(showing.alloc);
+    let gathered = gather(source.text(), shape, found, &mut warned)?;
+    add_passed(source.text(), found, &mut warned)?;
+    add_missing(showing, found, &mut warned)?;
     if gathered.refused.is_empty() {
-        return Ok(Expansion {
-            bytes: expanded_file(alloc, source, shape, &gathered.parts)?,
-            count: gathered.parts.len(),
-        });
+        return accepted_file(source, shape, showing, &gathered.parts, &warned);
     }
-    Err(refused_file(alloc, source, is_colored, &gathered.refused))
+    Err(refused_file(source, showing, &gathered.refused, &warned))
+}
+
+/// Returns a file with parts replaced, unless its warnings are denied.
+fn accepted_file<'w>(
+    source: &Source<'_>,
+    shape: Shape,
+    showing: Showing,
+    parts: &[Replacement],
+    warned: &[Warning],
+) -> Result<Expansion, Failure<'w>>
+    requires { AreInOrder 0 (map part_span parts.now) (length source.now.text) }
+    ensures done { IfOk result (λ made. IsFileOf shape source.now.text parts.now made.bytes.items) }
+    ensures denied { IfErr result (FailsFor showing.format showing.denies shape source.now) }
+{
+    if showing.denies && !warned.is_empty() {
+        return Err(denied_file(source, showing, warned));
+    }
+    Ok(Expansion {
+        bytes: expanded_file(showing.alloc, source, shape, parts)?,
+        warnings: warning_text(source, showing, warned, parts.is_empty())?,
+    })
+}
+
+/// Returns the refusal of a file for its warnings, which are denied.
+fn denied_file<'w>(source: &Source<'_>, showing: Showing, warned: &[Warning]) -> Failure<'w>
+    requires { IsTrue showing.denies }
+    ensures { (shape : Shape) → FailsFor showing.format showing.denies shape source.now result }
+{
+    match denial_text(source, showing, warned) {
+        Ok(text) => Failure::Refused(text),
+        Err(Memory) => Failure::Memory,
+    }
 }
 
 /// Returns a file with parts replaced, and with a first line that says so if there are any.
@@ -131,56 +163,92 @@ fn expanded_file(
     with_head(alloc, source.path(), shape, &bytes)
 }
 
-/// Returns the replacements of these enums of a file, and the faults of those that are refused.
-fn gather(alloc: Global, text: &str, shape: Shape, found: &[FoundEnum]) -> Result<Gathered, Memory>
+/// Returns the replacements of these enums of a file, and the faults of those that are refused. Adds
+/// their warnings.
+fn gather(
+    text: &str,
+    shape: Shape,
+    found: &[FoundEnum],
+    warned: &mut Vec<Warning>,
+) -> Result<Gathered, Memory>
     requires order { AreInOrder 0 (map found_span found.now) (length text.now) }
     requires cut { All (IsFoundCut text.now) found.now }
     ensures gathers { IfOk result (GathersAll shape text.now found.now) }
     ensures order { IfOk result (λ gathered.
         AreInOrder 0 (map part_span gathered.parts.items) (length text.now)) }
 {
+    let alloc = *warned.allocator();
     let mut gathered = Gathered {
         parts: Vec::new(alloc),
         refused: Vec::new(alloc),
     };
     for one in found {
-        gather_enum(alloc, text, shape, *one, &mut gathered)?;
+        gather_enum(text, shape, *one, &mut gathered, warned)?;
     }
     Ok(gathered)
 }
 
-/// Adds the replacement or the faults of an enum, if it derives `Logos`.
+/// Adds the replacement or the faults of an enum, if it derives `Logos`, and its warnings.
 fn gather_enum(
-    alloc: Global,
     text: &str,
     shape: Shape,
     one: FoundEnum,
     gathered: &mut Gathered,
+    warned: &mut Vec<Warning>,
 ) -> Result<(), Memory>
     requires order { one.span.from ≤ one.span.to }
     requires cut { IsFoundCut text.now one }
     ensures { OnOk result (GathersOne shape text.now one gathered.old gathered.new) }
 {
+    let span = one.span;
+    let source = &text[span.from..span.to];
+    add_text(source, span.from, one.derives, warned)?;
     if !one.derives {
         return Ok(());
     }
-    let span = one.span;
-    match expanded(alloc, &text[span.from..span.to], shape) {
+    match expanded(source, shape, span.from, warned) {
         Ok(text) => {
             gathered.parts.push(Replacement { span, text })?;
             Ok(())
         }
-        Err(refusal) => push_refusal(&mut gathered.refused, span.from, refusal),
+        Err(refusal) => {
+            push_explained(source, span.from, refusal, &mut gathered.refused, warned)
+        }
     }
 }
 
-/// Pushes the faults of what begins at an offset of the file.
-fn push_refusal(refused: &mut Vec<Refused>, offset: usize, refusal: Refusal) -> Result<(), Memory>
+/// Pushes the faults of an enum with what is known of them, and adds its warnings. Its text begins at
+/// an offset of the file.
+fn push_explained(
+    text: &str,
+    offset: usize,
+    refusal: Refusal,
+    refused: &mut Vec<Refused>,
+    warned: &mut Vec<Warning>,
+) -> Result<(), Memory>
+    ensures { OnOk result (AddsRefusal offset refusal refused.old.items refused.new.items) }
+{
+    let Explained { clues, warnings } = explain(*warned.allocator(), text)?;
+    add_warnings(offset, warnings, warned)?;
+    push_refusal(refused, offset, refusal, clues)
+}
+
+/// Pushes the faults of what begins at an offset of the file, with what is known of them.
+fn push_refusal(
+    refused: &mut Vec<Refused>,
+    offset: usize,
+    refusal: Refusal,
+    clues: Clues,
+) -> Result<(), Memory>
     ensures { OnOk result (AddsRefusal offset refusal refused.old.items refused.new.items) }
 {
     match refusal {
         Refusal::Errors(errors) => {
-            refused.push(Refused { offset, errors })?;
+            refused.push(Refused {
+                offset,
+                errors,
+                clues,
+            })?;
             Ok(())
         }
         Refusal::Memory => Err(Memory),
@@ -217,14 +285,24 @@ pub(crate) fn lexer_text(
 /// it as it is.
 const ATTRIBUTES: &str = "#[allow(unused, clippy::all)]\n#[rustfmt::skip]\n";
 
-/// Returns an enum without what belongs to the derive, and the implementation.
-fn expanded(alloc: Global, source: &str, shape: Shape) -> Result<String, Refusal>
+/// Returns an enum without what belongs to the derive, and the implementation. Adds the warnings of
+/// its lexer. Its text begins at an offset of the file.
+fn expanded(
+    source: &str,
+    shape: Shape,
+    offset: usize,
+    warned: &mut Vec<Warning>,
+) -> Result<String, Refusal>
     ensures done { IfOk result
         (λ text. IsExpansion shape source.now (string_bytes text)) }
     ensures refused { IfErr result (Refuses (IsRefused source.now)) }
 {
+    let alloc = *warned.allocator();
     match generate(alloc, source, config_of(shape)) {
-        Ok(made) => expansion_by(alloc, source, shape, &made),
+        Ok(made) => match add_lexer(source, offset, &made.graph, warned) {
+            Ok(()) => expansion_by(alloc, source, shape, &made),
+            Err(Memory) => Err(Refusal::Memory),
+        },
         Err(refusal) => Err(refusal),
     }
 }
@@ -292,32 +370,76 @@ fn under(alloc: Global, left: Tokens<'_, '_>, lexer: &str) -> Result<String, Mem
 
 /// Returns the refusal of a file, with the text of all its faults.
 fn refused_file<'w>(
-    alloc: Global,
     source: &Source<'_>,
-    is_colored: bool,
+    showing: Showing,
     refused: &[Refused],
+    warned: &[Warning],
 ) -> Failure<'w>
     ensures { (shape : Shape) → AreRefused shape source.now.text refused.now →
-        FailsFor shape source.now result }
+        FailsFor showing.format showing.denies shape source.now result }
 {
-    match refusal_text(alloc, source, is_colored, refused) {
+    match faults_text(source, showing, refused, warned) {
         Ok(text) => Failure::Refused(text),
-        Err(AllocError) => Failure::Memory,
+        Err(Memory) => Failure::Memory,
     }
 }
 
-/// Returns the text of all faults of a file, in order, with their number. For each, a line with the
-/// name of its code and the first line of its message, and one with its place in the file stand in it.
-fn refusal_text(
-    alloc: Global,
+/// Returns what is written of all faults of a file, after its warnings.
+fn faults_text(
     source: &Source<'_>,
-    is_colored: bool,
+    showing: Showing,
     refused: &[Refused],
-) -> Result<String, AllocError>
-    ensures { IfOk result (λ text. StandInOrder (refused_texts is_colored source.now refused.now)
+    warned: &[Warning],
+) -> Result<String, Memory>
+    ensures { IfOk result (λ text. ShowsRefused showing.format source.now refused.now
         (string_bytes text)) }
 {
-    let mut page = Page::new(alloc, is_colored);
+    match showing.format {
+        MessageFormat::Human => match refusal_text(source, showing, refused, warned) {
+            Ok(text) => Ok(text),
+            Err(AllocError) => Err(Memory),
+        },
+        MessageFormat::Json => text_of(fault_lines(showing.alloc, source, refused, warned)?),
+    }
+}
+
+/// Returns a line of JSON for each warning and each fault of a file.
+fn fault_lines(
+    alloc: Global,
+    source: &Source<'_>,
+    refused: &[Refused],
+    warned: &[Warning],
+) -> Result<Vec<u8>, Memory>
+    ensures { IfOk result (λ lines. EndsWithLines source.now refused.now lines.items) }
+{
+    let mut lines = warning_lines(alloc, source, warned)?;
+    for one in refused {
+        let offset = one.offset;
+        push_messages(
+            alloc,
+            &mut lines,
+            Part { source, offset },
+            &one.errors,
+            &one.clues,
+        )?;
+    }
+    Ok(lines)
+}
+
+/// Returns the text of all faults of a file, in order, with their number, after its warnings. For
+/// each, a line with the name of its code and the first line of its message, and one with its place
+/// in the file stand in it.
+fn refusal_text(
+    source: &Source<'_>,
+    showing: Showing,
+    refused: &[Refused],
+    warned: &[Warning],
+) -> Result<String, AllocError>
+    ensures { IfOk result (λ text. StandInOrder
+        (refused_texts showing.is_colored source.now refused.now) (string_bytes text)) }
+{
+    let mut page = Page::new(showing.alloc, showing.is_colored);
+    push_warned(&mut page, source, warned);
     let count = push_refused(&mut page, source, refused);
     push_summary(&mut page, count);
     page.finish()
@@ -330,8 +452,8 @@ fn push_refused(page: &mut Page, source: &Source<'_>, refused: &[Refused]) -> us
     let mut count: usize = 0;
     for one in refused {
         let offset = one.offset;
-        push_faults(page, Part { source, offset }, &one.errors);
-        count = count.saturating_add(count_errors(&one.errors));
+        push_faults(page, Part { source, offset }, &one.errors, &one.clues);
+        count = count.saturating_add(count_errors(&one.errors, &one.clues));
     }
     count
 }

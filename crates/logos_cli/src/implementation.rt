@@ -1,20 +1,23 @@
 //! The answer to the derive macro: the implementation of one enum, with placeholders for what the
 //! user wrote.
 
-ghost use Rattle.std.specs.Prelude.{IfErr, IfOk, string_bytes};
+ghost use Rattle.std.specs.Prelude.{IfErr, IfOk, List, ℕ, string_bytes};
 ghost use Rattle.logos_codegen.specs.Source.{IsRefused};
 ghost use Rattle.logos_report.specs.Faults.{faults_texts};
 ghost use Rattle.logos_report.specs.Pages.{StandInOrder};
+ghost use Rattle.logos_report.specs.Turns.{sizes_of};
 ghost use Rattle.logos_rust_file.specs.Handed.{Refuses};
 ghost use Rattle.logos_cli.specs.Deriving.{AreFaultLines, IsDerived, IsDerivedBy, ShowsErrors};
 
 use crate::expanding::{config_of, lexer_text};
-use crate::options::{MessageFormat, Shape};
+use crate::options::Shape;
+use logos_causes::{Explained, explain};
 use logos_codegen::error::{Errors, Memory};
 use logos_codegen::{Generated, Refusal, generate};
 use logos_derive::{Answer, make_answer};
+use logos_host::MessageFormat;
 use logos_messages::{Piece, push_messages, push_pieces, push_version};
-use logos_report::{Page, Part, Source, count_errors, push_faults, push_summary};
+use logos_report::{Clues, Page, Part, Source, count_errors, push_faults, push_summary};
 use std::alloc::{AllocError, Global};
 
 /// The program, as the macro is answered.
@@ -110,28 +113,41 @@ fn message_lines(source: &Source<'_>, errors: &Errors) -> Result<Vec<u8>, Memory
     let alloc = errors.alloc();
     let mut lines = Vec::new(alloc);
     push_version(alloc, &mut lines, PROGRAM)?;
-    push_messages(alloc, &mut lines, Part { source, offset: 0 }, errors)?;
+    let Explained { clues, .. } = explain(alloc, source.text())?;
+    push_messages(
+        alloc,
+        &mut lines,
+        Part { source, offset: 0 },
+        errors,
+        &clues,
+    )?;
     Ok(lines)
 }
 
 /// Returns the faults of an enum as a report.
 fn report_lines(source: &Source<'_>, is_colored: bool, errors: &Errors) -> Result<Vec<u8>, Memory>
-    ensures { IfOk result (λ lines. StandInOrder
-        (faults_texts is_colored source.now 0 errors.now) lines.items) }
+    ensures { IfOk result (λ lines. (sizes : List ℕ) × StandInOrder
+        (faults_texts is_colored source.now 0 sizes errors.now) lines.items) }
 {
-    match report_text(source, is_colored, errors) {
+    let Explained { clues, .. } = explain(errors.alloc(), source.text())?;
+    match report_text(source, is_colored, errors, &clues) {
         Ok(text) => Ok(text.into_bytes()),
         Err(AllocError) => Err(Memory),
     }
 }
 
 /// Returns the report of the faults of an enum, with their number.
-fn report_text(source: &Source<'_>, is_colored: bool, errors: &Errors) -> Result<String, AllocError>
+fn report_text(
+    source: &Source<'_>,
+    is_colored: bool,
+    errors: &Errors,
+    clues: &Clues,
+) -> Result<String, AllocError>
     ensures { IfOk result (λ text. StandInOrder
-        (faults_texts is_colored source.now 0 errors.now) (string_bytes text)) }
+        (faults_texts is_colored source.now 0 (sizes_of clues.now) errors.now) (string_bytes text)) }
 {
     let mut page = Page::new(errors.alloc(), is_colored);
-    push_faults(&mut page, Part { source, offset: 0 }, errors);
-    push_summary(&mut page, count_errors(errors));
+    push_faults(&mut page, Part { source, offset: 0 }, errors, clues);
+    push_summary(&mut page, count_errors(errors, clues));
     page.finish()
 }

@@ -4,14 +4,18 @@ ghost use Rattle.std.specs.Prelude.{◌≡◌, IfErr, IfOk, None, Some, is_some,
 ghost use Rattle.logos_host.specs.Failures.{status_of};
 ghost use Rattle.logos_host.specs.WordSteps.{use_value};
 ghost use Rattle.logos_cli.specs.Orders.{asked, asked_given, given_nothing, given_value, order_given};
-ghost use Rattle.logos_cli.specs.Orders.{enum_given, file_given, format_named, is_json, with_format};
+ghost use Rattle.logos_cli.specs.Orders.{enum_given, file_given, with_format};
 ghost use Rattle.logos_cli.specs.Orders.{given_or, path_named, request_value, shape_named, with_flag};
 ghost use Rattle.logos_cli.specs.Orders.{with_found, with_output, with_path, with_shape, with_color};
 ghost use Rattle.logos_cli.specs.Orders.{with_value, with_word, with_words};
 ghost use Rattle.logos_host.specs.Colors.{color_named};
+ghost use Rattle.logos_host.specs.Formats.{format_named};
 
 use logos_codegen::generator::Config;
-use logos_host::{Color, Failure, OptionName, Progress, Use, color_by_name, next_step};
+use logos_host::{
+    Color, Failure, MessageFormat, OptionName, Progress, Use, color_by_name, format_by_name,
+    next_step,
+};
 
 /// What is asked for.
 #[derive(Clone, Copy)]
@@ -43,17 +47,12 @@ pub(crate) struct Order<'w> {
     pub(crate) is_check: bool,
     /// The shape of the lexers.
     pub(crate) shape: Shape,
+    /// How messages are written.
+    pub(crate) format: MessageFormat,
+    /// Whether a file with warnings is refused.
+    pub(crate) denies: bool,
     /// When messages have colors.
     pub(crate) color: Color,
-}
-
-/// How messages are written.
-#[derive(Clone, Copy)]
-pub(crate) enum MessageFormat {
-    /// As a report.
-    Human,
-    /// As lines of JSON.
-    Json,
 }
 
 /// An enum on standard input whose implementation is printed with placeholders.
@@ -83,15 +82,17 @@ struct Given<'w> {
     shape: Option<Shape>,
     color: Option<Color>,
     is_derive: bool,
+    denies: bool,
     format: Option<MessageFormat>,
     answer: Option<Answer>,
     progress: Progress,
 }
 
 /// The options that the program takes.
-pub(crate) const TAKEN: [OptionName; 8] = [
+pub(crate) const TAKEN: [OptionName; 9] = [
     OptionName::Check,
     OptionName::Color,
+    OptionName::DenyWarnings,
     OptionName::Derive,
     OptionName::Help,
     OptionName::MessageFormat,
@@ -135,6 +136,7 @@ fn read_words(words: &[String]) -> Result<Given<'_>, Failure<'_>>
         shape: None,
         color: None,
         is_derive: false,
+        denies: false,
         format: None,
         answer: None,
         progress: Progress {
@@ -194,14 +196,13 @@ fn file_given<'w>(given: Given<'w>, input: &'w str) -> Result<Request<'w>, Failu
     if given.is_check & !is_given(given.output) {
         return Err(misuse("`--check` needs `--output FILE`", ""));
     }
-    if is_json(given.format) {
-        return Err(misuse("`--message-format json` needs `--derive`", ""));
-    }
     Ok(Request::Expand(Order {
         input,
         output: given.output,
         is_check: given.is_check,
         shape: shape_or_tables(given.shape),
+        format: format_or_human(given.format),
+        denies: given.denies,
         color: color_or_auto(given.color),
     }))
 }
@@ -216,6 +217,9 @@ fn enum_given<'w>(given: Given<'w>, input: &'w str) -> Result<Request<'w>, Failu
     if given.is_check | is_given(given.output) {
         return Err(misuse("`--derive` writes no file", ""));
     }
+    if given.denies {
+        return Err(misuse("`--derive` denies no warnings", ""));
+    }
     if input != STANDARD_INPUT {
         return Err(misuse("`--derive` reads standard input, which is `-`, not", input));
     }
@@ -224,13 +228,6 @@ fn enum_given<'w>(given: Given<'w>, input: &'w str) -> Result<Request<'w>, Failu
         format: format_or_human(given.format),
         color: color_or_auto(given.color),
     }))
-}
-
-/// Returns whether messages are lines of JSON.
-fn is_json(format: Option<MessageFormat>) -> bool
-    ensures { result ≡ is_json format }
-{
-    matches!(format, Some(MessageFormat::Json))
 }
 
 /// Returns how messages are written: as is given, or as a report.
@@ -391,6 +388,11 @@ fn read_flag<'w>(given: Given<'w>, option: OptionName) -> Result<Given<'w>, Fail
             is_check: true,
             ..given
         }),
+        OptionName::DenyWarnings if given.denies => Err(twice(option)),
+        OptionName::DenyWarnings => Ok(Given {
+            denies: true,
+            ..given
+        }),
         OptionName::Derive if given.is_derive => Err(twice(option)),
         OptionName::Derive => Ok(Given {
             is_derive: true,
@@ -495,19 +497,6 @@ fn read_format<'w>(given: Given<'w>, name: &'w str) -> Result<Given<'w>, Failure
         }),
         (None, None) => Err(misuse("`--message-format` is `human` or `json`, not", name)),
     }
-}
-
-/// Returns the format with this name.
-fn format_by_name(name: &str) -> Option<MessageFormat>
-    ensures { result ≡ format_named name.now }
-{
-    if name == "human" {
-        return Some(MessageFormat::Human);
-    }
-    if name == "json" {
-        return Some(MessageFormat::Json);
-    }
-    None
 }
 
 /// Returns the shape with this name.

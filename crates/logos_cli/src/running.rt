@@ -17,12 +17,12 @@ ghost use Rattle.logos_host.specs.Reading.{Reads};
 use crate::answering::run_derive;
 use crate::expanding::{Expansion, expand};
 use crate::options::{Order, Request, TAKEN, request_of};
+use logos_causes::Showing;
 use logos_host::{
     ComparableFiles, Failure, Files, Standing, read_text, report, with_nearest, write_through,
 };
 use logos_report::Source;
 use std::alloc::{AllocError, Global};
-use std::io;
 use std::io::{IsTerminal, Write};
 
 pub(crate) const USAGE: &str = "\
@@ -47,12 +47,14 @@ options:
                      tailcall: a function for each state
                      state_machine: one loop over a state
       --color WHEN   always, never or auto (on a terminal; the default)
+      --deny-warnings
+                     write nothing, with status 1, if there are warnings
       --derive       read one enum from standard input, and print its
                      implementation for `#[derive(Logos)]`: identifiers stand
                      for what the user wrote
       --message-format FORMAT
                      human: a report (the default)
-                     json: with `--derive`, a line of JSON for each message
+                     json: a line of JSON for each message
   -h, --help         print this text
   -V, --version      print the version
       --             what follows is INPUT, even if it begins with `-`
@@ -204,7 +206,13 @@ fn expansion_of<'w, F: ComparableFiles>(
         Ok(source) => source,
         Err(AllocError) => return Err(Failure::Memory),
     };
-    expand(alloc, &source, order.shape, is_colored)
+    let showing = Showing {
+        alloc,
+        format: order.format,
+        is_colored,
+        denies: order.denies,
+    };
+    expand(&source, order.shape, showing)
 }
 
 /// Warns, delivers an expansion, and ends.
@@ -226,7 +234,7 @@ fn deliver_and_end<F: ComparableFiles, O: Write, E: Write>(
     ensures silent { result.status ≡ 1 → Keeps (O.contents out.old) (O.contents out.new) }
     ensures known { (result.status ≤ 3) × (result.status ≢ 2) }
 {
-    let is_warned = warn(order.input, expansion, err);
+    let is_warned = warn(&expansion.warnings, err);
     match deliver(alloc, order, &expansion.bytes, files, out) {
         Ok(()) => Ending {
             status: 0,
@@ -249,24 +257,15 @@ fn failed_after<E: Write>(is_warned: bool, failure: &Failure<'_>, err: &mut E) -
     }
 }
 
-/// Warns if nothing was expanded. Returns whether standard error took the warning.
-fn warn<E: Write>(path: &str, expansion: &Expansion, err: &mut E) -> bool
+/// Writes what there is to say of the warnings of a file. Returns whether standard error took it.
+fn warn<E: Write>(warnings: &[u8], err: &mut E) -> bool
     ensures { IsTrue result → (text : List ℕ)
         × Appends (E.contents err.old) (E.contents err.new) text }
 {
-    if expansion.count != 0 {
+    if warnings.is_empty() {
         return true;
     }
-    write_warning(path, err).is_ok()
-}
-
-/// Writes that nothing was expanded.
-fn write_warning<E: Write>(path: &str, err: &mut E) -> io::Result<()>
-    ensures { OnOk result ((text : List ℕ)
-        × Appends (E.contents err.old) (E.contents err.new) text) }
-{
-    writeln!(err, "warning: no enum in {path} derives `Logos`")?;
-    err.flush()
+    write_through(warnings, err).is_ok()
 }
 
 /// Writes the result to standard output or to the output file.

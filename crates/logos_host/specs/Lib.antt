@@ -1,5 +1,6 @@
 pub mod Colors
 pub mod Failures
+pub mod Formats
 pub mod Messages
 pub mod Options
 pub mod Reading

@@ -1,7 +1,7 @@
 -- The options of a command line.
 use Rattle.std.specs.Prelude.{ℕ, List, Bool, true, false, Option, Some, None, if◌then◌else◌, bytes_eq, codes}
 use Rattle.logos_host.specs.declared.options.OptionName.{OptionName}
-use Rattle.logos_host.specs.declared.options.OptionName.TheVariants.{At, Check, Color, Compare, Derive, Enum, Examples, Expect, Help, Inputs, Json, MessageFormat, Output, Shape, Version}
+use Rattle.logos_host.specs.declared.options.OptionName.TheVariants.{At, Check, Color, Compare, DenyWarnings, Derive, Enum, Examples, Expect, Help, Inputs, Json, MessageFormat, Output, Shape, Version}
 
 -- the options with a word of one letter
 abbrev pub letter_named : List ℕ → Option OptionName
@@ -36,11 +36,12 @@ abbrev pub long_named : List ℕ → Option OptionName
 long_named word =
     if bytes_eq word (codes "--check") then Some Check
     else (if bytes_eq word (codes "--color") then Some Color
+    else (if bytes_eq word (codes "--deny-warnings") then Some DenyWarnings
     else (if bytes_eq word (codes "--derive") then Some Derive
     else (if bytes_eq word (codes "--enum") then Some Enum
     else (if bytes_eq word (codes "--help") then Some Help
     else (if bytes_eq word (codes "--message-format") then Some MessageFormat
-    else later_named word)))))
+    else later_named word))))))
 
 abbrev pub first_named : Option OptionName → List ℕ → Option OptionName
 first_named (Some option) word = Some option
@@ -56,6 +57,7 @@ takes_value At = true
 takes_value Check = false
 takes_value Color = true
 takes_value Compare = false
+takes_value DenyWarnings = false
 takes_value Derive = false
 takes_value Enum = true
 takes_value Examples = false

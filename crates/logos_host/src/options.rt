@@ -10,6 +10,7 @@ pub enum OptionName {
     Check,
     Color,
     Compare,
+    DenyWarnings,
     Derive,
     Enum,
     Examples,
@@ -46,6 +47,7 @@ impl OptionName {
             OptionName::Check => "--check",
             OptionName::Color => "--color",
             OptionName::Compare => "--compare",
+            OptionName::DenyWarnings => "--deny-warnings",
             OptionName::Derive => "--derive",
             OptionName::Enum => "--enum",
             OptionName::Examples => "--examples",
@@ -106,6 +108,9 @@ fn by_long(word: &str) -> Option<OptionName>
     }
     if word == "--color" {
         return Some(OptionName::Color);
+    }
+    if word == "--deny-warnings" {
+        return Some(OptionName::DenyWarnings);
     }
     if word == "--derive" {
         return Some(OptionName::Derive);

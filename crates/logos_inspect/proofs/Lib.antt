@@ -1,3 +1,1 @@
-pub mod NearLemmas
 pub mod MarkLemmas
-pub mod WarningLemmas

@@ -4,3 +4,4 @@ pub mod Tokens
 pub mod Growing
 pub mod Messages
 pub mod Answers
+pub mod Warnings

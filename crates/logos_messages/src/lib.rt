@@ -1,4 +1,4 @@
-//! Faults as lines of JSON in rustc's schema of diagnostics, for editors, for CI and for the derive
+//! Faults and warnings as lines of JSON in rustc's schema of diagnostics, for editors, for CI and for the derive
 //! macro.
 
 #![tactic(auto)]
@@ -10,6 +10,8 @@ mod marked;
 mod messages;
 mod notes;
 mod spans;
+mod warnings;
 
 pub use answer::{Piece, push_pieces, push_version};
 pub use messages::push_messages;
+pub use warnings::push_warning_messages;

@@ -13,14 +13,14 @@ use crate::line::Line;
 use crate::marked::LONG;
 use crate::notes::push_notes;
 use crate::spans::{push_other, push_span};
-use logos_report::{Page, Part, push_fault};
+use logos_report::{Clues, Member, Page, Part, Start, Turn, first_turn, push_fault};
 use logos_token::error::{Errors, Memory, SpannedError};
 use logos_token::token::Span;
 use std::alloc::{AllocError, Global};
 
 /// Pushes a line of JSON for each fault of a part of a file, in order. A line has the members of
 /// rustc's diagnostics, of which `rendered` is what `push_faults` shows of the fault, without
-/// colors.
+/// colors. What is known of faults beyond what they say is among its notes.
 ///
 /// Lines of the file that have more than 400 bytes are left out, and then `rendered` is null. So
 /// the lines take memory linear in the faults and their messages.
@@ -33,26 +33,29 @@ pub fn push_messages(
     lines: &mut Vec<u8>,
     part: Part<'_, '_>,
     errors: &Errors,
+    clues: &Clues,
 ) -> Result<(), Memory>
     ensures pushed { OnOk result ((added : List ℕ) × (lines.new.items ≡ lines.old.items ++ added)
         × AreMessages part.entry.source.now part.entry.offset errors.now added) }
     ensures unchanged { OnErr result (lines.new.items ≡ lines.old.items) }
 {
-    let mut added = message_lines(alloc, part, errors.list())?;
+    let mut added = message_lines(alloc, part, errors.list(), first_turn(clues))?;
     lines.append(&mut added)?;
     Ok(())
 }
 
-/// Returns the lines of these faults.
+/// Returns the lines of these faults, of which sets of ambiguous leaves come first in this turn.
 fn message_lines(
     alloc: Global,
     part: Part<'_, '_>,
     faults: &[SpannedError],
+    first: Turn<'_>,
 ) -> Result<Vec<u8>, AllocError>
     ensures { IfOk result (λ lines. AreMessages part.entry.source.now part.entry.offset
         (faults_of faults.now) lines.items) }
 {
     let mut lines = Vec::new(alloc);
+    let mut turn = first;
     for fault in faults {
         lines = with_message(
             lines,
@@ -61,20 +64,27 @@ fn message_lines(
                 part,
                 faults,
                 fault,
+                member: turn.member(fault),
+                starts: turn.starts(fault.code),
             },
         )?;
+        turn = turn.after(fault);
     }
     Ok(lines)
 }
 
 /// A fault, with what belongs to it.
 #[derive(Clone, Copy)]
-struct Shown<'f, 'p, 't> {
-    part: Part<'p, 't>,
+pub(crate) struct Shown<'f, 'p, 't> {
+    pub(crate) part: Part<'p, 't>,
     /// The faults of this part of the file.
     faults: &'f [SpannedError],
     /// The one that is shown.
-    fault: &'f SpannedError,
+    pub(crate) fault: &'f SpannedError,
+    /// What it is in a set of ambiguous leaves of which something is known.
+    pub(crate) member: Option<Member<'f>>,
+    /// The patterns that explain it.
+    pub(crate) starts: &'f [Start],
 }
 
 /// Returns these lines, and that of a fault.
@@ -95,7 +105,7 @@ fn with_message(
 }
 
 /// Returns a text that may be there.
-fn text_of(text: &Option<String>) -> Option<&str>
+pub(crate) fn text_of(text: &Option<String>) -> Option<&str>
     ensures { option_map (λ t. t.now) result ≡ option_map string_bytes text.now }
 {
     match text {
@@ -112,7 +122,7 @@ fn push_message(line: &mut Line, shown: Shown<'_, '_, '_>, rendered: Option<&str
     line.begin_object();
     push_head(line, shown.fault);
     push_spans(line, shown.part, shown.fault);
-    push_notes(line, shown.part, shown.fault);
+    push_notes(line, shown);
     line.push_maybe("rendered", rendered);
     line.end_object();
 }
@@ -143,7 +153,7 @@ fn rendered(alloc: Global, shown: Shown<'_, '_, '_>) -> Result<Option<String>, A
 }
 
 /// Returns whether a span begins or ends in a long line.
-fn has_long_line(part: Part<'_, '_>, span: Span) -> bool {
+pub(crate) fn has_long_line(part: Part<'_, '_>, span: Span) -> bool {
     is_long(part, span.from) | is_long(part, span.to)
 }
 

@@ -6,17 +6,52 @@ ghost use Rattle.logos_messages.specs.Growing.{GivesNoteList, GivesNotes};
 ghost use Rattle.logos_messages.specs.Tokens.{list_member, note_tokens, nothing_tokens};
 
 use crate::line::Line;
-use logos_report::{Part, help_of};
+use crate::messages::Shown;
+use logos_report::{Member, Part, Start, help_of};
 use logos_token::error::SpannedError;
 
 /// Pushes the notes and the help of a fault, as a member.
-pub(crate) fn push_notes(line: &mut Line, part: Part<'_, '_>, fault: &SpannedError)
+pub(crate) fn push_notes(line: &mut Line, shown: Shown<'_, '_, '_>)
     ensures { GivesNoteList line.old line.new }
 {
     line.begin_list("children");
-    push_other_lines(line, fault.message.as_str());
-    push_help(line, part, fault);
+    push_other_lines(line, shown.fault.message.as_str());
+    push_starts(line, shown.starts);
+    push_advice(line, shown);
     line.end_list();
+}
+
+/// Pushes a note for each pattern that can look at what stands before its first byte.
+fn push_starts(line: &mut Line, starts: &[Start])
+    ensures { GivesNotes line.old line.new }
+{
+    for start in starts {
+        push_one(line, "note", start.name.as_str());
+    }
+}
+
+/// Pushes what is known of a set of ambiguous leaves, and what to do about a fault.
+fn push_advice(line: &mut Line, shown: Shown<'_, '_, '_>)
+    ensures { GivesNotes line.old line.new }
+{
+    push_known(line, shown.member);
+    push_help(line, shown.part, shown.fault);
+}
+
+/// Pushes what is known of a set of ambiguous leaves, if this is one of its faults.
+fn push_known(line: &mut Line, member: Option<Member<'_>>)
+    ensures { GivesNotes line.old line.new }
+{
+    if let Some(member) = member {
+        push_one(line, "note", member.meeting.note.as_str());
+    }
+}
+
+/// Pushes a note or a help.
+pub(crate) fn push_one(line: &mut Line, level: &str, text: &str)
+    ensures { GivesNotes line.old line.new }
+{
+    push_note(line, level, text);
 }
 
 /// Pushes a note for each line of a message after its first one.

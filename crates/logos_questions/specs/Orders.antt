@@ -6,6 +6,9 @@ use Rattle.logos_host.specs.declared.options.OptionName.{OptionName}
 use Rattle.logos_host.specs.declared.options.OptionName.TheVariants as options
 use Rattle.logos_host.specs.declared.word_steps.Progress.{Progress}
 use Rattle.logos_host.specs.Colors.{color_named}
+use Rattle.logos_host.specs.Formats.{format_named}
+use Rattle.logos_host.specs.declared.message_format.MessageFormat.{MessageFormat}
+use Rattle.logos_host.specs.declared.message_format.MessageFormat.TheVariants as formats
 use Rattle.logos_host.specs.declared.failure.Failure.{Failure}
 use Rattle.logos_host.specs.Failures.{status_of}
 use Rattle.logos_host.specs.WordSteps.{StepValue, UseValue, path, flag, value, step}
@@ -34,13 +37,16 @@ pub data QuestionValue : Type 0 where
   comparison : (other : List ℕ) → QuestionValue
 
 -- A file: its path, what is asked of its lexers, whether the answer is JSON, perhaps the path of a
--- stored answer, perhaps the name of the enum, and when messages have colors.
+-- stored answer, perhaps the name of the enum, how messages are written, whether warnings are
+-- denied, and when messages have colors.
 pub record OrderValue : Type 0 where
   pub file : List ℕ
   pub question : QuestionValue
   pub is_json : Bool
   pub expected : Option (List ℕ)
   pub name : Option (List ℕ)
+  pub format : MessageFormat
+  pub denies : Bool
   pub color : Color
 
 -- What is asked for.
@@ -55,6 +61,8 @@ pub record GivenValue : Type 0 where
   pub input : Option (List ℕ)
   pub name : Option (List ℕ)
   pub color : Option Color
+  pub format : Option MessageFormat
+  pub denies : Bool
   pub topic : Option Topic
   pub is_json : Bool
   pub expected : Option (List ℕ)
@@ -63,7 +71,7 @@ pub record GivenValue : Type 0 where
 
 -- What no words give.
 abbrev pub given_nothing : GivenValue
-given_nothing = record { file = None; input = None; name = None; color = None; topic = None; is_json = false; expected = None; answer = None; progress = record { pending = None; is_over = false } }
+given_nothing = record { file = None; input = None; name = None; color = None; format = None; denies = false; topic = None; is_json = false; expected = None; answer = None; progress = record { pending = None; is_over = false } }
 
 -- What is given, or this.
 abbrev pub given_or : {A : Type 0} → A → Option A → A
@@ -104,6 +112,7 @@ with_json given = if given.is_json then None else Some (record given { is_json =
 abbrev pub with_flag : GivenValue → OptionName → Option GivenValue
 with_flag given options.Help = Some (record given { answer = Some answers.Help })
 with_flag given options.Version = Some (record given { answer = Some answers.Version })
+with_flag given options.DenyWarnings = if given.denies then None else Some (record given { denies = true })
 with_flag given options.Compare = with_topic given topics.Comparison
 with_flag given options.Examples = with_topic given topics.Examples
 with_flag given options.Json = with_json given
@@ -123,6 +132,12 @@ with_color given (Some color) named = None
 with_color given None None = None
 with_color given None (Some color) = Some (record given { color = Some color })
 
+-- How messages are written, which is given once.
+abbrev pub with_format : GivenValue → Option MessageFormat → Option MessageFormat → Option GivenValue
+with_format given (Some format) named = None
+with_format given None None = None
+with_format given None (Some format) = Some (record given { format = Some format })
+
 -- An option with its value.
 abbrev pub with_value : GivenValue → OptionName → List ℕ → Option GivenValue
 with_value given options.Enum word = with_name given word
@@ -130,6 +145,7 @@ with_value given options.Color word = with_color given given.color (color_named 
 with_value given options.At word = with_place given (place_named word)
 with_value given options.Expect word = with_expected given word
 with_value given options.Inputs word = with_most given (number_named word)
+with_value given options.MessageFormat word = with_format given given.format (format_named word)
 with_value given option word = None
 
 abbrev pub with_use : GivenValue → UseValue → Option GivenValue
@@ -171,7 +187,7 @@ question_given (Some topics.Comparison) (Some other) = Some (comparison other)
 
 abbrev pub order_asked : GivenValue → List ℕ → Option QuestionValue → Option Asked
 order_asked given file None = None
-order_asked given file (Some question) = Some (asks_showing (record { file = file; question = question; is_json = given.is_json; expected = given.expected; name = given.name; color = given_or Auto given.color }))
+order_asked given file (Some question) = Some (asks_showing (record { file = file; question = question; is_json = given.is_json; expected = given.expected; name = given.name; format = given_or formats.Human given.format; denies = given.denies; color = given_or Auto given.color }))
 
 -- A file to show, if there is one.
 abbrev pub order_given : GivenValue → Option (List ℕ) → Option Asked
@@ -203,6 +219,8 @@ given_value given = record {
   input = option_map (λ path. path.now) given.input;
   name = option_map (λ path. path.now) given.name;
   color = given.color;
+  format = given.format;
+  denies = given.denies;
   topic = given.topic;
   is_json = given.is_json;
   expected = option_map (λ path. path.now) given.expected;
@@ -225,6 +243,8 @@ order_value order = record {
   is_json = order.is_json;
   expected = option_map (λ path. path.now) order.expected;
   name = option_map (λ path. path.now) order.name;
+  format = order.format;
+  denies = order.denies;
   color = order.color;
 }
 

@@ -1,12 +1,15 @@
 //! What the words of a command line ask for.
 
 ghost use Rattle.std.specs.Prelude.{◌≡◌, IfErr, IfOk, None, Some, is_some, map, option_map, string_bytes};
-ghost use Rattle.logos_questions.specs.Words.{asked, asked_given, color_named, given_nothing, given_or, given_value, number_named, order_asked, order_given};
+ghost use Rattle.logos_questions.specs.Words.{asked, asked_given, color_named, format_named, given_nothing, given_or, given_value, number_named, order_asked, order_given};
 ghost use Rattle.logos_questions.specs.Words.{path_named, place_named, question_given, question_value, request_value, status_of, use_value, with_color, with_expected};
-ghost use Rattle.logos_questions.specs.Words.{with_flag, with_found, with_input, with_json, with_most, with_name, with_path, with_place, with_topic, with_value, with_word, with_words};
+ghost use Rattle.logos_questions.specs.Words.{with_flag, with_format, with_found, with_input, with_json, with_most, with_name, with_path, with_place, with_topic, with_value, with_word, with_words};
 
 use logos_answers::{number_by_text, place_by_word};
-use logos_host::{Color, Failure, OptionName, Progress, Use, color_by_name, next_step};
+use logos_host::{
+    Color, Failure, MessageFormat, OptionName, Progress, Use, color_by_name, format_by_name,
+    next_step,
+};
 use logos_lines::Position;
 
 /// What is asked for.
@@ -29,6 +32,10 @@ pub struct Order<'w> {
     pub expected: Option<&'w str>,
     /// The name of the enum that is meant. If none is given all are shown, and the first one lexes.
     pub name: Option<&'w str>,
+    /// How messages are written.
+    pub format: MessageFormat,
+    /// Whether a file with warnings is refused.
+    pub denies: bool,
     /// When messages have colors.
     pub color: Color,
 }
@@ -75,6 +82,8 @@ struct Given<'w> {
     input: Option<&'w str>,
     name: Option<&'w str>,
     color: Option<Color>,
+    format: Option<MessageFormat>,
+    denies: bool,
     topic: Option<Topic>,
     is_json: bool,
     expected: Option<&'w str>,
@@ -83,16 +92,18 @@ struct Given<'w> {
 }
 
 /// The options that the program takes.
-pub const TAKEN: [OptionName; 10] = [
+pub const TAKEN: [OptionName; 12] = [
     OptionName::At,
     OptionName::Color,
     OptionName::Compare,
+    OptionName::DenyWarnings,
     OptionName::Enum,
     OptionName::Examples,
     OptionName::Expect,
     OptionName::Help,
     OptionName::Inputs,
     OptionName::Json,
+    OptionName::MessageFormat,
     OptionName::Version,
 ];
 
@@ -129,6 +140,8 @@ fn read_words(words: &[String]) -> Result<Given<'_>, Failure<'_>>
         input: None,
         name: None,
         color: None,
+        format: None,
+        denies: false,
         topic: None,
         is_json: false,
         expected: None,
@@ -181,6 +194,8 @@ fn order_given(given: Given<'_>) -> Result<Request<'_>, Failure<'_>>
             is_json: given.is_json,
             expected: given.expected,
             name: given.name,
+            format: format_or_human(given.format),
+            denies: given.denies,
             color: color_or_auto(given.color),
         })),
         Err(failure) => Err(failure),
@@ -228,6 +243,16 @@ fn color_or_auto(color: Option<Color>) -> Color
     match color {
         Some(color) => color,
         None => Color::Auto,
+    }
+}
+
+/// Returns how messages are written: as is given, or as a report.
+fn format_or_human(format: Option<MessageFormat>) -> MessageFormat
+    ensures { result ≡ given_or MessageFormat.Human format }
+{
+    match format {
+        Some(format) => format,
+        None => MessageFormat::Human,
     }
 }
 
@@ -370,6 +395,11 @@ fn read_flag<'w>(given: Given<'w>, option: OptionName) -> Result<Given<'w>, Fail
             answer: Some(Answer::Version),
             ..given
         }),
+        OptionName::DenyWarnings if given.denies => Err(twice(option)),
+        OptionName::DenyWarnings => Ok(Given {
+            denies: true,
+            ..given
+        }),
         OptionName::Compare => read_topic(given, option, Topic::Comparison),
         OptionName::Examples => read_topic(given, option, Topic::Examples),
         OptionName::Json => read_json(given),
@@ -457,6 +487,7 @@ fn read_value<'w>(
         OptionName::At => read_place(given, value),
         OptionName::Expect => read_expected(given, value),
         OptionName::Inputs => read_most(given, value),
+        OptionName::MessageFormat => read_format(given, value),
         _ => Err(unknown(option)),
     }
 }
@@ -509,5 +540,24 @@ fn read_color<'w>(given: Given<'w>, name: &'w str) -> Result<Given<'w>, Failure<
             ..given
         }),
         (None, None) => Err(misuse("`--color` is `always`, `never` or `auto`, not", name)),
+    }
+}
+
+/// Reads how messages are written.
+fn read_format<'w>(given: Given<'w>, name: &'w str) -> Result<Given<'w>, Failure<'w>>
+    ensures given { IfOk result (λ next.
+        with_format (given_value given.entry) given.entry.format (format_named name.now)
+        ≡ Some (given_value next)) }
+    ensures misuse { IfErr result (λ failure.
+        (with_format (given_value given.entry) given.entry.format (format_named name.now) ≡ None)
+        × (status_of failure ≡ 2)) }
+{
+    match (given.format, format_by_name(name)) {
+        (Some(_), _) => Err(twice(OptionName::MessageFormat)),
+        (None, Some(format)) => Ok(Given {
+            format: Some(format),
+            ..given
+        }),
+        (None, None) => Err(misuse("`--message-format` is `human` or `json`, not", name)),
     }
 }

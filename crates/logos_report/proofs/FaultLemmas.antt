@@ -1,5 +1,5 @@
 -- The faults of a file, one after another.
-use Rattle.std.proofs.Common.{◌≡◌, Bool, ◌≤◌, ◌<◌, ◌+◌, ℕ, suc, List, [], ◌∷◌, ◌++◌, length, get_or, drop, take, sym, ap, ◌∙◌, arith, subst}
+use Rattle.std.proofs.Common.{◌≡◌, Bool, ◌≤◌, ◌<◌, ◌+◌, ℕ, suc, List, [], ◌∷◌, ◌++◌, length, get_or, drop, take, refl, sym, ap, ◌∙◌, arith, subst}
 use Rattle.std.proofs.Math.Seq.{drop-cons}
 use Rattle.std.proofs.lemmas.List.{map_more}
 use Rattle.std.proofs.Math.ListN.{drop_of_length-le}
@@ -7,6 +7,9 @@ use Rattle.logos_token.specs.declared.error.SpannedError.{SpannedError}
 use Rattle.logos_token.specs.FaultView.{fault_of, faults_of}
 use Rattle.logos_report.specs.Faults.{counted_texts, texts_after}
 use Rattle.logos_report.specs.Pages.{PageValue, Shows}
+use Rattle.logos_report.specs.Turns.{TurnValue, begins_error, errors_after, turn_after}
+use Rattle.std.specs.Prelude.{cond, true, false}
+use mir.Val.{bool_byte}
 use Rattle.logos_report.specs.Places.{SourceValue}
 use Rattle.logos_report.proofs.PageLemmas.{shows_nothing, shows_then}
 
@@ -20,16 +23,34 @@ pub next_front : (faults : List SpannedError) (i : ℕ) (d : SpannedError) → i
 next_front faults i d l = map_more fault_of faults i d l
 
 -- the next fault, and those after it
-pub next_shown : (is_colored : Bool) (source : SourceValue) (begin : ℕ) (faults : List SpannedError) (i : ℕ) (d : SpannedError) (old middle new : PageValue) → i < length faults →
-    Shows (counted_texts is_colored source begin (faults_of faults) (faults_of (take i faults)) (fault_of (get_or faults i d))) old middle →
-    Shows (texts_after is_colored source begin (faults_of faults) (faults_of (take (i + 1) faults)) (faults_of (drop (i + 1) faults))) middle new →
-    Shows (texts_after is_colored source begin (faults_of faults) (faults_of (take i faults)) (faults_of (drop i faults))) old new
-next_shown is_colored source begin faults i d old middle new l s t =
-    let rest = subst (λ front. Shows (texts_after is_colored source begin (faults_of faults) front (faults_of (drop (i + 1) faults))) middle new) (next_front faults i d l) t in
-    subst (λ list. Shows (texts_after is_colored source begin (faults_of faults) (faults_of (take i faults)) (faults_of list)) old new) (sym (next_left faults i d l)) (shows_then s rest)
+pub next_shown : (is_colored : Bool) (source : SourceValue) (begin : ℕ) (faults : List SpannedError) (i : ℕ) (d : SpannedError) (turn : TurnValue) (old middle new : PageValue) → i < length faults →
+    Shows (counted_texts is_colored source begin (faults_of faults) (faults_of (take i faults)) turn (fault_of (get_or faults i d))) old middle →
+    Shows (texts_after is_colored source begin (faults_of faults) (faults_of (take (i + 1) faults)) (turn_after turn (fault_of (get_or faults i d))) (faults_of (drop (i + 1) faults))) middle new →
+    Shows (texts_after is_colored source begin (faults_of faults) (faults_of (take i faults)) turn (faults_of (drop i faults))) old new
+next_shown is_colored source begin faults i d turn old middle new l s t =
+    let next = turn_after turn (fault_of (get_or faults i d)) in
+    let rest = subst (λ front. Shows (texts_after is_colored source begin (faults_of faults) front next (faults_of (drop (i + 1) faults))) middle new) (next_front faults i d l) t in
+    subst (λ list. Shows (texts_after is_colored source begin (faults_of faults) (faults_of (take i faults)) turn (faults_of list)) old new) (sym (next_left faults i d l)) (shows_then s rest)
 
 -- no fault is left
-pub none_shown : (is_colored : Bool) (source : SourceValue) (begin : ℕ) (faults : List SpannedError) (i : ℕ) (page : PageValue) → length faults ≤ i →
-    Shows (texts_after is_colored source begin (faults_of faults) (faults_of (take i faults)) (faults_of (drop i faults))) page page
-none_shown is_colored source begin faults i page l =
-    subst (λ list. Shows (texts_after is_colored source begin (faults_of faults) (faults_of (take i faults)) (faults_of list)) page page) (sym (drop_of_length-le faults l)) (shows_nothing page)
+pub none_shown : (is_colored : Bool) (source : SourceValue) (begin : ℕ) (faults : List SpannedError) (i : ℕ) (turn : TurnValue) (page : PageValue) → length faults ≤ i →
+    Shows (texts_after is_colored source begin (faults_of faults) (faults_of (take i faults)) turn (faults_of (drop i faults))) page page
+none_shown is_colored source begin faults i turn page l =
+    subst (λ list. Shows (texts_after is_colored source begin (faults_of faults) (faults_of (take i faults)) turn (faults_of list)) page page) (sym (drop_of_length-le faults l)) (shows_nothing page)
+
+-- the reports that begin with the next fault, and with those after it
+pub next_errors : (faults : List SpannedError) (i : ℕ) (d : SpannedError) (turn : TurnValue) → i < length faults →
+    errors_after turn (faults_of (drop i faults)) ≡ cond (begins_error turn (fault_of (get_or faults i d))) 1 0 + errors_after (turn_after turn (fault_of (get_or faults i d))) (faults_of (drop (i + 1) faults))
+next_errors faults i d turn l = ap (λ list. errors_after turn (faults_of list)) (next_left faults i d l)
+
+pub no_errors : (faults : List SpannedError) (i : ℕ) (turn : TurnValue) → length faults ≤ i → errors_after turn (faults_of (drop i faults)) ≡ 0
+no_errors faults i turn l = ap (λ list. errors_after turn (faults_of list)) (drop_of_length-le faults l)
+
+pub one_at_most : (b : Bool) → cond b 1 0 ≤ 1
+one_at_most true = omega arith
+one_at_most false = omega arith
+
+-- a bit as a number
+pub bit_is : (b : Bool) → bool_byte b ≡ cond b 1 0
+bit_is true = refl
+bit_is false = refl

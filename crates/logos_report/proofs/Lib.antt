@@ -3,3 +3,4 @@ pub mod ShownLemmas
 pub mod FaultLemmas
 pub mod CountLemmas
 pub mod DigitLemmas
+pub mod WarningLemmas

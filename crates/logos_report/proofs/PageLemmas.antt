@@ -88,3 +88,7 @@ gains_as text {is_colored} {middle} {new} e g = subst (λ c. Gains (text c) midd
 -- the same of what is shown
 pub shows_as : (texts : Bool → List (List ℕ)) {is_colored : Bool} {middle new : PageValue} → middle.is_colored ≡ is_colored → Shows (texts middle.is_colored) middle new → Shows (texts is_colored) middle new
 shows_as texts {is_colored} {middle} {new} e s = subst (λ c. Shows (texts c) middle new) e s
+
+-- what is shown first stays shown
+pub first_shown : {one other : List (List ℕ)} {old middle new : PageValue} → Shows one old middle → Shows other middle new → Shows one old new
+first_shown {one} {other} {old} {middle} {new} s t = subst (λ texts. Shows texts old new) (append-nil one) (shows_then s (unseen t))

@@ -5,6 +5,7 @@ use Rattle.std.specs.Str.{bytes_eq}
 use Rattle.logos_token.specs.Faults.{Fault}
 use Rattle.logos_token.specs.FaultNames.{name_of}
 use Rattle.logos_report.specs.Codes.{is_error}
+use Rattle.logos_report.specs.Turns.{TurnValue, first_turn, follows, turn_after}
 use Rattle.logos_token.specs.declared.error.fault_code.FaultCode.{FaultCode}
 use Rattle.logos_report.specs.declared.page.Style.TheVariants.{Error, Frame, Strong}
 use Rattle.logos_report.specs.Pages.{painted}
@@ -45,23 +46,28 @@ rest_text count = codes ": " ++ (decimal count ++ codes " more are not shown")
 abbrev pub rest_line : Bool → FaultCode → ℕ → List ℕ
 rest_line is_colored code count = code_text is_colored code ++ (painted is_colored Strong (rest_text count) ++ codes "\n")
 
+-- the same of a fault that comes next: one that belongs to an earlier report is a place of that
+abbrev pub listed_texts : Bool → SourceValue → ℕ → TurnValue → Fault → List (List ℕ)
+listed_texts is_colored source begin turn fault =
+    if follows turn fault then place_line is_colored source begin fault.span.from ∷ [] else fault_texts is_colored source begin fault
+
 -- what is shown of a fault of a list, after those in front of it: its lines, if fewer than 50 in front have its code; and in place
 -- of the next one how many of all are left out
-abbrev pub counted_texts : Bool → SourceValue → ℕ → List Fault → List Fault → Fault → List (List ℕ)
-counted_texts is_colored source begin all front fault =
-    if nat_lt (seen_of fault.code front) 50 then fault_texts is_colored source begin fault
+abbrev pub counted_texts : Bool → SourceValue → ℕ → List Fault → List Fault → TurnValue → Fault → List (List ℕ)
+counted_texts is_colored source begin all front turn fault =
+    if nat_lt (seen_of fault.code front) 50 then listed_texts is_colored source begin turn fault
     else if seen_of fault.code front == 50 then rest_line is_colored fault.code (count_by (has_name (name_of fault.code)) all - 50) ∷ []
     else []
 
 -- the same for the faults after some in front, in order
-abbrev pub texts_after : Bool → SourceValue → ℕ → List Fault → List Fault → List Fault → List (List ℕ)
-texts_after is_colored source begin all front [] = []
-texts_after is_colored source begin all front (fault ∷ faults) =
-    counted_texts is_colored source begin all front fault ++ texts_after is_colored source begin all (front ++ fault ∷ []) faults
+abbrev pub texts_after : Bool → SourceValue → ℕ → List Fault → List Fault → TurnValue → List Fault → List (List ℕ)
+texts_after is_colored source begin all front turn [] = []
+texts_after is_colored source begin all front turn (fault ∷ faults) =
+    counted_texts is_colored source begin all front turn fault ++ texts_after is_colored source begin all (front ++ fault ∷ []) (turn_after turn fault) faults
 
--- the same for all faults of a part of a file
-abbrev pub faults_texts : Bool → SourceValue → ℕ → List Fault → List (List ℕ)
-faults_texts is_colored source begin faults = texts_after is_colored source begin faults [] faults
+-- the same for all faults of a part of a file; the sets of ambiguous leaves have these sizes, in order, and each set one report
+abbrev pub faults_texts : Bool → SourceValue → ℕ → List ℕ → List Fault → List (List ℕ)
+faults_texts is_colored source begin sizes faults = texts_after is_colored source begin faults [] (first_turn sizes) faults
 
 -- the line that says how many errors there are
 abbrev pub count_text : ℕ → List ℕ
@@ -69,7 +75,3 @@ count_text count = codes ": aborting due to " ++ (decimal count ++ (if count == 
 
 abbrev pub summary_line : Bool → ℕ → List ℕ
 summary_line is_colored count = painted is_colored Error (codes "error") ++ (painted is_colored Strong (count_text count) ++ codes "\n")
-
--- whether a fault is an error
-abbrev pub is_fault_error : Fault → Bool
-is_fault_error fault = is_error fault.code

@@ -1,5 +1,7 @@
 pub mod Codes
+pub mod Turns
 pub mod Shown
 pub mod Pages
 pub mod Places
 pub mod Faults
+pub mod Warnings

@@ -5,16 +5,19 @@ ghost use Rattle.std.specs.List.{count_by};
 ghost use Rattle.logos_token.specs.FaultNames.{name_of};
 ghost use Rattle.logos_token.specs.FaultView.{fault_of, faults_of};
 ghost use Rattle.logos_report.specs.Codes.{is_error};
-ghost use Rattle.logos_report.specs.Faults.{code_text, count_text, counted_texts, fault_texts, faults_texts};
-ghost use Rattle.logos_report.specs.Faults.{first_line, has_name, head_line, is_fault_error, rest_line, rest_text, seen_of, summary_line};
+ghost use Rattle.logos_report.specs.Faults.{code_text, count_text, counted_texts, fault_texts, faults_texts, texts_after};
+ghost use Rattle.logos_report.specs.Faults.{first_line, has_name, head_line, rest_line, rest_text, seen_of, summary_line};
+ghost use Rattle.logos_report.specs.Turns.{begins_error, errors_after, first_turn, sizes_of, turn_value};
 ghost use Rattle.logos_report.specs.Pages.{Gains, Shows, painted};
 ghost use Rattle.logos_report.specs.Places.{place_line};
 ghost use Rattle.logos_report.specs.Shown.{shown_text};
 
-use crate::frame::{push_frame_with, push_offset, push_place};
-use crate::help::help_of;
+use crate::clues::{Clues, Turn, first_turn};
+use crate::frame::{Marks, push_frame_with, push_offset};
 use crate::inner::caret_span;
+use crate::notes::{Shown, push_notes};
 use crate::page::{Page, Style};
+use crate::sets::push_listed;
 use crate::source::Part;
 use logos_token::error::{Errors, FaultCode, SpannedError};
 
@@ -22,41 +25,47 @@ use logos_token::error::{Errors, FaultCode, SpannedError};
 const MOST: usize = 50;
 
 /// Pushes the faults of a part of a file, in order. For each, a line with the name of its code and
-/// the first line of its message, and one with its place in the file stand in what is pushed.
-pub fn push_faults(page: &mut Page, part: Part<'_, '_>, errors: &Errors)
+/// the first line of its message, and one with its place in the file stand in what is pushed. Of
+/// the faults of a set of ambiguous leaves of which something is known the first one has the line,
+/// and all have their places under it.
+pub fn push_faults(page: &mut Page, part: Part<'_, '_>, errors: &Errors, clues: &Clues)
     ensures { Shows (faults_texts page.old.is_colored part.entry.source.now part.entry.offset
-        errors.now) page.old page.new }
+        (sizes_of clues.now) errors.now) page.old page.new }
 {
-    push_all(page, part, errors.list());
+    push_all(page, part, errors.list(), first_turn(clues));
 }
 
-/// Pushes these faults.
-fn push_all(page: &mut Page, part: Part<'_, '_>, faults: &[SpannedError])
-    ensures { Shows (faults_texts page.old.is_colored part.entry.source.now part.entry.offset
-        (faults_of faults.now)) page.old page.new }
+/// Pushes these faults, of which sets of ambiguous leaves come first in this turn.
+fn push_all(page: &mut Page, part: Part<'_, '_>, faults: &[SpannedError], first: Turn<'_>)
+    ensures { Shows (texts_after page.old.is_colored part.entry.source.now part.entry.offset
+        (faults_of faults.now) [] (turn_value first.entry) (faults_of faults.now)) page.old page.new }
 {
     let mut number = 0;
+    let mut turn = first;
     for fault in faults {
-        push_counted(page, part, faults, &faults[..number], fault);
+        push_counted(page, part, faults, &faults[..number], fault, turn);
+        turn = turn.after(fault);
         number += 1;
     }
 }
 
-/// Pushes a fault, which is one of `faults`, after those in front of it. Of the faults of one code 50
-/// are shown. In place of the next one stands how many are left out.
+/// Pushes a fault, which is one of `faults`, after those in front of it. Of the faults of one code 50 are
+/// shown. In place of the next one stands how many are left out.
 fn push_counted(
     page: &mut Page,
     part: Part<'_, '_>,
     faults: &[SpannedError],
     front: &[SpannedError],
     fault: &SpannedError,
+    turn: Turn<'_>,
 )
     ensures { Shows (counted_texts page.old.is_colored part.entry.source.now part.entry.offset
-        (faults_of faults.now) (faults_of front.now) (fault_of fault.now)) page.old page.new }
+        (faults_of faults.now) (faults_of front.now) (turn_value turn.entry) (fault_of fault.now))
+        page.old page.new }
 {
     let seen = seen_of(front, fault.code);
     if seen < MOST {
-        push_fault(page, part, faults, fault);
+        push_listed(page, part, faults, fault, turn);
     } else if seen == MOST {
         push_rest(
             page,
@@ -129,23 +138,33 @@ fn has_code(fault: &SpannedError, code: FaultCode) -> bool
     fault.code.name() == code.name()
 }
 
-/// Returns how many of these faults are errors. `Previous` is the place of an earlier definition
-/// that an error speaks of.
-pub fn count_errors(errors: &Errors) -> usize
-    ensures { result ≡ count_by is_fault_error errors.now }
+/// Returns how many reports of errors these faults give. `Previous` is the place of an earlier
+/// definition that an error speaks of, and a set of ambiguous leaves of which something is known
+/// has one report.
+pub fn count_errors(errors: &Errors, clues: &Clues) -> usize
+    ensures { result ≡ errors_after (first_turn (sizes_of clues.now)) errors.now }
 {
-    count_all(errors.list())
+    count_all(errors.list(), first_turn(clues))
 }
 
-/// Returns how many of these faults are errors.
-fn count_all(faults: &[SpannedError]) -> usize
-    ensures { result ≡ count_by is_fault_error (faults_of faults.now) }
+/// Returns how many reports of errors these faults give.
+fn count_all(faults: &[SpannedError], first: Turn<'_>) -> usize
+    ensures { result ≡ errors_after (turn_value first.entry) (faults_of faults.now) }
 {
     let mut count = 0;
+    let mut turn = first;
     for fault in faults {
-        count += usize::from(is_error(fault.code));
+        count += usize::from(begins_error(turn, fault));
+        turn = turn.after(fault);
     }
     count
+}
+
+/// Returns whether a report of an error begins with a fault.
+fn begins_error(turn: Turn<'_>, fault: &SpannedError) -> bool
+    ensures { result ≡ begins_error (turn_value turn.entry) (fault_of fault.now) }
+{
+    is_error(fault.code) & !turn.follows(fault)
 }
 
 /// Returns whether a fault with this code is an error.
@@ -219,12 +238,30 @@ fn push_span(page: &mut Page, part: Part<'_, '_>, fault: &SpannedError) -> usize
         push_offset(page, part, fault.span.from, 1);
         return 1;
     }
-    let carets = caret_span(part, fault);
-    push_frame_with(page, part, fault.span.from, carets, style_of(fault.code))
+    push_marked(page, part, fault, "")
+}
+
+/// Pushes where a fault begins, and its lines with carets and a label. Returns how wide the column
+/// of line numbers is.
+pub(crate) fn push_marked(
+    page: &mut Page,
+    part: Part<'_, '_>,
+    fault: &SpannedError,
+    label: &str,
+) -> usize
+    ensures { Shows (place_line page.old.is_colored part.entry.source.now part.entry.offset
+        fault.now.span.from ∷ []) page.old page.new }
+{
+    let marks = Marks {
+        span: caret_span(part, fault),
+        style: style_of(fault.code),
+        label,
+    };
+    push_frame_with(page, part, fault.span.from, marks)
 }
 
 /// Pushes the code of a fault and the first line of its message.
-fn push_head(page: &mut Page, fault: &SpannedError)
+pub(crate) fn push_head(page: &mut Page, fault: &SpannedError)
     ensures { Gains (head_line page.old.is_colored (fault_of fault.now)) page.old page.new }
 {
     push_code(page, fault.code);
@@ -282,138 +319,5 @@ pub fn first_line(text: &str) -> &str
     match text.split_once('\n') {
         Some(parts) => parts.0,
         None => text,
-    }
-}
-
-/// A fault that was shown with its place. What belongs to it follows.
-#[derive(Clone, Copy)]
-struct Shown<'f, 'p, 't> {
-    part: Part<'p, 't>,
-    /// The faults of this part of the file.
-    faults: &'f [SpannedError],
-    /// The one that was shown.
-    fault: &'f SpannedError,
-    /// How wide the column of line numbers is.
-    width: usize,
-}
-
-/// Pushes the notes and the help of a fault, and an empty line.
-fn push_notes(page: &mut Page, shown: Shown<'_, '_, '_>)
-    ensures { Shows [] page.old page.new }
-{
-    push_other_lines(page, shown);
-    push_other_place(page, shown);
-    push_help(page, shown);
-    page.push("\n");
-}
-
-/// Begins a line under a fault.
-fn push_note(page: &mut Page, width: usize, kind: &str, text: &str)
-    ensures { Shows [] page.old page.new }
-{
-    push_note_mark(page, width);
-    page.paint(Style::Strong, kind);
-    page.push(": ");
-    page.push_shown(text);
-}
-
-/// Pushes the mark of a line under a fault.
-fn push_note_mark(page: &mut Page, width: usize)
-    ensures { Shows [] page.old page.new }
-{
-    page.push_times(" ", width.saturating_add(1));
-    page.paint(Style::Frame, "=");
-    page.push(" ");
-}
-
-/// Pushes the second place of a fault, if it has one.
-fn push_other_place(page: &mut Page, shown: Shown<'_, '_, '_>)
-    ensures { Shows [] page.old page.new }
-{
-    if let Some(also) = shown.fault.also {
-        push_note(page, shown.width, "note", "see also ");
-        push_place(page, shown.part, also.from);
-        page.push("\n");
-    }
-}
-
-/// Pushes what to do about a fault, if there is something to say.
-fn push_help(page: &mut Page, shown: Shown<'_, '_, '_>)
-    ensures { Shows [] page.old page.new }
-{
-    if let Some(help) = help_of(shown.part, shown.fault) {
-        push_note(page, shown.width, "help", help);
-        page.push("\n");
-    }
-}
-
-/// Pushes the lines of a message after its first one. The other patterns of an ambiguity get their
-/// places.
-fn push_other_lines(page: &mut Page, shown: Shown<'_, '_, '_>)
-    ensures { Shows [] page.old page.new }
-{
-    let mut next = 0;
-    for line in shown.fault.message.as_str().split('\n').skip(1) {
-        next = push_other_line(page, shown, line, next);
-    }
-}
-
-/// Pushes a line of a message. Faults from `next` on may be those of other patterns of an
-/// ambiguity. Returns where to look for the next one.
-fn push_other_line(page: &mut Page, shown: Shown<'_, '_, '_>, line: &str, next: usize) -> usize
-    ensures { Shows [] page.old page.new }
-{
-    if line.is_empty() {
-        return next;
-    }
-    let Some(name) = line.strip_prefix("  ") else {
-        push_note(page, shown.width, "note", line);
-        page.push("\n");
-        return next;
-    };
-    push_note(page, shown.width, "note", name);
-    let other = find_pattern(shown, name, next);
-    push_pattern_place(page, shown, other);
-    other.saturating_add(1)
-}
-
-/// Pushes the place of the fault with this number, if there is one, and ends the line.
-fn push_pattern_place(page: &mut Page, shown: Shown<'_, '_, '_>, number: usize)
-    ensures { Shows [] page.old page.new }
-{
-    if let Some(other) = shown.faults.get(number) {
-        page.push(" at ");
-        push_place(page, shown.part, other.span.from);
-    }
-    page.push("\n");
-}
-
-/// Returns the number, at least `from`, of another fault that is an ambiguity of the pattern with
-/// this name, or the number of faults if there is none.
-fn find_pattern(shown: Shown<'_, '_, '_>, name: &str, from: usize) -> usize {
-    for number in from..shown.faults.len() {
-        if is_other_ambiguity(&shown.faults[number], shown.fault, name) {
-            return number;
-        }
-    }
-    shown.faults.len()
-}
-
-/// Returns whether a fault is at another place than `own`, and an ambiguity of the pattern with
-/// this name.
-fn is_other_ambiguity(fault: &SpannedError, own: &SpannedError, name: &str) -> bool {
-    let is_other = fault.span.from != own.span.from;
-    let is_ambiguity = matches!(fault.code, FaultCode::Disambiguation);
-    is_other && is_ambiguity && names_pattern(fault.message.as_str(), name)
-}
-
-/// Returns whether the message of an ambiguity begins with the pattern with this name.
-fn names_pattern(message: &str, name: &str) -> bool {
-    let Some(rest) = message.strip_prefix("The pattern ") else {
-        return false;
-    };
-    match rest.strip_prefix(name) {
-        Some(rest) => rest.starts_with(" can match simultaneously"),
-        None => false,
     }
 }

@@ -21,8 +21,21 @@ struct Frame<'p, 't> {
     last: Position,
     /// How wide the column of line numbers is.
     width: usize,
-    /// The style of the carets.
+    /// The style of the carets and of the label.
     style: Style,
+    /// What stands after the carets.
+    label: &'p str,
+}
+
+/// What is marked in lines of a file.
+#[derive(Clone, Copy)]
+pub(crate) struct Marks<'l> {
+    /// What carets stand under.
+    pub(crate) span: Span,
+    /// The style of the carets and of the label.
+    pub(crate) style: Style,
+    /// What stands after the carets, if it is not empty.
+    pub(crate) label: &'l str,
 }
 
 /// Pushes where a span begins, the lines at which it begins and ends, and carets of this style
@@ -31,37 +44,42 @@ pub fn push_frame(page: &mut Page, part: Part<'_, '_>, span: Span, style: Style)
     ensures { Shows (place_line page.old.is_colored part.entry.source.now part.entry.offset span.from
         ∷ []) page.old page.new }
 {
-    push_frame_with(page, part, span.from, span, style)
+    let marks = Marks {
+        span,
+        style,
+        label: "",
+    };
+    push_frame_with(page, part, span.from, marks)
 }
 
-/// Pushes an offset of a part of a file, the lines at which a span begins and ends, and carets of
-/// this style under the span. Returns how many digits the number of the last line has.
+/// Pushes an offset of a part of a file, the lines at which a span begins and ends, and carets
+/// under the span. Returns how many digits the number of the last line has.
 pub(crate) fn push_frame_with(
     page: &mut Page,
     part: Part<'_, '_>,
     offset: usize,
-    span: Span,
-    style: Style,
+    marks: Marks<'_>,
 ) -> usize
     ensures { Shows (place_line page.old.is_colored part.entry.source.now part.entry.offset offset
         ∷ []) page.old page.new }
 {
-    let frame = frame_of(part, span, style);
+    let frame = frame_of(part, marks);
     push_offset(page, part, offset, frame.width);
     push_lines(page, frame);
     frame.width
 }
 
 /// Returns how a span of a part of a file is shown.
-fn frame_of<'p, 't>(part: Part<'p, 't>, span: Span, style: Style) -> Frame<'p, 't> {
-    let first = part.position(span.from);
-    let last = last_shown(first, part.position(span.to));
+fn frame_of<'p, 't>(part: Part<'p, 't>, marks: Marks<'p>) -> Frame<'p, 't> {
+    let first = part.position(marks.span.from);
+    let last = last_shown(first, part.position(marks.span.to));
     Frame {
         source: part.source,
         first,
         last,
         width: digits(last.line),
-        style,
+        style: marks.style,
+        label: marks.label,
     }
 }
 
@@ -147,6 +165,7 @@ fn push_first_line(page: &mut Page, frame: Frame<'_, '_>)
     let Position { line, column } = frame.first;
     let window = window_at(frame.source.line(line), column);
     push_line(page, frame, line, window);
+    let frame = Frame { label: "", ..frame };
     push_carets(page, frame, window, column, usize::MAX);
 }
 
@@ -212,8 +231,19 @@ fn push_carets(page: &mut Page, frame: Frame<'_, '_>, window: Window<'_>, from: 
     page.begin(frame.style);
     page.push("^");
     page.push_times("^", window.columns_between(from, to).saturating_sub(1));
+    push_label(page, frame.label);
     page.end();
     page.push("\n");
+}
+
+/// Pushes what stands after carets.
+fn push_label(page: &mut Page, label: &str)
+    ensures { Shows [] page.old page.new }
+{
+    if !label.is_empty() {
+        page.push(" ");
+        page.push_shown(label);
+    }
 }
 
 /// Returns how many decimal digits a number has.

@@ -1,7 +1,8 @@
 //! The byte of a pattern in the literal that spells it.
 
-use crate::sight::{Sight, sight_at};
+use crate::sight::sight_at;
 use crate::source::Part;
+use logos_help::Sight;
 use logos_token::error::{FaultCode, SpannedError};
 use logos_token::token::Span;
 

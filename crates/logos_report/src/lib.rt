@@ -2,20 +2,23 @@
 
 #![tactic(auto)]
 
+mod clues;
 mod faults;
 mod frame;
-mod help;
-mod help_by_sight;
-mod help_for_pattern;
 mod inner;
+mod notes;
 mod page;
+mod sets;
 mod shown;
 mod sight;
 mod source;
+mod warnings;
 mod window;
 
+pub use clues::{Clues, Meeting, Member, Start, Turn, first_turn};
 pub use faults::{count_errors, first_line, is_error, push_fault, push_faults, push_summary};
 pub use frame::{digits, push_frame, push_place};
-pub use help::help_of;
 pub use page::{Page, Style};
+pub use sight::help_of;
 pub use source::{Part, Source};
+pub use warnings::{Warning, push_warning, push_warnings};

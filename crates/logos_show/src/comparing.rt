@@ -51,7 +51,7 @@ fn compare_files<'w, O: Write>(
     let part = part_of(source, one);
     match generate(alloc, text_of(source, one), SHAPE) {
         Ok(made) => compare_to(alloc, task, lexed(source, one, &made), other, out),
-        Err(refusal) => Err(refused(alloc, part, task.is_colored, refusal)),
+        Err(refusal) => Err(refused(alloc, part, task.showing, refusal)),
     }
 }
 
@@ -86,6 +86,6 @@ fn compare_to<'w, O: Write>(
             };
             compare_with(alloc, pair, out)
         }
-        Err(refusal) => Err(refused(alloc, part, task.is_colored, refusal)),
+        Err(refusal) => Err(refused(alloc, part, task.showing, refusal)),
     }
 }

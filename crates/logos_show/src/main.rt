@@ -9,7 +9,6 @@ mod reading;
 mod running;
 mod showing;
 mod streaming;
-mod warnings;
 
 use logos_host::{Disk, refuse_words, words};
 use running::{Host, USAGE, run};

@@ -4,14 +4,18 @@ ghost use Rattle.std.specs.Prelude.{IfErr, OnOk};
 ghost use Rattle.std.specs.Io.KnownBytes.{Appends};
 ghost use Rattle.logos_show.specs.Orders.{IsNoMisuse};
 
+use logos_causes::{
+    Explained, Showing, add_warnings, explain, push_warned, text_of as text_of_lines, warning_lines,
+};
 use logos_codegen::Refusal;
-use logos_codegen::error::Memory;
+use logos_codegen::error::{Errors, Memory};
 use logos_codegen::item::{ReadError, read_enum};
 use logos_codegen::token::{Span, TokenError, tokenize};
-use logos_host::{Failure, Files, read_text, write_through};
-use logos_report::{Page, Part, Source, count_errors, push_faults, push_summary};
-use logos_rust_file::FoundEnum;
-use std::alloc::{AllocError, Global};
+use logos_host::{Failure, Files, MessageFormat, read_text, write_through};
+use logos_messages::push_messages;
+use logos_report::{Page, Part, Source, Warning, count_errors, push_faults, push_summary};
+use logos_rust_file::{FoundEnum, enums_in};
+use std::alloc::Global;
 use std::io::Write;
 
 /// Returns all bytes of a file.
@@ -47,25 +51,77 @@ pub(crate) fn text_of<'t>(source: &Source<'t>, found: FoundEnum) -> &'t str {
     slice(source.text(), found.span)
 }
 
-/// Returns the refusal of a part of a file, with the text of its faults.
+/// Returns the refusal of a part of a file, with its faults, and with what is known of them if the
+/// part is an enum.
 pub(crate) fn refused(
     alloc: Global,
     part: Part<'_, '_>,
-    is_colored: bool,
+    showing: Showing,
     refusal: Refusal,
+) -> Failure<'static>
+    ensures { IsNoMisuse result }
+{
+    refused_after(part, showing, refusal, Vec::new(alloc))
+}
+
+/// Returns the refusal of a part of a file, with these warnings, those of the part, and its faults.
+pub(crate) fn refused_after(
+    part: Part<'_, '_>,
+    showing: Showing,
+    refusal: Refusal,
+    warned: Vec<Warning>,
 ) -> Failure<'static>
     ensures { IsNoMisuse result }
 {
     let Refusal::Errors(errors) = refusal else {
         return Failure::Memory;
     };
-    let mut page = Page::new(alloc, is_colored);
-    push_faults(&mut page, part, &errors);
-    push_summary(&mut page, count_errors(&errors));
-    match page.finish() {
+    match refusal_text(part, showing, &errors, warned) {
         Ok(text) => Failure::Refused(text),
-        Err(AllocError) => Failure::Memory,
+        Err(Memory) => Failure::Memory,
     }
+}
+
+/// Returns what is written of faults, after these warnings and those of the part.
+fn refusal_text(
+    part: Part<'_, '_>,
+    showing: Showing,
+    errors: &Errors,
+    warned: Vec<Warning>,
+) -> Result<String, Memory> {
+    let alloc = showing.alloc;
+    let mut all = warned;
+    let Explained { clues, warnings } = explain(alloc, enum_at(alloc, part)?)?;
+    add_warnings(part.offset, warnings, &mut all)?;
+    match showing.format {
+        MessageFormat::Human => {
+            let mut page = Page::new(alloc, showing.is_colored);
+            push_warned(&mut page, part.source, &all);
+            push_faults(&mut page, part, errors, &clues);
+            push_summary(&mut page, count_errors(errors, &clues));
+            Ok(page.finish()?)
+        }
+        MessageFormat::Json => {
+            let mut lines = warning_lines(alloc, part.source, &all)?;
+            push_messages(alloc, &mut lines, part, errors, &clues)?;
+            text_of_lines(lines)
+        }
+    }
+}
+
+/// Returns the text of the enum that begins where a part of a file does, or an empty one.
+fn enum_at<'t>(alloc: Global, part: Part<'_, 't>) -> Result<&'t str, Memory> {
+    let found = match enums_in(alloc, part.source.text()) {
+        Ok(found) => found,
+        Err(Refusal::Memory) => return Err(Memory),
+        Err(_) => return Ok(""),
+    };
+    for one in &found {
+        if one.span.from == part.offset {
+            return Ok(text_of(part.source, *one));
+        }
+    }
+    Ok("")
 }
 
 /// Returns the first of these enums that derives `Logos` and has the name, if one is given.

@@ -13,6 +13,7 @@ use crate::items::{write_item_records, write_items};
 use crate::reading::{chosen, print_bytes, read_bytes, refused, text_at, text_of};
 use crate::showing::{Form, PageStyle, SHAPE, Shown, shown_of};
 use crate::streaming::write_streamed;
+use logos_causes::Showing;
 use logos_codegen::graph::Graph;
 use logos_codegen::{Generated, generate};
 use logos_host::{Failure, Files, report, with_nearest};
@@ -55,6 +56,12 @@ options:
       --compare     print whether the lexers of two files find the same, or a
                     shortest text on which they do not; status 1 if they differ
       --color WHEN  always, never or auto (on a terminal; the default)
+      --deny-warnings
+                    without INPUT: print nothing, with status 1, if there are
+                    warnings
+      --message-format FORMAT
+                    human: faults and warnings as a report (the default)
+                    json: a line of JSON for each
   -h, --help        print this text
   -V, --version     print the version
       --            what follows are FILE and INPUT, even if they begin with `-`
@@ -106,8 +113,8 @@ fn failed<E: Write>(failure: &Failure<'_>, err: &mut E) -> u8
 #[derive(Clone, Copy)]
 pub(crate) struct Task<'w> {
     pub(crate) order: Order<'w>,
-    /// Whether messages have colors.
-    pub(crate) is_colored: bool,
+    /// How messages are shown.
+    pub(crate) showing: Showing,
 }
 
 /// Does what is asked for, and returns whether what was to be compared is the same.
@@ -123,8 +130,13 @@ fn carry_out<'w, F: Files, C: Clock + StandardInput, O: Write, E: Write + IsTerm
         Request::Help => print_bytes(HELP.as_bytes(), out),
         Request::Version => print_bytes(VERSION.as_bytes(), out),
         Request::Show(order) => {
-            let is_colored = order.color.is_on(host.err.is_terminal());
-            let task = Task { order, is_colored };
+            let showing = Showing {
+                alloc,
+                format: order.format,
+                is_colored: order.color.is_on(host.err.is_terminal()),
+                denies: order.denies,
+            };
+            let task = Task { order, showing };
             return answer_or_compare(alloc, task, host, out);
         }
     };
@@ -200,7 +212,7 @@ fn show<'w, F: Files, C: Clock, O: Write, E: Write + IsTerminal>(
         let _ = lexer_in(alloc, task, &source)?;
     }
     let style = PageStyle {
-        is_colored: task.is_colored,
+        showing: task.showing,
         form: form_of(task.order),
     };
     let Shown {
@@ -208,7 +220,7 @@ fn show<'w, F: Files, C: Clock, O: Write, E: Write + IsTerminal>(
         records,
         warnings,
     } = shown_of(alloc, &source, style, task.order.name)?;
-    let _ = host.err.write_all(warnings.as_bytes());
+    let _ = host.err.write_all(&warnings);
     let _ = host.err.flush();
     print_bytes(tables.as_str().as_bytes(), out)?;
     print_bytes(&records, out)
@@ -255,7 +267,7 @@ fn inputs_by_file<'w, O: Write>(
     let part = part_of(source, one);
     match generate(alloc, text_of(source, one), SHAPE) {
         Ok(made) => inputs_by_lexer(alloc, task.order, &made, out),
-        Err(refusal) => Err(refused(alloc, part, task.is_colored, refusal)),
+        Err(refusal) => Err(refused(alloc, part, task.showing, refusal)),
     }
 }
 
@@ -300,7 +312,7 @@ fn lex_stream<'w, F: Files, C: Clock + StandardInput, O: Write, E: Write + IsTer
     let part = part_of(&source, one);
     let lexed = match generate(alloc, text_of(&source, one), SHAPE) {
         Ok(made) => write_streamed(alloc, &made.code, host.clock, out),
-        Err(refusal) => Err(refused(alloc, part, task.is_colored, refusal)),
+        Err(refusal) => Err(refused(alloc, part, task.showing, refusal)),
     };
     print_note(lexed, host.err)
 }
@@ -363,7 +375,7 @@ fn lex_by_file<'w, F: Files, C: Clock, O: Write, E: Write + IsTerminal>(
     let part = part_of(source, one);
     match generate(alloc, text_of(source, one), SHAPE) {
         Ok(made) => lex_by_lexer(alloc, &made, input, host, out),
-        Err(refusal) => Err(refused(alloc, part, task.is_colored, refusal)),
+        Err(refusal) => Err(refused(alloc, part, task.showing, refusal)),
     }
 }
 
@@ -445,7 +457,7 @@ pub(crate) fn lexer_in<'w>(
         Ok(found) => found,
         Err(refusal) => {
             let whole = Part { source, offset: 0 };
-            return Err(refused(alloc, whole, task.is_colored, refusal));
+            return Err(refused(alloc, whole, task.showing, refusal));
         }
     };
     match chosen(alloc, source, &found, task.order.name)? {

@@ -2,9 +2,11 @@
 ghost use Rattle.std.specs.Prelude.{IfErr};
 ghost use Rattle.logos_show.specs.Orders.{IsNoMisuse};
 
-use crate::reading::{has_name, refused, text_of};
-use crate::warnings::{push_unmarked, push_warnings};
+use crate::reading::{has_name, refused, refused_after, text_of};
 use logos_answers::{push_costs, push_examples, push_rows};
+use logos_causes::{
+    Showing, add_lexer, add_missing, add_passed, add_text, denial_text, has_lexer, warning_text,
+};
 use logos_codegen::error::Memory;
 use logos_codegen::generator::Config;
 use logos_codegen::{Generated, generate};
@@ -14,9 +16,10 @@ use logos_lines::LineIndex;
 use logos_records::{
     JsonLines, NamedGraph, push_cost_record, push_example_records, push_leaf_records,
 };
-use logos_report::{Page, Part, Source};
+use logos_report::{Page, Part, Source, Warning};
 use logos_rust_file::{FoundEnum, enums_in};
 use std::alloc::Global;
+use std::mem;
 
 /// The shape of the code whose tables are counted. The other one has as many.
 pub(crate) const SHAPE: Config = Config {
@@ -30,7 +33,8 @@ pub(crate) struct Shown {
     pub(crate) tables: String,
     /// The same as lines of JSON. One of both is empty.
     pub(crate) records: Vec<u8>,
-    pub(crate) warnings: String,
+    /// What is written of its warnings.
+    pub(crate) warnings: Vec<u8>,
 }
 
 /// In which form the lexers of a file are shown.
@@ -45,8 +49,8 @@ pub(crate) enum Form {
 /// How a file is shown.
 #[derive(Clone, Copy)]
 pub(crate) struct PageStyle {
-    /// Whether faults and warnings are shown in colors.
-    pub(crate) is_colored: bool,
+    /// How faults and warnings are shown.
+    pub(crate) showing: Showing,
     pub(crate) form: Form,
 }
 
@@ -55,7 +59,7 @@ pub(crate) struct PageStyle {
 struct Pages {
     tables: Page,
     records: JsonLines,
-    warnings: Page,
+    warned: Vec<Warning>,
     style: PageStyle,
 }
 
@@ -86,23 +90,47 @@ pub(crate) fn shown_of(
     let whole = Part { source, offset: 0 };
     let found = match enums_in(alloc, source.text()) {
         Ok(found) => found,
-        Err(refusal) => return Err(refused(alloc, whole, style.is_colored, refusal)),
+        Err(refusal) => return Err(refused(alloc, whole, style.showing, refusal)),
     };
     let lines = LineIndex::new(alloc, source.text())?;
     let mut pages = Pages {
         tables: Page::new(alloc, false),
         records: JsonLines::new(alloc, Vec::new(alloc)),
-        warnings: Page::new(alloc, style.is_colored),
+        warned: Vec::new(alloc),
         style,
     };
     for one in &found {
         push_named(alloc, &mut pages, enum_in(source, &lines, *one), name)?;
     }
+    add_passed(source.text(), &found, &mut pages.warned)?;
+    add_missing(style.showing, &found, &mut pages.warned)?;
+    shown_by(source, pages, !has_lexer(&found))
+}
+
+/// Returns what is shown of a file with these pages. `is_missing` says whether none of its enums
+/// derives `Logos`.
+fn shown_by(source: &Source<'_>, pages: Pages, is_missing: bool) -> Result<Shown, Failure<'static>>
+    ensures { IfErr result IsNoMisuse }
+{
+    let showing = pages.style.showing;
+    if showing.denies && !pages.warned.is_empty() {
+        return Err(denied(source, showing, &pages.warned));
+    }
     Ok(Shown {
+        warnings: warning_text(source, showing, &pages.warned, is_missing)?,
         tables: pages.tables.finish()?,
         records: pages.records.finish()?,
-        warnings: pages.warnings.finish()?,
     })
+}
+
+/// Returns the refusal of a file whose warnings are denied.
+fn denied(source: &Source<'_>, showing: Showing, warned: &[Warning]) -> Failure<'static>
+    ensures { IsNoMisuse result }
+{
+    match denial_text(source, showing, warned) {
+        Ok(text) => Failure::Refused(text),
+        Err(_) => Failure::Memory,
+    }
 }
 
 /// Returns an enum with its position in a file.
@@ -145,7 +173,7 @@ fn push_enum(
 ) -> Result<(), Failure<'static>>
     ensures { IfErr result IsNoMisuse }
 {
-    push_warnings(alloc, &mut pages.warnings, one)?;
+    add_text(one.text, one.part.offset, one.derives, &mut pages.warned)?;
     if one.derives {
         push_lexer(alloc, pages, one)?;
     }
@@ -162,7 +190,10 @@ fn push_lexer(
 {
     match generate(alloc, one.text, SHAPE) {
         Ok(made) => push_made(alloc, pages, one, &made),
-        Err(refusal) => Err(refused(alloc, one.part, pages.style.is_colored, refusal)),
+        Err(refusal) => {
+            let warned = mem::replace(&mut pages.warned, Vec::new(alloc));
+            Err(refused_after(one.part, pages.style.showing, refusal, warned))
+        }
     }
 }
 
@@ -176,7 +207,7 @@ fn push_made(
     ensures { IfErr result IsNoMisuse }
 {
     push_form(alloc, pages, one, made)?;
-    push_unmarked(alloc, &mut pages.warnings, one.part, &made.graph)?;
+    add_lexer(one.text, one.part.offset, &made.graph, &mut pages.warned)?;
     Ok(())
 }
 

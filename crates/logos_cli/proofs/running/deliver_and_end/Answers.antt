@@ -9,7 +9,7 @@ returns-in-Err-clause-done g c = λ s. absurd ((known_status c.in-Err.failure).1
 
 pub returns-in-Err-clause-denied : goal.returns-in-Err-clause-denied
 returns-in-Err-clause-denied g c =
-    λ s. let t = written_after (λ shown. IsTrue (order_value c.args.order).is_check × IfSome (order_value c.args.order).output (λ path. IsOther g.F.ComparableFiles.compare_finds path c.args.expansion.now.bytes.items c.args.files.now c.deliver.new.files)) c.in-Err.failure _ _ _ _ _ (rw c.deref.ensures.value at c.in-Err.ensures.denied) (sym c.failed_after.ensures.status ∙ s) c.warn-is_warned.ensures c.failed_after.ensures.written in
+    λ s. let t = written_after (λ shown. IsTrue (order_value c.args.order).is_check × IfSome (order_value c.args.order).output (λ path. IsOther g.F.ComparableFiles.compare_finds path c.args.expansion.now.bytes.items c.args.files.now c.deliver.new.files)) c.in-Err.failure _ _ _ _ _ (rw c.deref-2.ensures.value at c.in-Err.ensures.denied) (sym c.failed_after.ensures.status ∙ s) c.warn-is_warned.ensures c.failed_after.ensures.written in
     (t.0, t.1.0, t.1.1, t.2)
 
 pub returns-in-Err-clause-silent : goal.returns-in-Err-clause-silent

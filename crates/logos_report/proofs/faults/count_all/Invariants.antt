@@ -1,8 +1,10 @@
-use Rattle.std.proofs.Common.{◌≡◌, ◌+◌, drop}
-use Rattle.std.specs.List.{count_by}
+use Rattle.std.proofs.Common.{◌≡◌, ◌+◌, ◌≤◌, drop}
 use Rattle.logos_token.specs.FaultView.{faults_of}
-use Rattle.logos_report.specs.Faults.{is_fault_error}
+use Rattle.logos_report.specs.Turns.{errors_after, turn_value}
 use Rattle.logos_report.proofs.faults.count_all.Given as goal
 
 abbrev pub invariant-loop-fault : goal.invariant-loop-fault
-invariant-loop-fault l = l.count + count_by is_fault_error (faults_of (drop l.fault-index l.faults)) ≡ count_by is_fault_error (faults_of l.faults)
+invariant-loop-fault l = record {
+  counted : l.count + errors_after (turn_value l.turn) (faults_of (drop l.fault-index l.faults)) ≡ errors_after (turn_value l.first) (faults_of l.faults);
+  few : l.count ≤ l.fault-index;
+}

@@ -1,0 +1,262 @@
+//! What callbacks lose, and what is probably not meant as one.
+
+use logos_pattern::leaf::{Callback, InlineCallback, Leaf};
+use logos_report::Warning;
+use logos_token::error::Memory;
+use logos_token::token::{Delimiter, Group, Span, TokenError, TokenTree, Tokens, tokenize};
+use logos_token::util::begins_with;
+use std::alloc::Global;
+
+/// Adds the warnings of the callbacks of these leaves of a source.
+pub(crate) fn add_callbacks(
+    alloc: Global,
+    source: &str,
+    leaves: &[Leaf<'_>],
+    warnings: &mut Vec<Warning>,
+) -> Result<(), Memory> {
+    for leaf in leaves {
+        if let Some(callback) = &leaf.callback {
+            add_callback(alloc, source, callback, warnings)?;
+        }
+    }
+    Ok(())
+}
+
+/// Adds the warnings of a callback.
+fn add_callback(
+    alloc: Global,
+    source: &str,
+    callback: &Callback<'_>,
+    warnings: &mut Vec<Warning>,
+) -> Result<(), Memory> {
+    match callback {
+        Callback::Label(label) => add_label(label.run(), warnings),
+        Callback::Inline(closure) => add_closure(alloc, source, closure, warnings),
+    }
+}
+
+/// Adds a warning.
+fn add(
+    span: Span,
+    message: &str,
+    help: &'static str,
+    warnings: &mut Vec<Warning>,
+) -> Result<(), Memory> {
+    warnings.push(Warning {
+        message: String::from_str(*warnings.allocator(), message)?,
+        span,
+        note: None,
+        help: Some(help),
+        also: None,
+    })?;
+    Ok(())
+}
+
+const PATH: &str = "write the path of a function, or a closure with one parameter, as `|lex| ..`";
+
+/// Adds the warning of a callback that is not a closure, if it has one.
+fn add_label(label: Tokens<'_, '_>, warnings: &mut Vec<Warning>) -> Result<(), Memory> {
+    let span = label.span();
+    if names_option(label) {
+        return add(
+            span,
+            "an option without a value is a callback of this name",
+            "write its value, as in `priority = 3` or `ignore(case)`",
+            warnings,
+        );
+    }
+    if !is_path(label) {
+        return add(
+            span,
+            "this callback is neither the path of a function nor a closure",
+            PATH,
+            warnings,
+        );
+    }
+    Ok(())
+}
+
+/// Returns whether a run is the name of an option alone.
+fn names_option(label: Tokens<'_, '_>) -> bool {
+    match label.first() {
+        Some(TokenTree::Ident(name)) => label.rest().is_empty() & is_option(name.text),
+        _ => false,
+    }
+}
+
+/// Returns whether a name is that of an option of a pattern, or looks like one.
+fn is_option(name: &str) -> bool {
+    let is_argument = (name == "priority") | (name == "callback") | (name == "allow_greedy");
+    is_argument | (name == "ignore") | (name == "ignore_case") | (name == "ignore_ascii_case")
+}
+
+/// Returns whether all of a run can be the path of a function.
+fn is_path(label: Tokens<'_, '_>) -> bool {
+    let mut rest = label;
+    while let Some(tree) = rest.first() {
+        if !is_path_part(tree) {
+            return false;
+        }
+        rest = rest.rest();
+    }
+    begins_path(label)
+}
+
+/// Returns whether a run begins as a path does.
+fn begins_path(label: Tokens<'_, '_>) -> bool {
+    match label.first() {
+        Some(TokenTree::Ident(name)) => name.text != "move",
+        Some(TokenTree::Punct(_)) => begins_with(':', label) | begins_with('<', label),
+        _ => false,
+    }
+}
+
+/// Returns whether a token can be a part of the path of a function, also of types in it.
+fn is_path_part(tree: TokenTree<'_, '_>) -> bool {
+    match tree {
+        TokenTree::Ident(_) => true,
+        TokenTree::Punct(punct) => matches!(punct.character, ':' | '<' | '>' | ',' | '&' | '\''),
+        TokenTree::Group(group) => group.delimiter != Delimiter::Brace,
+        _ => false,
+    }
+}
+
+/// Adds the warnings of a closure.
+fn add_closure(
+    alloc: Global,
+    source: &str,
+    closure: &InlineCallback<'_>,
+    warnings: &mut Vec<Warning>,
+) -> Result<(), Memory> {
+    add_escapes(closure.body.run(), warnings)?;
+    let span = closure.span;
+    let Some(text) = source.get(span.from..span.to) else {
+        return Ok(());
+    };
+    match tokenize(alloc, text) {
+        Ok(stream) => add_body(span.from, after_bars(stream.run()), warnings),
+        Err(TokenError::Memory) => Err(Memory),
+        Err(_) => Ok(()),
+    }
+}
+
+/// Returns what follows the parameter of a closure and the bars around it.
+fn after_bars<'t, 's>(closure: Tokens<'t, 's>) -> Tokens<'t, 's> {
+    closure.rest().rest().rest()
+}
+
+/// Adds the warnings of the body of a closure, whose text begins in the source at an offset.
+fn add_body(
+    offset: usize,
+    body: Tokens<'_, '_>,
+    warnings: &mut Vec<Warning>,
+) -> Result<(), Memory> {
+    match body.first() {
+        Some(TokenTree::Group(group)) => { add_group(offset, group, body.rest(), warnings) }
+        Some(TokenTree::Punct(_)) => add_type(offset, body, warnings),
+        _ => Ok(()),
+    }
+}
+
+const BRACES: &str = "put all of the body in braces";
+
+/// Adds the warning of a body that begins with a group, if more follows or its brackets matter.
+fn add_group(
+    offset: usize,
+    group: Group<'_, '_>,
+    rest: Tokens<'_, '_>,
+    warnings: &mut Vec<Warning>,
+) -> Result<(), Memory> {
+    if !rest.is_empty() {
+        return add(
+            moved(rest.span(), offset),
+            "the body of this closure ends before this, which is dropped",
+            BRACES,
+            warnings,
+        );
+    }
+    if loses_brackets(group.delimiter, group.run()) {
+        return add(
+            moved(group.span, offset),
+            "the body of this closure loses its outer brackets",
+            BRACES,
+            warnings,
+        );
+    }
+    Ok(())
+}
+
+/// Returns whether a body means something else without the brackets around it.
+fn loses_brackets(delimiter: Delimiter, inside: Tokens<'_, '_>) -> bool {
+    match delimiter {
+        Delimiter::Bracket => true,
+        Delimiter::Parenthesis => inside.is_empty() | has_comma(inside),
+        _ => false,
+    }
+}
+
+/// Returns whether a comma stands in a run, outside of its groups.
+fn has_comma(run: Tokens<'_, '_>) -> bool {
+    let mut rest = run;
+    while !rest.is_empty() {
+        if begins_with(',', rest) {
+            return true;
+        }
+        rest = rest.rest();
+    }
+    false
+}
+
+/// Adds the warning of a body that begins with the type of its value.
+fn add_type(
+    offset: usize,
+    body: Tokens<'_, '_>,
+    warnings: &mut Vec<Warning>,
+) -> Result<(), Memory> {
+    if begins_with('-', body) && begins_with('>', body.rest()) {
+        return add(
+            moved(body.span(), offset),
+            "the type in front of the body of this closure becomes a part of the body",
+            "leave the type out, or write a function and name it",
+            warnings,
+        );
+    }
+    Ok(())
+}
+
+/// Adds a warning for each token of a body that leaves more than the closure.
+fn add_escapes(body: Tokens<'_, '_>, warnings: &mut Vec<Warning>) -> Result<(), Memory> {
+    let mut rest = body;
+    while let Some(tree) = rest.first() {
+        add_escape(tree, warnings)?;
+        rest = rest.rest();
+    }
+    Ok(())
+}
+
+/// Adds a warning for a token of a body, if it leaves more than the closure.
+fn add_escape(tree: TokenTree<'_, '_>, warnings: &mut Vec<Warning>) -> Result<(), Memory> {
+    match tree {
+        TokenTree::Ident(name) if name.text == "return" => add(
+            name.span,
+            "`return` leaves the function into which this closure is written, not the closure",
+            "write a function and name it, as in `callback = parse`",
+            warnings,
+        ),
+        TokenTree::Punct(punct) if punct.character == '?' => add(
+            punct.span,
+            "`?` leaves the function into which this closure is written, not the closure",
+            "write a function and name it, as in `callback = parse`",
+            warnings,
+        ),
+        _ => Ok(()),
+    }
+}
+
+/// Returns a span that counts from an offset as one of the source.
+fn moved(span: Span, offset: usize) -> Span {
+    Span {
+        from: span.from.saturating_add(offset),
+        to: span.to.saturating_add(offset),
+    }
+}

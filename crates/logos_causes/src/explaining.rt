@@ -1,0 +1,81 @@
+//! What is known of a source that is refused, and what warnings a lexer has.
+
+use crate::callbacks::add_callbacks;
+use crate::hidden::add_hidden;
+use crate::meetings::meetings_of;
+use crate::starts::starts_of;
+use logos_graph::graph::{BuildError, Config, Graph};
+use logos_parser::analysis::{Analysis, analyze};
+use logos_parser::refusal::Refusal;
+use logos_report::{Clues, Warning};
+use logos_token::error::Memory;
+use std::alloc::{AllocError, Global};
+use std::mem;
+
+/// What is known of a source that is refused.
+#[derive(Debug, Drop)]
+pub struct Explained {
+    /// What is known of the faults of its graph.
+    pub clues: Clues,
+    /// Its warnings.
+    pub warnings: Vec<Warning>,
+}
+
+/// Returns what is known of a source that is refused, beyond its faults. Nothing is known of one
+/// that cannot be read.
+///
+/// # Errors
+///
+/// Returns `Memory` if memory runs out.
+pub fn explain(alloc: Global, source: &str) -> Result<Explained, Memory> {
+    match analyze(alloc, source) {
+        Ok(analysis) => explain_analysis(alloc, source, analysis),
+        Err(Refusal::Errors(_)) => Ok(Explained {
+            clues: Clues::none(alloc),
+            warnings: Vec::new(alloc),
+        }),
+        Err(Refusal::Memory) => Err(Memory),
+    }
+}
+
+/// Returns what is known of a source with this analysis.
+fn explain_analysis(
+    alloc: Global,
+    source: &str,
+    analysis: Analysis<'_>,
+) -> Result<Explained, Memory> {
+    let utf8_mode = analysis.parser.is_utf8();
+    let mut warnings = Vec::new(alloc);
+    add_callbacks(alloc, source, &analysis.leaves, &mut warnings)?;
+    let clues = match Graph::new(alloc, analysis.leaves, Config { utf8_mode }) {
+        Ok(graph) => clues_of(alloc, &graph)?,
+        Err(BuildError::Memory) => return Err(Memory),
+        Err(_) => Clues::none(alloc),
+    };
+    Ok(Explained { clues, warnings })
+}
+
+/// Returns what is known of the faults of a graph.
+fn clues_of(alloc: Global, graph: &Graph<'_>) -> Result<Clues, AllocError> {
+    Ok(Clues {
+        meetings: meetings_of(alloc, graph)?,
+        starts: starts_of(alloc, graph.leaves())?,
+    })
+}
+
+/// Returns the warnings of a lexer without faults: those of its callbacks, and those of leaves that
+/// are never found. `source` is the text of its enum.
+///
+/// # Errors
+///
+/// Returns `Memory` if memory runs out.
+pub fn lexer_warnings(
+    alloc: Global,
+    source: &str,
+    graph: &Graph<'_>,
+) -> Result<Vec<Warning>, Memory> {
+    let mut warnings = Vec::new(alloc);
+    add_callbacks(alloc, source, graph.leaves(), &mut warnings)?;
+    add_hidden(alloc, graph, &mut warnings)?;
+    Ok(warnings)
+}

@@ -1,0 +1,117 @@
+//! Leaves that are never found, with what hides them.
+
+use crate::names::{name_of, text_with};
+use crate::quoting::push_quoted;
+use logos_evidence::{loses, matches_from, winner};
+use logos_graph::graph::Graph;
+use logos_inspect::marked_leaves;
+use logos_pattern::leaf::Leaf;
+use logos_report::{Page, Warning};
+use std::alloc::{AllocError, Global};
+
+/// For how many leaves what hides them is searched.
+const SEARCHED: usize = 10;
+
+/// Adds a warning for each leaf of a graph that is never found.
+pub(crate) fn add_hidden(
+    alloc: Global,
+    graph: &Graph<'_>,
+    warnings: &mut Vec<Warning>,
+) -> Result<(), AllocError> {
+    let marked = marked_leaves(alloc, graph)?;
+    let mut count: usize = 0;
+    for number in 0..graph.leaves().len() {
+        if marked.get(number) == Some(&false) {
+            add_leaf(graph, number, count < SEARCHED, warnings)?;
+            count = count.saturating_add(1);
+        }
+    }
+    Ok(())
+}
+
+/// Adds the warning of a leaf that is never found.
+fn add_leaf(
+    graph: &Graph<'_>,
+    number: usize,
+    is_searched: bool,
+    warnings: &mut Vec<Warning>,
+) -> Result<(), AllocError> {
+    let alloc = *warnings.allocator();
+    let Some(leaf) = graph.leaves().get(number) else {
+        return Ok(());
+    };
+    let mut warning = warning_of(alloc, leaf)?;
+    if is_searched {
+        explain(alloc, graph, number, &mut warning)?;
+    }
+    warnings.push(warning)?;
+    Ok(())
+}
+
+/// Returns the warning of a leaf that is never found.
+fn warning_of(alloc: Global, leaf: &Leaf<'_>) -> Result<Warning, AllocError> {
+    Ok(Warning {
+        message: text_with(
+            alloc,
+            "this pattern of `",
+            leaf,
+            "` is never found: where it matches, others match more or have a higher priority",
+        )?,
+        span: leaf.span,
+        note: None,
+        help: None,
+        also: None,
+    })
+}
+
+/// Adds to the warning of a leaf which leaf is found in its place, if there is one.
+fn explain(
+    alloc: Global,
+    graph: &Graph<'_>,
+    number: usize,
+    warning: &mut Warning,
+) -> Result<(), AllocError> {
+    let Some(bytes) = loses(alloc, graph, number)? else {
+        return Ok(());
+    };
+    let matches = matches_from(alloc, graph, &bytes, 0)?;
+    let Some(taken) = winner(&matches) else {
+        return Ok(());
+    };
+    let Some(other) = graph.leaves().get(taken.leaf) else {
+        return Ok(());
+    };
+    let is_same = has_pattern(graph.leaves(), number, other.pattern.source());
+    warning.note = Some(note_of(alloc, &bytes, other, is_same)?);
+    warning.also = Some(other.span);
+    Ok(())
+}
+
+/// Returns whether the leaf with a number has a pattern that is written like this.
+fn has_pattern(leaves: &[Leaf<'_>], number: usize, pattern: &str) -> bool {
+    match leaves.get(number) {
+        Some(leaf) => leaf.pattern.source() == pattern,
+        None => false,
+    }
+}
+
+/// Returns which leaf is found in the place of another one, on what text, and whether their
+/// patterns are the same.
+fn note_of(
+    alloc: Global,
+    bytes: &[u8],
+    other: &Leaf<'_>,
+    is_same: bool,
+) -> Result<String, AllocError> {
+    let mut page = Page::new(alloc, false);
+    page.push("on ");
+    push_quoted(&mut page, bytes);
+    page.push(" `");
+    page.push(name_of(other));
+    page.push("` is found, with priority ");
+    page.push_number(other.priority);
+    if is_same {
+        page.push(": its pattern is the same");
+    }
+    page.finish()
+}

@@ -1,0 +1,19 @@
+//! Why a lexer has faults of its graph, and what of it is probably a mistake: where ambiguous
+//! leaves meet, which patterns look first, which leaves are never found, and what callbacks lose.
+
+#![tactic(auto)]
+
+mod callbacks;
+mod explaining;
+mod hidden;
+mod meetings;
+mod names;
+mod quoting;
+mod starts;
+mod warned;
+
+pub use explaining::{Explained, explain, lexer_warnings};
+pub use warned::{
+    Showing, add_lexer, add_missing, add_passed, add_text, add_warnings, denial_text, has_lexer,
+    push_warned, text_of, warning_lines, warning_text,
+};

@@ -1,0 +1,213 @@
+//! What is known of the sets of ambiguous leaves of a graph.
+
+ghost use Rattle.std.specs.Prelude.{◌≤◌, IsTrue, length};
+ghost use Rattle.std.specs.List.Sorted.{IsStrictlyIncreasing};
+
+use crate::names::name_of;
+use crate::quoting::push_quoted;
+use logos_evidence::{Match, matches_from, meeting};
+use logos_graph::graph::{Graph, GraphError};
+use logos_hir::leaf::LeafId;
+use logos_pattern::leaf::Leaf;
+use logos_report::{Meeting, Page};
+use std::alloc::{AllocError, Global};
+
+/// For how many sets the text on which they meet is searched.
+const SEARCHED: usize = 10;
+
+/// Returns what is known of each set of ambiguous leaves of a graph, in order.
+pub(crate) fn meetings_of(alloc: Global, graph: &Graph<'_>) -> Result<Vec<Meeting>, AllocError> {
+    let mut meetings = Vec::new(alloc);
+    for fault in graph.errors() {
+        add_fault(alloc, graph, fault, &mut meetings)?;
+    }
+    Ok(meetings)
+}
+
+/// Adds what is known of a set of ambiguous leaves, if this is one.
+fn add_fault(
+    alloc: Global,
+    graph: &Graph<'_>,
+    fault: &GraphError,
+    meetings: &mut Vec<Meeting>,
+) -> Result<(), AllocError> {
+    if let GraphError::Disambiguation(leaves) = fault {
+        let set = numbers_of(alloc, leaves)?;
+        let is_searched = meetings.len() < SEARCHED;
+        meetings.push(meeting_of(alloc, graph, &set, is_searched)?)?;
+    }
+    Ok(())
+}
+
+/// Returns the numbers of leaves.
+fn numbers_of(alloc: Global, leaves: &[LeafId]) -> Result<Vec<usize>, AllocError> {
+    let mut set = Vec::new(alloc);
+    for leaf in leaves {
+        set.push(leaf.0)?;
+    }
+    Ok(set)
+}
+
+/// Returns what is known of a set of ambiguous leaves.
+fn meeting_of(
+    alloc: Global,
+    graph: &Graph<'_>,
+    set: &[usize],
+    is_searched: bool,
+) -> Result<Meeting, AllocError> {
+    Ok(Meeting {
+        names: names_of(alloc, graph.leaves(), set)?,
+        note: note_of(alloc, graph, set, is_searched)?,
+    })
+}
+
+/// Returns the names of these leaves.
+fn names_of(alloc: Global, leaves: &[Leaf<'_>], set: &[usize]) -> Result<Vec<String>, AllocError> {
+    let mut names = Vec::new(alloc);
+    for number in set {
+        names.push(name_at(alloc, leaves, *number)?)?;
+    }
+    Ok(names)
+}
+
+/// Returns the name of the leaf with a number.
+fn name_at(alloc: Global, leaves: &[Leaf<'_>], number: usize) -> Result<String, AllocError> {
+    let name = match leaves.get(number) {
+        Some(leaf) => name_of(leaf),
+        None => "",
+    };
+    String::from_str(alloc, name)
+}
+
+/// Returns on what text the leaves of a set meet, and which priority would decide.
+fn note_of(
+    alloc: Global,
+    graph: &Graph<'_>,
+    set: &[usize],
+    is_searched: bool,
+) -> Result<String, AllocError> {
+    let mut page = Page::new(alloc, false);
+    page.push(if set.len() == 2 {
+        "both match "
+    } else {
+        "all match "
+    });
+    if is_searched {
+        push_text(alloc, &mut page, graph, set)?;
+    } else {
+        page.push("a same text");
+    }
+    push_priority(&mut page, priority_of(graph.leaves(), set));
+    page.finish()
+}
+
+/// Returns the priority of a set of ambiguous leaves.
+fn priority_of(leaves: &[Leaf<'_>], set: &[usize]) -> usize {
+    let Some(first) = set.first() else {
+        return 0;
+    };
+    match leaves.get(*first) {
+        Some(leaf) => leaf.priority,
+        None => 0,
+    }
+}
+
+/// Pushes the priority of a set, and the least one that would decide.
+fn push_priority(page: &mut Page, priority: usize) {
+    page.push(" with priority ");
+    page.push_number(priority);
+    page.push(", so ");
+    page.push_number(priority.saturating_add(1));
+    page.push(" would decide");
+}
+
+/// Pushes a shortest text on which exactly the leaves of a set meet.
+fn push_text(
+    alloc: Global,
+    page: &mut Page,
+    graph: &Graph<'_>,
+    set: &[usize],
+) -> Result<(), AllocError> {
+    match text_of(alloc, graph, set)? {
+        Some(bytes) => {
+            let matches = matches_from(alloc, graph, &bytes, 0)?;
+            push_found(page, &bytes, end_of(&matches, set).min(bytes.len()));
+            Ok(())
+        }
+        None => {
+            page.push("a same text");
+            Ok(())
+        }
+    }
+}
+
+/// Returns a shortest input that begins with a text on which exactly the leaves of a set meet.
+fn text_of(alloc: Global, graph: &Graph<'_>, set: &[usize]) -> Result<Option<Vec<u8>>, AllocError> {
+    if set.is_empty() {
+        return Ok(None);
+    }
+    if !ascends(set) {
+        return Ok(None);
+    }
+    let found = meeting(alloc, graph, set)?;
+    Ok(found)
+}
+
+/// Returns whether each of these numbers is below the next one.
+fn ascends(set: &[usize]) -> bool
+    ensures { IsTrue result → IsStrictlyIncreasing set.now }
+{
+    let mut at: usize = 1;
+    while at < set.len() {
+        if set[at - 1] >= set[at] {
+            return false;
+        }
+        at += 1;
+    }
+    true
+}
+
+/// Pushes the text on which leaves meet, which is the beginning of an input up to an end, and what
+/// follows it there, if something has to.
+fn push_found(page: &mut Page, input: &[u8], end: usize)
+    requires { end ≤ length input.now }
+{
+    push_quoted(page, &input[..end]);
+    if end < input.len() {
+        page.push(" in front of ");
+        push_quoted(page, &input[end..]);
+    }
+}
+
+/// Returns where a match of exactly these leaves ends, or the largest number.
+fn end_of(matches: &[Match], set: &[usize]) -> usize {
+    for one in matches {
+        if is_first(*one, set) && is_met(matches, *one, set) {
+            return one.end;
+        }
+    }
+    usize::MAX
+}
+
+/// Returns whether a match is one of the first leaf of a set.
+fn is_first(one: Match, set: &[usize]) -> bool {
+    match set.first() {
+        Some(leaf) => one.leaf == *leaf,
+        None => false,
+    }
+}
+
+/// Returns whether as many leaves as a set has match up to the end of a match with no lower
+/// priority, all of them of the set.
+fn is_met(matches: &[Match], one: Match, set: &[usize]) -> bool {
+    let mut count: usize = 0;
+    for other in matches {
+        if (other.end == one.end) & (other.priority >= one.priority) {
+            if !set.contains(&other.leaf) {
+                return false;
+            }
+            count = count.saturating_add(1);
+        }
+    }
+    count == set.len()
+}

@@ -1,0 +1,28 @@
+//! The names of leaves in messages.
+
+use logos_pattern::leaf::{Leaf, VariantKind};
+use logos_report::Page;
+use std::alloc::{AllocError, Global};
+
+/// Returns the name of the variant of a leaf, or `skip`.
+pub(crate) fn name_of<'l>(leaf: &'l Leaf<'_>) -> &'l str {
+    match &leaf.kind {
+        VariantKind::Unit(name) => name.text,
+        VariantKind::Value(name, _) => name.text,
+        VariantKind::Skip => "skip",
+    }
+}
+
+/// Returns a text with the name of a leaf between two others.
+pub(crate) fn text_with(
+    alloc: Global,
+    front: &str,
+    leaf: &Leaf<'_>,
+    back: &str,
+) -> Result<String, AllocError> {
+    let mut page = Page::new(alloc, false);
+    page.push(front);
+    page.push(name_of(leaf));
+    page.push(back);
+    page.finish()
+}

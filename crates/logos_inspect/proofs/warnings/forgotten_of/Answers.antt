@@ -1,9 +1,0 @@
-use Rattle.logos_inspect.proofs.WarningLemmas.{one_more}
-use Rattle.logos_inspect.proofs.warnings.forgotten_of.Goals as goal
-
-pub returns : goal.returns
-returns c = record {
-  names = _;
-  of_names = c.in_ok-warnings.ensures;
-  are = one_more _ c.push.new.self.items _ c.in_ok-push.ensures.items;
-}

@@ -1,0 +1,28 @@
+-- The warnings of a part of a file, one after another.
+use Rattle.std.proofs.Common.{◌≡◌, Bool, ◌≤◌, ◌<◌, ◌+◌, ℕ, suc, List, [], ◌∷◌, ◌++◌, length, get_or, drop, sym, ap, ◌∙◌, arith, subst}
+use Rattle.std.proofs.Math.Seq.{drop-cons}
+use Rattle.std.proofs.Math.ListN.{drop_of_length-le}
+use Rattle.logos_report.specs.declared.warnings.Warning.{Warning}
+use Rattle.logos_report.specs.Pages.{PageValue, Shows}
+use Rattle.logos_report.specs.Places.{SourceValue}
+use Rattle.logos_report.specs.Warnings.{all_texts, warning_texts}
+use Rattle.logos_report.proofs.PageLemmas.{shows_nothing, shows_then}
+
+-- the next warning, and those after it
+pub next_warning : (warnings : List Warning) (i : ℕ) (d : Warning) → i < length warnings → drop i warnings ≡ get_or warnings i d ∷ drop (i + 1) warnings
+next_warning warnings i d l =
+    let k : suc i ≡ i + 1 = omega arith in
+    drop-cons warnings i d l ∙ ap (λ n. get_or warnings i d ∷ drop n warnings) k
+
+-- what is shown of the next warning, and of those after it
+pub next_warned : (is_colored : Bool) (source : SourceValue) (begin : ℕ) (warnings : List Warning) (i : ℕ) (d : Warning) (old middle new : PageValue) → i < length warnings → d ≡ get_or warnings i d →
+    Shows (warning_texts is_colored source begin d) old middle → Shows (all_texts is_colored source begin (drop (i + 1) warnings)) middle new → Shows (all_texts is_colored source begin (drop i warnings)) old new
+next_warned is_colored source begin warnings i d old middle new l same s t =
+    let one = subst (λ x. Shows (warning_texts is_colored source begin x) old middle) same s in
+    subst (λ list. Shows (all_texts is_colored source begin list) old new) (sym (next_warning warnings i d l)) (shows_then one t)
+
+-- no warning is left
+pub none_warned : (is_colored : Bool) (source : SourceValue) (begin : ℕ) (warnings : List Warning) (i : ℕ) (page : PageValue) → length warnings ≤ i →
+    Shows (all_texts is_colored source begin (drop i warnings)) page page
+none_warned is_colored source begin warnings i page l =
+    subst (λ list. Shows (all_texts is_colored source begin list) page page) (sym (drop_of_length-le warnings l)) (shows_nothing page)

@@ -1,0 +1,169 @@
+//! What is known of faults of a graph beyond what they say. Who builds the graph finds it.
+
+ghost use Rattle.std.specs.Prelude.{◌≡◌, [], MatchOption, false, nat_lt};
+ghost use Rattle.logos_token.specs.FaultView.{fault_of};
+ghost use Rattle.logos_report.specs.Codes.{is_ambiguity};
+ghost use Rattle.logos_report.specs.Turns.{follows, sizes_of, stepped, turn_after, turn_value};
+
+use logos_token::error::{FaultCode, SpannedError};
+use logos_token::token::Span;
+use std::alloc::Global;
+
+/// What is known of the faults of a graph beyond what they say.
+#[derive(Debug, Drop)]
+pub struct Clues {
+    /// What is known of each set of ambiguous leaves, in the order of their faults.
+    pub meetings: Vec<Meeting>,
+    /// The patterns that can look at what stands before their first byte.
+    pub starts: Vec<Start>,
+}
+
+/// What is known of a set of ambiguous leaves.
+#[derive(Debug, Drop)]
+pub struct Meeting {
+    /// The names of the leaves, in the order of their faults.
+    pub names: Vec<String>,
+    /// On what text they meet, and which priority would decide.
+    pub note: String,
+}
+
+/// A pattern that can look at what stands before its first byte.
+#[derive(Debug, Drop)]
+pub struct Start {
+    /// The name of its leaf.
+    pub name: String,
+    /// The span of its literal.
+    pub span: Span,
+}
+
+impl Clues {
+    /// Returns that nothing is known.
+    pub fn none(alloc: Global) -> Clues
+        ensures { sizes_of result ≡ [] }
+    {
+        Clues {
+            meetings: Vec::new(alloc),
+            starts: Vec::new(alloc),
+        }
+    }
+}
+
+/// Which faults come next: how many of those of sets of ambiguous leaves are passed.
+#[derive(Clone, Copy)]
+pub struct Turn<'c> {
+    /// The sets of which not all faults are passed.
+    meetings: &'c [Meeting],
+    /// How many faults of the first of them are passed.
+    passed: usize,
+    /// The patterns that can look at what stands before their first byte.
+    starts: &'c [Start],
+}
+
+/// A fault of a set of ambiguous leaves.
+#[derive(Clone, Copy)]
+pub struct Member<'c> {
+    pub meeting: &'c Meeting,
+    /// How many faults of the set stand in front of it.
+    pub number: usize,
+}
+
+/// Returns that no fault is passed.
+pub fn first_turn(clues: &Clues) -> Turn<'_>
+    ensures { turn_value result ≡ record { sizes = sizes_of clues.now; passed = 0 } }
+{
+    Turn {
+        meetings: &clues.meetings,
+        passed: 0,
+        starts: &clues.starts,
+    }
+}
+
+/// Returns whether a fault with this code is one of a set of ambiguous leaves.
+fn is_ambiguity(code: FaultCode) -> bool
+    ensures { result ≡ is_ambiguity code }
+{
+    matches!(code, FaultCode::Disambiguation)
+}
+
+/// Returns what comes next after a fault of a set of ambiguous leaves.
+fn stepped(turn: Turn<'_>) -> Turn<'_>
+    ensures { turn_value result ≡ stepped (turn_value turn.entry) (turn_value turn.entry).sizes }
+{
+    let [meeting, rest @ ..] = turn.meetings else {
+        return turn;
+    };
+    if turn.passed < meeting.names.len().saturating_sub(1) {
+        return Turn {
+            passed: turn.passed + 1,
+            ..turn
+        };
+    }
+    Turn {
+        meetings: rest,
+        passed: 0,
+        ..turn
+    }
+}
+
+impl<'c> Turn<'c> {
+    /// Returns what comes next after a fault.
+    pub fn after(self, fault: &SpannedError) -> Turn<'c>
+        ensures { turn_value result ≡ turn_after (turn_value self.entry) (fault_of fault.now) }
+    {
+        if is_ambiguity(fault.code) {
+            stepped(self)
+        } else {
+            self
+        }
+    }
+
+    /// Returns the member of a set of ambiguous leaves that a fault which comes next is, if something
+    /// is known of the set.
+    pub fn member(self, fault: &SpannedError) -> Option<Member<'c>>
+        ensures { MatchOption result (follows (turn_value self.entry) (fault_of fault.now) ≡ false)
+            (λ member. follows (turn_value self.entry) (fault_of fault.now)
+            ≡ nat_lt 0 member.number) }
+    {
+        match self.meetings {
+            [meeting, ..] if is_ambiguity(fault.code) => Some(Member {
+                meeting,
+                number: self.passed,
+            }),
+            _ => None,
+        }
+    }
+
+    /// Returns whether a fault that comes next belongs to the report of an earlier one.
+    pub(crate) fn follows(self, fault: &SpannedError) -> bool
+        ensures { result ≡ follows (turn_value self.entry) (fault_of fault.now) }
+    {
+        match self.member(fault) {
+            Some(member) => member.number > 0,
+            None => false,
+        }
+    }
+
+    /// Returns the patterns that explain a fault with this code: those that can look at what stands
+    /// before their first byte.
+    pub fn starts(self, code: FaultCode) -> &'c [Start] {
+        match code {
+            FaultCode::NoUniversalStart => self.starts,
+            _ => &[],
+        }
+    }
+}
+
+impl Member<'_> {
+    /// Returns the name of its leaf.
+    pub(crate) fn name(&self) -> &str {
+        match self.meeting.names.get(self.number) {
+            Some(name) => name.as_str(),
+            None => "",
+        }
+    }
+
+    /// Returns whether no fault of the set follows it.
+    pub(crate) fn is_last(&self) -> bool {
+        self.number >= self.meeting.names.len().saturating_sub(1)
+    }
+}

@@ -1,0 +1,163 @@
+//! Faults of a graph: one report for each set of ambiguous leaves, and the patterns that can look at
+//! what stands before their first byte.
+
+ghost use Rattle.std.specs.Prelude.{◌∷◌, [], nat_lt, if◌then◌else◌};
+ghost use Rattle.logos_token.specs.FaultView.{fault_of};
+ghost use Rattle.logos_report.specs.Faults.{fault_texts, listed_texts};
+ghost use Rattle.logos_report.specs.Pages.{Shows};
+ghost use Rattle.logos_report.specs.Places.{place_line};
+ghost use Rattle.logos_report.specs.Turns.{turn_value};
+
+use crate::clues::{Meeting, Member, Start, Turn};
+use crate::faults::{push_fault, push_head, push_marked};
+use crate::frame::{Marks, push_frame_with, push_offset};
+use crate::notes::{Shown, push_help, push_note, push_notes};
+use crate::page::{Page, Style};
+use crate::source::Part;
+use logos_token::error::SpannedError;
+
+/// How many patterns are shown under a fault.
+const MOST: usize = 50;
+
+/// Pushes a fault that comes next, which is one of `faults`.
+pub(crate) fn push_listed(
+    page: &mut Page,
+    part: Part<'_, '_>,
+    faults: &[SpannedError],
+    fault: &SpannedError,
+    turn: Turn<'_>,
+)
+    ensures { Shows (listed_texts page.old.is_colored part.entry.source.now part.entry.offset
+        (turn_value turn.entry) (fault_of fault.now)) page.old page.new }
+{
+    match turn.member(fault) {
+        Some(member) => push_member(page, part, fault, member),
+        None => push_single(page, part, faults, fault, turn.starts(fault.code)),
+    }
+}
+
+/// Pushes a fault of a set of ambiguous leaves, and what is known of the set after the last one.
+fn push_member(page: &mut Page, part: Part<'_, '_>, fault: &SpannedError, member: Member<'_>)
+    ensures { Shows (if nat_lt 0 member.entry.number
+        then place_line page.old.is_colored part.entry.source.now part.entry.offset
+        fault.now.span.from ∷ []
+        else fault_texts page.old.is_colored part.entry.source.now part.entry.offset
+        (fault_of fault.now)) page.old page.new }
+{
+    let width = push_place_of(page, part, fault, member);
+    let shown = Shown {
+        part,
+        faults: &[],
+        fault,
+        width,
+    };
+    push_end(page, shown, member);
+}
+
+/// Pushes the place of a fault of a set of ambiguous leaves, and in front of the first one the line
+/// of the report. Returns how wide the column of line numbers is.
+fn push_place_of(
+    page: &mut Page,
+    part: Part<'_, '_>,
+    fault: &SpannedError,
+    member: Member<'_>,
+) -> usize
+    ensures { Shows (if nat_lt 0 member.entry.number
+        then place_line page.old.is_colored part.entry.source.now part.entry.offset
+        fault.now.span.from ∷ []
+        else fault_texts page.old.is_colored part.entry.source.now part.entry.offset
+        (fault_of fault.now)) page.old page.new }
+{
+    if member.number > 0 {
+        push_marked(page, part, fault, member.name())
+    } else {
+        push_begin(page, part, fault, member.name())
+    }
+}
+
+/// Pushes the line of a report and the place of its fault, with a label. Returns how wide the column
+/// of line numbers is.
+fn push_begin(page: &mut Page, part: Part<'_, '_>, fault: &SpannedError, label: &str) -> usize
+    ensures { Shows (fault_texts page.old.is_colored part.entry.source.now part.entry.offset
+        (fault_of fault.now)) page.old page.new }
+{
+    push_head(page, fault);
+    push_marked(page, part, fault, label)
+}
+
+/// Pushes what is known of a set of ambiguous leaves, if this is the last of its faults.
+fn push_end(page: &mut Page, shown: Shown<'_, '_, '_>, member: Member<'_>)
+    ensures { Shows [] page.old page.new }
+{
+    if member.is_last() {
+        push_meeting(page, shown, member.meeting);
+    }
+}
+
+/// Pushes on what text leaves meet and what to do, and an empty line.
+fn push_meeting(page: &mut Page, shown: Shown<'_, '_, '_>, meeting: &Meeting)
+    ensures { Shows [] page.old page.new }
+{
+    push_note(page, shown.width, "note", meeting.note.as_str());
+    page.push("\n");
+    push_help(page, shown);
+    page.push("\n");
+}
+
+/// Pushes a fault that is none of a known set, with the patterns that explain it.
+fn push_single(
+    page: &mut Page,
+    part: Part<'_, '_>,
+    faults: &[SpannedError],
+    fault: &SpannedError,
+    starts: &[Start],
+)
+    ensures { Shows (fault_texts page.old.is_colored part.entry.source.now part.entry.offset
+        (fault_of fault.now)) page.old page.new }
+{
+    if starts.is_empty() {
+        push_fault(page, part, faults, fault);
+    } else {
+        push_explained(page, part, fault, starts);
+    }
+}
+
+/// Pushes a fault of a whole enum, with the patterns that explain it in place of all its lines.
+fn push_explained(page: &mut Page, part: Part<'_, '_>, fault: &SpannedError, starts: &[Start])
+    ensures { Shows (fault_texts page.old.is_colored part.entry.source.now part.entry.offset
+        (fault_of fault.now)) page.old page.new }
+{
+    push_head(page, fault);
+    push_offset(page, part, fault.span.from, 1);
+    push_starts(page, part, &starts[..starts.len().min(MOST)]);
+    push_notes(
+        page,
+        Shown {
+            part,
+            faults: &[],
+            fault,
+            width: 1,
+        },
+    );
+}
+
+/// Pushes these patterns.
+fn push_starts(page: &mut Page, part: Part<'_, '_>, starts: &[Start])
+    ensures { Shows [] page.old page.new }
+{
+    for start in starts {
+        push_start(page, part, start);
+    }
+}
+
+/// Pushes a pattern that can look at what stands before its first byte.
+fn push_start(page: &mut Page, part: Part<'_, '_>, start: &Start)
+    ensures { Shows [] page.old page.new }
+{
+    let marks = Marks {
+        span: start.span,
+        style: Style::Error,
+        label: start.name.as_str(),
+    };
+    push_frame_with(page, part, start.span.from, marks);
+}

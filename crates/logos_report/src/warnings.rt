@@ -1,0 +1,138 @@
+//! Warnings: probable mistakes that are not faults.
+
+ghost use Rattle.std.specs.Prelude.{◌≡◌, ◌++◌, ◌∷◌, [], codes, string_bytes};
+ghost use Rattle.logos_report.specs.Pages.{Gains, Shows, painted};
+ghost use Rattle.logos_report.specs.Places.{place_line};
+ghost use Rattle.logos_report.specs.Shown.{shown_text};
+ghost use Rattle.logos_report.specs.Warnings.{all_texts, shown_of, warning_head, warning_texts, warnings_texts};
+
+use crate::frame::{push_frame, push_place};
+use crate::notes::push_note;
+use crate::page::{Page, Style};
+use crate::source::Part;
+use logos_token::token::Span;
+
+/// How many warnings of a part of a file are shown.
+const MOST: usize = 50;
+
+/// A probable mistake in a part of a file that is not a fault.
+#[derive(Debug, Drop)]
+pub struct Warning {
+    /// What is probably wrong, as one line.
+    pub message: String,
+    /// What it is about, in bytes of the part.
+    pub span: Span,
+    /// What is known besides, as one line.
+    pub note: Option<String>,
+    /// What to do about it.
+    pub help: Option<&'static str>,
+    /// A second span that it is about.
+    pub also: Option<Span>,
+}
+
+/// Pushes the warnings of a part of a file, in order, but no more than 50, and how many are left
+/// out. For each, a line with its message and one with its place stand in what is pushed.
+pub fn push_warnings(page: &mut Page, part: Part<'_, '_>, warnings: &[Warning])
+    ensures { Shows (warnings_texts page.old.is_colored part.entry.source.now part.entry.offset
+        warnings.now) page.old page.new }
+{
+    push_all(page, part, first_of(warnings));
+    push_more(page, warnings.len().saturating_sub(MOST));
+}
+
+/// Returns those of these warnings that are shown.
+fn first_of(warnings: &[Warning]) -> &[Warning]
+    ensures { result.now ≡ shown_of warnings.now }
+{
+    if warnings.len() > MOST {
+        &warnings[..MOST]
+    } else {
+        warnings
+    }
+}
+
+/// Pushes these warnings.
+fn push_all(page: &mut Page, part: Part<'_, '_>, warnings: &[Warning])
+    ensures { Shows (all_texts page.old.is_colored part.entry.source.now part.entry.offset
+        warnings.now) page.old page.new }
+{
+    for warning in warnings {
+        push_warning(page, part, warning);
+    }
+}
+
+/// Pushes how many warnings are left out, if there are any.
+fn push_more(page: &mut Page, count: usize)
+    ensures { Shows [] page.old page.new }
+{
+    if count == 0 {
+        return;
+    }
+    page.paint(Style::Warning, "warning");
+    page.push(": ");
+    page.push_number(count);
+    page.push(" more warnings are not shown\n\n");
+}
+
+/// Pushes a warning.
+pub fn push_warning(page: &mut Page, part: Part<'_, '_>, warning: &Warning)
+    ensures { Shows (warning_texts page.old.is_colored part.entry.source.now part.entry.offset
+        warning.now) page.old page.new }
+{
+    push_head(page, warning.message.as_str());
+    let width = push_frame(page, part, warning.span, Style::Warning);
+    push_notes(page, part, width, warning);
+}
+
+/// Pushes the line with the message of a warning.
+fn push_head(page: &mut Page, message: &str)
+    ensures { Gains (warning_head page.old.is_colored message.now) page.old page.new }
+{
+    page.paint(Style::Warning, "warning");
+    push_message(page, message);
+    page.push("\n");
+}
+
+/// Pushes a message, and what parts it from the word in front of it.
+fn push_message(page: &mut Page, message: &str)
+    ensures { Gains (painted page.old.is_colored Style.Strong (codes ": " ++ shown_text message.now))
+        page.old page.new }
+{
+    page.begin(Style::Strong);
+    page.push(": ");
+    page.push_shown(message);
+    page.end();
+}
+
+/// Pushes what stands under a warning, and an empty line.
+fn push_notes(page: &mut Page, part: Part<'_, '_>, width: usize, warning: &Warning)
+    ensures { Shows [] page.old page.new }
+{
+    if let Some(note) = &warning.note {
+        push_line(page, width, "note", note.as_str());
+    }
+    push_other(page, part, width, warning.also);
+    if let Some(help) = warning.help {
+        push_line(page, width, "help", help);
+    }
+    page.push("\n");
+}
+
+/// Pushes a note or a help.
+fn push_line(page: &mut Page, width: usize, kind: &str, text: &str)
+    ensures { Shows [] page.old page.new }
+{
+    push_note(page, width, kind, text);
+    page.push("\n");
+}
+
+/// Pushes the place of a second span, if there is one.
+fn push_other(page: &mut Page, part: Part<'_, '_>, width: usize, also: Option<Span>)
+    ensures { Shows [] page.old page.new }
+{
+    if let Some(span) = also {
+        push_note(page, width, "note", "see also ");
+        push_place(page, part, span.from);
+        page.push("\n");
+    }
+}

@@ -1,0 +1,4 @@
+pub mod Helpers
+pub mod Mistakes
+pub mod Words
+pub mod Views

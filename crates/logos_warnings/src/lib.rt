@@ -1,0 +1,14 @@
+//! Probable mistakes in the enums of a file that are not faults, as warnings.
+
+#![tactic(auto)]
+
+mod attributes;
+mod helper;
+mod messages;
+mod mistakes;
+mod passed;
+
+pub use helper::{Helper, intended_helper};
+pub use messages::enum_warnings;
+pub use mistakes::{Mistake, mistakes_of};
+pub use passed::passed_over;

@@ -1,0 +1,116 @@
+//! Mistakes as warnings.
+
+ghost use Rattle.std.specs.Prelude.{◌≡◌, IfOk};
+ghost use Rattle.logos_warnings.specs.Views.{mistake_value, span_of};
+
+use crate::mistakes::{Mistake, mistakes_of};
+use logos_enum::{ItemEnum, ReadError, read_enum};
+use logos_report::Warning;
+use logos_token::error::Memory;
+use logos_token::token::{Span, TokenError, tokenize};
+use std::alloc::{AllocError, Global};
+
+/// Returns the warnings of an enum with this text: those of its own attributes and then those of its
+/// variants', in source order, and last that it has no pattern or does not derive `Logos`. An enum
+/// that cannot be read has none.
+///
+/// # Errors
+///
+/// Returns `Memory` if memory runs out.
+pub fn enum_warnings(alloc: Global, text: &str, derives: bool) -> Result<Vec<Warning>, Memory> {
+    let stream = match tokenize(alloc, text) {
+        Ok(stream) => stream,
+        Err(TokenError::Memory) => return Err(Memory),
+        Err(_) => return Ok(Vec::new(alloc)),
+    };
+    match read_enum(alloc, stream.run()) {
+        Ok(item) => Ok(item_warnings(alloc, &item, derives)?),
+        Err(ReadError::Memory) => Err(Memory),
+        Err(_) => Ok(Vec::new(alloc)),
+    }
+}
+
+/// Returns the warnings of an enum.
+fn item_warnings(
+    alloc: Global,
+    item: &ItemEnum<'_, '_>,
+    derives: bool,
+) -> Result<Vec<Warning>, AllocError> {
+    let mistakes = mistakes_of(alloc, item, derives)?;
+    let mut warnings = Vec::new(alloc);
+    for mistake in &mistakes {
+        warnings.push(warning_of(alloc, item.name.text, *mistake)?)?;
+    }
+    Ok(warnings)
+}
+
+/// Returns the warning about a mistake in the enum with this name.
+fn warning_of(alloc: Global, name: &str, mistake: Mistake<'_>) -> Result<Warning, AllocError>
+    ensures { IfOk result (λ warning. warning.span ≡ span_of (mistake_value mistake.entry)) }
+{
+    match mistake {
+        Mistake::Misspelled {
+            name,
+            intended,
+            span,
+        } => {
+            let intended = intended.name();
+            let message = format!(in alloc; "`{name}` looks like a misspelling of `{intended}`")?;
+            Ok(warning(message, span, None))
+        }
+        Mistake::Qualified { span } => fixed(alloc, PATH, span, Some(PATH_HELP)),
+        Mistake::Useless { span } => fixed(alloc, USELESS, span, Some(USELESS_HELP)),
+        Mistake::Conditional { span } => fixed(alloc, CONDITION, span, Some(CONDITION_HELP)),
+        Mistake::NoPattern { span } => {
+            let message = format!(in alloc; "no variant of `{name}` has a pattern")?;
+            Ok(warning(message, span, Some(PATTERN_HELP)))
+        }
+        Mistake::NoDerive { span } => {
+            let message = format!(in alloc;
+                "`{name}` has attributes of a lexer and does not derive `Logos`"
+            )?;
+            Ok(warning(message, span, None))
+        }
+    }
+}
+
+const PATH: &str = "no attribute of a lexer has a path";
+
+const PATH_HELP: &str = "write its name alone, as in `#[token(\"..\")]`";
+
+const USELESS: &str = "`logos` has no effect on a variant";
+
+const USELESS_HELP: &str = "write it in front of the enum";
+
+const CONDITION: &str =
+    "the pattern of this variant belongs to the lexer, whatever this `cfg` says";
+
+const CONDITION_HELP: &str = "put the `cfg` in front of the enum, or derive the lexer in place";
+
+const PATTERN_HELP: &str = "write `#[token(\"..\")]` or `#[regex(\"..\")]` in front of a variant";
+
+/// Returns a warning with a fixed message.
+fn fixed(
+    alloc: Global,
+    message: &str,
+    span: Span,
+    help: Option<&'static str>,
+) -> Result<Warning, AllocError>
+    ensures { IfOk result (λ warning. warning.span ≡ span) }
+{
+    let message = String::from_str(alloc, message)?;
+    Ok(warning(message, span, help))
+}
+
+/// Returns a warning.
+fn warning(message: String, span: Span, help: Option<&'static str>) -> Warning
+    ensures { result.span ≡ span }
+{
+    Warning {
+        message,
+        span,
+        note: None,
+        help,
+        also: None,
+    }
+}

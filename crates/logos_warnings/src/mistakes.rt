@@ -1,0 +1,266 @@
+//! Probable mistakes in an enum that are not faults.
+ghost use Rattle.std.specs.Prelude.{◌≡◌, IfOk, None, OnOk, Some, [], map};
+ghost use Rattle.logos_warnings.specs.Words.{attribute_value, enum_value, variant_value, tokens_of};
+ghost use Rattle.logos_warnings.specs.Views.{mistake_value, is_conditional, is_useless, name_of, AreMistakes, AreOfLexer, AttributeAdds, LacksPatterns, RunAdds, VariantAdds, VariantsAdd, NamesAdd, ForgetsDerive};
+
+use crate::attributes::{Site, has_helper, has_helpers, has_patterns, is_qualified, name_of};
+use crate::helper::{Helper, intended_helper};
+use logos_enum::{Attribute, ItemEnum, Variant, split_attribute};
+use logos_token::token::{Span, Tokens};
+use std::alloc::{AllocError, Global};
+
+/// A probable mistake in an enum that is not a fault. Spans are byte offsets in its text.
+#[derive(Clone, Copy, Debug)]
+pub enum Mistake<'s> {
+    /// The name of an attribute is near to that of a helper attribute.
+    Misspelled {
+        name: &'s str,
+        intended: Helper,
+        /// The attribute.
+        span: Span,
+    },
+    /// The path of an attribute is `logos::` and the name of a helper attribute.
+    Qualified {
+        /// The attribute.
+        span: Span,
+    },
+    /// An attribute has no effect where it is: `logos` on a variant.
+    Useless {
+        /// The attribute.
+        span: Span,
+    },
+    /// A variant with a helper attribute has the attribute `cfg`.
+    Conditional {
+        /// The attribute.
+        span: Span,
+    },
+    /// The enum derives `Logos`, and no variant has a helper attribute.
+    NoPattern {
+        /// The name of the enum.
+        span: Span,
+    },
+    /// The enum has helper attributes, and no `derive` entry for `Logos`.
+    NoDerive {
+        /// The name of the enum.
+        span: Span,
+    },
+}
+
+/// Returns the warnings of an enum: those of its own attributes and then those of its variants'
+/// attributes, in source order, and last that it does not derive `Logos` although it has helper
+/// attributes. An enum that does not derive `Logos` and has no helper attribute has none.
+///
+/// # Errors
+/// Returns `AllocError` when memory runs out.
+pub fn mistakes_of<'s>(
+    alloc: Global,
+    item: &ItemEnum<'_, 's>,
+    derives: bool,
+) -> Result<Vec<Mistake<'s>>, AllocError>
+    ensures { IfOk result (λ warnings. AreMistakes (enum_value item.now) derives
+        (map mistake_value warnings.items)) }
+{
+    if derives {
+        let all = of_lexer(alloc, item)?;
+        return Ok(all);
+    }
+    if has_helpers(item) {
+        let all = forgotten_of(alloc, item)?;
+        return Ok(all);
+    }
+    Ok(Vec::new(alloc))
+}
+
+/// Returns the mistakes of an enum that derives `Logos`.
+fn of_lexer<'s>(alloc: Global, item: &ItemEnum<'_, 's>) -> Result<Vec<Mistake<'s>>, AllocError>
+    ensures { IfOk result (λ mistakes.
+        AreOfLexer (enum_value item.now) (map mistake_value mistakes.items)) }
+{
+    if has_patterns(item) {
+        let names = names_of(alloc, item)?;
+        return Ok(names);
+    }
+    let all = patternless_of(alloc, item)?;
+    Ok(all)
+}
+
+/// Returns the mistakes of an enum without patterns that derives `Logos`.
+fn patternless_of<'s>(
+    alloc: Global,
+    item: &ItemEnum<'_, 's>,
+) -> Result<Vec<Mistake<'s>>, AllocError>
+    ensures { IfOk result (λ mistakes.
+        LacksPatterns (enum_value item.now) (map mistake_value mistakes.items)) }
+{
+    let mut warnings = names_of(alloc, item)?;
+    let span = item.name.span;
+    warnings.push(Mistake::NoPattern { span })?;
+    Ok(warnings)
+}
+
+/// Returns the warnings of the attributes of an enum and of its variants.
+fn names_of<'s>(alloc: Global, item: &ItemEnum<'_, 's>) -> Result<Vec<Mistake<'s>>, AllocError>
+    ensures { IfOk result (λ warnings.
+        NamesAdd (enum_value item.now) [] (map mistake_value warnings.items)) }
+{
+    let mut warnings = Vec::new(alloc);
+    report_names(item, &mut warnings)?;
+    Ok(warnings)
+}
+
+/// Returns the warnings of an enum that has helper attributes and does not derive `Logos`.
+fn forgotten_of<'s>(alloc: Global, item: &ItemEnum<'_, 's>) -> Result<Vec<Mistake<'s>>, AllocError>
+    ensures { IfOk result (λ warnings.
+        ForgetsDerive (enum_value item.now) (map mistake_value warnings.items)) }
+{
+    let mut warnings = names_of(alloc, item)?;
+    let span = item.name.span;
+    warnings.push(Mistake::NoDerive { span })?;
+    Ok(warnings)
+}
+
+/// Adds the warnings of the attributes of an enum and of its variants.
+fn report_names<'s>(
+    item: &ItemEnum<'_, 's>,
+    warnings: &mut Vec<Mistake<'s>>,
+) -> Result<(), AllocError>
+    ensures { OnOk result (NamesAdd (enum_value item.now)
+        (map mistake_value warnings.old.items) (map mistake_value warnings.new.items)) }
+{
+    report_run(Site::OnEnum, item.attributes, warnings)?;
+    report_variants(item.variants.as_slice(), warnings)
+}
+
+/// Adds the warnings of the attributes of variants.
+fn report_variants<'s>(
+    variants: &[Variant<'_, 's>],
+    warnings: &mut Vec<Mistake<'s>>,
+) -> Result<(), AllocError>
+    ensures { OnOk result (VariantsAdd (map variant_value variants.now)
+        (map mistake_value warnings.old.items) (map mistake_value warnings.new.items)) }
+{
+    let mut rest = variants;
+    while let [variant, more @ ..] = rest {
+        report_variant(variant.attributes, warnings)?;
+        rest = more;
+    }
+    Ok(())
+}
+
+/// Adds the mistakes of the attributes of a variant.
+fn report_variant<'s>(
+    run: Tokens<'_, 's>,
+    warnings: &mut Vec<Mistake<'s>>,
+) -> Result<(), AllocError>
+    ensures { OnOk result (VariantAdds (tokens_of run.entry)
+        (map mistake_value warnings.old.items) (map mistake_value warnings.new.items)) }
+{
+    if has_helper(run) {
+        report_run(Site::OnLeaf, run, warnings)?;
+        return Ok(());
+    }
+    report_run(Site::OnVariant, run, warnings)?;
+    Ok(())
+}
+
+/// Adds the warnings of the attributes of a run.
+fn report_run<'s>(
+    site: Site,
+    run: Tokens<'_, 's>,
+    warnings: &mut Vec<Mistake<'s>>,
+) -> Result<(), AllocError>
+    ensures { OnOk result (RunAdds site (tokens_of run.entry)
+        (map mistake_value warnings.old.items) (map mistake_value warnings.new.items)) }
+{
+    let mut rest = run;
+    while let Some((attribute, next)) = split_attribute(rest) {
+        report_attribute(site, attribute, warnings)?;
+        rest = next;
+    }
+    Ok(())
+}
+
+/// Returns whether an attribute with this name has no effect where it is.
+fn is_useless(site: Site, name: &str) -> bool
+    ensures { result ≡ is_useless site name.now }
+{
+    match site {
+        Site::OnEnum => false,
+        Site::OnVariant => name == "logos",
+        Site::OnLeaf => name == "logos",
+    }
+}
+
+/// Returns whether an attribute with this name puts a pattern under a condition.
+fn is_conditional(site: Site, name: &str) -> bool
+    ensures { result ≡ is_conditional site name.now }
+{
+    match site {
+        Site::OnEnum => false,
+        Site::OnVariant => false,
+        Site::OnLeaf => name == "cfg",
+    }
+}
+
+/// Adds the mistake of an attribute, if it has one.
+fn report_attribute<'s>(
+    site: Site,
+    attribute: Attribute<'_, 's>,
+    warnings: &mut Vec<Mistake<'s>>,
+) -> Result<(), AllocError>
+    ensures { OnOk result (AttributeAdds site (attribute_value attribute.entry)
+        (map mistake_value warnings.old.items) (map mistake_value warnings.new.items)) }
+{
+    match name_of(attribute) {
+        Some(name) => report_named(site, attribute, name, warnings),
+        None => report_unnamed(site, attribute, warnings),
+    }
+}
+
+/// Adds the mistake of an attribute whose path is not one identifier, if it has one.
+fn report_unnamed<'s>(
+    site: Site,
+    attribute: Attribute<'_, 's>,
+    warnings: &mut Vec<Mistake<'s>>,
+) -> Result<(), AllocError>
+    requires { name_of (attribute_value attribute) ≡ None }
+    ensures { OnOk result (AttributeAdds site (attribute_value attribute.entry)
+        (map mistake_value warnings.old.items) (map mistake_value warnings.new.items)) }
+{
+    let span = attribute.span;
+    if is_qualified(attribute) {
+        warnings.push(Mistake::Qualified { span })?;
+    }
+    Ok(())
+}
+
+/// Adds the mistake of an attribute with this name, if it has one.
+fn report_named<'s>(
+    site: Site,
+    attribute: Attribute<'_, 's>,
+    name: &'s str,
+    warnings: &mut Vec<Mistake<'s>>,
+) -> Result<(), AllocError>
+    requires { name_of (attribute_value attribute) ≡ Some name.now }
+    ensures { OnOk result (AttributeAdds site (attribute_value attribute.entry)
+        (map mistake_value warnings.old.items) (map mistake_value warnings.new.items)) }
+{
+    let span = attribute.span;
+    if is_useless(site, name) {
+        warnings.push(Mistake::Useless { span })?;
+        return Ok(());
+    }
+    if is_conditional(site, name) {
+        warnings.push(Mistake::Conditional { span })?;
+        return Ok(());
+    }
+    let Some(intended) = intended_helper(name) else {
+        return Ok(());
+    };
+    warnings.push(Mistake::Misspelled {
+        name,
+        intended,
+        span,
+    })?;
+    Ok(())
+}
