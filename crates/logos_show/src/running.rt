@@ -12,7 +12,7 @@ use crate::comparing::compare;
 use crate::items::{write_item_records, write_items};
 use crate::reading::{chosen, print_bytes, read_bytes, refused, text_at, text_of};
 use crate::showing::{Form, PageStyle, SHAPE, Shown, shown_of};
-use crate::streaming::write_streamed;
+use crate::streaming::lex_stream;
 use logos_causes::Showing;
 use logos_codegen::graph::Graph;
 use logos_codegen::{Generated, generate};
@@ -293,45 +293,6 @@ fn most_of(question: Question<'_>) -> usize {
     match question {
         Question::Inputs(most) => most,
         _ => 0,
-    }
-}
-
-/// Writes the items of standard input as they are found.
-fn lex_stream<'w, F: Files, C: Clock + StandardInput, O: Write, E: Write + IsTerminal>(
-    alloc: Global,
-    task: Task<'w>,
-    host: &mut Host<'_, F, C, E>,
-    out: &mut O,
-) -> Result<(), Failure<'w>>
-    ensures { IfErr result IsNoMisuse }
-{
-    let path = task.order.file;
-    let text = text_at(path, host.files)?;
-    let source = Source::new(alloc, path, text.as_str())?;
-    let one = lexer_in(alloc, task, &source)?;
-    let part = part_of(&source, one);
-    let lexed = match generate(alloc, text_of(&source, one), SHAPE) {
-        Ok(made) => write_streamed(alloc, &made.code, host.clock, out),
-        Err(refusal) => Err(refused(alloc, part, task.showing, refusal)),
-    };
-    print_note(lexed, host.err)
-}
-
-/// Writes the note about the items of an input, if they were written.
-fn print_note<'w, E: Write>(
-    lexed: Result<String, Failure<'w>>,
-    err: &mut E,
-) -> Result<(), Failure<'w>>
-    requires { IfErr lexed IsNoMisuse }
-    ensures { IfErr result IsNoMisuse }
-{
-    match lexed {
-        Ok(note) => {
-            let _ = err.write_all(note.as_bytes());
-            let _ = err.flush();
-            Ok(())
-        }
-        Err(failure) => Err(failure),
     }
 }
 

@@ -7,21 +7,64 @@ ghost use Rattle.logos_stream.specs.Views.{KeepsCode, unread_length};
 use crate::items::{
     ERROR, Lines, Totals, head_at, milliseconds, no_lines, now, push_totals, write_if_full,
 };
-use crate::reading::print_bytes;
+use crate::reading::{print_bytes, refused, text_at, text_of};
+use crate::running::{Host, Task, lexer_in, part_of};
+use crate::showing::SHAPE;
 use logos_answers::{note_of, push_item};
 use logos_codegen::code::Code;
+use logos_codegen::generate;
 use logos_codegen::leaf::LeafId;
 use logos_codegen::machine::Action;
-use logos_host::{Failure, Reason, write_through};
+use logos_host::{Failure, Files, Reason, write_through};
 use logos_lines::Position;
 use logos_questions::STANDARD_INPUT;
+use logos_report::Source;
 use logos_stream::{Stream, StreamItem, Streamed};
 use std::alloc::{AllocError, Global};
-use std::io::{ErrorKind, Input, Read, Write};
+use std::io::{ErrorKind, Input, IsTerminal, Read, Write};
 use std::time::Clock;
 
 /// How many bytes of standard input are in memory at a time. A longer token is an error.
 const MOST: usize = 16_777_216;
+
+/// Writes the items of standard input as they are found.
+pub(crate) fn lex_stream<'w, F: Files, C: Clock + Input, O: Write, E: Write + IsTerminal>(
+    alloc: Global,
+    task: Task<'w>,
+    host: &mut Host<'_, F, C, E>,
+    out: &mut O,
+) -> Result<(), Failure<'w>>
+    ensures { IfErr result IsNoMisuse }
+{
+    let path = task.order.file;
+    let text = text_at(path, host.files)?;
+    let source = Source::new(alloc, path, text.as_str())?;
+    let one = lexer_in(alloc, task, &source)?;
+    let part = part_of(&source, one);
+    let lexed = match generate(alloc, text_of(&source, one), SHAPE) {
+        Ok(made) => write_streamed(alloc, &made.code, host.clock, out),
+        Err(refusal) => Err(refused(alloc, part, task.showing, refusal)),
+    };
+    print_note(lexed, host.err)
+}
+
+/// Writes the note about the items of an input, if they were written.
+fn print_note<'w, E: Write>(
+    lexed: Result<String, Failure<'w>>,
+    err: &mut E,
+) -> Result<(), Failure<'w>>
+    requires { IfErr lexed IsNoMisuse }
+    ensures { IfErr result IsNoMisuse }
+{
+    match lexed {
+        Ok(note) => {
+            let _ = err.write_all(note.as_bytes());
+            let _ = err.flush();
+            Ok(())
+        }
+        Err(failure) => Err(failure),
+    }
+}
 
 /// Writes a line for each item of standard input, and then what was counted. What was found is
 /// written before each read. Returns a note about callbacks, which is empty if no leaf with a callback
@@ -32,7 +75,7 @@ const MOST: usize = 16_777_216;
 /// Returns `NotUtf8` if the lexer reads text and the input is not UTF-8, `Refused` if a token is too
 /// long, both after the lines of the items before it; `Read` if reading fails, `Output` if writing
 /// fails, and `Memory` if memory runs out.
-pub(crate) fn write_streamed<S: Clock + Input, O: Write>(
+fn write_streamed<S: Clock + Input, O: Write>(
     alloc: Global,
     code: &Code<'_>,
     system: &S,
