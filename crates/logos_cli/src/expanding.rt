@@ -1,27 +1,24 @@
 //! A file with the derive of its lexers expanded.
 
 ghost use Rattle.std.specs.Prelude.{◌≡◌, ◌≤◌, ◌++◌, All, IfErr, IfOk, OnOk, length, map, string_bytes};
-ghost use Rattle.logos_token.specs.Views.{tokens_of};
 ghost use Rattle.logos_codegen.specs.Source.{IsRefused};
-ghost use Rattle.logos_layout.specs.Layout.{IsLaidOut};
 ghost use Rattle.logos_rust_file.specs.Replacing.{AreInOrder, IsFoundCut, found_span, part_span};
 ghost use Rattle.logos_rust_file.specs.Files.{AreEnumsOf};
 ghost use Rattle.logos_report.specs.Pages.{Shows, StandInOrder};
 ghost use Rattle.logos_rust_file.specs.Handed.{Refuses};
-ghost use Rattle.logos_cli.specs.Expanding.{IsExpanded, IsExpansion, IsFileOf, under};
+ghost use Rattle.logos_cli.specs.Expanding.{IsExpanded, IsExpansion, IsFileOf};
 ghost use Rattle.logos_cli.specs.Expanding.{IsShown, IsUnreadable, config_of};
 ghost use Rattle.logos_cli.specs.Gathering.{AreRefused, FailsFor, GathersAll, refused_texts};
 ghost use Rattle.logos_cli.specs.inside.Steps.{AddsRefusal, GathersOne};
-ghost use Rattle.logos_cli.specs.inside.Steps.{IsExpansionBy, IsPrintedWith};
+ghost use Rattle.logos_cli.specs.inside.Steps.{IsExpansionBy};
 
 use crate::head::with_head;
 use crate::options::Shape;
+use crate::printing::{Site, printed_with};
 use logos_codegen::error::{Errors, Memory};
 use logos_codegen::generator::Config;
-use logos_codegen::token::Tokens;
 use logos_codegen::{Generated, Refusal, generate, strip_attributes};
 use logos_host::Failure;
-use logos_layout::{lay_out, push_conditions, write_left};
 use logos_report::{Page, Part, Source, count_errors, push_faults, push_summary};
 use logos_rust_file::{FoundEnum, Replacement, enums_in, replace};
 use logos_tables::tables;
@@ -104,7 +101,13 @@ fn expand_enums<'w>(
     ensures done { IfOk result (λ made. IsExpanded shape source.now.text made.bytes.items) }
     ensures denied { IfErr result (FailsFor shape source.now) }
 {
-    let gathered = gather(alloc, source.text(), shape, found)?;
+    let site = Site {
+        shape,
+        file: source,
+        offset: 0,
+        by_name: false,
+    };
+    let gathered = gather(alloc, source.text(), site, found)?;
     if gathered.refused.is_empty() {
         return Ok(Expansion {
             bytes: expanded_file(alloc, source, shape, &gathered.parts)?,
@@ -132,10 +135,15 @@ fn expanded_file(
 }
 
 /// Returns the replacements of these enums of a file, and the faults of those that are refused.
-fn gather(alloc: Global, text: &str, shape: Shape, found: &[FoundEnum]) -> Result<Gathered, Memory>
+fn gather(
+    alloc: Global,
+    text: &str,
+    site: Site<'_, '_>,
+    found: &[FoundEnum],
+) -> Result<Gathered, Memory>
     requires order { AreInOrder 0 (map found_span found.now) (length text.now) }
     requires cut { All (IsFoundCut text.now) found.now }
-    ensures gathers { IfOk result (GathersAll shape text.now found.now) }
+    ensures gathers { IfOk result (GathersAll site.entry.shape text.now found.now) }
     ensures order { IfOk result (λ gathered.
         AreInOrder 0 (map part_span gathered.parts.items) (length text.now)) }
 {
@@ -144,7 +152,7 @@ fn gather(alloc: Global, text: &str, shape: Shape, found: &[FoundEnum]) -> Resul
         refused: Vec::new(alloc),
     };
     for one in found {
-        gather_enum(alloc, text, shape, *one, &mut gathered)?;
+        gather_enum(alloc, text, site, *one, &mut gathered)?;
     }
     Ok(gathered)
 }
@@ -153,19 +161,24 @@ fn gather(alloc: Global, text: &str, shape: Shape, found: &[FoundEnum]) -> Resul
 fn gather_enum(
     alloc: Global,
     text: &str,
-    shape: Shape,
+    site: Site<'_, '_>,
     one: FoundEnum,
     gathered: &mut Gathered,
 ) -> Result<(), Memory>
     requires order { one.span.from ≤ one.span.to }
     requires cut { IsFoundCut text.now one }
-    ensures { OnOk result (GathersOne shape text.now one gathered.old gathered.new) }
+    ensures { OnOk result (GathersOne site.entry.shape text.now one gathered.old gathered.new) }
 {
     if !one.derives {
         return Ok(());
     }
     let span = one.span;
-    match expanded(alloc, &text[span.from..span.to], shape) {
+    let site = Site {
+        offset: span.from,
+        by_name: one.by_name,
+        ..site
+    };
+    match expanded(alloc, &text[span.from..span.to], site) {
         Ok(text) => {
             gathered.parts.push(Replacement { span, text })?;
             Ok(())
@@ -213,18 +226,14 @@ pub(crate) fn lexer_text(
     }
 }
 
-/// The attributes of an implementation: no lint of rustc or clippy looks at it, and rustfmt leaves
-/// it as it is.
-const ATTRIBUTES: &str = "#[allow(unused, clippy::all)]\n#[rustfmt::skip]\n";
-
 /// Returns an enum without what belongs to the derive, and the implementation.
-fn expanded(alloc: Global, source: &str, shape: Shape) -> Result<String, Refusal>
+fn expanded(alloc: Global, source: &str, site: Site<'_, '_>) -> Result<String, Refusal>
     ensures done { IfOk result
-        (λ text. IsExpansion shape source.now (string_bytes text)) }
+        (λ text. IsExpansion site.entry.shape source.now (string_bytes text)) }
     ensures refused { IfErr result (Refuses (IsRefused source.now)) }
 {
-    match generate(alloc, source, config_of(shape)) {
-        Ok(made) => expansion_by(alloc, source, shape, &made),
+    match generate(alloc, source, config_of(site.shape)) {
+        Ok(made) => expansion_by(alloc, source, site, &made),
         Err(refusal) => Err(refusal),
     }
 }
@@ -233,61 +242,20 @@ fn expanded(alloc: Global, source: &str, shape: Shape) -> Result<String, Refusal
 fn expansion_by(
     alloc: Global,
     source: &str,
-    shape: Shape,
+    site: Site<'_, '_>,
     made: &Generated<'_>,
 ) -> Result<String, Refusal>
     ensures done { IfOk result (λ text.
-        IsExpansionBy shape made.now.code source.now (string_bytes text)) }
+        IsExpansionBy site.entry.shape made.now.code source.now (string_bytes text)) }
     ensures refused { IfErr result (Refuses (IsRefused source.now)) }
 {
     match strip_attributes(alloc, source) {
-        Ok(left) => match printed_with(alloc, source, left.run(), shape, made) {
+        Ok(left) => match printed_with(alloc, source, left.run(), site, made) {
             Ok(text) => Ok(text),
             Err(Memory) => Err(Refusal::Memory),
         },
         Err(refusal) => Err(refusal),
     }
-}
-
-/// Returns the text of those tokens of a source that stay, and after LF the text of a lexer
-/// with attributes, laid out.
-fn printed_with(
-    alloc: Global,
-    source: &str,
-    left: Tokens<'_, '_>,
-    shape: Shape,
-    made: &Generated<'_>,
-) -> Result<String, Memory>
-    ensures { IfOk result (λ text. IsPrintedWith shape made.now.code (tokens_of left.entry)
-        (string_bytes text)) }
-{
-    let lexer = lexer_text(alloc, shape, made)?;
-    let laid = laid_under(alloc, left, lexer.as_str())?;
-    let mut text = write_left(alloc, source, left)?;
-    text.push('\n')?;
-    text.push_str(laid.as_str())?;
-    Ok(text)
-}
-
-/// Returns the text of a lexer with its attributes, under the conditions of the enum with these
-/// tokens, laid out.
-fn laid_under(alloc: Global, left: Tokens<'_, '_>, lexer: &str) -> Result<String, Memory>
-    ensures { IfOk result (λ laid. IsLaidOut (under (tokens_of left.entry) lexer.now) (string_bytes laid)) }
-{
-    let whole = under(alloc, left, lexer)?;
-    lay_out(alloc, whole.as_str())
-}
-
-/// Returns the text of a lexer with its attributes. It stands under the conditions of the enum with
-/// these tokens.
-fn under(alloc: Global, left: Tokens<'_, '_>, lexer: &str) -> Result<String, Memory>
-    ensures { IfOk result (λ text. string_bytes text ≡ under (tokens_of left.entry) lexer.now) }
-{
-    let mut text = String::new(alloc);
-    push_conditions(alloc, &mut text, left)?;
-    text.push_str(ATTRIBUTES)?;
-    text.push_str(lexer)?;
-    Ok(text)
 }
 
 /// Returns the refusal of a file, with the text of all its faults.

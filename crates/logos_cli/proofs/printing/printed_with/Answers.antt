@@ -1,6 +1,6 @@
 use Rattle.std.proofs.Common.{◌∙◌, ℕ, List, [], ◌∷◌, ◌++◌, ap, append_assoc, string_bytes}
 use lib.Utf8
-use Rattle.logos_cli.proofs.expanding.printed_with.Goals as goal
+use Rattle.logos_cli.proofs.printing.printed_with.Goals as goal
 
 pub returns : goal.returns
 unfolding lib.Utf8.encode
@@ -11,6 +11,7 @@ returns c =
       written = written;
       lexer = string_bytes c.in_ok-lexer.lexer;
       laid = laid;
+      by_name = c.args.site.by_name;
       stand = c.in_ok-lexer.ensures;
       is_written = c.in_ok-text.ensures;
       is_laid_out = rw c.as_str.ensures.value at c.in_ok-laid.ensures;
