@@ -41,9 +41,9 @@ pub record IsLexerText (shape : Shape) (source shown : List ℕ) : Type 0 where
   pub given : IsGiven source (config_of shape) graph code name export
   pub stand : IsShown shape code shown
 
--- the attributes of an implementation: no lint of rustc or clippy looks at it, and rustfmt leaves it as it is
+-- the attributes of an implementation: these lints of rustc and clippy do not look at it, and rustfmt leaves it as it is
 abbrev pub attributes_text : List ℕ
-attributes_text = codes "#[allow(unused, clippy::all)]\n#[rustfmt::skip]\n"
+attributes_text = codes "#[allow(dead_code, deprecated, unused_assignments, unused_imports)]\n#[allow(unused_parens, unused_variables)]\n#[allow(clippy::large_const_arrays, clippy::let_unit_value, clippy::manual_is_ascii_check)]\n#[allow(clippy::manual_range_contains, clippy::needless_else, clippy::question_mark)]\n#[allow(clippy::redundant_locals, clippy::type_complexity, clippy::unit_arg)]\n#[allow(clippy::useless_asref, clippy::useless_conversion)]\n#[rustfmt::skip]\n"
 
 -- the text of a lexer with its attributes: under the conditions of its enum
 abbrev pub lexer_under : TokenList → List ℕ → List ℕ

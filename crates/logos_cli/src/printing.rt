@@ -33,9 +33,17 @@ pub(crate) struct Site<'f, 't> {
 /// The import of `Logos`, which counts as used then.
 const IMPORT: &str = "#[allow(unused_imports)]\nuse self::Logos as _;\n";
 
-/// The attributes of an implementation: the lints of rustc and clippy that a printed text meets,
-/// and rustfmt leaves it as it is.
-const ATTRIBUTES: &str = "#[allow(unused, clippy::all)]\n#[rustfmt::skip]\n";
+/// The attributes of an implementation: these lints of rustc and clippy do not look at it, since
+/// printed texts meet them, and rustfmt leaves it as it is.
+const ATTRIBUTES: &str = "\
+#[allow(dead_code, deprecated, unused_assignments, unused_imports)]
+#[allow(unused_parens, unused_variables)]
+#[allow(clippy::large_const_arrays, clippy::let_unit_value, clippy::manual_is_ascii_check)]
+#[allow(clippy::manual_range_contains, clippy::needless_else, clippy::question_mark)]
+#[allow(clippy::redundant_locals, clippy::type_complexity, clippy::unit_arg)]
+#[allow(clippy::useless_asref, clippy::useless_conversion)]
+#[rustfmt::skip]
+";
 
 /// The line before an enum that rustfmt leaves as it is.
 const GUARD: &str = "#[rustfmt::skip]\n";
