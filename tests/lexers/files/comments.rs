@@ -11,7 +11,6 @@ use logos::Logos; // the trait
 )]
 /* before options */
 #[logos(skip " ")] // blanks
-                   /* after options */
 pub enum Token {
     // Before a variant.
     /// A word /* no comment */.
