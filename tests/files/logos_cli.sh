@@ -179,6 +179,8 @@ only beside out.rs "out.rs.$$.new" out.rs.new out.rs.a1.new
 rm "beside/out.rs.$$.new"
 
 # What cannot be written, or not whole: what was there stays, and nothing else is left.
+name=$(printf 'b%.0s' {1..250})
+gives 3 "error: cannot write $name: the name is too long" source.rs --output "$name"
 gives 3 'error: cannot write folder: it is a folder' source.rs --output folder
 gives 3 'error: cannot write source.rs/out.rs: a part of the path is not a folder' source.rs --output source.rs/out.rs
 gives 3 'error: cannot write /dev/full: no space is left' source.rs --output /dev/full
