@@ -20,6 +20,8 @@ settled=32
 shapes='state_machine tailcall tables'
 # The enum of a file whose items are compared, where that is not the last one.
 declare -A enums=([conditions]=Token [dense]=Token [errors]=Token [ini]=Line [paths]=Token [several]=Token [template]=Outside)
+# The type of the tokens of a file whose enum has parameters.
+declare -A types=([generics]=Given)
 room=$(mktemp -d)
 trap 'rm -rf "$room"' EXIT
 
@@ -79,7 +81,7 @@ accepted_by_clippy() {
         && date > clippy)
 }
 
-# Prints the arm that lexes by a module: the module, the enum, and whether it reads bytes.
+# Prints the arm that lexes by a module: the module, the type of its tokens, and whether it reads bytes.
 arm() {
     local source='std::str::from_utf8(&bytes).expect("UTF-8")'
     [ "$3" = text ] || source='&bytes'
@@ -111,7 +113,7 @@ for file in "$room"/files/*.rs; do
         # What stands outside the enums is there as before.
         grep -vxF -f "$expanded" "$file" | grep -E '^(use|pub (type|const|fn|struct)|impl)' && fail "$name lost these lines"
         printf 'pub mod %s {\n    include!("%s");\n}\n' "${name}_$shape" "$(basename "$expanded")" >> "$room/expanded.rs"
-        arm "${name}_$shape" "$enum" "$reads" >> "$room/arms"
+        arm "${name}_$shape" "${types[$name]:-$enum}" "$reads" >> "$room/arms"
         ! command -v rustfmt > /dev/null || ! stays_settled "$file" "$expanded" || stable=$((stable + 1))
     done
     found=$((found + 1))

@@ -42,10 +42,11 @@ pub(crate) fn difference<'w, F: ComparableFiles>(
 ) -> Failure<'w>
     ensures { FailsBy (IsRefusedFor (λ shown. ⊤)) result }
 {
-    match files.found_bytes(compared.path) {
-        Ok(found) => refused(alloc, compared, &found),
-        Err(AllocError) => Failure::Memory,
-    }
+    let found = match files.found_bytes(compared.path) {
+        Ok(found) => found,
+        Err(AllocError) => return Failure::Memory,
+    };
+    refused(alloc, compared, &found)
 }
 
 /// Returns the refusal of a file with these bytes.
@@ -160,12 +161,12 @@ fn push_cut(page: &mut Page, line: &str) {
 /// Pushes the shape of which a file's first line speaks, if that is not the one of the result.
 fn push_shape(page: &mut Page, found: &str, compared: &Compared<'_>) {
     let wanted = shape_name(compared.shape);
-    match said_shape(found) {
-        Some(said) if said != wanted => {
+    match named_shape(found) {
+        Some(named) if named != wanted => {
             page.push("help: ");
             page.push_shown(compared.path);
             page.push(" says `--shape ");
-            page.push(said);
+            page.push(named);
             page.push("`, and this run has `--shape ");
             page.push(wanted);
             page.push("`\n");
@@ -175,7 +176,7 @@ fn push_shape(page: &mut Page, found: &str, compared: &Compared<'_>) {
 }
 
 /// Returns the name of the shape of which the first line of a file speaks.
-fn said_shape(found: &str) -> Option<&'static str> {
+fn named_shape(found: &str) -> Option<&'static str> {
     let (line, _) = found.split_once('\n')?;
     let front = line.strip_suffix("; do not edit")?;
     let (_, name) = front.rsplit_once(", --shape ")?;

@@ -61,7 +61,8 @@ pub(crate) fn printed_with(
         (tokens_of left.entry) (string_bytes text)) }
 {
     let lexer = lexer_text(alloc, site.shape, made)?;
-    let laid = laid_under(alloc, left, lexer.as_str(), site, made)?;
+    let whole = under(alloc, site.by_name, left, lexer.as_str())?;
+    let laid = laid_out(alloc, whole.as_str(), site, made)?;
     let mut text = guarded(alloc, source, left, site)?;
     text.push('\n')?;
     text.push_str(laid.as_str())?;
@@ -163,26 +164,23 @@ fn are_blanks(bytes: &[u8]) -> bool
     true
 }
 
-/// Returns the text of a lexer with its attributes, under the conditions of the enum with these
-/// tokens, laid out. The line of the file stands at each callback.
-fn laid_under(
+/// Returns the text of a lexer with its attributes, laid out. The line of the file stands at each
+/// callback.
+fn laid_out(
     alloc: Global,
-    left: Tokens<'_, '_>,
-    lexer: &str,
+    whole: &str,
     site: Site<'_, '_>,
     made: &Generated<'_>,
 ) -> Result<String, Memory>
-    ensures { IfOk result (λ laid. IsLaidOut
-        (under site.entry.by_name (tokens_of left.entry) lexer.now) (string_bytes laid)) }
+    ensures { IfOk result (λ laid. IsLaidOut whole.now (string_bytes laid)) }
 {
-    let whole = under(alloc, site.by_name, left, lexer)?;
-    let notes = notes_of(alloc, whole.as_str(), site, made)?;
+    let notes = notes_of(alloc, whole, site, made)?;
     let margin = margin_at(site.file.text(), site.offset).len();
     let setting = Setting {
         margin,
         notes: &notes,
     };
-    lay_out(alloc, whole.as_str(), setting)
+    lay_out(alloc, whole, setting)
 }
 
 /// Returns the lines of the file at which the callbacks stand that a lexer calls.

@@ -16,3 +16,6 @@ where
     #[token("%", |lex| lex.slice())]
     Sign(&'s str),
 }
+
+/// The lexer's tokens.
+pub type Given<'s> = Token<'s, u32, Option<&'s str>>;

@@ -14,6 +14,6 @@ returns c =
       by_name = c.args.site.by_name;
       stand = c.in_ok-lexer.ensures;
       is_written = c.in_ok-text.ensures;
-      is_laid_out = rw c.as_str.ensures.value at c.in_ok-laid.ensures;
-      is = c.in_ok-push_str.ensures.bytes ∙ ap (λ (text : List ℕ). text ++ c.as_str-2.result.now) c.in_ok-push.ensures.bytes ∙ ap (λ (text : List ℕ). (written ++ 10 ∷ []) ++ text) c.as_str-2.ensures.value ∙ append_assoc written (10 ∷ []) laid;
+      is_laid_out = rw c.as_str.ensures.value at (rw c.in_ok-whole.ensures at (rw c.as_str-2.ensures.value at c.in_ok-laid.ensures));
+      is = c.in_ok-push_str.ensures.bytes ∙ ap (λ (text : List ℕ). text ++ c.as_str-3.result.now) c.in_ok-push.ensures.bytes ∙ ap (λ (text : List ℕ). (written ++ 10 ∷ []) ++ text) c.as_str-3.ensures.value ∙ append_assoc written (10 ∷ []) laid;
     }
