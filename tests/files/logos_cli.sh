@@ -90,6 +90,25 @@ same out whole_of_stdin
 gives 0 '' - < source.rs
 same out whole_of_stdin
 
+# No more is read of a file than shows that it is too long: so a device has an end, and the last character may be cut off there.
+too_long() {
+    printf 'error[LimitSource]: limit LimitSource passed\n --> %s:1:1\n  = help: split the enum\n\nerror: aborting due to 1 previous error' "$1"
+}
+status=0
+(ulimit -v 400000; exec "$program" /dev/zero > out 2> err) || status=$?
+wants "$status" 1 "$(too_long /dev/zero)"
+# Writes a comment of so many blanks, a character of four bytes, and another character.
+wide() {
+    { printf '//'; head -c "$1" /dev/zero | tr '\0' ' '; printf '\xf0\x9f\xa6\x80%s' "$2"; } > wide.rs
+}
+wide 16777210 ''
+gives 0 'warning: no enum in wide.rs derives `Logos`' wide.rs
+for blanks in 16777211 16777212 16777213 16777214 16777215 16777216 16777217 16777218; do
+    wide "$blanks" x
+    gives 1 "$(too_long wide.rs)" wide.rs
+done
+rm wide.rs
+
 # A file is not its own output, by whatever path or link.
 mkdir own
 cp source.rs own/source.rs
@@ -113,7 +132,9 @@ gives 0 '' source.rs --output new/deep/out.rs
 gives 0 '' source.rs --output new/deep/out.rs --check
 printf old > new/deep/out.rs
 chmod 640 new/deep/out.rs
-gives 1 'error: new/deep/out.rs is not what source.rs gives' source.rs --output new/deep/out.rs --check
+gives 1 "error: new/deep/out.rs is not what source.rs gives
+1 - old
+$(head -n 3 whole | sed 's/^/+ /' | awk '{ print NR " " $0 }')" source.rs --output new/deep/out.rs --check
 gives 0 '' source.rs --output new/deep/out.rs
 same new/deep/out.rs whole
 [ "$(stat -c %a new/deep/out.rs)" = 640 ] || fail "the permissions have changed"
@@ -158,6 +179,8 @@ only beside out.rs "out.rs.$$.new" out.rs.new out.rs.a1.new
 rm "beside/out.rs.$$.new"
 
 # What cannot be written, or not whole: what was there stays, and nothing else is left.
+name=$(printf 'b%.0s' {1..250})
+gives 3 "error: cannot write $name: the name is too long" source.rs --output "$name"
 gives 3 'error: cannot write folder: it is a folder' source.rs --output folder
 gives 3 'error: cannot write source.rs/out.rs: a part of the path is not a folder' source.rs --output source.rs/out.rs
 gives 3 'error: cannot write /dev/full: no space is left' source.rs --output /dev/full

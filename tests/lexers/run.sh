@@ -1,18 +1,27 @@
 #!/usr/bin/env bash
-# Takes lexers as users of Logos write them through `logos_cli` and rustc, and compares the items with those of `logos_show`.
+# Takes lexers as users of Logos write them through `logos_cli`, rustc, clippy and rustfmt, and compares the items with those of
+# `logos_show`.
 #
-# Each file of examples/lexers is a whole Rust file, with `use` lines and other items beside the enum; beside it stands an input. The
-# derive is expanded in all three shapes, all other lines have to stay, rustc compiles all results as modules of one program over
-# runtime/rust, and what each lexer finds in the input is compared with what `logos_show` prints, line by line.
+# Each of the forty files is a whole Rust file with one lexer or more: those of examples/lexers, of the other examples and of the guide, and
+# those of tests/lexers/files, which have modules, conditions, callbacks, comments, documentation of the file itself, and line ends of all
+# kinds. Beside it stands an input. The derive is expanded in all three shapes; lines outside of the enums have to stay; another file
+# includes the results, and rustc and clippy accept them where all warnings are errors; a result is as rustfmt leaves it where its source
+# is. What each lexer finds in its input is compared with what `logos_show` prints, line by line: callbacks give an item for each match.
 #
-# It needs rustc, and the programs that the gate has built, or the first two arguments.
+# It needs rustc, and the programs that the gate has built, or the first two arguments. Where rustfmt or clippy is missing it says so.
 set -euo pipefail
 
 root=$(cd "$(dirname "${BASH_SOURCE[0]}")/../.." && pwd)
+here=$root/tests/lexers
 cli=$(realpath -m "${1:-$root/crates/logos_cli/out/logos_cli}")
 show=$(realpath -m "${2:-$root/crates/logos_show/out/logos_show}")
-lexers=8
+lexers=40
+settled=32
 shapes='state_machine tailcall tables'
+# The enum of a file whose items are compared, where that is not the last one.
+declare -A enums=([conditions]=Token [dense]=Token [errors]=Token [ini]=Line [paths]=Token [several]=Token [template]=Outside)
+# The type of the tokens of a file whose enum has parameters.
+declare -A types=([generics]=Given)
 room=$(mktemp -d)
 trap 'rm -rf "$room"' EXIT
 
@@ -28,27 +37,71 @@ done
 command -v rustc > /dev/null || fail "rustc is missing"
 . "$root/tests/kept.sh"
 
-# Has rustc compile the expanded files.
-compile() {
-    rustc --edition 2021 -A warnings --crate-name logos --crate-type rlib -o "$room/liblogos.rlib" "$root/runtime/rust/src/lib.rs"
-    rustc --edition 2021 -A warnings --extern logos="$room/liblogos.rlib" -o "$room/lexers" "$room/main.rs"
+# Lays out all files with their inputs.
+lay_out() {
+    local file
+    mkdir "$room/files"
+    cp "$root"/examples/lexers/*.{rs,input} "$here"/files/*.{rs,input} "$room/files"
+    as_it_is highlight examples/highlight/src/lexer.rs examples/highlight/data/sample.rs.txt
+    as_it_is ini examples/ini/src/lexers.rs examples/ini/data/sample.ini
+    as_it_is json_text examples/json/src/lexer.rs examples/json/data/sample.json
+    as_it_is template examples/template/src/lexers.rs examples/template/data/letter.txt
+    as_it_is words docs/guide/words.rs docs/guide/greeting
+    deriving config examples/config/config.rs examples/config/data/good.toml
+    deriving count examples/count/count.rs examples/count/data/text.txt
+    deriving log examples/log/log.rs examples/log/data/access.log
+    deriving query examples/query/query.rs examples/query/data/query.sql
+    deriving octet_frames docs/guide/bytes.rs docs/guide/packets
+    deriving line_ends docs/guide/looks.rs docs/guide/edges
+    deriving sums docs/guide/expr.rs docs/guide/sum
+    deriving codes docs/guide/codes_cured.rs docs/guide/greeting
 }
 
-# Prints the module of an expanded file, or the arm that lexes by it: the module, its file, the enum, and whether it reads bytes.
-module() {
-    printf '#[path = "%s"]\nmod %s;\n' "$(basename "$2")" "$1"
+# Lays out a file of the repository, as it is, or with a public enum that derives `Logos` and `Debug`.
+as_it_is() {
+    cp "$root/$2" "$room/files/$1.rs"
+    cp "$root/$3" "$room/files/$1.input"
 }
+deriving() {
+    sed '/^#\[derive(.*Logos)\]$/d; s/^enum /#[derive(logos::Logos, Debug)]\npub enum /' "$root/$2" > "$room/files/$1.rs"
+    cp "$root/$3" "$room/files/$1.input"
+}
+
+# Has rustc compile the expanded files, where all warnings are errors, and a program that lexes by them.
+compile() {
+    (cd "$room" && rustc --edition 2021 -A warnings --crate-name logos --crate-type rlib -o liblogos.rlib "$root/runtime/rust/src/lib.rs" \
+        && rustc --edition 2021 --extern logos=liblogos.rlib --crate-name expanded --crate-type rlib -o libexpanded.rlib expanded.rs \
+        && rustc --edition 2021 -A warnings --extern logos=liblogos.rlib --extern expanded=libexpanded.rlib -o lexers main.rs)
+}
+
+# Fails unless clippy accepts the expanded files, where all warnings are errors.
+accepted_by_clippy() {
+    (cd "$room" && rustc --edition 2021 -A warnings --crate-name logos --crate-type rlib -o liblogos.rlib "$root/runtime/rust/src/lib.rs" \
+        && clippy-driver --edition 2021 --extern logos=liblogos.rlib --crate-name expanded --crate-type lib --emit metadata -o clippy.rmeta expanded.rs \
+        && date > clippy)
+}
+
+# Prints the arm that lexes by a module: the module, the type of its tokens, and whether it reads bytes.
 arm() {
     local source='std::str::from_utf8(&bytes).expect("UTF-8")'
-    [ "$4" = text ] || source='&bytes'
-    printf '"%s" => print(&mut out, &bytes, logos::Lexer::<%s::%s>::new(%s)),\n' "$1" "$1" "$3" "$source"
+    [ "$3" = text ] || source='&bytes'
+    printf '"%s" => print(&mut out, &bytes, logos::Lexer::<expanded::%s::%s>::new(%s)),\n' "$1" "$1" "$2" "$source"
 }
 
+# Fails unless a result is as rustfmt leaves it, where its source is. Says whether that is so.
+stays_settled() {
+    rustfmt --edition 2021 --check "$1" > /dev/null 2>&1 || return 1
+    rustfmt --edition 2021 --check "$2" > "$room/difference" 2>&1 || { cat "$room/difference" >&2; fail "rustfmt changes $2"; }
+}
+
+lay_out
+echo '#![deny(warnings)]' > "$room/expanded.rs"
 found=0
-for file in "$root"/examples/lexers/*.rs; do
+stable=0
+for file in "$room"/files/*.rs; do
     name=$(basename "$file" .rs)
-    enum=$("$show" "$file" | sed -n 's/^enum \([A-Za-z]*\) .*/\1/p' | tail -n 1)
-    "$show" "$file" "$root/examples/lexers/$name.input" --enum "$enum" > "$room/shown"
+    enum=${enums[$name]:-$("$show" "$file" | sed -n 's/^enum \([^ ]*\) .*/\1/p' | tail -n 1)}
+    "$show" "$file" "${file%.rs}.input" --enum "$enum" > "$room/shown" 2> "$room/notes"
     sed '/^$/,$d' "$room/shown" > "$room/$name.wanted"
     [ -s "$room/$name.wanted" ] || fail "$name has no items"
     reads=text
@@ -58,30 +111,40 @@ for file in "$root"/examples/lexers/*.rs; do
         "$cli" "$file" --shape "$shape" --output "$expanded"
         "$cli" "$file" --shape "$shape" --output "$expanded" --check
         # What stands outside the enums is there as before.
-        grep -vxF -f "$expanded" "$file" | grep -E '^(use|//!|pub (type|const|fn|struct)|impl)' && fail "$name lost these lines"
-        module "${name}_$shape" "$expanded" >> "$room/modules"
-        arm "${name}_$shape" "$expanded" "$enum" "$reads" >> "$room/arms"
+        grep -vxF -f "$expanded" "$file" | grep -E '^(use|pub (type|const|fn|struct)|impl)' && fail "$name lost these lines"
+        printf 'pub mod %s {\n    include!("%s");\n}\n' "${name}_$shape" "$(basename "$expanded")" >> "$room/expanded.rs"
+        arm "${name}_$shape" "${types[$name]:-$enum}" "$reads" >> "$room/arms"
+        ! command -v rustfmt > /dev/null || ! stays_settled "$file" "$expanded" || stable=$((stable + 1))
     done
     found=$((found + 1))
 done
 [ "$found" = "$lexers" ] || fail "$found lexers in place of $lexers"
+if command -v rustfmt > /dev/null; then
+    [ "$stable" = "$((settled * 3))" ] || fail "rustfmt leaves $stable results as they are, in place of $((settled * 3))"
+else
+    echo "lexers: rustfmt is missing, so it was not asked"
+fi
 
 sed -e "/LEXERS/{
 r $room/arms
 d
-}" "$root/tests/lexers/main.rs.in" > "$room/main.rs"
-cat "$room/modules" >> "$room/main.rs"
+}" "$here/main.rs.in" > "$room/main.rs"
 { of_runtime "$root"; cat "$room"/*.rs; } | kept "$room/lexers" compile || fail "rustc refuses the expanded files"
+if command -v clippy-driver > /dev/null; then
+    { of_runtime "$root"; clippy-driver --version; cat "$room"/*.rs; } | kept "$room/clippy" accepted_by_clippy || fail "clippy refuses the expanded files"
+else
+    echo "lexers: clippy is missing, so it was not asked"
+fi
 compared=0
 items=0
 for wanted in "$room"/*.wanted; do
     name=$(basename "$wanted" .wanted)
     for shape in $shapes; do
-        "$room/lexers" "${name}_$shape" "$root/examples/lexers/$name.input" | diff "$wanted" - > "$room/difference" \
+        "$room/lexers" "${name}_$shape" "$room/files/$name.input" | diff "$wanted" - > "$room/difference" \
             || { cat "$room/difference" >&2; fail "$name, $shape, finds other items"; }
         compared=$((compared + 1))
     done
     items=$((items + $(wc -l < "$wanted")))
 done
-echo "lexers: $found lexers in the shapes $shapes, $items items each"
+echo "lexers: $found lexers in the shapes $shapes, $items items each, and rustfmt leaves $stable results as they are"
 echo "$compared passed, 0 failed"

@@ -177,6 +177,7 @@ pub expansion_made : (shape : Shape) (source shown : List ℕ) (graph : GraphVal
 expansion_made shape source shown graph code name export g b = record {
   left = b.left;
   written = b.prints.written;
+  by_name = b.prints.by_name;
   lexer = b.prints.lexer;
   laid = b.prints.laid;
   stripped = b.stripped;

@@ -1,5 +1,5 @@
 -- A file with the derive of its lexers expanded.
-use Rattle.std.specs.Prelude.{◌≡◌, ℕ, List, [], ◌∷◌, ◌++◌, Option, true, false, codes, slice_range, string_bytes}
+use Rattle.std.specs.Prelude.{◌≡◌, ℕ, List, [], ◌∷◌, ◌++◌, ◌⊎◌, ◌==◌, ◌&&◌, Bool, Option, true, false, codes, slice_range, string_bytes}
 use Rattle.logos_code.specs.Code.{CodeValue}
 use Rattle.logos_code.specs.declared.code.Config.{Config}
 use Rattle.logos_cli.specs.declared.options.Shape.{Shape}
@@ -41,13 +41,47 @@ pub record IsLexerText (shape : Shape) (source shown : List ℕ) : Type 0 where
   pub given : IsGiven source (config_of shape) graph code name export
   pub stand : IsShown shape code shown
 
--- the attributes of an implementation: no lint of rustc or clippy looks at it, and rustfmt leaves it as it is
+-- the attributes of an implementation: these lints of rustc and clippy do not look at it, and rustfmt leaves it as it is
 abbrev pub attributes_text : List ℕ
-attributes_text = codes "#[allow(unused, clippy::all)]\n#[rustfmt::skip]\n"
+attributes_text = codes "#[allow(dead_code, deprecated, unused_assignments, unused_imports)]\n#[allow(unused_parens, unused_variables)]\n#[allow(clippy::large_const_arrays, clippy::let_unit_value, clippy::manual_is_ascii_check)]\n#[allow(clippy::manual_range_contains, clippy::needless_else, clippy::question_mark)]\n#[allow(clippy::redundant_locals, clippy::type_complexity, clippy::unit_arg)]\n#[allow(clippy::useless_asref, clippy::useless_conversion)]\n#[rustfmt::skip]\n"
 
 -- the text of a lexer with its attributes: under the conditions of its enum
-abbrev pub under : TokenList → List ℕ → List ℕ
-under left lexer = conditions_text left ++ (attributes_text ++ lexer)
+abbrev pub lexer_under : TokenList → List ℕ → List ℕ
+lexer_under left lexer = conditions_text left ++ (attributes_text ++ lexer)
+
+-- the import of `Logos`, which counts as used then
+abbrev pub import_text : List ℕ
+import_text = codes "#[allow(unused_imports)]\nuse self::Logos as _;\n"
+
+-- the same, if it is wanted: under the conditions of an enum
+abbrev pub import_under : Bool → TokenList → List ℕ
+import_under false left = []
+import_under true left = conditions_text left ++ import_text
+
+-- the text of a lexer with its attributes, and perhaps with the import before it
+abbrev pub under : Bool → TokenList → List ℕ → List ℕ
+under by_name left lexer = import_under by_name left ++ lexer_under left lexer
+
+-- all these bytes are blanks
+abbrev pub are_blanks : List ℕ → Bool
+are_blanks [] = true
+are_blanks (byte ∷ rest) = (byte == 32) && are_blanks rest
+
+-- the line before an enum that rustfmt leaves as it is
+abbrev pub guard_text : List ℕ
+guard_text = codes "#[rustfmt::skip]\n"
+
+-- such a line with the blanks before the enum, or nothing
+abbrev pub IsGuard : List ℕ → Type 0
+IsGuard guard = (guard ≡ []) ⊎ ((margin : List ℕ) × (are_blanks margin ≡ true) × (guard ≡ guard_text ++ margin))
+
+-- the text of the tokens of an enum that stay, perhaps after such a line
+pub record IsGuarded (left : TokenList) (shown : List ℕ) : Type 0 where
+  pub guard : List ℕ
+  pub written : List ℕ
+  pub is_guard : IsGuard guard
+  pub is_written : IsWrittenAs left written
+  pub is : shown ≡ guard ++ written
 
 -- this is an enum without what belongs to the derive, and after LF the text of its lexer with attributes, laid out
 pub record IsExpansion (shape : Shape) (source shown : List ℕ) : Type 0 where
@@ -56,9 +90,10 @@ pub record IsExpansion (shape : Shape) (source shown : List ℕ) : Type 0 where
   pub lexer : List ℕ
   pub laid : List ℕ
   pub stripped : IsStripped source left
-  pub is_written : IsWrittenAs left written
+  pub by_name : Bool
+  pub is_written : IsGuarded left written
   pub is_lexer : IsLexerText shape source lexer
-  pub is_laid_out : IsLaidOut (under left lexer) laid
+  pub is_laid_out : IsLaidOut (under by_name left lexer) laid
   pub is : shown ≡ written ++ 10 ∷ laid
 
 -- the text of an enum of a file

@@ -2,6 +2,7 @@
 use Rattle.std.specs.Prelude.{◌≡◌, ◌⊎◌, ℕ, ◌&&◌, Bool, true, nat_le, List, [], ◌∷◌, ◌++◌, codes, if◌then◌else◌}
 use Rattle.logos_cli.specs.declared.options.Shape.{Shape}
 use Rattle.logos_cli.specs.declared.options.Shape.TheVariants.{Code, Tables}
+use Rattle.logos_layout.specs.Inner.{IsWithoutInner}
 
 -- a byte is printable ASCII
 abbrev pub is_printable : ℕ → Bool
@@ -37,8 +38,10 @@ head_text name shape = line_text (shown_name name) (shape_name shape)
 abbrev pub IsHead : Shape → List ℕ → Type 0
 IsHead shape head = (head ≡ []) ⊎ ((name : List ℕ) × (head ≡ head_text name shape))
 
--- a file with these bytes, perhaps after a first line
+-- a file with these bytes, where documentation and attributes of the file itself are plain comments, perhaps after a first line
 pub record IsFileWith (shape : Shape) (bytes made : List ℕ) : Type 0 where
   pub head : List ℕ
+  pub body : List ℕ
   pub is_head : IsHead shape head
-  pub is : made ≡ head ++ bytes
+  pub is_body : IsWithoutInner bytes body
+  pub is : made ≡ head ++ body

@@ -1,31 +1,28 @@
 //! A file with the derive of its lexers expanded.
 
 ghost use Rattle.std.specs.Prelude.{◌≡◌, ◌≤◌, ◌++◌, All, IfErr, IfOk, IsTrue, OnOk, length, map, string_bytes};
-ghost use Rattle.logos_token.specs.Views.{tokens_of};
 ghost use Rattle.logos_codegen.specs.Source.{IsRefused};
-ghost use Rattle.logos_layout.specs.Layout.{IsLaidOut};
 ghost use Rattle.logos_rust_file.specs.Replacing.{AreInOrder, IsFoundCut, found_span, part_span};
 ghost use Rattle.logos_rust_file.specs.Files.{AreEnumsOf};
 ghost use Rattle.logos_report.specs.Pages.{Shows, StandInOrder};
 ghost use Rattle.logos_rust_file.specs.Handed.{Refuses};
-ghost use Rattle.logos_cli.specs.Expanding.{IsExpanded, IsExpansion, IsFileOf, under};
+ghost use Rattle.logos_cli.specs.Expanding.{IsExpanded, IsExpansion, IsFileOf};
 ghost use Rattle.logos_cli.specs.Expanding.{IsShown, IsUnreadable, config_of};
 ghost use Rattle.logos_cli.specs.Gathering.{AreRefused, EndsWithLines, FailsFor, GathersAll, ShowsRefused, refused_texts};
 ghost use Rattle.logos_cli.specs.inside.Steps.{AddsRefusal, GathersOne};
-ghost use Rattle.logos_cli.specs.inside.Steps.{IsExpansionBy, IsPrintedWith};
+ghost use Rattle.logos_cli.specs.inside.Steps.{IsExpansionBy};
 
 use crate::head::with_head;
 use crate::options::Shape;
+use crate::printing::{Site, printed_with};
 use logos_causes::{
     Explained, Showing, add_lexer, add_missing, add_passed, add_text, add_warnings, denial_text,
     explain, push_warned, text_of, warning_lines, warning_text,
 };
 use logos_codegen::error::{Errors, Memory};
 use logos_codegen::generator::Config;
-use logos_codegen::token::Tokens;
 use logos_codegen::{Generated, Refusal, generate, strip_attributes};
 use logos_host::{Failure, MessageFormat};
-use logos_layout::{lay_out, push_conditions, write_left};
 use logos_messages::push_messages;
 use logos_report::{Clues, Page, Part, Source, Warning, count_errors, push_faults, push_summary};
 use logos_rust_file::{FoundEnum, Replacement, enums_in, replace};
@@ -105,7 +102,13 @@ fn expand_enums<'w>(
     ensures denied { IfErr result (FailsFor showing.format showing.denies shape source.now) }
 {
     let mut warned = Vec::new(showing.alloc);
-    let gathered = gather(source.text(), shape, found, &mut warned)?;
+    let site = Site {
+        shape,
+        file: source,
+        offset: 0,
+        by_name: false,
+    };
+    let gathered = gather(source.text(), site, found, &mut warned)?;
     add_passed(source.text(), found, &mut warned)?;
     add_missing(showing, found, &mut warned)?;
     if gathered.refused.is_empty() {
@@ -167,13 +170,13 @@ fn expanded_file(
 /// their warnings.
 fn gather(
     text: &str,
-    shape: Shape,
+    site: Site<'_, '_>,
     found: &[FoundEnum],
     warned: &mut Vec<Warning>,
 ) -> Result<Gathered, Memory>
     requires order { AreInOrder 0 (map found_span found.now) (length text.now) }
     requires cut { All (IsFoundCut text.now) found.now }
-    ensures gathers { IfOk result (GathersAll shape text.now found.now) }
+    ensures gathers { IfOk result (GathersAll site.entry.shape text.now found.now) }
     ensures order { IfOk result (λ gathered.
         AreInOrder 0 (map part_span gathered.parts.items) (length text.now)) }
 {
@@ -183,7 +186,7 @@ fn gather(
         refused: Vec::new(alloc),
     };
     for one in found {
-        gather_enum(text, shape, *one, &mut gathered, warned)?;
+        gather_enum(text, site, *one, &mut gathered, warned)?;
     }
     Ok(gathered)
 }
@@ -191,14 +194,14 @@ fn gather(
 /// Adds the replacement or the faults of an enum, if it derives `Logos`, and its warnings.
 fn gather_enum(
     text: &str,
-    shape: Shape,
+    site: Site<'_, '_>,
     one: FoundEnum,
     gathered: &mut Gathered,
     warned: &mut Vec<Warning>,
 ) -> Result<(), Memory>
     requires order { one.span.from ≤ one.span.to }
     requires cut { IsFoundCut text.now one }
-    ensures { OnOk result (GathersOne shape text.now one gathered.old gathered.new) }
+    ensures { OnOk result (GathersOne site.entry.shape text.now one gathered.old gathered.new) }
 {
     let span = one.span;
     let source = &text[span.from..span.to];
@@ -206,7 +209,12 @@ fn gather_enum(
     if !one.derives {
         return Ok(());
     }
-    match expanded(source, shape, span.from, warned) {
+    let site = Site {
+        offset: span.from,
+        by_name: one.by_name,
+        ..site
+    };
+    match expanded(source, site, warned) {
         Ok(text) => {
             gathered.parts.push(Replacement { span, text })?;
             Ok(())
@@ -281,26 +289,17 @@ pub(crate) fn lexer_text(
     }
 }
 
-/// The attributes of an implementation: no lint of rustc or clippy looks at it, and rustfmt leaves
-/// it as it is.
-const ATTRIBUTES: &str = "#[allow(unused, clippy::all)]\n#[rustfmt::skip]\n";
-
 /// Returns an enum without what belongs to the derive, and the implementation. Adds the warnings of
-/// its lexer. Its text begins at an offset of the file.
-fn expanded(
-    source: &str,
-    shape: Shape,
-    offset: usize,
-    warned: &mut Vec<Warning>,
-) -> Result<String, Refusal>
+/// its lexer.
+fn expanded(source: &str, site: Site<'_, '_>, warned: &mut Vec<Warning>) -> Result<String, Refusal>
     ensures done { IfOk result
-        (λ text. IsExpansion shape source.now (string_bytes text)) }
+        (λ text. IsExpansion site.entry.shape source.now (string_bytes text)) }
     ensures refused { IfErr result (Refuses (IsRefused source.now)) }
 {
     let alloc = *warned.allocator();
-    match generate(alloc, source, config_of(shape)) {
-        Ok(made) => match add_lexer(source, offset, &made.graph, warned) {
-            Ok(()) => expansion_by(alloc, source, shape, &made),
+    match generate(alloc, source, config_of(site.shape)) {
+        Ok(made) => match add_lexer(source, site.offset, &made.graph, warned) {
+            Ok(()) => expansion_by(alloc, source, site, &made),
             Err(Memory) => Err(Refusal::Memory),
         },
         Err(refusal) => Err(refusal),
@@ -311,61 +310,20 @@ fn expanded(
 fn expansion_by(
     alloc: Global,
     source: &str,
-    shape: Shape,
+    site: Site<'_, '_>,
     made: &Generated<'_>,
 ) -> Result<String, Refusal>
     ensures done { IfOk result (λ text.
-        IsExpansionBy shape made.now.code source.now (string_bytes text)) }
+        IsExpansionBy site.entry.shape made.now.code source.now (string_bytes text)) }
     ensures refused { IfErr result (Refuses (IsRefused source.now)) }
 {
     match strip_attributes(alloc, source) {
-        Ok(left) => match printed_with(alloc, source, left.run(), shape, made) {
+        Ok(left) => match printed_with(alloc, source, left.run(), site, made) {
             Ok(text) => Ok(text),
             Err(Memory) => Err(Refusal::Memory),
         },
         Err(refusal) => Err(refusal),
     }
-}
-
-/// Returns the text of those tokens of a source that stay, and after LF the text of a lexer
-/// with attributes, laid out.
-fn printed_with(
-    alloc: Global,
-    source: &str,
-    left: Tokens<'_, '_>,
-    shape: Shape,
-    made: &Generated<'_>,
-) -> Result<String, Memory>
-    ensures { IfOk result (λ text. IsPrintedWith shape made.now.code (tokens_of left.entry)
-        (string_bytes text)) }
-{
-    let lexer = lexer_text(alloc, shape, made)?;
-    let laid = laid_under(alloc, left, lexer.as_str())?;
-    let mut text = write_left(alloc, source, left)?;
-    text.push('\n')?;
-    text.push_str(laid.as_str())?;
-    Ok(text)
-}
-
-/// Returns the text of a lexer with its attributes, under the conditions of the enum with these
-/// tokens, laid out.
-fn laid_under(alloc: Global, left: Tokens<'_, '_>, lexer: &str) -> Result<String, Memory>
-    ensures { IfOk result (λ laid. IsLaidOut (under (tokens_of left.entry) lexer.now) (string_bytes laid)) }
-{
-    let whole = under(alloc, left, lexer)?;
-    lay_out(alloc, whole.as_str())
-}
-
-/// Returns the text of a lexer with its attributes. It stands under the conditions of the enum with
-/// these tokens.
-fn under(alloc: Global, left: Tokens<'_, '_>, lexer: &str) -> Result<String, Memory>
-    ensures { IfOk result (λ text. string_bytes text ≡ under (tokens_of left.entry) lexer.now) }
-{
-    let mut text = String::new(alloc);
-    push_conditions(alloc, &mut text, left)?;
-    text.push_str(ATTRIBUTES)?;
-    text.push_str(lexer)?;
-    Ok(text)
 }
 
 /// Returns the refusal of a file, with the text of all its faults.

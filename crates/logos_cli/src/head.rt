@@ -1,13 +1,17 @@
 //! The first line of a file with the derive of its lexers expanded.
 
 ghost use Rattle.std.specs.Prelude.{◌≡◌, ◌++◌, IfOk, OnOk, string_bytes};
+ghost use Rattle.logos_layout.specs.Inner.{IsWithoutInner};
 ghost use Rattle.logos_cli.specs.Heads.{IsFileWith, IsHead, code_name, head_text, is_plain, is_printable, line_text, shape_name, shown_name};
 
 use crate::options::Shape;
+use logos_layout::without_inner;
 use logos_token::error::Memory;
 use std::alloc::Global;
 
-/// Returns the text of a file after its first line, which says what the file was made from. A file
+/// Returns the text of a file after its first line, which says what the file was made from.
+/// Documentation and attributes of the file itself are plain comments, so another file can include
+/// it. A file
 /// whose first bytes mean something has no such line: that of `#!`, and the mark U+FEFF.
 pub(crate) fn with_head(
     alloc: Global,
@@ -17,10 +21,25 @@ pub(crate) fn with_head(
 ) -> Result<Vec<u8>, Memory>
     ensures { IfOk result (λ made. IsFileWith shape bytes.now made.items) }
 {
-    let head = head_of(alloc, path, shape, bytes)?;
+    let body = plain_bytes(alloc, bytes)?;
+    let head = head_of(alloc, path, shape, &body)?;
     let mut made = head.into_bytes();
-    made.extend_from_slice(bytes)?;
+    made.extend_from_slice(&body)?;
     Ok(made)
+}
+
+/// Returns the bytes of a file in which documentation and attributes of the file itself are plain
+/// comments.
+fn plain_bytes(alloc: Global, bytes: &[u8]) -> Result<Vec<u8>, Memory>
+    ensures { IfOk result (λ body. IsWithoutInner bytes.now body.items) }
+{
+    match str::from_utf8(bytes) {
+        Ok(text) => match without_inner(alloc, text) {
+            Ok(body) => Ok(body.into_bytes()),
+            Err(Memory) => Err(Memory),
+        },
+        Err(_) => Ok(Vec::from_slice(alloc, bytes)?),
+    }
 }
 
 /// Returns the first line of a file with these bytes, or nothing if it can have none.
@@ -101,7 +120,7 @@ fn is_printable(byte: u8) -> bool
 }
 
 /// Returns the name of a shape.
-fn shape_name(shape: Shape) -> &'static str
+pub(crate) fn shape_name(shape: Shape) -> &'static str
     ensures { result.now ≡ shape_name shape }
 {
     match shape {

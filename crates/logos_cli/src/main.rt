@@ -3,19 +3,21 @@
 #![tactic(auto)]
 
 mod answering;
+mod difference;
 mod expanding;
 mod head;
 mod implementation;
 mod options;
+mod printing;
 mod running;
 
-use logos_host::{Disk, refuse_words, words};
+use logos_host::{SourceDisk, refuse_words, words};
 use running::{USAGE, run};
 use std::io;
 use std::process::ExitCode;
 
 fn main(rt: HostRuntime) -> io::Result<ExitCode> {
-    let mut files = Disk { rt: &rt };
+    let mut files = SourceDisk { rt: &rt };
     let status = match words(&rt) {
         Ok(words) => {
             run(

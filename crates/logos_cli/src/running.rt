@@ -2,7 +2,7 @@
 
 ghost use Rattle.std.specs.Prelude.{◌≡◌, ◌≢◌, ◌≤◌, ◌++◌, ◌⊎◌, None, MatchOption, false, true, IfErr, IfOk, IfSome};
 ghost use Rattle.std.specs.Prelude.{OnOk, ℕ, List};
-ghost use Rattle.std.specs.Prelude.{IsTrue, ⊤, map, string_bytes};
+ghost use Rattle.std.specs.Prelude.{IsTrue, map, string_bytes};
 ghost use Rattle.std.specs.Io.KnownBytes.{Appends, Keeps};
 ghost use Rattle.logos_host.specs.Failures.{status_of};
 ghost use Rattle.logos_host.specs.Messages.{message_of};
@@ -15,6 +15,7 @@ ghost use Rattle.logos_cli.specs.Runs.{IsOther};
 ghost use Rattle.logos_host.specs.Reading.{Reads};
 
 use crate::answering::run_derive;
+use crate::difference::{Compared, difference};
 use crate::expanding::{Expansion, expand};
 use crate::options::{Order, Request, TAKEN, request_of};
 use logos_causes::Showing;
@@ -324,32 +325,16 @@ fn settle<'w, F: ComparableFiles>(
         return Ok(());
     }
     if order.is_check {
-        return Err(difference(alloc, order.input, path, standing));
+        let compared = Compared {
+            input: order.input,
+            path,
+            shape: order.shape,
+            standing,
+            made: bytes,
+        };
+        return Err(difference(alloc, &compared, files));
     }
     write_file(path, bytes, files)
-}
-
-/// Returns how the file at a path differs from what another file gives.
-fn difference<'w>(alloc: Global, input: &str, path: &str, standing: Standing) -> Failure<'w>
-    ensures { FailsBy (IsRefusedFor (λ shown. ⊤)) result }
-{
-    match difference_text(alloc, input, path, standing) {
-        Ok(text) => Failure::Refused(text),
-        Err(AllocError) => Failure::Memory,
-    }
-}
-
-/// Returns the line that says how a file differs.
-fn difference_text(
-    alloc: Global,
-    input: &str,
-    path: &str,
-    standing: Standing,
-) -> Result<String, AllocError> {
-    match standing {
-        Standing::Missing => format!(in alloc; "error: {path} is missing\n"),
-        _ => format!(in alloc; "error: {path} is not what {input} gives\n"),
-    }
 }
 
 /// Writes bytes to a file.

@@ -4,6 +4,7 @@
 #![tactic(auto)]
 
 mod answering;
+mod calls;
 mod checking;
 mod filling;
 mod options;
@@ -14,4 +15,5 @@ mod prefix;
 mod spots;
 
 pub use answering::{Answer, make_answer};
+pub use calls::{Call, calls_in};
 pub use piece::Piece;

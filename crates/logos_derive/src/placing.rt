@@ -50,7 +50,7 @@ pub(crate) fn pieces_at(
 }
 
 /// Returns the byte offset after the first `front` of a text from an offset on.
-fn after_next(text: &str, offset: usize, front: &str) -> Option<usize> {
+pub(crate) fn after_next(text: &str, offset: usize, front: &str) -> Option<usize> {
     let rest = text.get(offset..)?;
     let before = rest.find(front)?;
     offset.checked_add(before)?.checked_add(front.len())

@@ -37,6 +37,14 @@ pub trait ComparableFiles: Files {
         ensures same { IfOk result (λ standing. standing ≡ Standing.Same →
             Self.read_gives self.old path.now bytes.now self.new) };
 
+    /// Returns the bytes of the file at a path, for a message: none if it is not a regular file,
+    /// cannot be read, or has more than 67,108,864 bytes.
+    ///
+    /// # Errors
+    ///
+    /// Returns `AllocError` if memory runs out.
+    fn found_bytes(&self, path: &str) -> Result<Vec<u8>, AllocError>;
+
     /// Returns whether two paths lead to one regular file, also by links.
     fn is_same_file(&self, one: &str, other: &str) -> bool
         ensures { Self.same_finds self.now one.now other.now result };

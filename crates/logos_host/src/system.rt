@@ -51,11 +51,30 @@ impl<R: Runtime + AllocGlobal + Clone + Drop> ComparableFiles for Disk<'_, R> {
         }
     }
 
+    fn found_bytes(&self, path: &str) -> Result<Vec<u8>, AllocError> {
+        match fs::metadata(self.rt, path) {
+            Ok(found) if found.is_file() && found.len() <= MAX_SHOWN => bytes_at(self.rt, path),
+            _ => Ok(Vec::new(self.rt.alloc())),
+        }
+    }
+
     fn is_same_file(&self, one: &str, other: &str) -> bool {
         match (fs::metadata(self.rt, one), fs::metadata(self.rt, other)) {
             (Ok(one), Ok(other)) => is_same(&one, &other),
             _ => false,
         }
+    }
+}
+
+/// The most bytes of a file that is read for a message.
+const MAX_SHOWN: u64 = 67_108_864;
+
+/// Returns the bytes of a file, or none if it cannot be read.
+fn bytes_at<R: Runtime + AllocGlobal>(rt: &R, path: &str) -> Result<Vec<u8>, AllocError> {
+    match fs::read(rt, path) {
+        Ok(bytes) => Ok(bytes),
+        Err(error) if error.kind() == ErrorKind::OutOfMemory => Err(AllocError),
+        Err(_) => Ok(Vec::new(rt.alloc())),
     }
 }
 
@@ -65,7 +84,7 @@ fn is_same(one: &Metadata, other: &Metadata) -> bool {
 }
 
 /// Returns why a call on a file failed.
-fn file_error(error: &io::Error) -> FileError {
+pub(crate) fn file_error(error: &io::Error) -> FileError {
     match error.kind() {
         ErrorKind::OutOfMemory => FileError::Memory,
         kind => FileError::Failed(Reason::of_kind(kind)),

@@ -1,3 +1,4 @@
 pub mod Conditions
+pub mod Inner
 pub mod Layout
 pub mod Words

@@ -6,8 +6,10 @@ mod blanks;
 mod classes;
 mod comparing;
 mod conditions;
+mod inner;
 mod laying;
 mod lines;
+mod plain;
 mod state;
 mod staying;
 mod thinned;
@@ -15,5 +17,6 @@ mod walk;
 mod writing;
 
 pub use conditions::push_conditions;
-pub use laying::lay_out;
+pub use inner::without_inner;
+pub use laying::{Note, Setting, lay_out};
 pub use writing::write_left;

@@ -22,6 +22,8 @@ pub(crate) enum Lead {
 pub(crate) struct Lines {
     /// The lines so far, without the last word.
     text: String,
+    /// How many blanks stand before each line.
+    margin: usize,
     /// How many bytes the last line has.
     column: usize,
     /// What stands before the last word.
@@ -31,10 +33,11 @@ pub(crate) struct Lines {
 }
 
 impl Lines {
-    /// Returns no lines.
-    pub(crate) fn new(alloc: Global) -> Lines {
+    /// Returns no lines. Before each one so many blanks will stand, and before the first one too.
+    pub(crate) fn new(alloc: Global, margin: usize) -> Lines {
         Lines {
             text: String::new(alloc),
+            margin,
             column: 0,
             lead: Lead::Nothing,
             word: String::new(alloc),
@@ -78,7 +81,7 @@ impl Lines {
     /// Puts what stands before the word.
     fn put_lead(&mut self) -> Result<(), Memory> {
         match self.lead {
-            Lead::Nothing => Ok(()),
+            Lead::Nothing => self.put_margin(),
             Lead::Blank { depth: _ } if self.has_room() => self.put_blank(),
             Lead::Blank { depth } => self.put_line(depth),
             Lead::Line { depth, is_apart } => {
@@ -111,10 +114,20 @@ impl Lines {
     /// Ends the line, and begins one with so many levels of four blanks.
     fn put_line(&mut self, depth: usize) -> Result<(), Memory> {
         self.text.push('\n')?;
+        self.put_margin()?;
         for _ in 0..depth {
             self.text.push_str("    ")?;
         }
-        self.column = depth.saturating_mul(4);
+        self.column = self.column.saturating_add(depth.saturating_mul(4));
+        Ok(())
+    }
+
+    /// Puts the blanks that stand before each line.
+    fn put_margin(&mut self) -> Result<(), Memory> {
+        for _ in 0..self.margin {
+            self.text.push(' ')?;
+        }
+        self.column = self.margin;
         Ok(())
     }
 }

@@ -1,6 +1,7 @@
 //! Goes through the lexemes of a text and puts them into lines.
 
 use crate::classes::{Class, Role, Sign, class_of_name, role_of};
+use crate::laying::{Note, Setting};
 use crate::lines::Lines;
 use crate::state::{Gap, Open, State, opened};
 use logos_lexeme::lexeme::{Kind, lexeme_at};
@@ -18,17 +19,19 @@ struct Layout {
 }
 
 /// Returns a text in lines, or as much of it as can be read into lexemes.
-pub(crate) fn lines_of(alloc: Global, text: &str) -> Result<String, Memory> {
+pub(crate) fn lines_of(alloc: Global, text: &str, setting: Setting<'_>) -> Result<String, Memory> {
     let mut layout = Layout {
-        lines: Lines::new(alloc),
+        lines: Lines::new(alloc, setting.margin),
         state: State::new(),
         outer: Vec::new(alloc),
     };
+    let mut notes = setting.notes;
     let mut from = 0;
     while from < text.len() {
         let Ok((kind, to)) = lexeme_at(text, from) else {
             return layout.lines.finish();
         };
+        notes = layout.add_note(alloc, notes, from)?;
         layout.add_piece(kind, &text[from..to], &text.as_bytes()[to..])?;
         from = to;
     }
@@ -50,6 +53,24 @@ impl Layout {
             }
             Kind::Opening(delimiter) => self.open(delimiter, piece, ahead),
             Kind::Closing(delimiter) => self.close(delimiter, piece),
+        }
+    }
+
+    /// Adds the first of these comments, if it stands before this byte offset. Returns the others.
+    fn add_note<'n>(
+        &mut self,
+        alloc: Global,
+        notes: &'n [Note],
+        from: usize,
+    ) -> Result<&'n [Note], Memory> {
+        match notes {
+            [note, rest @ ..] if note.offset <= from => {
+                let line = note.line;
+                let comment = format!(in alloc; "// line {line}")?;
+                self.add(Class::Comment, comment.as_str())?;
+                Ok(rest)
+            }
+            _ => Ok(notes),
         }
     }
 

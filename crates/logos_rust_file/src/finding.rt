@@ -6,6 +6,7 @@ ghost use Rattle.logos_rust_file.specs.Views.{AreEnumsOf, Describes, Finds, IsEn
 
 use crate::derives::derives;
 use crate::fronts::{Kind, kind_of};
+use crate::names::derives_by_name;
 use logos_enum::{ReadError, read_enum};
 use logos_parser::reading::unreadable;
 use logos_parser::refusal::Refusal;
@@ -21,6 +22,8 @@ pub struct FoundEnum {
     pub span: Span,
     /// Whether one of its `derive` attributes lists `Logos`, `logos::Logos` or `::logos::Logos`.
     pub derives: bool,
+    /// Whether one of these entries is `Logos` without a path, which the file then imports.
+    pub by_name: bool,
     /// Whether `read_enum` reads it without a fault.
     pub is_well_formed: bool,
 }
@@ -100,6 +103,7 @@ fn describe(alloc: Global, item: Tokens<'_, '_>) -> Result<FoundEnum, Memory>
     Ok(FoundEnum {
         span: item.span(),
         derives: derives(item),
+        by_name: derives_by_name(item),
         is_well_formed: is_well_formed(alloc, item)?,
     })
 }

@@ -6,6 +6,7 @@ mod derives;
 mod finding;
 mod fronts;
 pub mod laws;
+mod names;
 mod replacing;
 
 pub use finding::{FoundEnum, enums_in};

@@ -1,7 +1,6 @@
 //! Reads settings files: sections, names and values.
 
-/// The lexers, as `logos_cli` expands them from `src/lexers.rs`. Printed code is not as tidy as written code.
-#[allow(unused)]
+/// The lexers, as `logos_cli` expands them from `src/lexers.rs`.
 pub mod lexers {
     include!(concat!(env!("OUT_DIR"), "/lexers.rs"));
 }

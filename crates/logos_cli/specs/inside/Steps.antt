@@ -1,12 +1,12 @@
 -- The steps of gathering what the enums of a file give.
-use Rattle.std.specs.Prelude.{◌≡◌, ℕ, List, [], ◌∷◌, ◌++◌}
+use Rattle.std.specs.Prelude.{◌≡◌, ℕ, Bool, List, [], ◌∷◌, ◌++◌}
 use Rattle.logos_code.specs.Code.{CodeValue}
 use Rattle.logos_cli.specs.declared.options.Shape.{Shape}
 use Rattle.logos_cli.specs.declared.expanding.Gathered.{Gathered}
 use Rattle.logos_cli.specs.declared.expanding.Refused.{Refused}
-use Rattle.logos_cli.specs.Expanding.{IsShown, under}
+use Rattle.logos_cli.specs.Expanding.{IsGuarded, IsShown, under}
 use Rattle.logos_cli.specs.Gathering.{Gathers}
-use Rattle.logos_layout.specs.Layout.{IsLaidOut, IsWrittenAs}
+use Rattle.logos_layout.specs.Layout.{IsLaidOut}
 use Rattle.logos_rust_file.specs.declared.finding.FoundEnum.{FoundEnum}
 use Rattle.logos_rust_file.specs.declared.replacing.Replacement.{Replacement}
 use Rattle.logos_rust_file.specs.Handed.{Refusal}
@@ -41,8 +41,9 @@ pub record IsPrintedWith (shape : Shape) (code : CodeValue) (left : TokenList) (
   pub lexer : List ℕ
   pub laid : List ℕ
   pub stand : IsShown shape code lexer
-  pub is_written : IsWrittenAs left written
-  pub is_laid_out : IsLaidOut (under left lexer) laid
+  pub by_name : Bool
+  pub is_written : IsGuarded left written
+  pub is_laid_out : IsLaidOut (under by_name left lexer) laid
   pub is : shown ≡ written ++ 10 ∷ laid
 
 -- this is the expansion of an enum whose lexer has this code

@@ -3,4 +3,4 @@ use Rattle.logos_cli.proofs.GatherLemmas.{SoFar}
 use Rattle.logos_cli.proofs.expanding.gather.Given as goal
 
 abbrev pub invariant-loop-one : goal.invariant-loop-one
-invariant-loop-one l = SoFar l.shape l.text l.found (drop l.one-index l.found) l.gathered
+invariant-loop-one l = SoFar l.site.shape l.text l.found (drop l.one-index l.found) l.gathered

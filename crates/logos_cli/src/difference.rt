@@ -1,0 +1,189 @@
+//! How a file differs from the result that it is compared with.
+
+ghost use Rattle.std.specs.Prelude.{⊤};
+ghost use Rattle.logos_cli.specs.Gathering.{FailsBy, IsRefusedFor};
+
+use crate::head::shape_name;
+use crate::options::Shape;
+use logos_host::{ComparableFiles, Failure, Standing};
+use logos_report::Page;
+use std::alloc::{AllocError, Global};
+
+/// How many lines of each text are shown.
+const SHOWN_LINES: usize = 3;
+
+/// How many bytes of a line are shown.
+const SHOWN_BYTES: usize = 100;
+
+/// The names of the shapes.
+const NAMES: [&str; 3] = ["tables", "tailcall", "state_machine"];
+
+/// A file that is not the result that was asked for.
+#[derive(Clone, Copy)]
+pub(crate) struct Compared<'t> {
+    /// The path of the file that was expanded.
+    pub(crate) input: &'t str,
+    /// The path of the file.
+    pub(crate) path: &'t str,
+    /// The shape of the result.
+    pub(crate) shape: Shape,
+    /// How the file compares with the result.
+    pub(crate) standing: Standing,
+    /// The result.
+    pub(crate) made: &'t [u8],
+}
+
+/// Returns the refusal of a file that is not the result. It shows the first lines that differ, and
+/// the shape of which the file's first line speaks, if that is another one.
+pub(crate) fn difference<'w, F: ComparableFiles>(
+    alloc: Global,
+    compared: &Compared<'_>,
+    files: &F,
+) -> Failure<'w>
+    ensures { FailsBy (IsRefusedFor (λ shown. ⊤)) result }
+{
+    let found = match files.found_bytes(compared.path) {
+        Ok(found) => found,
+        Err(AllocError) => return Failure::Memory,
+    };
+    refused(alloc, compared, &found)
+}
+
+/// Returns the refusal of a file with these bytes.
+fn refused<'w>(alloc: Global, compared: &Compared<'_>, found: &[u8]) -> Failure<'w>
+    ensures { FailsBy (IsRefusedFor (λ shown. ⊤)) result }
+{
+    match difference_text(alloc, compared, found) {
+        Ok(text) => Failure::Refused(text),
+        Err(AllocError) => Failure::Memory,
+    }
+}
+
+/// Returns the lines that say how a file with these bytes differs.
+fn difference_text(
+    alloc: Global,
+    compared: &Compared<'_>,
+    found: &[u8],
+) -> Result<String, AllocError> {
+    let mut page = Page::new(alloc, false);
+    push_what(&mut page, compared);
+    if let (Ok(found), Ok(made)) = (str::from_utf8(found), str::from_utf8(compared.made)) {
+        push_lines(&mut page, found, made);
+        push_shape(&mut page, found, compared);
+    }
+    page.finish()
+}
+
+/// Pushes the line that says what is wrong.
+fn push_what(page: &mut Page, compared: &Compared<'_>) {
+    page.push("error: ");
+    page.push_shown(compared.path);
+    match compared.standing {
+        Standing::Missing => page.push(" is missing\n"),
+        _ => {
+            page.push(" is not what ");
+            page.push_shown(compared.input);
+            page.push(" gives\n");
+        }
+    }
+}
+
+/// Pushes the first lines of a file and of the result that differ, if there is a file.
+fn push_lines(page: &mut Page, found: &str, made: &str) {
+    if found.is_empty() {
+        return;
+    }
+    let mut number: usize = 1;
+    let mut rests = (found, made);
+    for _ in 0..found.len() {
+        let Some(next) = after_same(rests.0, rests.1) else {
+            return push_both(page, number, rests.0, rests.1);
+        };
+        number = number.saturating_add(1);
+        rests = next;
+    }
+    push_both(page, number, rests.0, rests.1);
+}
+
+/// Returns what follows the first lines of two texts, if these are the same.
+fn after_same<'t>(found: &'t str, made: &'t str) -> Option<(&'t str, &'t str)> {
+    let (one, found) = found.split_once('\n')?;
+    let (other, made) = made.split_once('\n')?;
+    if one == other {
+        Some((found, made))
+    } else {
+        None
+    }
+}
+
+/// Pushes the first lines of two texts, from a line on.
+fn push_both(page: &mut Page, number: usize, found: &str, made: &str) {
+    push_side(page, " - ", number, found);
+    push_side(page, " + ", number, made);
+}
+
+/// Pushes the first lines of a text.
+fn push_side(page: &mut Page, sign: &str, number: usize, text: &str) {
+    let mut rest = text;
+    for line in 0..SHOWN_LINES {
+        let Some((first, after)) = first_line(rest) else {
+            return;
+        };
+        page.push_number(number.saturating_add(line));
+        page.push(sign);
+        push_cut(page, first);
+        rest = after;
+    }
+}
+
+/// Returns the first line of a text, and what follows it; `None` if the text is empty.
+fn first_line(text: &str) -> Option<(&str, &str)> {
+    if text.is_empty() {
+        return None;
+    }
+    match text.split_once('\n') {
+        Some(parts) => Some(parts),
+        None => Some((text, "")),
+    }
+}
+
+/// Pushes the front of a line, and a line end.
+fn push_cut(page: &mut Page, line: &str) {
+    if let Some((front, rest)) = line.split_at_checked(line.floor_char_boundary(SHOWN_BYTES)) {
+        page.push_shown(front);
+        if !rest.is_empty() {
+            page.push("..");
+        }
+    }
+    page.push("\n");
+}
+
+/// Pushes the shape of which a file's first line speaks, if that is not the one of the result.
+fn push_shape(page: &mut Page, found: &str, compared: &Compared<'_>) {
+    let wanted = shape_name(compared.shape);
+    match named_shape(found) {
+        Some(named) if named != wanted => {
+            page.push("help: ");
+            page.push_shown(compared.path);
+            page.push(" says `--shape ");
+            page.push(named);
+            page.push("`, and this run has `--shape ");
+            page.push(wanted);
+            page.push("`\n");
+        }
+        _ => {}
+    }
+}
+
+/// Returns the name of the shape of which the first line of a file speaks.
+fn named_shape(found: &str) -> Option<&'static str> {
+    let (line, _) = found.split_once('\n')?;
+    let front = line.strip_suffix("; do not edit")?;
+    let (_, name) = front.rsplit_once(", --shape ")?;
+    for known in &NAMES {
+        if *known == name {
+            return Some(*known);
+        }
+    }
+    None
+}

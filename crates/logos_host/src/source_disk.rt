@@ -1,0 +1,75 @@
+//! The files of the system, for programs that read sources.
+
+use crate::comparing::{ComparableFiles, Standing};
+use crate::files::{FileError, Files};
+use crate::system::{Disk, file_error};
+use std::alloc::AllocError;
+use std::io::Read;
+use std::rt::Files as Runtime;
+use std::{fs, io};
+
+/// The most bytes of a file that are read: five more than the longest source has, so that it is
+/// still too long where the last character is cut off.
+const MAX_READ: u64 = 16_777_221;
+
+/// The files that a runtime reaches. No more of a file is read than shows that it is too long for a
+/// source, so a device without an end is read as such a source.
+#[derive(Drop)]
+pub struct SourceDisk<'r, R> {
+    /// The runtime.
+    pub rt: &'r R,
+}
+
+impl<R: Runtime + AllocGlobal + Clone + Drop> Files for SourceDisk<'_, R> {
+    fn read(&mut self, path: &str) -> Result<Vec<u8>, FileError> {
+        match read_front(self.rt, path) {
+            Ok(bytes) => Ok(bytes),
+            Err(error) => Err(file_error(&error)),
+        }
+    }
+
+    fn write(&mut self, path: &str, bytes: &[u8]) -> Result<(), FileError> {
+        Disk { rt: self.rt }.write(path, bytes)
+    }
+}
+
+impl<R: Runtime + AllocGlobal + Clone + Drop> ComparableFiles for SourceDisk<'_, R> {
+    fn compare(&mut self, path: &str, bytes: &[u8]) -> Result<Standing, AllocError> {
+        Disk { rt: self.rt }.compare(path, bytes)
+    }
+
+    fn found_bytes(&self, path: &str) -> Result<Vec<u8>, AllocError> {
+        Disk { rt: self.rt }.found_bytes(path)
+    }
+
+    fn is_same_file(&self, one: &str, other: &str) -> bool {
+        Disk { rt: self.rt }.is_same_file(one, other)
+    }
+}
+
+/// Returns the bytes of a file, or a front of them that is too long for a source.
+fn read_front<R: Runtime + AllocGlobal>(rt: &R, path: &str) -> io::Result<Vec<u8>> {
+    let mut bytes = Vec::new(rt.alloc());
+    fs::File::open(rt, path)?
+        .take(MAX_READ)
+        .read_to_end(&mut bytes)?;
+    if bytes.len() as u64 == MAX_READ {
+        cut_last(&mut bytes);
+    }
+    Ok(bytes)
+}
+
+/// Takes the last character away, which may be cut off.
+fn cut_last(bytes: &mut Vec<u8>) {
+    for _ in 0..4 {
+        match bytes.pop() {
+            Some(byte) if is_continuation(byte) => {}
+            _ => return,
+        }
+    }
+}
+
+/// Returns whether a byte is none that a character begins with.
+fn is_continuation(byte: u8) -> bool {
+    (0x80 <= byte) & (byte <= 0xBF)
+}

@@ -1,0 +1,51 @@
+-- The documentation and the attributes of a file itself, as plain comments.
+use Rattle.std.specs.Prelude.{◌≡◌, ◌⊎◌, ℕ, ◌==◌, if◌then◌else◌, Bool, false, List, ◌∷◌, ◌++◌, Option, Some, None}
+use Rattle.logos_lexeme.specs.declared.lexeme.Delimiter.TheVariants.{Bracket}
+use Rattle.logos_token.specs.Spelling.{Spells}
+use Rattle.logos_token.specs.Tokens.{TokenList, punctuation, doc, group, none, also}
+
+-- A documentation comment is of what surrounds it: its third byte is `!`.
+abbrev pub is_inner : List ℕ → Bool
+is_inner (first ∷ second ∷ third ∷ rest) = third == 33
+is_inner text = false
+
+-- What follows brackets, if they come first.
+abbrev pub after_brackets : TokenList → Option TokenList
+after_brackets (also (group Bracket span inside) rest) = Some rest
+after_brackets run = None
+
+-- What follows `!` and brackets, if they come first.
+abbrev pub after_mark : TokenList → Option TokenList
+after_mark (also (punctuation character spacing span) rest) = if character == 33 then after_brackets rest else None
+after_mark run = None
+
+-- What follows the documentation comment or the attribute that comes first, if it is an inner one: `//! ..`, `/*! .. */` or `#![..]`.
+abbrev pub after_inner : TokenList → Option TokenList
+after_inner (also (doc text span) rest) = if is_inner text then Some rest else None
+after_inner (also (punctuation character spacing span) rest) = if character == 35 then after_mark rest else None
+after_inner run = None
+
+-- All these tokens are inner documentation comments and attributes.
+pub data AreInner : TokenList → Type 0 where
+  ended : AreInner none
+  next : {run rest : TokenList} → after_inner run ≡ Some rest → AreInner rest → AreInner run
+
+-- A text spells inner documentation comments and attributes alone.
+pub record IsInnerText (text : List ℕ) : Type 0 where
+  pub tokens : TokenList
+  pub spelled : Spells text tokens
+  pub are : AreInner tokens
+
+-- The second text is the first one, where a front that spells inner documentation comments and attributes alone gave way to one that spells nothing.
+pub record IsPlainly (text made : List ℕ) : Type 0 where
+  pub front : List ℕ
+  pub plain : List ℕ
+  pub rest : List ℕ
+  pub text_is : text ≡ front ++ rest
+  pub made_is : made ≡ plain ++ rest
+  pub inner : IsInnerText front
+  pub bare : Spells plain none
+
+-- The same, or both are the same text.
+abbrev pub IsWithoutInner : List ℕ → List ℕ → Type 0
+IsWithoutInner text made = IsPlainly text made ⊎ (made ≡ text)

@@ -1,0 +1,71 @@
+//! Puts inner documentation and attributes into plain comments.
+//!
+//! Nothing has to be believed of this: what comes of it has to spell no tokens.
+
+use logos_lexeme::lexeme::{Kind, lexeme_at};
+use logos_token::error::Memory;
+use std::alloc::Global;
+
+/// Returns a text of inner documentation comments and attributes as plain comments, or as much of
+/// it as can be read into lexemes.
+pub(crate) fn plain_text(alloc: Global, text: &str) -> Result<String, Memory> {
+    let mut plain = String::new(alloc);
+    let mut depth = 0;
+    let mut from = 0;
+    while from < text.len() {
+        let Ok((kind, to)) = lexeme_at(text, from) else {
+            return Ok(plain);
+        };
+        push_piece(&mut plain, kind, &text[from..to], depth)?;
+        depth = depth_after(kind, depth);
+        from = to;
+    }
+    Ok(plain)
+}
+
+/// Returns how many delimiters are open after a lexeme.
+fn depth_after(kind: Kind, depth: usize) -> usize {
+    match kind {
+        Kind::Opening(_) => depth.saturating_add(1),
+        Kind::Closing(_) => depth.saturating_sub(1),
+        _ => depth,
+    }
+}
+
+/// Pushes a lexeme or a gap, inside so many delimiters. An attribute is put into a comment.
+fn push_piece(plain: &mut String, kind: Kind, piece: &str, depth: usize) -> Result<(), Memory> {
+    match (kind, depth) {
+        (Kind::Doc, 0) => push_comment(plain, piece),
+        (Kind::Punctuation(_), 0) if piece == "#" => push(plain, "/* ", piece),
+        (Kind::Closing(_), 1) => push(plain, piece, " */"),
+        _ => push(plain, piece, ""),
+    }
+}
+
+/// Pushes two texts.
+fn push(plain: &mut String, one: &str, other: &str) -> Result<(), Memory> {
+    plain.push_str(one)?;
+    plain.push_str(other)?;
+    Ok(())
+}
+
+/// Pushes an inner documentation comment as a plain one.
+fn push_comment(plain: &mut String, comment: &str) -> Result<(), Memory> {
+    if let Some(rest) = comment.strip_prefix("//!") {
+        return push(plain, opening("//", rest), rest);
+    }
+    if let Some(rest) = comment.strip_prefix("/*!") {
+        return push(plain, opening("/*", rest), rest);
+    }
+    push(plain, comment, "")
+}
+
+/// Returns what a plain comment with this text begins with: a blank parts it from a character that
+/// would make it documentation.
+fn opening(mark: &'static str, rest: &str) -> &'static str {
+    match (mark, rest.as_bytes()) {
+        ("//", [b'/' | b'!', ..]) => "// ",
+        ("/*", [b'*' | b'!', ..]) => "/* ",
+        _ => mark,
+    }
+}

@@ -1,0 +1,170 @@
+"""Makes whole Rust files of random items, has `logos_cli` expand them, and compares with the plain reader: every byte outside of the enums that
+derive `Logos` stays, but for documentation and attributes of the file itself, which become plain comments; each such enum gives way to the tokens
+that the plain reader leaves of it, and to an implementation.
+
+The word is the program's path. The last line has the counts.
+"""
+
+import os
+import subprocess
+import sys
+import tempfile
+from concurrent.futures import ThreadPoolExecutor
+from random import Random
+from stripped import stripped
+from tokens import printed, tokenize
+
+FILES = 240
+SHAPES = ['tables', 'tailcall', 'state_machine']
+GAPS = [' ', '\n', '\n\n', '\t', '\r\n', ' // line\n', ' /* block */ ', ' /* a /* b */ c */\n', '\n    ', '\n////\n', ' /**/ ']
+# What stands first in a file, and what becomes of it.
+FRONTS = [('', ''), ('//! One.\n', '// One.\n'), ('/*! Block\n lines */\n', '/* Block\n lines */\n'), ('#![allow(a)]\n', '/* #![allow(a)] */\n'),
+          ('//!/ odd\n', '// / odd\n'), ('/*!*/ ', '/* */ '), ('/*!* x */', '/* * x */'), ('//!! y\n', '// ! y\n'),
+          ('# /* b */ ! [c(\n"]",\n")")] // d\n', '/* # /* b */ ! [c(\n"]",\n")")] */ // d\n'), ('// plain\n', '// plain\n'), ('\ufeff', None)]
+# Items that are no lexers, with what looks like one inside of them.
+ITEMS = ['use a::{b, c as d};', 'mod m;', 'pub(in a::b) mod n { use x; fn f() {} }', 'fn f<\'a>(x: &\'a str) -> u8 { let \'l: u8 = b\'}\'; 0 }',
+         'fn g() { #[derive(Logos)] enum Inside { #[token("a")] A } }', 'm! { #[derive(Logos)] enum InMacro { #[token("a")] A } }',
+         'macro_rules! n { ($a:ident) => { #[derive(Logos)] enum $a { #[token("a")] A } } }', '#[derive(Logos)] struct S { a: u8 }',
+         '#[derive(Debug)] pub enum Plain<T> { #[token("a")] A(T), B { c: u8 } = 3 }', 'enum Empty {}', '#[derive(my::Logos)] enum Other { A }',
+         'const T: &str = "#[derive(Logos)] enum E { \\" }";', 'const R: &str = r##"enum "# { } "##;', 'static C: char = \'"\';', 'union U { a: u8 }',
+         'impl<\'s> Tr for X<\'s> { const C: u8 = 1; type T = [u8; { 1 }]; }', 'trait Tr { fn f(); }', 'type A = B<{ 1 + 1 }>;', 'extern "C" { fn x(); }',
+         '/// Outer.\n#[cfg_attr(a, derive(Logos))]\nenum Conditional { #[token("a")] A }', 'pub struct Größe(u8, #[a] u16);', 'fn h() { if a < b && c > d { } }',
+         'const B: [u8; 2] = [0x1F, b\'\\\'\'];', ';', 'unsafe impl !Send for A {}', 'async fn k() -> impl Fn(u8) -> u8 { |x| x }']
+# Attributes of an enum besides its derive.
+ATTRIBUTES = ['/// Words.', '#[repr(u8)]', '#[logos(skip " ")]', '#[logos(skip("\\t", priority = 9))]', '#[allow(dead_code)]', '#[cfg(all(a, b))]', '// note\n',
+              '/** Block. */', '#[logos(subpattern d = "[0-9]")]', '#[non_exhaustive]']
+DERIVES = ['Logos', 'logos::Logos', '::logos::Logos', 'Debug, Logos', 'Logos, Clone', 'Copy,Clone ,Logos,', 'A, /* b */ logos :: Logos, C', 'a::B, ::logos::Logos']
+CALLBACKS = ['', '', '', ', f', ', |lex| lex.slice().len()', ', callback = a::b::<u8>', ', |_| { let x = "}"; (x, \'{\') }', ', priority = 30']
+
+
+class FileMaker:
+    """Makes one file: a list of texts that stay, with an enum between each two."""
+
+    def __init__(self, seed):
+        self.random = Random(seed)
+        self.serial = 0
+
+    def pick(self, choices):
+        return self.random.choice(choices)
+
+    def gap(self):
+        return ''.join(self.pick(GAPS) for _ in range(self.random.randrange(1, 3)))
+
+    def variant(self):
+        """A variant with patterns that no other variant has."""
+        self.serial += 1
+        name = f'V{self.serial}'
+        lines = [f'#[token("{name}"{self.pick(CALLBACKS)})]', f'#[regex(r"{name}(?:x|y)+"{self.pick(CALLBACKS)})]', '/// A variant.', '#[doc(hidden)]']
+        chosen = [lines[0], *self.random.sample(lines[1:], self.random.randrange(3))]
+        self.random.shuffle(chosen)
+        field = self.pick(['', '', '(u8)', f' = {self.serial}'])
+        ends = {line: '\n' if line.startswith('///') else self.pick(['\n', ' ', '\n    ', ' // why\n']) for line in chosen}
+        return ''.join(line + end for line, end in ends.items()) + name + field
+
+    def enum(self):
+        attributes = self.random.sample(ATTRIBUTES, self.random.randrange(4)) + [f'#[derive({self.pick(DERIVES)})]']
+        self.random.shuffle(attributes)
+        head = ''.join(attribute + self.pick(['\n', ' \n', '\r\n', '\n    ']) for attribute in attributes)
+        variants = ',\n    '.join(self.variant() for _ in range(self.random.randrange(1, 4)))
+        self.serial += 1
+        return f'{head}{self.pick(["", "pub ", "pub(crate) "])}enum E{self.serial} {{{self.pick(GAPS)}{variants}{self.pick(["", ",", ", // last" + chr(10)])}}}'
+
+    def items(self, end):
+        """Items that stay, with a mark that no expansion has at the front, and modules that are left and entered."""
+        self.serial += 1
+        text, depth = f'/* mark {self.serial} */', self.depth
+        for _ in range(self.random.randrange(4)):
+            text += self.gap() + self.pick(ITEMS)
+        while depth and (end or self.random.random() < 0.4):
+            text, depth = text + self.gap() + '}', depth - 1
+        if not end and self.random.random() < 0.4:
+            text, depth = f'{text}{self.gap()}pub mod m{self.serial} {{', depth + 1
+        self.depth = depth
+        return text + self.gap()
+
+    def pieces(self):
+        """The front with its plain form, and the texts with the enums between them."""
+        self.depth = 0
+        front = [self.pick(FRONTS) for _ in range(self.random.randrange(4))]
+        if any(plain is None for _, plain in front):
+            front = [(text, text) for text, plain in front if plain is None][:1]
+        texts, enums = [self.items(False)], []
+        for _ in range(self.random.randrange(1, 4)):
+            enums.append(self.enum())
+            texts.append('\n' + self.items(False))
+        texts[-1] += self.items(True)
+        return ''.join(text for text, _ in front), ''.join(plain for _, plain in front), texts, enums
+
+
+def by_name(enum):
+    """Says whether an enum derives `Logos` without a path."""
+    listed = printed(tokenize(enum)).split('derive (')[1].split(')')[0]
+    return 'Logos' in [entry.strip() for entry in listed.split(',')]
+
+
+def is_expansion(enum, text):
+    """Says what is wrong with the text that stands for an enum, or nothing."""
+    found, left = printed(tokenize(text)), stripped(enum)
+    guard = printed(tokenize('#[rustfmt::skip]')) + ' '
+    if found.startswith(guard) and not left.startswith(guard):
+        found = found[len(guard):]
+    if not found.startswith(left + ' '):
+        return f'the enum has other tokens than {left}'
+    found = found[len(left) + 1:]
+    name = left.split('enum ')[1].split(' ')[0]
+    imports = found.count(printed(tokenize('use self::Logos as _;')))
+    if imports != by_name(enum):
+        return f'{imports} imports'
+    lexer = found.find(printed(tokenize("impl < 's> ::logos::Logos< 's> for")) + f' {name} {{')
+    if lexer < 0 or not found.endswith('}'):
+        return f'no implementation for {name} at the end'
+    if '{' in found[:lexer]:
+        return 'another item before the implementation'
+    return None
+
+
+def differences(program, seed):
+    """Returns how many pieces of a file were compared, and in which the program answers otherwise."""
+    front, plain, texts, enums = FileMaker(seed).pieces()
+    shape = SHAPES[seed % len(SHAPES)]
+    source = front + ''.join(text + enum for text, enum in zip(texts, [*enums, '']))
+    with tempfile.TemporaryDirectory() as room:
+        with open(f'{room}/file.rs', 'wb') as file:
+            file.write(source.encode())
+        done = subprocess.run([program, 'file.rs', '--shape', shape], cwd=room, capture_output=True, check=False)
+    out = done.stdout.decode()
+    head = '' if front.startswith('\ufeff') else f'// @generated by logos_cli 0.1.0 from file.rs, --shape {shape}; do not edit\n'
+    wrong = []
+    if done.returncode or done.stderr:
+        return 1, [f'seed {seed}: status {done.returncode}, {done.stderr.decode()}\n{source}']
+    if not out.startswith(head + plain):
+        return 1, [f'seed {seed}: the front is {out[:len(head + plain)]!r}, wanted {head + plain!r}']
+    at = len(head + plain)
+    for number, text in enumerate(texts):
+        found = out.find(text, at)
+        if found < 0 or (number == 0 and found != at):
+            return 1, [f'seed {seed}: this does not stay: {text!r}\n{source}']
+        if number:
+            what = is_expansion(enums[number - 1], out[at:found])
+            wrong += [f'seed {seed}: {what}\n{enums[number - 1]}'] if what else []
+        at = found + len(text)
+    if at != len(out):
+        wrong.append(f'seed {seed}: the end is {out[at:]!r}')
+    return 2 * len(texts), wrong
+
+
+def main(program):
+    """Compares all, prints the differences and the counts, and returns the status."""
+    wrong, compared = [], 0
+    with ThreadPoolExecutor(len(os.sched_getaffinity(0))) as workers:
+        for count, found in workers.map(lambda seed: differences(program, seed), range(FILES)):
+            compared += count
+            wrong += found
+    for line in wrong:
+        print(f'whole_files: {line}')
+    print(f'{compared - len(wrong)} passed, {len(wrong)} failed')
+    return 1 if wrong else 0
+
+
+if __name__ == '__main__':
+    sys.exit(main(os.path.abspath(sys.argv[1])))
