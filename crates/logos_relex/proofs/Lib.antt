@@ -1,0 +1,4 @@
+pub mod ItemLemmas
+pub mod ChunkLemmas
+pub mod RunLemmas
+pub mod AnewLemmas

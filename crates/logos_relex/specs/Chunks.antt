@@ -24,6 +24,20 @@ abbrev pub moved : ℕ → ItemAt → ItemAt
 moved far (Token leaf span) = Token leaf (record { from = far + span.from; to = far + span.to })
 moved far (Error leaf span) = Error leaf (record { from = far + span.from; to = far + span.to })
 
+-- Where it begins and ends.
+abbrev pub from_of : ItemAt → ℕ
+from_of (Token leaf span) = span.from
+from_of (Error leaf span) = span.from
+
+abbrev pub to_of : ItemAt → ℕ
+to_of (Token leaf span) = span.to
+to_of (Error leaf span) = span.to
+
+-- The items are nonempty, and end by this point.
+abbrev pub EndBy : ℕ → List ItemAt → Type 0
+EndBy end [] = Unit {0}
+EndBy end (item ∷ items) = (from_of item < to_of item) × (to_of item ≤ end) × EndBy end items
+
 -- How many bytes the chunks have.
 abbrev pub bytes_of : List Chunk → ℕ
 bytes_of [] = 0
@@ -40,6 +54,7 @@ module _ (code : CodeValue) (callback : Callback) where
     pub nonempty : 0 < chunk.length
     pub fits : chunk.length ≤ chunk.window
     pub within : chunk.window ≤ length bytes
+    pub spans : EndBy chunk.length chunk.items.items
     pub begun : AreBegun code callback (take chunk.window bytes) (map (item_at (take chunk.window bytes)) chunk.items.items) chunk.length
 
   -- The chunks are at the front of the bytes, one after another, and this is what is left.
@@ -50,6 +65,7 @@ module _ (code : CodeValue) (callback : Callback) where
   -- In a part, these items were found up to this point, whatever follows the part.
   pub record SettlesUpTo (part : List ℕ) (items : List ItemAt) (to : ℕ) : Type 0 where
     pub within : to ≤ length part
+    pub spans : EndBy to items
     pub begun : AreBegun code callback part (map (item_at part) items) to
 
 -- The chunks look at none but so many first bytes.

@@ -82,7 +82,7 @@ fn window(former: &Lexed, border: Border, left: usize) -> usize
 ///
 /// Returns `NotUtf8` if the code is in UTF-8 mode and a rest of the input is not UTF-8, and `Memory`
 /// if memory runs out.
-pub(crate) fn anew<C: Fn(LeafId, &[u8]) -> Action>(
+pub(crate) fn make_anew<C: Fn(LeafId, &[u8]) -> Action>(
     former: &Lexed,
     code: &Code,
     callback: &C,

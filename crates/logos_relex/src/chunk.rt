@@ -179,8 +179,19 @@ pub(crate) fn last_items<C: Fn(LeafId, &[u8]) -> Action>(
 {
     let lexer = Lexer::new_bytes(code, bytes, callback)?;
     let found = lexer.items(alloc)?;
+    Ok(places(alloc, &found)?)
+}
+
+/// Returns items without their bytes.
+///
+/// # Errors
+///
+/// Returns `AllocError` if memory runs out.
+fn places(alloc: Global, found: &[Item<'_>]) -> Result<Vec<ItemAt>, AllocError>
+    ensures { IfOk result (λ items. items.items ≡ map place_of found.now) }
+{
     let mut items = Vec::with_capacity(alloc, found.len())?;
-    for item in &found {
+    for item in found {
         items.push(place_of(*item))?;
     }
     Ok(items)

@@ -4,7 +4,7 @@ ghost use Rattle.std.specs.Prelude.{◌≡◌, ◌≤◌, IfOk, IfErr, OnErr, le
 ghost use Rattle.logos_relex.specs.Words.{answers_of};
 ghost use Rattle.logos_relex.specs.Views.{ComesAfter, IsLexed, IsRefused, PutsAnew, WasLexed, Memory as OutOfMemory};
 
-use crate::anew::{After, Anew, anew, make};
+use crate::anew::{After, Anew, make, make_anew};
 use crate::borders::{Border, untouched};
 use crate::chunk::{Chunk, ItemAt, last_items};
 use logos_code::code::Code;
@@ -135,7 +135,7 @@ impl Lexed {
         ensures stays { OnErr result (self.new ≡ self.old) }
     {
         let start = untouched(&self.chunks, edit.replaced.from);
-        match anew(self, code, callback, edit, start) {
+        match make_anew(self, code, callback, edit, start) {
             Ok(made) => self.put(start.index, made, edit.input.len()),
             Err(RelexError::Memory) => Err(RelexError::Memory),
             Err(_) => self.relex_whole(code, callback, edit.input),
