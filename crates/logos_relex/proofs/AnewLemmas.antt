@@ -1,7 +1,7 @@
 -- What stays and what was made anew are the items of the edited input.
 use Rattle.std.proofs.Common.{◌≡◌, ◌∙◌, ℕ, ◌+◌, ◌-◌, ◌<◌, ◌≤◌, List, [], ◌∷◌, ◌++◌, length, map, take, drop, refl, sym, ap, subst, arith}
-use Rattle.std.proofs.Math.Seq.{drop-drop}
-use Rattle.std.proofs.lemmas.List.{append_assoc, take-append-drop, length-take-le, length-drop, length-append, drop-append-add}
+use Rattle.std.proofs.Math.Seq.{drop-append-add, drop-drop}
+use Rattle.std.proofs.lemmas.List.{append_assoc, take-append-drop, length-take-le, length-drop, length-append}
 use Rattle.logos_code.specs.Code.{CodeValue}
 use Rattle.logos_code.specs.Items.{Callback, Item}
 use Rattle.logos_code.specs.Runs.{Runs}
@@ -26,7 +26,7 @@ last_bytes whole pre left front tail one other fits =
     sym (drop-append-add pre left 0) ∙ ap (drop (length pre + 0)) (sym one) ∙ ap (λ m. drop m whole) n ∙ ap (drop (length front + k)) other ∙ drop-append-add front tail k
 
 module _ (code : CodeValue) (callback : Callback) (old new : Lexed) (former input : List ℕ) (replaced : Span) (edited : IsEdited former replaced input) (lexed : IsLexed code callback former old) where
-  front : List ℕ
+  abbrev front : List ℕ
   front = take replaced.from former
 
   front_long : length front ≡ replaced.from
@@ -40,7 +40,7 @@ module _ (code : CodeValue) (callback : Callback) (old new : Lexed) (former inpu
       let rest = edited.inserted ++ drop replaced.to former in
       let was : AreChunks code callback (front ++ drop replaced.from former) chunks (drop (bytes_of chunks) former) =
       subst (λ (l : List ℕ). AreChunks code callback l chunks (drop (bytes_of chunks) former)) (sym (take-append-drop replaced.from former)) (chunks_split code callback former made.rest old.chunks.items k made.chunks_are).0 in
-      let is : input ≡ front ++ rest = edited.is in
+      let is : input ≡ front ++ rest = edited.is ∙ append_assoc front edited.inserted (drop replaced.to former) in
       let now = chunks_front code callback front (drop replaced.from former) rest (drop (bytes_of chunks) former) chunks (subst (λ (n : ℕ). LookBelow n chunks) (sym front_long) below) was in
       subst (λ (l : List ℕ). AreChunks code callback l chunks (drop (bytes_of chunks) l)) (sym is) now
 
@@ -56,7 +56,7 @@ module _ (code : CodeValue) (callback : Callback) (old new : Lexed) (former inpu
       let within = edited.within in
       let fits : length left ≤ length tail = omega (arith, long, after, same, total, within) in
       let n : replaced.to + (length tail - length left) ≡ p = omega (arith, long, after, same, total, within) in
-      let two : input ≡ (front ++ edited.inserted) ++ tail = edited.is ∙ sym (append_assoc front edited.inserted tail) in
+      let two : input ≡ (front ++ edited.inserted) ++ tail = edited.is in
       last_bytes input pre left (front ++ edited.inserted) tail is two fits ∙ drop-drop (length tail - length left) replaced.to former ∙ ap (λ m. drop m former) n
 
   put_together : (start : Border) (made : Anew) (after : After) (left : List ℕ) → IsBorder old.chunks.items start → LookBelow replaced.from (take start.index old.chunks.items) →
@@ -72,8 +72,8 @@ module _ (code : CodeValue) (callback : Callback) (old new : Lexed) (former inpu
       let same = stays_after k start.index (take start.at input ++ rest.0) left is met in
       let tail : AreChunks code callback left (drop k old.chunks.items) lexed_made.rest =
       subst (λ (l : List ℕ). AreChunks code callback l (drop k old.chunks.items) lexed_made.rest) (sym same) (chunks_split code callback former lexed_made.rest old.chunks.items k lexed_made.chunks_are).1 in
-      let all = chunks_append code callback input (drop start.at input) lexed_made.rest (take start.index old.chunks.items) (made.chunks.items ++ drop k old.chunks.items) front_chunks
-      (chunks_append code callback (drop start.at input) left lexed_made.rest made.chunks.items (drop k old.chunks.items) chunks tail) in
+      let all = chunks_append code callback input left lexed_made.rest (take start.index old.chunks.items ++ made.chunks.items) (drop k old.chunks.items)
+      (chunks_append code callback input (drop start.at input) left (take start.index old.chunks.items) made.chunks.items front_chunks chunks) tail in
       record {
         rest = lexed_made.rest;
         chunks_are = subst (λ (l : List Chunk). AreChunks code callback input l lexed_made.rest) (sym ends.0) all;
@@ -112,5 +112,6 @@ known code callback old input replaced was =
     let all = chunks_length code callback was.former made.rest old.chunks.items made.chunks_are in
     let long = ap length edited.is in
     let front = length-take-le replaced.from was.former (omega (arith, order, within)) in
-    let sum = length-append (take replaced.from was.former) (edited.inserted ++ drop replaced.to was.former) in
-    (omega (arith, within, total), omega (arith, all, total), omega (arith, long, front, sum))
+    let sum = length-append (take replaced.from was.former ++ edited.inserted) (drop replaced.to was.former) in
+    let begun = length-append (take replaced.from was.former) edited.inserted in
+    (omega (arith, within, total), omega (arith, all, total), omega (arith, long, front, sum, begun))

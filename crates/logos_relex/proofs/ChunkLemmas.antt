@@ -1,12 +1,14 @@
 -- Chunks, one after another.
-use Rattle.std.proofs.Common.{◌≡◌, ◌∙◌, ℕ, zero, suc, ◌+◌, ◌-◌, ◌*◌, ◌^◌, ◌<◌, ◌≤◌, min, List, [], ◌∷◌, ◌++◌, length, map, take, drop, refl, sym, ap, subst, arith}
-use Rattle.std.proofs.Math.Seq.{drop-drop, take-take}
-use Rattle.std.proofs.lemmas.List.{take-append-drop, take-append-le, drop-append-le, length-drop, length-append, length-take-le}
+use Rattle.std.proofs.Common.{◌≡◌, ◌∙◌, ℕ, zero, suc, ◌+◌, ◌-◌, ◌<◌, ◌≤◌, List, [], ◌∷◌, ◌++◌, length, map, take, drop, get_or, refl, sym, ap, subst, arith}
+use Rattle.std.proofs.Math.Seq.{drop-drop, take-length, take-take}
+use Rattle.std.proofs.lemmas.List.{append_assoc, take_more, take-append-drop, take-append-le, drop-append-le, length-drop, length-append, length-take-le}
 use Rattle.logos_code.specs.Code.{CodeValue}
 use Rattle.logos_code.specs.Items.{Callback, Item}
 use Rattle.logos_machine.specs.Loops.{AnswersAmong}
 use Rattle.logos_machine.specs.Streams.{AreBegun}
 use Rattle.logos_relex.specs.Chunks.{AreChunks, EndBy, IsChunk, LookBelow, SettlesUpTo, bytes_of, item_at}
+use Rattle.logos_relex.specs.inside.Anews.{IsBorder}
+use Rattle.logos_relex.specs.declared.borders.Border.{Border}
 use Rattle.logos_relex.specs.declared.chunk.Chunk.{Chunk}
 use Rattle.logos_relex.specs.declared.chunk.ItemAt.{ItemAt}
 use Rattle.logos_relex.proofs.ItemLemmas.{begun_by}
@@ -109,6 +111,45 @@ below_with (x ∷ xs) y limit b looks fits =
     let one = b.1 in
     (b.0, b.1, below_with xs y (limit - x.length) b.2 (omega (arith, one, looks)) (omega (arith, one, fits)))
 
--- twice as many, as far as the greatest number goes
-pub doubled : (size long twice : ℕ) → 0 < size → size < long → long ≤ 2 ^ 64 - 1 → twice ≡ min (size * 2) (2 ^ 64 - 1) → long - twice < long - size
-doubled size long twice some less fits is = grind (arith, some, less, fits, is)
+-- one border further, after this chunk
+module _ (chunks : List Chunk) (border : Border) (chunk : Chunk) (is : chunk ≡ get_or chunks border.index chunk) (b : IsBorder chunks border) (inside : border.index < length chunks) where
+  taken : take (border.index + 1) chunks ≡ take border.index chunks ++ chunk ∷ []
+  taken = take_more chunks border.index chunk inside ∙ ap (λ x. take border.index chunks ++ x ∷ []) (sym is)
+
+  pub border_next : (n : ℕ) → n ≡ chunk.length → IsBorder chunks (record { index = border.index + 1; at = border.at + n })
+  border_next n same =
+      let at = b.at in
+      let sum = ap bytes_of taken ∙ bytes_with (take border.index chunks) chunk in
+      record { within = omega (arith, inside); at = omega (arith, at, sum, same) }
+
+  pub border_fits : (n : ℕ) → n ≡ chunk.length → border.at + n ≤ bytes_of chunks
+  border_fits n same =
+      let next = border_next n same in
+      let at = next.at in
+      omega (arith, at, bytes_take chunks (border.index + 1))
+
+  pub border_below : (limit : ℕ) → LookBelow limit (take border.index chunks) → border.at + chunk.window ≤ limit → border.at + chunk.length ≤ limit → LookBelow limit (take (border.index + 1) chunks)
+  border_below limit below looks fits =
+      let at = b.at in
+      subst (LookBelow limit) (sym taken) (below_with (take border.index chunks) chunk limit below (omega (arith, at, looks)) (omega (arith, at, fits)))
+
+-- one chunk more
+pub chunk_added : (code : CodeValue) (callback : Callback) (bytes rest : List ℕ) (chunks : List Chunk) (chunk : Chunk) → AreChunks code callback bytes chunks rest → IsChunk code callback rest chunk →
+    AreChunks code callback bytes (chunks ++ chunk ∷ []) (drop chunk.length rest)
+chunk_added code callback bytes rest chunks chunk c one = chunks_append code callback bytes rest (drop chunk.length rest) chunks (chunk ∷ []) c (one, refl)
+
+pub passed_added : (bytes rest passed : List ℕ) (n : ℕ) → bytes ≡ passed ++ rest → bytes ≡ (passed ++ take n rest) ++ drop n rest
+passed_added bytes rest passed n e = e ∙ ap (λ l. passed ++ l) (sym (take-append-drop n rest)) ∙ sym (append_assoc passed (take n rest) (drop n rest))
+
+-- the same where the rest is taken as a slice
+module _ (rest : List ℕ) (n : ℕ) where
+  rest_is : take (length rest - n) (drop n rest) ≡ drop n rest
+  rest_is = ap (λ k. take k (drop n rest)) (sym (length-drop n rest)) ∙ take-length (drop n rest)
+
+  pub chunk_taken : (code : CodeValue) (callback : Callback) (bytes : List ℕ) (chunks : List Chunk) (chunk : Chunk) → n ≡ chunk.length → AreChunks code callback bytes chunks rest → IsChunk code callback rest chunk →
+      AreChunks code callback bytes (chunks ++ chunk ∷ []) (take (length rest - n) (drop n rest))
+  chunk_taken code callback bytes chunks chunk same c one =
+      subst (λ (l : List ℕ). AreChunks code callback bytes (chunks ++ chunk ∷ []) l) (ap (λ k. drop k rest) (sym same) ∙ sym rest_is) (chunk_added code callback bytes rest chunks chunk c one)
+
+  pub passed_taken : (bytes : List ℕ) → (passed : List ℕ) × (bytes ≡ passed ++ rest) → (passed : List ℕ) × (bytes ≡ passed ++ take (length rest - n) (drop n rest))
+  passed_taken bytes p = (p.0 ++ take n rest, passed_added bytes rest p.0 n p.1 ∙ ap (λ l. (p.0 ++ take n rest) ++ l) (sym rest_is))

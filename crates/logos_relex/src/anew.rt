@@ -95,7 +95,7 @@ pub(crate) fn make_anew<C: Fn(LeafId, &[u8]) -> Action>(
     requires edit { edit.replaced.to ≤ former.now.length }
     requires bytes { bytes_of former.now.chunks.items ≤ former.now.length }
     ensures { IfOk result (λ made. IsAnew code.now (answers_of C.Fn callback.now)
-        former.now edit.replaced.to edit.input.now start made) }
+        former.now edit.entry.replaced.to edit.entry.input.now start made) }
 {
     let alloc = former.alloc();
     let mut chunks = Vec::new(alloc);

@@ -155,7 +155,10 @@ pub(crate) fn next_chunk<C: Fn(LeafId, &[u8]) -> Action>(
         if let Some(chunk) = chunk_of(alloc, code, &bytes[..size], callback)? {
             return Ok(Some(chunk));
         }
-        size = size.saturating_mul(2);
+        let Some(twice) = size.checked_mul(2) else {
+            break;
+        };
+        size = twice;
     }
     Ok(None)
 }

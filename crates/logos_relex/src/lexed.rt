@@ -1,6 +1,6 @@
 //! Items of an input that changes.
 
-ghost use Rattle.std.specs.Prelude.{◌≡◌, ◌≤◌, IfOk, IfErr, OnErr, length};
+ghost use Rattle.std.specs.Prelude.{◌≡◌, ◌≤◌, IfOk, IfErr, OnErr, OnOk, length};
 ghost use Rattle.logos_relex.specs.Words.{answers_of};
 ghost use Rattle.logos_relex.specs.Views.{ComesAfter, IsLexed, IsRefused, PutsAnew, WasLexed, Memory as OutOfMemory};
 
@@ -130,8 +130,8 @@ impl Lexed {
         requires former { WasLexed code.now (answers_of C.Fn callback.now) edit.replaced
             edit.input.now self.old }
         ensures lexed { IfOk result (λ _.
-            IsLexed code.now (answers_of C.Fn callback.now) edit.input.now self.new) }
-        ensures refused { IfErr result (IsRefused code.now edit.input.now) }
+            IsLexed code.now (answers_of C.Fn callback.now) edit.entry.input.now self.new) }
+        ensures refused { IfErr result (IsRefused code.now edit.entry.input.now) }
         ensures stays { OnErr result (self.new ≡ self.old) }
     {
         let start = untouched(&self.chunks, edit.replaced.from);
@@ -174,16 +174,17 @@ impl Lexed {
     /// Returns `Memory` if memory runs out.
     fn put(&mut self, from: usize, made: Anew, length: usize) -> Result<(), RelexError>
         requires { ComesAfter self.old from made.after }
-        ensures puts { OnOk result (PutsAnew from made.entry length self.old self.new) }
+        ensures puts { OnOk result (PutsAnew from made length self.old self.new) }
         ensures refused { IfErr result (λ error. error ≡ OutOfMemory) }
         ensures stays { OnErr result (self.new ≡ self.old) }
     {
-        match made.after {
+        let Anew { chunks, after } = made;
+        match after {
             After::Former(to) => {
-                self.chunks.splice(from..to, made.chunks)?;
+                self.chunks.splice(from..to, chunks)?;
             }
             After::Last(last) => {
-                self.chunks.splice(from.., made.chunks)?;
+                self.chunks.splice(from.., chunks)?;
                 self.last = last;
             }
         }

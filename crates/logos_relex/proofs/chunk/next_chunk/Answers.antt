@@ -1,7 +1,7 @@
 use Rattle.std.proofs.Common.{◌≤◌, ◌<◌, arith, take, length, slice_range}
 use Rattle.logos_machine.specs.LexerValue.{answers_of}
 use Rattle.logos_relex.specs.Chunks.{IsChunk}
-use Rattle.logos_relex.proofs.ChunkLemmas.{chunk_by, chunk_of_front, doubled}
+use Rattle.logos_relex.proofs.ChunkLemmas.{chunk_by, chunk_of_front}
 use Rattle.logos_relex.proofs.chunk.next_chunk.Goals as goal
 
 -- what was found in a window is found in all of the bytes
@@ -11,6 +11,3 @@ returns-in-Some g c =
     let found = rw c.in-Some.is at c.in_ok-chunk.ensures in
     let same = chunk_by c.args.code.now _ answers (take c.loop-size.size c.args.bytes.now) c.in-Some.chunk (λ leaf slice answer w. (w.0, w.1, w.2.1)) (λ leaf slice answer w. (w.0, w.1, (record { 0 = leaf }, w.2))) found in
     chunk_of_front c.args.code.now answers c.args.bytes.now c.loop-size.size c.in-Some.chunk (grind (arith, c.loop-size-test.true)) same
-
-pub loop-size-smaller : goal.loop-size-smaller
-loop-size-smaller g c = doubled c.loop-size.size (length c.args.bytes.now) c.saturating_mul-size.result c.loop-size.invariant (grind (arith, c.loop-size-test.true)) c.type_inv.bytes c.saturating_mul-size.ensures
