@@ -1,4 +1,5 @@
 pub mod ItemLemmas
 pub mod ChunkLemmas
 pub mod RunLemmas
+pub mod MakingLemmas
 pub mod AnewLemmas
