@@ -3,3 +3,4 @@ pub mod ChunkLemmas
 pub mod RunLemmas
 pub mod MakingLemmas
 pub mod AnewLemmas
+pub mod PutLemmas

@@ -30,6 +30,12 @@ module _ (code : CodeValue) (callback : Callback) where
   LexedIsRun = IsSound code → (input : List ℕ) (lexed : Lexed) → IsLexed input lexed →
       Runs code callback input 0 (map (item_at input) (all_items lexed.chunks.items lexed.last.items))
 
+-- The items are as they were.
+pub record Stays (old new : Lexed) : Type 0 where
+  pub chunks : new.chunks.items ≡ old.chunks.items
+  pub last : new.last.items ≡ old.last.items
+  pub length_is : new.length ≡ old.length
+
 -- The input has other bytes in place of a span of the former one.
 pub record IsEdited (former : List ℕ) (replaced : Span) (input : List ℕ) : Type 0 where
   pub order : replaced.from ≤ replaced.to

@@ -2,7 +2,7 @@
 
 ghost use Rattle.std.specs.Prelude.{◌≡◌, ◌≤◌, IfOk, IfErr, OnErr, OnOk, length};
 ghost use Rattle.logos_relex.specs.Words.{answers_of};
-ghost use Rattle.logos_relex.specs.Views.{ComesAfter, IsLexed, IsRefused, PutsAnew, WasLexed, Memory as OutOfMemory};
+ghost use Rattle.logos_relex.specs.Views.{ComesAfter, IsLexed, IsRefused, PutsAnew, Stays, WasLexed, Memory as OutOfMemory};
 
 use crate::anew::{After, Anew, make, make_anew};
 use crate::borders::{Border, untouched};
@@ -132,7 +132,7 @@ impl Lexed {
         ensures lexed { IfOk result (λ _.
             IsLexed code.now (answers_of C.Fn callback.now) edit.entry.input.now self.new) }
         ensures refused { IfErr result (IsRefused code.now edit.entry.input.now) }
-        ensures stays { OnErr result (self.new ≡ self.old) }
+        ensures stays { OnErr result (Stays self.old self.new) }
     {
         let start = untouched(&self.chunks, edit.replaced.from);
         match make_anew(self, code, callback, edit, start) {
@@ -158,7 +158,7 @@ impl Lexed {
         ensures lexed { IfOk result (λ _.
             IsLexed code.now (answers_of C.Fn callback.now) input.now self.new) }
         ensures refused { IfErr result (IsRefused code.now input.now) }
-        ensures stays { OnErr result (self.new ≡ self.old) }
+        ensures stays { OnErr result (Stays self.old self.new) }
     {
         let last = last_items(self.alloc, code, input, callback)?;
         self.chunks.clear();
@@ -176,7 +176,7 @@ impl Lexed {
         requires { ComesAfter self.old from made.after }
         ensures puts { OnOk result (PutsAnew from made length self.old self.new) }
         ensures refused { IfErr result (λ error. error ≡ OutOfMemory) }
-        ensures stays { OnErr result (self.new ≡ self.old) }
+        ensures stays { OnErr result (Stays self.old self.new) }
     {
         let Anew { chunks, after } = made;
         match after {
