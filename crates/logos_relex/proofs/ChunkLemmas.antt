@@ -111,6 +111,10 @@ below_with (x ∷ xs) y limit b looks fits =
     let one = b.1 in
     (b.0, b.1, below_with xs y (limit - x.length) b.2 (omega (arith, one, looks)) (omega (arith, one, fits)))
 
+pub below_bytes : (chunks : List Chunk) (limit : ℕ) → LookBelow limit chunks → bytes_of chunks ≤ limit
+below_bytes [] limit b = omega arith
+below_bytes (x ∷ xs) limit b = let one = b.1 in let more = below_bytes xs (limit - x.length) b.2 in omega (arith, one, more)
+
 -- one border further, after this chunk
 module _ (chunks : List Chunk) (border : Border) (chunk : Chunk) (is : chunk ≡ get_or chunks border.index chunk) (b : IsBorder chunks border) (inside : border.index < length chunks) where
   taken : take (border.index + 1) chunks ≡ take border.index chunks ++ chunk ∷ []

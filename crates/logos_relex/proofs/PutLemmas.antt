@@ -1,5 +1,5 @@
 -- Lists in which some chunks are put in place of others.
-use Rattle.std.proofs.Common.{◌≡◌, ◌∙◌, ℕ, List, [], ◌∷◌, ◌++◌, length, take, drop, Result, Ok, Err, OnErr, refl, sym, ap, subst}
+use Rattle.std.proofs.Common.{◌≡◌, ◌∙◌, ℕ, List, [], ◌∷◌, ◌++◌, length, take, drop, Result, Ok, Err, IfOk, OnOk, OnErr, refl, sym, ap, subst}
 use Rattle.std.proofs.Math.Seq.{drop-length}
 use Rattle.std.proofs.lemmas.List.{append_assoc, append-nil}
 use Rattle.std.specs.List.{splice}
@@ -13,6 +13,11 @@ use Rattle.logos_relex.specs.declared.lexed.Lexed.{Lexed}
 pub on_err : {T E : Type 0} (result : Result T E) (P : Type 0) → P → OnErr result P
 on_err (Ok x) P p = tt
 on_err (Err e) P p = p
+
+-- what follows from a value's clause holds of it
+pub from_ok : {T E : Type 0} (result : Result T E) (P Q : Type 0) → (P → Q) → OnOk result P → IfOk result (λ _. Q)
+from_ok (Ok x) P Q f p = f p
+from_ok (Err e) P Q f p = tt
 
 pub spliced : {X : Type 0} (xs ys new made : List X) (from to : ℕ) → new ≡ splice xs from to made → made ≡ ys → new ≡ take from xs ++ ys ++ drop to xs
 spliced xs ys new made from to e f = e ∙ ap (λ l. take from xs ++ (l ++ drop to xs)) f ∙ sym (append_assoc (take from xs) ys (drop to xs))

@@ -103,13 +103,35 @@ impl Lexed {
                 length: input.len(),
             }),
             Err(RelexError::Memory) => Err(RelexError::Memory),
-            Err(_) => Ok(Lexed {
-                alloc,
-                chunks: Vec::new(alloc),
-                last: last_items(alloc, code, input, callback)?,
-                length: input.len(),
-            }),
+            Err(_) => Lexed::whole(alloc, code, callback, input),
         }
+    }
+
+    /// Lexes an input as a whole, without chunks.
+    ///
+    /// # Errors
+    ///
+    /// Returns `NotUtf8` if the code is in UTF-8 mode and the input is not UTF-8, and `Memory` if
+    /// memory runs out.
+    fn whole<C: Fn(LeafId, &[u8]) -> Action>(
+        alloc: Global,
+        code: &Code,
+        callback: &C,
+        input: &[u8],
+    ) -> Result<Lexed, RelexError>
+        requires { C.IsAlwaysCallable callback.now }
+        ensures lexed { IfOk result (λ lexed.
+            IsLexed code.now (answers_of C.Fn callback.now) input.now lexed) }
+        ensures refused { IfErr result (IsRefused code.now input.now) }
+    {
+        let last = last_items(alloc, code, input, callback)?;
+        let chunks = Vec::new(alloc);
+        Ok(Lexed {
+            alloc,
+            chunks,
+            last,
+            length: input.len(),
+        })
     }
 
     /// Lexes an edited input. The items that did not look at the edit stay: those before it, and
