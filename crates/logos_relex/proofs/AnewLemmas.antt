@@ -1,9 +1,9 @@
 -- What stays and what was made anew are the items of the edited input.
-use Rattle.std.proofs.Common.{◌≡◌, ◌∙◌, ℕ, ◌+◌, ◌-◌, ◌<◌, ◌≤◌, List, [], ◌∷◌, ◌++◌, length, map, take, drop, refl, sym, ap, subst, arith}
+use Rattle.std.proofs.Common.{◌≡◌, ◌∙◌, ℕ, ◌+◌, ◌-◌, ◌≤◌, List, ◌++◌, length, map, take, drop, sym, ap, subst, arith}
 use Rattle.std.proofs.Math.Seq.{drop-append-add, drop-drop}
 use Rattle.std.proofs.lemmas.List.{append_assoc, take-append-drop, length-take-le, length-drop, length-append}
 use Rattle.logos_code.specs.Code.{CodeValue}
-use Rattle.logos_code.specs.Items.{Callback, Item}
+use Rattle.logos_code.specs.Items.{Callback}
 use Rattle.logos_code.specs.Runs.{Runs}
 use Rattle.logos_lexeme.specs.declared.lexeme.Span.{Span}
 use Rattle.logos_relex.specs.Chunks.{AreChunks, LookBelow, bytes_of, item_at}

@@ -3,14 +3,13 @@ use Rattle.std.proofs.Common.{◌≡◌, ◌∙◌, ℕ, zero, suc, ◌+◌, ◌
 use Rattle.std.proofs.Math.Seq.{drop-drop, take-length, take-take}
 use Rattle.std.proofs.lemmas.List.{append_assoc, take_more, take-append-drop, take-append-le, drop-append-le, length-drop, length-append, length-take-le}
 use Rattle.logos_code.specs.Code.{CodeValue}
-use Rattle.logos_code.specs.Items.{Callback, Item}
+use Rattle.logos_code.specs.Items.{Callback}
 use Rattle.logos_machine.specs.Loops.{AnswersAmong}
 use Rattle.logos_machine.specs.Streams.{AreBegun}
-use Rattle.logos_relex.specs.Chunks.{AreChunks, EndBy, IsChunk, LookBelow, SettlesUpTo, bytes_of, item_at}
+use Rattle.logos_relex.specs.Chunks.{AreChunks, IsChunk, LookBelow, SettlesUpTo, bytes_of, item_at}
 use Rattle.logos_relex.specs.inside.Anews.{IsBorder}
 use Rattle.logos_relex.specs.declared.borders.Border.{Border}
 use Rattle.logos_relex.specs.declared.chunk.Chunk.{Chunk}
-use Rattle.logos_relex.specs.declared.chunk.ItemAt.{ItemAt}
 use Rattle.logos_relex.proofs.ItemLemmas.{begun_by}
 
 module _ (code : CodeValue) (callback : Callback) where
@@ -71,9 +70,11 @@ module _ (code : CodeValue) (callback : Callback) where
       let first = chunk_front (front ++ one) (front ++ other) x c.0 (omega (arith, looks, length-append front other)) (take-append-le x.window front one looks ∙ sym (take-append-le x.window front other looks)) in
       let below : LookBelow (length (drop x.length front)) xs = subst (λ (n : ℕ). LookBelow n xs) (sym (length-drop x.length front)) b.2 in
       let more = chunks_front (drop x.length front) one other rest xs below (subst (λ (l : List ℕ). AreChunks code callback l xs rest) is_one c.1) in
-      let e : drop (bytes_of xs) (drop x.length front ++ other) ≡ drop (x.length + bytes_of xs) (front ++ other) = ap (drop (bytes_of xs)) (sym is_other) ∙ drop-drop (bytes_of xs) x.length (front ++ other) in
-      (first, subst (λ (l : List ℕ). AreChunks code callback l xs (drop (x.length + bytes_of xs) (front ++ other))) (sym is_other)
-      (subst (λ (l : List ℕ). AreChunks code callback (drop x.length front ++ other) xs l) e more))
+      let e : drop (bytes_of xs) (drop x.length front ++ other) ≡ drop (x.length + bytes_of xs) (front ++ other) = ap (drop (bytes_of xs)) (sym is_other) ∙ drop-drop (bytes_of xs) x.length (front ++ other) in (
+        first,
+        subst (λ (l : List ℕ). AreChunks code callback l xs (drop (x.length + bytes_of xs) (front ++ other))) (sym is_other)
+            (subst (λ (l : List ℕ). AreChunks code callback (drop x.length front ++ other) xs l) e more),
+      )
 
   -- how many bytes they have
   pub chunks_length : (bytes rest : List ℕ) (chunks : List Chunk) → AreChunks code callback bytes chunks rest → bytes_of chunks + length rest ≡ length bytes

@@ -1,8 +1,7 @@
 -- Items that are found in a part whatever follows it, as they are stored.
-use Rattle.std.proofs.Common.{◌≡◌, ◌∙◌, ℕ, ◌+◌, ◌-◌, ◌<◌, ◌≤◌, Bool, true, false, if◌then◌else◌, List, [], ◌∷◌, ◌++◌, length, map, take, drop, Some, None, slice_range, option_map, refl, sym, ap, subst, arith}
-use Rattle.std.proofs.lemmas.List.{append_assoc, append-nil, map-append, take-append-drop, length-drop}
-use Rattle.std.proofs.lemmas.List.{drop-append-le, take-append-le}
-use Rattle.logos_automaton.specs.Munch.{Use, Found}
+use Rattle.std.proofs.Common.{◌≡◌, ◌∙◌, ℕ, ◌<◌, ◌≤◌, Bool, true, false, if◌then◌else◌, List, [], ◌∷◌, ◌++◌, length, map, Some, slice_range, option_map, refl, sym, ap, subst, arith}
+use Rattle.std.proofs.lemmas.List.{append_assoc, append-nil, map-append}
+use Rattle.logos_automaton.specs.Munch.{Use}
 use Rattle.logos_code.specs.Code.{CodeValue}
 use Rattle.logos_code.specs.Items.{Callback, Search, Item, token, error, items_of, skips, NextItem, passes, gives, fails, Lexes, over, match, fault}
 use Rattle.logos_code.specs.Runs.{CodeFinds, Runs, RunsOn}
@@ -11,7 +10,7 @@ use Rattle.logos_code.specs.declared.action.Action.TheVariants.{Emit, Skip, Erro
 use Rattle.logos_machine.specs.LexerValue.{LexerValue, HasSpan, item_of}
 use Rattle.logos_machine.specs.Loops.{AnswersAmong}
 use Rattle.logos_machine.specs.Streams.{AreBegun, RunsOver}
-use Rattle.logos_machine.specs.Within.{DoesWithin, GivesWithin, Waits}
+use Rattle.logos_machine.specs.Within.{DoesWithin, GivesWithin}
 use Rattle.logos_machine.specs.declared.machine.Item.{Item as TheItem}
 use Rattle.logos_machine.specs.declared.machine.Item.TheVariants as found
 use Rattle.logos_machine.specs.declared.machine.part.Within.{Within}
@@ -20,7 +19,6 @@ use Rattle.logos_machine.proofs.ItemsLemmas.{lexes_by}
 use Rattle.logos_machine.proofs.PartLemmas.{next_first, over_first}
 use Rattle.logos_relex.specs.Chunks.{EndBy, item_at, place_of, from_of, to_of}
 use Rattle.logos_relex.specs.declared.chunk.ItemAt.{ItemAt}
-use Rattle.logos_relex.specs.declared.chunk.ItemAt.TheVariants.{Token, Error}
 
 -- ---- what completes the rest completes the whole
 

@@ -1,19 +1,18 @@
 -- The items of chunks are those of a run.
-use Rattle.std.proofs.Common.{◌≡◌, ◌∙◌, ℕ, zero, suc, ◌+◌, ◌-◌, ◌<◌, ◌≤◌, List, [], ◌∷◌, ◌++◌, length, map, take, drop, slice_range, option_map, refl, sym, ap, subst, arith}
+use Rattle.std.proofs.Common.{◌≡◌, ◌∙◌, ℕ, ◌+◌, ◌-◌, ◌<◌, ◌≤◌, List, [], ◌∷◌, ◌++◌, length, map, take, drop, slice_range, option_map, refl, sym, ap, subst, arith}
 use Rattle.std.proofs.Math.Seq.{drop-drop, take-take}
-use Rattle.std.proofs.lemmas.List.{append_assoc, drop-take, map-append, take-append-drop, length-take-le}
+use Rattle.std.proofs.lemmas.List.{drop-take, map-append, take-append-drop, length-take-le}
 use Rattle.logos_code.specs.Code.{CodeValue}
 use Rattle.logos_code.specs.Headline.{IsSound}
 use Rattle.logos_code.specs.Items.{Callback, Item, token, error}
 use Rattle.logos_code.specs.Runs.{CodeFinds, Runs}
-use Rattle.logos_machine.specs.Streams.{AreBegun, item_later}
+use Rattle.logos_machine.specs.Streams.{item_later}
 use Rattle.logos_machine.proofs.LaterLemmas.{finds_later, lexes_later}
 use Rattle.logos_relex.specs.Chunks.{AreChunks, EndBy, IsChunk, all_items, item_at, moved, from_of, to_of}
-use Rattle.logos_relex.specs.Lexed.{IsLexed, IsMade, LexedIsRun}
+use Rattle.logos_relex.specs.Lexed.{LexedIsRun}
 use Rattle.logos_relex.specs.declared.chunk.Chunk.{Chunk}
 use Rattle.logos_relex.specs.declared.chunk.ItemAt.{ItemAt}
 use Rattle.logos_relex.specs.declared.chunk.ItemAt.TheVariants.{Token, Error}
-use Rattle.logos_relex.specs.declared.lexed.Lexed.{Lexed}
 
 range_later : (bytes : List ℕ) (far from to : ℕ) → slice_range (drop far bytes) from to ≡ slice_range bytes (far + from) (far + to)
 range_later bytes far from to =

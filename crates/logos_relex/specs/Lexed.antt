@@ -1,12 +1,12 @@
 -- The items of an input, before and after an edit.
-use Rattle.std.specs.Prelude.{◌≡◌, ℕ, ◌+◌, ◌≤◌, ◌<◌, List, [], ◌∷◌, ◌++◌, length, take, drop, map, IsTrue}
+use Rattle.std.specs.Prelude.{◌≡◌, ℕ, ◌≤◌, List, ◌++◌, length, take, drop, map, IsTrue}
 use Rattle.std.specs.Str.{IsUtf8, IsValidUpTo}
 use Rattle.logos_code.specs.Code.{CodeValue}
 use Rattle.logos_code.specs.Headline.{IsSound}
-use Rattle.logos_code.specs.Items.{Callback, Item}
+use Rattle.logos_code.specs.Items.{Callback}
 use Rattle.logos_code.specs.Runs.{Runs}
 use Rattle.logos_lexeme.specs.declared.lexeme.Span.{Span}
-use Rattle.logos_relex.specs.Chunks.{AreChunks, all_items, bytes_of, item_at, LookBelow}
+use Rattle.logos_relex.specs.Chunks.{AreChunks, all_items, item_at}
 use Rattle.logos_relex.specs.declared.chunk.ItemAt.{ItemAt}
 use Rattle.logos_relex.specs.declared.chunk.Chunk.{Chunk}
 use Rattle.logos_relex.specs.declared.lexed.Lexed.{Lexed}

@@ -1,6 +1,5 @@
 use Rattle.std.proofs.Common.{◌≡◌, ◌+◌, ◌-◌, ◌≤◌, List, length, arith, subst, sym}
 use Rattle.logos_machine.specs.LexerValue.{answers_of}
-use Rattle.logos_relex.specs.Chunks.{bytes_of}
 use Rattle.logos_relex.specs.inside.Anews.{IsBorder}
 use Rattle.logos_relex.specs.declared.chunk.Chunk.{Chunk}
 use Rattle.logos_relex.proofs.MakingLemmas.{making_first, making_next}

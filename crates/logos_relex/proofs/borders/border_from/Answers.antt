@@ -1,4 +1,4 @@
-use Rattle.std.proofs.Common.{◌<◌, length, arith, w64, Fits}
+use Rattle.std.proofs.Common.{arith}
 use Rattle.logos_relex.proofs.ChunkLemmas.{border_fits, border_next}
 use Rattle.logos_relex.proofs.borders.border_from.Goals as goal
 

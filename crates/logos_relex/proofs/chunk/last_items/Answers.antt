@@ -1,4 +1,4 @@
-use Rattle.std.proofs.Common.{◌≡◌, ◌∙◌, ap, sym, subst, List, map}
+use Rattle.std.proofs.Common.{◌∙◌, ap, sym, subst, List, map}
 use Rattle.logos_code.specs.Items.{Item}
 use Rattle.logos_code.specs.Runs.{CodeFinds, Runs}
 use Rattle.logos_machine.specs.LexerValue.{answers_of, item_of}

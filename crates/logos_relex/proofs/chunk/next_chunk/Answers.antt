@@ -1,6 +1,5 @@
-use Rattle.std.proofs.Common.{◌≤◌, ◌<◌, arith, take, length, slice_range}
+use Rattle.std.proofs.Common.{arith, take}
 use Rattle.logos_machine.specs.LexerValue.{answers_of}
-use Rattle.logos_relex.specs.Chunks.{IsChunk}
 use Rattle.logos_relex.proofs.ChunkLemmas.{chunk_by, chunk_of_front}
 use Rattle.logos_relex.proofs.chunk.next_chunk.Goals as goal
 

@@ -1,8 +1,7 @@
 use Rattle.std.proofs.Common.{◌∙◌, ap, false, subst}
 use Rattle.logos_machine.specs.LexerValue.{answers_of, item_of}
 use Rattle.logos_machine.specs.Within.{DoesWithin, GivesWithin}
-use Rattle.logos_relex.specs.Chunks.{SettlesUpTo}
-use Rattle.logos_relex.proofs.ItemLemmas.{Settling, settling_with, settling_over}
+use Rattle.logos_relex.proofs.ItemLemmas.{settling_with, settling_over}
 use Rattle.logos_relex.proofs.chunk.settled.Goals as goal
 
 pub loop-item-preserved : goal.loop-item-preserved
@@ -24,6 +23,6 @@ returns g c =
     let keeps = c.next_within.ensures.keeps in
     let does = subst (λ (f : g.row.C.Denot). DoesWithin false (answers_of g.C.Fn f) c.loop-item.lexer c.next_within.new.self c.next_within.result) inv.same_callback c.next_within.ensures.does in
     let s = settling_over c.args.lexer.code (answers_of g.C.Fn c.args.lexer.callback) c.args.lexer.input c.loop-item.lexer c.next_within.new.self
-        inv.same_code inv.same_input (keeps.input ∙ inv.same_input) c.loop-item.items.items c.next_within.result inv.settling does c.in_default.not-Item in
+    inv.same_code inv.same_input (keeps.input ∙ inv.same_input) c.loop-item.items.items c.next_within.result inv.settling does c.in_default.not-Item in
     let to = ap (λ x. x.to) c.span.ensures in
     rw to (record { within = s.within; spans = s.spans; begun = s.begun })

@@ -1,6 +1,6 @@
-use Rattle.std.proofs.Common.{◌≤◌, List, arith, length, subst}
+use Rattle.std.proofs.Common.{List, arith, subst}
 use Rattle.logos_machine.specs.LexerValue.{answers_of}
-use Rattle.logos_relex.specs.Chunks.{LookBelow, bytes_of}
+use Rattle.logos_relex.specs.Chunks.{LookBelow}
 use Rattle.logos_relex.specs.inside.Anews.{IsBorder}
 use Rattle.logos_relex.specs.declared.chunk.Chunk.{Chunk}
 use Rattle.logos_relex.proofs.AnewLemmas.{known, relexed}
