@@ -49,7 +49,8 @@ all_items [] last = last
 all_items (chunk ∷ chunks) last = chunk.items.items ++ map (moved chunk.length) (all_items chunks last)
 
 module _ (code : CodeValue) (callback : Callback) where
-  -- The chunk is at the front of the bytes: in the first bytes, which are its window, its items were found, whatever follows the window.
+  -- The chunk is at the front of the bytes: in its window, which are the first bytes, its items
+  -- were found, whatever follows the window.
   pub record IsChunk (bytes : List ℕ) (chunk : Chunk) : Type 0 where
     pub nonempty : 0 < chunk.length
     pub fits : chunk.length ≤ chunk.window

@@ -14,7 +14,8 @@ use Rattle.logos_relex.specs.declared.lexed.RelexError.{RelexError}
 use Rattle.logos_relex.specs.declared.lexed.RelexError.TheVariants as errors
 
 module _ (code : CodeValue) (callback : Callback) where
-  -- Chunks and last items were made of an input: each chunk was found in its window, and the last items up to the input's end.
+  -- Chunks and last items were made of an input: each chunk was found in its window, and the last
+  -- items up to the input's end.
   pub record IsMade (input : List ℕ) (chunks : List Chunk) (last : List ItemAt) : Type 0 where
     pub rest : List ℕ
     pub chunks_are : AreChunks code callback input chunks rest
@@ -49,7 +50,8 @@ pub record WasLexed (code : CodeValue) (callback : Callback) (replaced : Span) (
   pub lexed_of : IsLexed code callback former lexed
   pub edited : IsEdited former replaced input
 
--- The code is in UTF-8 mode and the input is not UTF-8, with the length of its longest beginning that is; or memory ran out.
+-- The code is in UTF-8 mode and the input is not UTF-8, with the length of its longest beginning
+-- that is; or memory ran out.
 abbrev pub IsRefused : CodeValue → List ℕ → RelexError → Type 0
 IsRefused code input (errors.NotUtf8 valid_up_to) = IsTrue code.utf8 × (¬ IsUtf8 input) × IsValidUpTo input valid_up_to
 IsRefused code input errors.Memory = Unit {0}

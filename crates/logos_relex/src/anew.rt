@@ -80,8 +80,8 @@ fn window(former: &Lexed, border: Border, left: usize) -> usize
 ///
 /// # Errors
 ///
-/// Returns `NotUtf8` if the code is in UTF-8 mode and a rest of the input is not UTF-8, and `Memory`
-/// if memory runs out.
+/// Returns `NotUtf8` if the code is in UTF-8 mode and a rest of the input is not UTF-8, and
+/// `Memory` if memory runs out.
 pub(crate) fn make_anew<C: Fn(LeafId, &[u8]) -> Action>(
     former: &Lexed,
     code: &Code,

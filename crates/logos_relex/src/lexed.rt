@@ -67,7 +67,7 @@ pub struct Edit<'i> {
     pub input: &'i [u8],
 }
 
-/// The items of an input, in chunks. After an edit, only the chunks that looked at it are made anew.
+/// The items of an input, in chunks. After an edit, only chunks that looked at it are made anew.
 #[derive(Debug, Drop)]
 pub struct Lexed {
     alloc: Global,

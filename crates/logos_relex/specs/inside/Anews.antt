@@ -16,7 +16,8 @@ pub record IsBorder (chunks : List Chunk) (border : Border) : Type 0 where
   pub within : border.index ≤ length chunks
   pub at : border.at ≡ bytes_of (take border.index chunks)
 
--- With these bytes left the border is met: as many were left from it on, and it is not before the end of what was replaced.
+-- With these bytes left the border is met: as many were left from it on, and it is not before the
+-- end of what was replaced.
 pub record IsMet (former : Lexed) (replaced_to : ℕ) (left : List ℕ) (start index : ℕ) : Type 0 where
   pub later : start ≤ index
   pub within : index ≤ length former.chunks.items
@@ -28,7 +29,8 @@ abbrev pub Follows : CodeValue → Callback → Lexed → ℕ → List ℕ → �
 Follows code callback former replaced_to left start (Former index) = IsMet former replaced_to left start index
 Follows code callback former replaced_to left start (Last last) = Runs code callback left 0 (map (item_at left) last.items)
 
--- From the border on, these are chunks of the input, and after them a former border is met or the input ends.
+-- From the border on, these are chunks of the input, and after them a former border is met or the
+-- input ends.
 pub record IsAnew (code : CodeValue) (callback : Callback) (former : Lexed) (replaced_to : ℕ) (input : List ℕ) (start : Border) (made : Anew) : Type 0 where
   pub left : List ℕ
   pub is_rest : (passed : List ℕ) × (drop start.at input ≡ passed ++ left)
