@@ -22,7 +22,7 @@ trap 'rm -rf "$room"' EXIT
 names=()
 
 # The libraries that an example may use.
-libraries='indexmap logos_automaton logos_code logos_codegen logos_host logos_lines logos_machine logos_stream'
+libraries='indexmap logos_automaton logos_code logos_codegen logos_host logos_lines logos_machine logos_relex logos_stream'
 
 # Makes the other repository: the library as it stands, and its list.
 make_repository() {
@@ -109,6 +109,7 @@ config data/config.rs data/good.toml data/bad.toml
 query data/query.rs data/query.sql
 log data/log.rs data/access.log
 count data/count.rs data/text.txt
+edit data/edit.rs data/text data/edits
 END
 
 [ "$mode" = run ] || prove_all > "$room/failures"

@@ -28,7 +28,7 @@ LIST = f"{ROOT}/tests/parts"
 KEPT = {"quick": f"{ROOT}/out/quick", "proved": f"{ROOT}/out/installed"}
 LEVEL = {"quick": "-O1", "proved": ""}
 # The programs that commands name, the folder of the examples in Rattle, and that of all that is built without proofs.
-NAMES = {"logos": "logos", "logos_cli": "logos_cli", "logos_show": "logos_show", "calls": "calls", "evidence": "evidence", "examples": "examples", "built": "."}
+NAMES = {"logos": "logos", "logos_cli": "logos_cli", "logos_show": "logos_show", "calls": "calls", "evidence": "evidence", "edits": "edits", "examples": "examples", "built": "."}
 # Where `proofs` leaves programs.
 PROVED = {name: f"{ROOT}/crates/{crate}/out/{crate}" for name, crate in (("logos", "logos_program"), ("logos_cli", "logos_cli"), ("logos_show", "logos_show"))}
 BUILD = "programs"

@@ -1,0 +1,201 @@
+//! Chunks: the items of a few thousand bytes, which were found in the bytes of a window alone.
+
+ghost use Rattle.std.specs.Prelude.{◌≡◌, ◌<◌, ◌≤◌, length, map, take, IfOk, IfErr, IfSome};
+ghost use Rattle.logos_relex.specs.Words.{Runs, answers_of};
+ghost use Rattle.logos_relex.specs.Views.{place_of, item_at, IsChunk, IsRefused, SettlesUpTo};
+
+use crate::lexed::RelexError;
+use logos_code::code::Code;
+use logos_hir::leaf::LeafId;
+use logos_machine::machine::{Action, Item, Lexer, Within};
+use logos_token::token::Span;
+use std::alloc::{AllocError, Global};
+
+/// An item without its bytes: what it is, and where it stands.
+#[derive(Clone, Copy, Debug, PartialEq, Eq)]
+pub enum ItemAt {
+    /// A match.
+    Token { leaf: LeafId, span: Span },
+    /// Bytes that no leaf matches, if `leaf` is `None`, or a match that the callback of its leaf
+    /// refused.
+    Error { leaf: Option<LeafId>, span: Span },
+}
+
+/// Neighboring items, and the bytes from the first of them to the next chunk.
+///
+/// Spans count from the chunk's first byte, so a chunk stays as it is where bytes before it change.
+#[derive(Debug, Drop)]
+pub struct Chunk {
+    items: Vec<ItemAt>,
+    length: usize,
+    window: usize,
+}
+
+impl Chunk {
+    /// Returns the items. Their spans count from the chunk's first byte.
+    pub fn items(&self) -> &[ItemAt]
+        ensures { result.now ≡ self.now.items.items }
+    {
+        self.items.as_slice()
+    }
+
+    /// Returns how many bytes the chunk has.
+    pub fn length(&self) -> usize
+        ensures { result ≡ self.now.length }
+    {
+        self.length
+    }
+
+    /// Returns how many bytes from the chunk's first one on were looked at to find its items.
+    pub fn window(&self) -> usize
+        ensures { result ≡ self.now.window }
+    {
+        self.window
+    }
+}
+
+/// Returns an item without its bytes.
+fn place_of(item: Item<'_>) -> ItemAt
+    ensures { result ≡ place_of item.entry }
+{
+    match item {
+        Item::Token { leaf, span, .. } => ItemAt::Token { leaf, span },
+        Item::Error { leaf, span, .. } => ItemAt::Error { leaf, span },
+    }
+}
+
+/// Returns the items that are found at the front of a lexer's part whatever follows it, and the
+/// offset up to which they are.
+///
+/// # Errors
+///
+/// Returns `AllocError` if memory runs out.
+fn settled<C: Fn(LeafId, &[u8]) -> Action + Drop>(
+    alloc: Global,
+    lexer: Lexer<'_, '_, '_, C>,
+) -> Result<(Vec<ItemAt>, usize), AllocError>
+    requires callable { C.IsAlwaysCallable lexer.callback }
+    requires start { lexer.to ≡ 0 }
+    ensures { IfOk result (λ found. SettlesUpTo lexer.entry.code
+        (answers_of C.Fn lexer.entry.callback) lexer.entry.input found.0.items found.1) }
+{
+    let mut lexer = lexer;
+    let mut items = Vec::new(alloc);
+    while let Within::Item(item) = lexer.next_within(false) {
+        items.push(place_of(item))?;
+    }
+    Ok((items, lexer.span().to))
+}
+
+/// Returns the longest beginning of a part that a lexer of the code takes: in UTF-8 mode, without
+/// the character that the part's end cuts.
+fn characters<'p>(code: &Code, part: &'p [u8]) -> &'p [u8]
+    ensures front { result.now ≡ take (length result.now) part.now }
+    ensures within { length result.now ≤ length part.now }
+{
+    if !code.is_utf8() {
+        return part;
+    }
+    match str::from_utf8(part) {
+        Ok(_) => part,
+        Err(error) => &part[..error.valid_up_to()],
+    }
+}
+
+/// Returns a chunk that is found in a part alone, if there is one.
+///
+/// # Errors
+///
+/// Returns `AllocError` if memory runs out.
+fn chunk_of<C: Fn(LeafId, &[u8]) -> Action + Drop>(
+    alloc: Global,
+    code: &Code,
+    part: &[u8],
+    callback: C,
+) -> Result<Option<Chunk>, AllocError>
+    requires { C.IsAlwaysCallable callback }
+    ensures { IfOk result (λ found.
+        IfSome found (IsChunk code.now (answers_of C.Fn callback) part.now)) }
+{
+    let part = characters(code, part);
+    let Ok(lexer) = Lexer::new_bytes(code, part, callback) else {
+        return Ok(None);
+    };
+    let (items, length) = settled(alloc, lexer)?;
+    if length == 0 {
+        return Ok(None);
+    }
+    Ok(Some(Chunk {
+        items,
+        length,
+        window: part.len(),
+    }))
+}
+
+/// Returns the first chunk of some bytes, found in a window of at least this size. Returns `None`
+/// if what is found first depends on the end of the bytes.
+///
+/// # Errors
+///
+/// Returns `AllocError` if memory runs out.
+pub(crate) fn next_chunk<C: Fn(LeafId, &[u8]) -> Action>(
+    alloc: Global,
+    code: &Code,
+    bytes: &[u8],
+    callback: &C,
+    size: usize,
+) -> Result<Option<Chunk>, AllocError>
+    requires callable { C.IsAlwaysCallable callback.now }
+    requires size { 0 < size }
+    ensures { IfOk result (λ found.
+        IfSome found (IsChunk code.now (answers_of C.Fn callback.now) bytes.now)) }
+{
+    let mut size = size;
+    while size < bytes.len() {
+        if let Some(chunk) = chunk_of(alloc, code, &bytes[..size], callback)? {
+            return Ok(Some(chunk));
+        }
+        let Some(twice) = size.checked_mul(2) else {
+            break;
+        };
+        size = twice;
+    }
+    Ok(None)
+}
+
+/// Returns the items of some bytes up to their end.
+///
+/// # Errors
+///
+/// Returns `NotUtf8` if the code is in UTF-8 mode and the bytes are not UTF-8, and `Memory` if
+/// memory runs out.
+pub(crate) fn last_items<C: Fn(LeafId, &[u8]) -> Action>(
+    alloc: Global,
+    code: &Code,
+    bytes: &[u8],
+    callback: &C,
+) -> Result<Vec<ItemAt>, RelexError>
+    requires { C.IsAlwaysCallable callback.now }
+    ensures items { IfOk result (λ items. Runs code.now (answers_of C.Fn callback.now) bytes.now 0
+        (map (item_at bytes.now) items.items)) }
+    ensures refused { IfErr result (IsRefused code.now bytes.now) }
+{
+    let lexer = Lexer::new_bytes(code, bytes, callback)?;
+    let found = lexer.items(alloc)?;
+    Ok(places(alloc, &found)?)
+}
+
+/// Returns items without their bytes.
+///
+/// # Errors
+///
+/// Returns `AllocError` if memory runs out.
+fn places(alloc: Global, found: &[Item<'_>]) -> Result<Vec<ItemAt>, AllocError>
+    ensures { IfOk result (λ items. items.items ≡ map place_of found.now) }
+{
+    let mut items = Vec::with_capacity(alloc, found.len())?;
+    for item in found {
+        items.push(place_of(*item))?;
+    }
+    Ok(items)
+}

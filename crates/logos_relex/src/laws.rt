@@ -1,0 +1,15 @@
+//! Laws of the definitions. The contract of each function is a law. To use one in a proof, call its
+//! function: the call does nothing.
+
+ghost use Rattle.logos_relex.specs.Words.{answers_of};
+ghost use Rattle.logos_relex.specs.Views.{LexedIsRun};
+
+use logos_code::code::Code;
+use logos_hir::leaf::LeafId;
+use logos_machine::machine::Action;
+
+/// The items that were lexed of an input, or lexed anew after edits, are those of a run of the code
+/// on it.
+pub fn lexed_is_run<C: Fn(LeafId, &[u8]) -> Action>(code: &Code, callback: &C)
+    ensures { LexedIsRun code.now (answers_of C.Fn callback.now) }
+{}

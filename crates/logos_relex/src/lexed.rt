@@ -1,0 +1,245 @@
+//! Items of an input that changes.
+
+ghost use Rattle.std.specs.Prelude.{◌≡◌, ◌≤◌, IfOk, IfErr, OnErr, OnOk, length};
+ghost use Rattle.logos_relex.specs.Words.{answers_of};
+ghost use Rattle.logos_relex.specs.Views.{ComesAfter, IsLexed, IsRefused, PutsAnew, Stays, WasLexed, Memory as OutOfMemory};
+
+use crate::anew::{After, Anew, make, make_anew};
+use crate::borders::{Border, untouched};
+use crate::chunk::{Chunk, ItemAt, last_items};
+use logos_code::code::Code;
+use logos_hir::leaf::LeafId;
+use logos_machine::machine::{Action, NotUtf8};
+use logos_token::token::Span;
+use std::alloc::{AllocError, AllocFailed, Global};
+
+/// Why an input was not lexed.
+#[derive(Clone, Copy, Debug, PartialEq, Eq)]
+pub enum RelexError {
+    /// The input is not UTF-8, and the code is in UTF-8 mode. `valid_up_to` is the length in bytes
+    /// of the input's longest beginning that is.
+    NotUtf8 { valid_up_to: usize },
+    /// Memory ran out.
+    Memory,
+}
+
+impl From<AllocError> for RelexError {
+    ghost use Rattle.std.specs.Prelude.{◌≡◌};
+    ghost use Rattle.logos_relex.specs.Views.{Memory as OutOfMemory};
+
+    ghost from_gives = { λ _ e. e ≡ OutOfMemory };
+
+    fn from(_error: AllocError) -> RelexError {
+        RelexError::Memory
+    }
+}
+
+impl<T: Drop> From<AllocFailed<T>> for RelexError {
+    ghost use Rattle.std.specs.Prelude.{◌≡◌};
+    ghost use Rattle.logos_relex.specs.Views.{Memory as OutOfMemory};
+
+    ghost from_gives = { λ _ e. e ≡ OutOfMemory };
+
+    fn from(_error: AllocFailed<T>) -> RelexError {
+        RelexError::Memory
+    }
+}
+
+impl From<NotUtf8> for RelexError {
+    ghost use Rattle.std.specs.Prelude.{◌≡◌};
+    ghost use Rattle.logos_relex.specs.Views.{NotUtf8 as NoUtf8};
+
+    ghost from_gives = { λ error e. e ≡ NoUtf8 error.valid_up_to };
+
+    fn from(error: NotUtf8) -> RelexError {
+        RelexError::NotUtf8 {
+            valid_up_to: error.valid_up_to,
+        }
+    }
+}
+
+/// An edit of an input: other bytes, perhaps none, are put in place of a span.
+#[derive(Clone, Copy, Debug)]
+pub struct Edit<'i> {
+    /// The bytes that were replaced, as a span of the former input.
+    pub replaced: Span,
+    /// The whole input after the edit.
+    pub input: &'i [u8],
+}
+
+/// The items of an input, in chunks. After an edit, only chunks that looked at it are made anew.
+#[derive(Debug, Drop)]
+pub struct Lexed {
+    alloc: Global,
+    chunks: Vec<Chunk>,
+    last: Vec<ItemAt>,
+    length: usize,
+}
+
+impl Lexed {
+    /// Lexes an input. For a match of a leaf with a callback, the callback decides by the leaf and
+    /// the slice.
+    ///
+    /// # Errors
+    ///
+    /// Returns `NotUtf8` if the code is in UTF-8 mode and the input is not UTF-8, and `Memory` if
+    /// memory runs out.
+    pub fn new<C: Fn(LeafId, &[u8]) -> Action>(
+        alloc: Global,
+        code: &Code,
+        callback: &C,
+        input: &[u8],
+    ) -> Result<Lexed, RelexError>
+        requires { C.IsAlwaysCallable callback.now }
+        ensures lexed { IfOk result (λ lexed.
+            IsLexed code.now (answers_of C.Fn callback.now) input.now lexed) }
+        ensures refused { IfErr result (IsRefused code.now input.now) }
+    {
+        match make(alloc, code, input, callback) {
+            Ok((chunks, last)) => Ok(Lexed {
+                alloc,
+                chunks,
+                last,
+                length: input.len(),
+            }),
+            Err(RelexError::Memory) => Err(RelexError::Memory),
+            Err(_) => Lexed::whole(alloc, code, callback, input),
+        }
+    }
+
+    /// Lexes an input as a whole, without chunks.
+    ///
+    /// # Errors
+    ///
+    /// Returns `NotUtf8` if the code is in UTF-8 mode and the input is not UTF-8, and `Memory` if
+    /// memory runs out.
+    fn whole<C: Fn(LeafId, &[u8]) -> Action>(
+        alloc: Global,
+        code: &Code,
+        callback: &C,
+        input: &[u8],
+    ) -> Result<Lexed, RelexError>
+        requires { C.IsAlwaysCallable callback.now }
+        ensures lexed { IfOk result (λ lexed.
+            IsLexed code.now (answers_of C.Fn callback.now) input.now lexed) }
+        ensures refused { IfErr result (IsRefused code.now input.now) }
+    {
+        let last = last_items(alloc, code, input, callback)?;
+        let chunks = Vec::new(alloc);
+        Ok(Lexed {
+            alloc,
+            chunks,
+            last,
+            length: input.len(),
+        })
+    }
+
+    /// Lexes an edited input. The items that did not look at the edit stay: those before it, and
+    /// those from the first border after it on that is met again. The callback is asked again only
+    /// for what is lexed anew, so it has to answer by the leaf and the slice alone.
+    ///
+    /// # Errors
+    ///
+    /// Returns `NotUtf8` if the code is in UTF-8 mode and the input is not UTF-8, and `Memory` if
+    /// memory runs out. Then the items are those of the former input, as before.
+    pub fn relex<C: Fn(LeafId, &[u8]) -> Action>(
+        &mut self,
+        code: &Code,
+        callback: &C,
+        edit: Edit<'_>,
+    ) -> Result<(), RelexError>
+        requires callable { C.IsAlwaysCallable callback.now }
+        requires former { WasLexed code.now (answers_of C.Fn callback.now) edit.replaced
+            edit.input.now self.old }
+        ensures lexed { IfOk result (λ _.
+            IsLexed code.now (answers_of C.Fn callback.now) edit.entry.input.now self.new) }
+        ensures refused { IfErr result (IsRefused code.now edit.entry.input.now) }
+        ensures stays { OnErr result (Stays self.old self.new) }
+    {
+        let start = untouched(&self.chunks, edit.replaced.from);
+        match make_anew(self, code, callback, edit, start) {
+            Ok(made) => self.put(start.index, made, edit.input.len()),
+            Err(RelexError::Memory) => Err(RelexError::Memory),
+            Err(_) => self.relex_whole(code, callback, edit.input),
+        }
+    }
+
+    /// Lexes an input as a whole.
+    ///
+    /// # Errors
+    ///
+    /// Returns `NotUtf8` if the code is in UTF-8 mode and the input is not UTF-8, and `Memory` if
+    /// memory runs out.
+    fn relex_whole<C: Fn(LeafId, &[u8]) -> Action>(
+        &mut self,
+        code: &Code,
+        callback: &C,
+        input: &[u8],
+    ) -> Result<(), RelexError>
+        requires { C.IsAlwaysCallable callback.now }
+        ensures lexed { IfOk result (λ _.
+            IsLexed code.now (answers_of C.Fn callback.now) input.now self.new) }
+        ensures refused { IfErr result (IsRefused code.now input.now) }
+        ensures stays { OnErr result (Stays self.old self.new) }
+    {
+        let last = last_items(self.alloc, code, input, callback)?;
+        self.chunks.clear();
+        self.last = last;
+        self.length = input.len();
+        Ok(())
+    }
+
+    /// Puts what was made in place of the former chunks from one on.
+    ///
+    /// # Errors
+    ///
+    /// Returns `Memory` if memory runs out.
+    fn put(&mut self, from: usize, made: Anew, length: usize) -> Result<(), RelexError>
+        requires { ComesAfter self.old from made.after }
+        ensures puts { OnOk result (PutsAnew from made length self.old self.new) }
+        ensures refused { IfErr result (λ error. error ≡ OutOfMemory) }
+        ensures stays { OnErr result (Stays self.old self.new) }
+    {
+        let Anew { chunks, after } = made;
+        match after {
+            After::Former(to) => {
+                self.chunks.splice(from..to, chunks)?;
+            }
+            After::Last(last) => {
+                self.chunks.splice(from.., chunks)?;
+                self.last = last;
+            }
+        }
+        self.length = length;
+        Ok(())
+    }
+
+    /// Returns the allocator of all that is made.
+    pub(crate) fn alloc(&self) -> Global
+        ensures { result ≡ self.now.alloc }
+    {
+        self.alloc
+    }
+
+    /// Returns how many bytes the input has.
+    pub fn length(&self) -> usize
+        ensures { result ≡ self.now.length }
+    {
+        self.length
+    }
+
+    /// Returns the chunks, in order. The first begins at the input's first byte, and each other one
+    /// where the one before it ends.
+    pub fn chunks(&self) -> &[Chunk]
+        ensures { result.now ≡ self.now.chunks.items }
+    {
+        self.chunks.as_slice()
+    }
+
+    /// Returns the items after all chunks. Their spans count from where the last chunk ends.
+    pub fn last(&self) -> &[ItemAt]
+        ensures { result.now ≡ self.now.last.items }
+    {
+        self.last.as_slice()
+    }
+}

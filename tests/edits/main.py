@@ -1,0 +1,97 @@
+"""Makes sources, inputs and edits, and has the program compare the items after each edit with those of the whole input."""
+
+import os
+import subprocess
+import sys
+import tempfile
+from concurrent.futures import ProcessPoolExecutor
+from os import path
+from random import Random
+
+HERE = path.dirname(path.realpath(__file__))
+sys.path.insert(0, path.join(path.dirname(HERE), 'generated'))
+from byte_sets import partners, runs_of_categories
+from inputs import OTHER
+from main import ALL, made
+from matching import TooLarge
+
+# An input has at least so many bytes, and so many edits are made of it.
+BYTES, EDITS = 9000, 16
+
+
+def text_of(inputs, random, is_utf8):
+    """A long input of these."""
+    text = b''
+    while len(text) < BYTES:
+        text += random.choice([*inputs, random.choice(OTHER)]) + random.choice([b'', b' ', b'\n'])
+    return text.decode('utf8', 'ignore').encode() if is_utf8 else text
+
+
+def is_text(text):
+    try:
+        text.decode()
+    except UnicodeDecodeError:
+        return False
+    return True
+
+
+def edits_of(text, inputs, random, is_utf8):
+    """The lines of edits, and how many of them are refused."""
+    lines, refused, near = [], 0, 0
+    for _ in range(EDITS):
+        start = near if random.random() < 0.5 else random.randrange(len(text) + 1)
+        start = min(len(text), max(0, start + random.randint(-4, 4)))
+        end = min(len(text), start + random.choice([0, 0, 1, 1, 2, 7, 60, 5000]))
+        put = random.choice([b'', b'', random.choice(OTHER), random.choice(inputs or OTHER), random.choice(inputs or OTHER)[:3], bytes([random.randrange(128)])])
+        lines.append(f'{start} {end} {put.hex()}')
+        new = text[:start] + put + text[end:]
+        if is_utf8 and not is_text(new):
+            refused += 1
+        else:
+            text = new
+        near = start
+    return lines, refused
+
+
+def judge(program, seed):
+    """Nothing where the program finds the same after each edit, or if the source is refused; else the difference."""
+    try:
+        source, reading, inputs = made(seed)
+    except TooLarge:
+        return None, False
+    if reading.faults.list:
+        return None, False
+    random = Random(seed)
+    inputs = [text for text in inputs if text]
+    text = text_of(inputs, random, reading.utf8)
+    lines, refused = edits_of(text, inputs, random, reading.utf8)
+    with tempfile.TemporaryDirectory() as room:
+        for name, content in (('source', source.encode()), ('input', text), ('edits', '\n'.join(lines).encode())):
+            with open(f'{room}/{name}', 'wb') as out:
+                out.write(content)
+        done = subprocess.run([program, 'source', 'input', 'edits'], cwd=room, capture_output=True, text=True, check=False)
+    wanted = f'{EDITS} the same, {refused} refused\n'
+    if done.returncode or done.stdout != wanted:
+        return f'seed {seed}: {done.stdout}{done.stderr}in place of {wanted}{source}', True
+    return None, True
+
+
+def main(program, seeds):
+    partners()
+    runs_of_categories()
+    passed = 0
+    with ProcessPoolExecutor(len(os.sched_getaffinity(0))) as workers:
+        for difference, counts in workers.map(judge, [program] * len(seeds), seeds, chunksize=4):
+            if difference:
+                workers.shutdown(cancel_futures=True)
+                print(f'edits: {difference}', file=sys.stderr)
+                print(f'{passed} passed, 1 failed')
+                return 1
+            passed += counts
+    print(f'edits: after {EDITS} edits of each input of {passed} sources the items are those of the whole input')
+    print(f'{passed} passed, 0 failed')
+    return 0
+
+
+if __name__ == '__main__':
+    sys.exit(main(sys.argv[1], [int(seed) for seed in sys.argv[2:]] or ALL))
