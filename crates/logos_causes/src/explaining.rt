@@ -29,7 +29,7 @@ pub struct Explained {
 /// Returns `Memory` if memory runs out.
 pub fn explain(alloc: Global, source: &str) -> Result<Explained, Memory> {
     match analyze(alloc, source) {
-        Ok(analysis) => explain_analysis(alloc, source, analysis),
+        Ok(mut analysis) => explain_analysis(alloc, source, &mut analysis),
         Err(Refusal::Errors(_)) => Ok(Explained {
             clues: Clues::none(alloc),
             warnings: Vec::new(alloc),
@@ -38,21 +38,27 @@ pub fn explain(alloc: Global, source: &str) -> Result<Explained, Memory> {
     }
 }
 
-/// Returns what is known of a source with this analysis.
+/// Returns what is known of a source with this analysis, whose leaves are taken out of it.
 fn explain_analysis(
     alloc: Global,
     source: &str,
-    analysis: Analysis<'_>,
+    analysis: &mut Analysis<'_>,
 ) -> Result<Explained, Memory> {
-    let utf8_mode = analysis.parser.is_utf8();
     let mut warnings = Vec::new(alloc);
     add_callbacks(alloc, source, &analysis.leaves, &mut warnings)?;
-    let clues = match Graph::new(alloc, analysis.leaves, Config { utf8_mode }) {
-        Ok(graph) => clues_of(alloc, &graph)?,
-        Err(BuildError::Memory) => return Err(Memory),
-        Err(_) => Clues::none(alloc),
-    };
+    let clues = clues_of_analysis(alloc, analysis)?;
     Ok(Explained { clues, warnings })
+}
+
+/// Returns what is known of the faults of the graph of an analysis, whose leaves are taken out of it.
+fn clues_of_analysis(alloc: Global, analysis: &mut Analysis<'_>) -> Result<Clues, Memory> {
+    let utf8_mode = analysis.parser.is_utf8();
+    let leaves = mem::replace(&mut analysis.leaves, Vec::new(alloc));
+    match Graph::new(alloc, leaves, Config { utf8_mode }) {
+        Ok(graph) => Ok(clues_of(alloc, &graph)?),
+        Err(BuildError::Memory) => Err(Memory),
+        Err(_) => Ok(Clues::none(alloc)),
+    }
 }
 
 /// Returns what is known of the faults of a graph.

@@ -220,25 +220,18 @@ fn gather_enum(
             Ok(())
         }
         Err(refusal) => {
-            push_explained(source, span.from, refusal, &mut gathered.refused, warned)
+            let clues = clues_of(source, span.from, warned)?;
+            push_refusal(&mut gathered.refused, span.from, refusal, clues)
         }
     }
 }
 
-/// Pushes the faults of an enum with what is known of them, and adds its warnings. Its text begins at
-/// an offset of the file.
-fn push_explained(
-    text: &str,
-    offset: usize,
-    refusal: Refusal,
-    refused: &mut Vec<Refused>,
-    warned: &mut Vec<Warning>,
-) -> Result<(), Memory>
-    ensures { OnOk result (AddsRefusal offset refusal refused.old.items refused.new.items) }
-{
+/// Returns what is known of an enum that is refused, and adds its warnings. Its text begins at an
+/// offset of the file.
+fn clues_of(text: &str, offset: usize, warned: &mut Vec<Warning>) -> Result<Clues, Memory> {
     let Explained { clues, warnings } = explain(*warned.allocator(), text)?;
     add_warnings(offset, warnings, warned)?;
-    push_refusal(refused, offset, refusal, clues)
+    Ok(clues)
 }
 
 /// Pushes the faults of what begins at an offset of the file, with what is known of them.
