@@ -94,6 +94,10 @@ impl<'source, Token: Logos<'source>> Lexer<'source, Token> {
         self.start
     }
 
+    pub(crate) fn set_span(&mut self, span: Span) {
+        (self.start, self.end) = (span.start, span.end);
+    }
+
     pub(crate) fn set_end(&mut self, end: usize) {
         self.end = end;
     }

@@ -17,14 +17,20 @@
 #![cfg_attr(not(feature = "forbid_unsafe"), deny(unsafe_code))]
 #![warn(missing_docs)]
 
+#[cfg(feature = "std")]
+extern crate std;
+
+mod folded;
 #[allow(missing_docs)]
 pub mod internal;
 mod lexer;
+mod scan;
 pub mod source;
 
 pub use lexer::{Lexer, Span, SpannedIter};
 #[cfg(feature = "export_derive")]
 pub use logos_derive::Logos;
+pub use scan::{Scan, Scanner};
 pub use source::Source;
 
 /// An enum whose variants are tokens.

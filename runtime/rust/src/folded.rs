@@ -1,0 +1,215 @@
+//! The tables of a printed text, folded: an entry ends one match and begins the next.
+//!
+//! An entry says what a byte does in a state. Its lower bits are the place of the row of the next
+//! state. [`ENDED`] says that a match ends before the byte, and then the next state is the one after
+//! the next match's first byte; the leaf of the match stands in the bits between, and [`TOKEN`] says
+//! that it is not left out. [`TOKEN`] alone says that the byte needs a try by itself.
+
+/// The place of the next state.
+pub(crate) const PLACE: u32 = (1 << LEAF_BIT) - 1;
+/// A match ends before the byte, and is not left out.
+pub(crate) const TOKEN: u32 = 1 << 30;
+/// A match ends before the byte.
+pub(crate) const ENDED: u32 = 1 << 31;
+
+const LEAF_BIT: u32 = 20;
+const MOST_LEAVES: usize = 1 << (30 - LEAF_BIT);
+
+/// In front of the rows stand the column of each byte, and the place of the root.
+const HEAD: usize = 512;
+const ROOT: usize = 256;
+/// After the rows stand so many entries that each place with each column is inside.
+const TAIL: usize = 512;
+/// The columns of a row that has one for each byte. At a distance of a power of two, the entries of
+/// a byte in all rows would share a few lines of a cache.
+const BYTES: usize = 272;
+
+/// Folded tables.
+pub trait Rows: 'static {
+    /// Returns whether there are rows.
+    const ARE_THERE: bool;
+
+    /// Returns the entry of a column in the row at a place.
+    fn entry(&self, column: usize, place: u32) -> u32;
+
+    /// Returns the column of a byte, where columns are classes.
+    fn column(&self, byte: u8) -> usize;
+
+    /// Returns the place of the root's row.
+    fn root(&self) -> u32;
+}
+
+impl<const N: usize> Rows for [u32; N] {
+    const ARE_THERE: bool = N > HEAD + 1 + TAIL;
+
+    // Each bound below follows from the numbers, so that no test of one is left.
+    #[inline(always)]
+    fn entry(&self, column: usize, place: u32) -> u32 {
+        let mask = N - HEAD - TAIL - 1;
+        let rows = &self[HEAD + (column & (TAIL - 1))..];
+        rows[place as usize & mask]
+    }
+
+    #[inline(always)]
+    fn column(&self, byte: u8) -> usize {
+        self[byte as usize] as usize
+    }
+
+    #[inline(always)]
+    fn root(&self) -> u32 {
+        self[ROOT]
+    }
+}
+
+/// Returns the leaf of an entry.
+#[inline(always)]
+pub(crate) fn leaf_of(entry: u32) -> usize {
+    (entry >> LEAF_BIT) as usize & (MOST_LEAVES - 1)
+}
+
+/// Returns the length of folded tables with so many entries and leaves. Where there are too many,
+/// the tables have no rows.
+pub const fn size(entries: usize, leaves: usize) -> usize {
+    if entries > PLACE as usize || leaves > MOST_LEAVES {
+        return HEAD + 1 + TAIL;
+    }
+    HEAD + entries.next_power_of_two() + TAIL
+}
+
+/// A row of steps: its first run, how many steps of that run are of the rows before, and whether
+/// any of its steps leads on.
+#[derive(Clone, Copy)]
+struct Row {
+    run: usize,
+    passed: usize,
+    leads: bool,
+}
+
+/// The tables of a printed text, which says there what their numbers are.
+struct Printed<'t> {
+    classes: &'t [u32],
+    lengths: &'t [u32],
+    steps: &'t [u32],
+    rows: &'t [u32],
+    marks: &'t [u32],
+    skips: &'t [u32],
+    root: usize,
+    width: usize,
+    columns: usize,
+}
+
+/// Returns folded tables. The printed ones are those of the classes, of the lengths of runs and
+/// their steps, of the rows, the marks and the skips; `width` is the number of classes. The folded
+/// rows have an entry for each byte, or one for each class.
+pub const fn fold<const N: usize>(
+    tables: [&[u32]; 6],
+    root: usize,
+    width: usize,
+    by_bytes: bool,
+) -> [u32; N] {
+    let [classes, lengths, steps, rows, marks, skips] = tables;
+    let columns = if by_bytes { BYTES } else { width };
+    let printed = Printed { classes, lengths, steps, rows, marks, skips, root, width, columns };
+    let mut table = [0; N];
+    if N <= HEAD + 1 + TAIL {
+        return table;
+    }
+    let mut byte = 0;
+    while byte < 256 {
+        table[byte] = if by_bytes { byte as u32 } else { classes[byte] };
+        byte += 1;
+    }
+    table[ROOT] = printed.place(root);
+    let places: [Row; N] = printed.row_places();
+    let first = printed.steps_of(&places[rows[root] as usize]);
+    let mut state = 0;
+    while state < rows.len() {
+        let row = printed.steps_of(&places[rows[state] as usize]);
+        let at = HEAD + state * columns;
+        let (mut last, mut entry) = ((u32::MAX, u32::MAX), 0);
+        let mut column = 0;
+        while column < if by_bytes { 256 } else { width } {
+            let class = if by_bytes { classes[column] as usize } else { column };
+            if row[class] != last.0 || first[class] != last.1 {
+                last = (row[class], first[class]);
+                entry = printed.entry(&places, state, last);
+            }
+            table[at + column] = entry;
+            column += 1;
+        }
+        state += 1;
+    }
+    table
+}
+
+impl Printed<'_> {
+    const fn place(&self, state: usize) -> u32 {
+        (state * self.columns) as u32
+    }
+
+    /// Returns where each row begins.
+    const fn row_places<const N: usize>(&self) -> [Row; N] {
+        let mut places = [Row { run: 0, passed: 0, leads: false }; N];
+        let (mut row, mut run, mut passed, mut column) = (0, 0, 0, 0);
+        places[0] = Row { run, passed, leads: false };
+        while run < self.steps.len() {
+            places[row].leads |= self.steps[run] != 0;
+            let left = self.lengths[run] as usize - passed;
+            let room = self.width - column;
+            if left < room {
+                (column, run, passed) = (column + left, run + 1, 0);
+                continue;
+            }
+            (row, column) = (row + 1, 0);
+            (run, passed) = if left == room { (run + 1, 0) } else { (run, passed + room) };
+            places[row] = Row { run, passed, leads: false };
+        }
+        places
+    }
+
+    /// Returns the steps of a row.
+    const fn steps_of(&self, row: &Row) -> [u32; 257] {
+        let mut steps = [0; 257];
+        let (mut run, mut passed, mut column) = (row.run, row.passed, 0);
+        while column < self.width {
+            if passed == self.lengths[run] as usize {
+                (run, passed) = (run + 1, 0);
+            }
+            steps[column] = self.steps[run];
+            column += 1;
+            passed += 1;
+        }
+        steps
+    }
+
+    /// Returns the entry for a symbol in a state, by its steps there and in the root.
+    const fn entry(&self, places: &[Row], state: usize, steps: (u32, u32)) -> u32 {
+        let (step, first) = steps;
+        let ended = match step {
+            0 => self.early(state),
+            1 => return self.place(state),
+            _ => {
+                let next = step as usize - 2;
+                if self.marks[next] % 2 == 0 || places[self.rows[next] as usize].leads {
+                    return self.place(next);
+                }
+                self.marks[next]
+            }
+        };
+        let next = match first {
+            0 | 1 => self.root,
+            _ => first as usize - 2,
+        };
+        if ended == 0 || first == 0 || self.marks[next] % 2 == 1 {
+            return TOKEN | self.place(next);
+        }
+        let leaf = ended / 2 - 1;
+        let token = if self.skips[leaf as usize] == 0 { TOKEN } else { 0 };
+        ENDED | token | leaf << LEAF_BIT | self.place(next)
+    }
+
+    /// Returns the mark of a state if it is an early one, and else 0.
+    const fn early(&self, state: usize) -> u32 {
+        if self.marks[state] % 2 == 0 { self.marks[state] } else { 0 }
+    }
+}
