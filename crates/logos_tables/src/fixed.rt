@@ -290,10 +290,11 @@ trait _Tables<'s>: Logos<'s> {
     type Rows: 'static;
     const ROWS: &'static Self::Rows;
     fn bytes(source: &'s Self::Source) -> &'s [u8];
+    fn plain(leaf: usize) -> _Option<Self>;
     fn act(lex: &mut _Lexer<'s>, leaf: usize, end: usize) -> _Option<_Result<Self, Self::Error>>;
     fn again(bytes: &[u8], start: usize) -> (usize, usize);
 }
-const fn _size(_entries: usize, _leaves: usize) -> usize {
+const fn _size(_: usize, _: usize, _: usize) -> usize {
     0
 }
 const fn _fold<const N: usize>(_: [&[u32]; 6], _: usize, _: usize, _: bool) -> [u32; N] {
@@ -309,33 +310,37 @@ macro_rules! _numbers {
         numbers
     }};
 }
-#[allow(non_local_definitions)]
+#[allow(unknown_lints, non_local_definitions)]
 const _: () = {
     use ";
 
 /// What follows the type of the enum.
 pub(crate) const SCANNED: &str = " {
         const BY_BYTES: bool = _BY_BYTES;
-        type Rows = [u32; _size(_ROWS.len() * _COLUMNS, _NAMES.len())];
+        type Rows = [u32; _size(_ROWS.len(), _COLUMNS, _NAMES.len())];
         #[allow(long_running_const_eval)]
-        const ROWS: &'static <Self as _Tables<'s>>::Rows = &_fold(
-            [
-                &_numbers!(_CLASSES),
-                &_numbers!(_RUN_LENGTHS),
-                &_numbers!(_RUN_STEPS),
-                &_numbers!(_ROWS),
-                &_numbers!(_MARKS),
-                &_numbers!(_SKIPS),
-            ],
-            _ROOT,
-            _WIDTH,
-            _BY_BYTES,
-        );
+        const ROWS: &'static <Self as _Tables<'s>>::Rows = &{
+            let (classes, rows) = (_numbers!(_CLASSES), _numbers!(_ROWS));
+            let (lengths, steps) = (_numbers!(_RUN_LENGTHS), _numbers!(_RUN_STEPS));
+            let (marks, skips) = (_numbers!(_MARKS), _numbers!(_SKIPS));
+            let tables: [&[u32]; 6] = [&classes, &lengths, &steps, &rows, &marks, &skips];
+            _fold(tables, _ROOT, _WIDTH, _BY_BYTES)
+        };
         fn bytes(source: &'s <Self as Logos<'s>>::Source) -> &'s [u8] {
             source.as_ref()
         }
-        // Out of line, so that what a match gives is a look into a table, and no jump.
+        // The tokens of the leaves for which nothing is called. Out of line, so that it is a look into
+        // a table, and no jump.
         #[inline(never)]
+        fn plain(leaf: usize) -> _Option<Self> {
+            _Option::Some(match leaf {
+";
+
+/// What follows the tokens of leaves.
+pub(crate) const ACTIONS: &str = "\
+                _ => return _Option::None,
+            })
+        }
         fn act(
             lex: &mut _Lexer<'s>,
             leaf: usize,

@@ -29,7 +29,7 @@ pub fn tables(alloc: Global, made: &Generated<'_>) -> Result<String, Memory>
     let head = scanned_head(alloc, &text)?;
     push(&mut text, "\n")?;
     push_code(alloc, &mut text, &made.code)?;
-    push_rest(&mut text, &head)?;
+    push_rest(&mut text, &head, &made.code)?;
     Ok(text)
 }
 

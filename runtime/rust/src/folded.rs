@@ -3,7 +3,11 @@
 //! An entry says what a byte does in a state. Its lower bits are the place of the row of the next
 //! state. [`ENDED`] says that a match ends before the byte, and then the next state is the one after
 //! the next match's first byte; the leaf of the match stands in the bits between, and [`TOKEN`] says
-//! that it is not left out. [`TOKEN`] alone says that the byte needs a try by itself.
+//! that it is not left out.
+//!
+//! [`TOKEN`] alone says that no next match begins right there: the entry *asks*. In place of a leaf
+//! it has 1 more than the leaf whose match ends before the byte, or 0 if none does. Then the last
+//! column of the state's row says what the last match was.
 
 /// The place of the next state.
 pub(crate) const PLACE: u32 = (1 << LEAF_BIT) - 1;
@@ -13,11 +17,14 @@ pub(crate) const TOKEN: u32 = 1 << 30;
 pub(crate) const ENDED: u32 = 1 << 31;
 
 const LEAF_BIT: u32 = 20;
-const MOST_LEAVES: usize = 1 << (30 - LEAF_BIT);
+/// Entries have 1 more than the number of a leaf.
+const MOST_LEAVES: usize = (1 << (30 - LEAF_BIT)) - 1;
 
-/// In front of the rows stand the column of each byte, and the place of the root.
+/// In front of the rows stand the column of each byte, the place of the root, and the column of last
+/// matches.
 const HEAD: usize = 512;
 const ROOT: usize = 256;
+const LAST: usize = 257;
 /// After the rows stand so many entries that each place with each column is inside.
 const TAIL: usize = 512;
 /// The columns of a row that has one for each byte. At a distance of a power of two, the entries of
@@ -37,6 +44,19 @@ pub trait Rows: 'static {
 
     /// Returns the place of the root's row.
     fn root(&self) -> u32;
+
+    /// Returns what the last match was of a try that is over in the state at a place.
+    fn last(&self, place: u32) -> Last;
+}
+
+/// The last match of a try that is over.
+pub enum Last {
+    /// There is none.
+    Never,
+    /// It is of the leaf, and ended so many bytes before.
+    Back(usize, usize),
+    /// It depends on the bytes.
+    Varies,
 }
 
 impl<const N: usize> Rows for [u32; N] {
@@ -59,35 +79,51 @@ impl<const N: usize> Rows for [u32; N] {
     fn root(&self) -> u32 {
         self[ROOT]
     }
+
+    fn last(&self, place: u32) -> Last {
+        match self.entry(self[LAST] as usize, place) {
+            NEVER => Last::Never,
+            VARIES => Last::Varies,
+            last => Last::Back((last >> 8) as usize - 1, last as usize & 255),
+        }
+    }
 }
 
 /// Returns the leaf of an entry.
 #[inline(always)]
 pub(crate) fn leaf_of(entry: u32) -> usize {
-    (entry >> LEAF_BIT) as usize & (MOST_LEAVES - 1)
+    (entry >> LEAF_BIT) as usize & MOST_LEAVES
 }
 
-/// Returns the length of folded tables with so many entries and leaves. Where there are too many,
-/// the tables have no rows.
-pub const fn size(entries: usize, leaves: usize) -> usize {
+/// Last matches as numbers: `NEVER`, `VARIES`, or else 256 times 1 more than the leaf and the bytes
+/// since. `UNSEEN` is for a state that no try has been found to reach.
+const UNSEEN: u32 = 0;
+const NEVER: u32 = 1;
+const VARIES: u32 = 2;
+const FARTHEST: u32 = 30;
+
+/// Returns the length of folded tables with so many states, columns and leaves. Where there are
+/// too many, the tables have no rows.
+pub const fn size(states: usize, columns: usize, leaves: usize) -> usize {
+    let entries = states * (columns + 1);
     if entries > PLACE as usize || leaves > MOST_LEAVES {
         return HEAD + 1 + TAIL;
     }
     HEAD + entries.next_power_of_two() + TAIL
 }
 
-/// A row of steps: its first run, how many steps of that run are of the rows before, and whether
-/// any of its steps leads on.
+/// A row of steps: its first run, how many steps of that run are of the rows before, whether any of
+/// its steps leads on, and whether any stays in the state.
 #[derive(Clone, Copy)]
 struct Row {
     run: usize,
     passed: usize,
     leads: bool,
+    stays: bool,
 }
 
 /// The tables of a printed text, which says there what their numbers are.
 struct Printed<'t> {
-    classes: &'t [u32],
     lengths: &'t [u32],
     steps: &'t [u32],
     rows: &'t [u32],
@@ -108,8 +144,8 @@ pub const fn fold<const N: usize>(
     by_bytes: bool,
 ) -> [u32; N] {
     let [classes, lengths, steps, rows, marks, skips] = tables;
-    let columns = if by_bytes { BYTES } else { width };
-    let printed = Printed { classes, lengths, steps, rows, marks, skips, root, width, columns };
+    let columns = if by_bytes { BYTES } else { width + 1 };
+    let printed = Printed { lengths, steps, rows, marks, skips, root, width, columns };
     let mut table = [0; N];
     if N <= HEAD + 1 + TAIL {
         return table;
@@ -120,7 +156,9 @@ pub const fn fold<const N: usize>(
         byte += 1;
     }
     table[ROOT] = printed.place(root);
+    table[LAST] = columns as u32 - 1;
     let places: [Row; N] = printed.row_places();
+    let lasts = printed.lasts(&places);
     let first = printed.steps_of(&places[rows[root] as usize]);
     let mut state = 0;
     while state < rows.len() {
@@ -137,6 +175,7 @@ pub const fn fold<const N: usize>(
             table[at + column] = entry;
             column += 1;
         }
+        table[at + columns - 1] = printed.last_in(&places, state, lasts[state]);
         state += 1;
     }
     table
@@ -149,11 +188,11 @@ impl Printed<'_> {
 
     /// Returns where each row begins.
     const fn row_places<const N: usize>(&self) -> [Row; N] {
-        let mut places = [Row { run: 0, passed: 0, leads: false }; N];
+        let mut places = [Row { run: 0, passed: 0, leads: false, stays: false }; N];
         let (mut row, mut run, mut passed, mut column) = (0, 0, 0, 0);
-        places[0] = Row { run, passed, leads: false };
         while run < self.steps.len() {
             places[row].leads |= self.steps[run] != 0;
+            places[row].stays |= self.steps[run] == 1;
             let left = self.lengths[run] as usize - passed;
             let room = self.width - column;
             if left < room {
@@ -162,7 +201,7 @@ impl Printed<'_> {
             }
             (row, column) = (row + 1, 0);
             (run, passed) = if left == room { (run + 1, 0) } else { (run, passed + room) };
-            places[row] = Row { run, passed, leads: false };
+            places[row] = Row { run, passed, leads: false, stays: false };
         }
         places
     }
@@ -200,12 +239,61 @@ impl Printed<'_> {
             0 | 1 => self.root,
             _ => first as usize - 2,
         };
-        if ended == 0 || first == 0 || self.marks[next] % 2 == 1 {
+        if ended == 0 {
             return TOKEN | self.place(next);
         }
         let leaf = ended / 2 - 1;
+        if first == 0 || self.marks[next] % 2 == 1 {
+            return TOKEN | (leaf + 1) << LEAF_BIT | self.place(next);
+        }
         let token = if self.skips[leaf as usize] == 0 { TOKEN } else { 0 };
         ENDED | token | leaf << LEAF_BIT | self.place(next)
+    }
+
+    /// Returns for each state what the last match of a try was before it came there.
+    const fn lasts<const N: usize>(&self, places: &[Row; N]) -> [u32; N] {
+        let mut lasts = [UNSEEN; N];
+        lasts[self.root] = NEVER;
+        let mut changed = true;
+        while changed {
+            changed = false;
+            let mut state = 0;
+            while state < self.rows.len() {
+                let row = &places[self.rows[state] as usize];
+                let late = self.marks[state] % 2 == 1;
+                let last = match self.last_in(places, state, lasts[state]) {
+                    _ if late && row.stays => VARIES,
+                    last if last < 256 => last,
+                    last if last & 255 < FARTHEST => last + 1,
+                    _ => VARIES,
+                };
+                let (mut run, mut left) = (row.run, self.width + row.passed);
+                while last != UNSEEN && left > 0 {
+                    let next = (self.steps[run] as usize).wrapping_sub(2);
+                    if next < self.rows.len() && lasts[next] != last && lasts[next] != VARIES {
+                        lasts[next] = if lasts[next] == UNSEEN { last } else { VARIES };
+                        changed = true;
+                    }
+                    left = left.saturating_sub(self.lengths[run] as usize);
+                    run += 1;
+                }
+                state += 1;
+            }
+        }
+        lasts
+    }
+
+    /// Returns what the last match is of a try that is over in a state, by what it was before.
+    const fn last_in(&self, places: &[Row], state: usize, before: u32) -> u32 {
+        let stays = places[self.rows[state] as usize].stays;
+        let mark = self.marks[state];
+        match mark {
+            0 if before >= 256 && stays => VARIES,
+            0 => before,
+            _ if mark % 2 == 0 => (mark / 2) << 8,
+            _ if stays => VARIES,
+            _ => (mark / 2) << 8 | 1,
+        }
     }
 
     /// Returns the mark of a state if it is an early one, and else 0.

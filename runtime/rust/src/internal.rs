@@ -1,6 +1,7 @@
 //! What printed texts call. Programs have no need of it.
 
-pub use crate::folded::{fold, size, Rows};
+pub use crate::folded::{fold as _fold, size as _size, Rows};
+pub use Tables as _Tables;
 use crate::source::Chunk;
 use crate::{Filter, FilterResult, Lexer, Logos, Skip, Source};
 
@@ -61,6 +62,9 @@ pub trait Tables<'source>: Logos<'source> {
 
     /// Returns the bytes of an input.
     fn bytes(source: &'source Self::Source) -> &'source [u8];
+
+    /// Returns the token of a leaf for which nothing is called, and which has no value.
+    fn plain(leaf: usize) -> Option<Self>;
 
     /// Returns what becomes of a match of the leaf, or of an error where no leaf has the number.
     /// `None` means that nothing does.

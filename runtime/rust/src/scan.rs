@@ -1,8 +1,10 @@
 //! Lexing by chunks of the input: [`Scan::scan`], for lexers that are tables.
 
-use crate::folded::{leaf_of, Rows, PLACE};
+use crate::folded::{leaf_of, Last, Rows, PLACE};
 use crate::internal::Tables;
-use crate::{Lexer, Span};
+use crate::{Lexer, Logos, Span};
+use core::fmt;
+use core::ops::{Deref, DerefMut};
 
 /// The bytes of a block, and those of a chunk: as many blocks are walked at once.
 const BLOCK: usize = 1024;
@@ -15,8 +17,9 @@ const WORDS: usize = CHUNK / WORD;
 const WINDOW: usize = 128;
 /// Fewer bytes than these are not worth a walk.
 const FEWEST: usize = 256;
-/// What a try by itself costs, in bytes of a walk.
-const TRY: usize = 30;
+/// What an entry that asks costs, and what another try does, in bytes of a walk.
+const ASK: usize = 10;
+const TRY: usize = 20;
 
 #[cfg(feature = "std")]
 type Room = std::boxed::Box<Chunk>;
@@ -161,11 +164,12 @@ struct Walk {
     word: usize,
     /// Where the last match ended that is not among those bits.
     start: usize,
-    /// The word is cut before a byte that needs a try by itself.
-    cut: bool,
-    /// Where the chunk begins and how many bytes it has, and the place after it.
+    /// The byte of the chunk before which the word is cut, since its entry asks.
+    cut: Option<usize>,
+    /// Where the chunk begins and how many bytes it has, and the places before and after it.
     base: usize,
     len: usize,
+    first: u32,
     place: u32,
     /// Up to here `Logos::lex` finds the items; how many chunks these were; the chunk's cost.
     plain_to: usize,
@@ -200,9 +204,10 @@ impl Walk {
             here: start,
             word: 0,
             start,
-            cut: false,
+            cut: None,
             base: start,
             len: 0,
+            first: 0,
             place: 0,
             plain_to: 0,
             plain: 0,
@@ -232,16 +237,17 @@ impl Walk {
         Some((leaf_of(entry), start, end))
     }
 
-    /// Returns where the last match ended of which the walk knows, and forgets the word.
-    fn pass_word(&mut self) -> usize {
+    /// Forgets the word, but not where its last match ended.
+    #[inline(always)]
+    fn pass_word(&mut self) {
         if self.ends != 0 {
             self.start = self.here + (63 - self.ends.leading_zeros() as usize);
         }
         (self.ends, self.tokens) = (0, 0);
-        self.start
     }
 
     /// Begins to take a word, from a byte on.
+    #[inline(always)]
     fn load(&mut self, at: usize) {
         let Some(chunk) = &self.chunk else { return };
         self.word = at / WORD;
@@ -251,12 +257,14 @@ impl Walk {
         let (ends, tokens) = (chunk.ends[word] & from, chunk.tokens[word] & from);
         let asks = tokens & !ends;
         let before = if asks == 0 { !0 } else { (asks & asks.wrapping_neg()) - 1 };
-        (self.ends, self.tokens, self.cut) = (ends & before, tokens & before, asks != 0);
+        (self.ends, self.tokens) = (ends & before, tokens & before);
+        self.cut = (asks != 0).then(|| WORD * self.word + asks.trailing_zeros() as usize);
     }
 
     /// Walks over the next chunk.
     fn walk<'s, T: Tables<'s>>(&mut self, bytes: &[u8]) {
         self.base += self.len;
+        self.first = self.place;
         self.cost = 0;
         let rest = bytes.get(self.base..).unwrap_or_default();
         let chunk = self.chunk.get_or_insert_with(new_room);
@@ -294,15 +302,40 @@ impl Walk {
         self.load(0);
     }
 
+    /// Returns the leaf of the try that is over at a byte of the chunk, and where its match ends; or
+    /// a number that no leaf has, and where the try is over.
+    fn found_at<'s, T: Tables<'s>>(&mut self, bytes: &[u8], cut: usize) -> (usize, usize) {
+        let Some(chunk) = &self.chunk else { return T::again(bytes, self.start) };
+        let end = self.base + cut;
+        let leaf = leaf_of(chunk.trace[cut & (CHUNK - 1)]);
+        if leaf != 0 {
+            return (leaf - 1, end);
+        }
+        let place = match cut.checked_sub(1) {
+            _ if end == self.start => T::ROWS.root(),
+            Some(before) => chunk.trace[before & (CHUNK - 1)] & PLACE,
+            None => self.first,
+        };
+        match T::ROWS.last(place) {
+            Last::Never => (usize::MAX, end),
+            Last::Back(leaf, bytes) => (leaf, end - bytes),
+            Last::Varies => {
+                self.cost += TRY;
+                T::again(bytes, self.start)
+            }
+        }
+    }
+
     /// Lets the next match begin at a byte offset.
     fn begin_at<'s, T: Tables<'s>>(&mut self, bytes: &[u8], start: usize) {
-        (self.ends, self.tokens, self.cut, self.start) = (0, 0, false, start);
+        (self.ends, self.tokens, self.cut, self.start) = (0, 0, None, start);
         let root = T::ROWS.root();
         let at = start.wrapping_sub(self.base);
         let chunk = match &mut self.chunk {
             Some(chunk) if at < self.len => chunk,
             _ => {
-                (self.base, self.len, self.word, self.place) = (start, 0, 0, root);
+                self.forget();
+                (self.here, self.base, self.place) = (start, start, root);
                 return;
             }
         };
@@ -316,127 +349,190 @@ impl Walk {
         self.load(at);
     }
 
-    /// Goes on with the next word of the chunk that has a token. Returns whether there is one.
-    fn load_next(&mut self) -> bool {
-        loop {
-            self.pass_word();
-            if self.cut || WORD * (self.word + 1) >= self.len {
-                return false;
-            }
-            self.load(WORD * (self.word + 1));
-            if self.tokens != 0 {
-                return true;
-            }
+    /// Forgets the chunk.
+    fn forget(&mut self) {
+        (self.ends, self.tokens, self.cut, self.len, self.word) = (0, 0, None, 0, 0);
+    }
+
+    /// Forgets what there was, and lets the next match begin at a byte offset.
+    fn begin_anew(&mut self, start: usize, root: u32) {
+        self.forget();
+        (self.start, self.here, self.base, self.place) = (start, start, start, root);
+        (self.plain_to, self.cost) = (0, 0);
+    }
+
+    /// Returns whether the walk over the chunk was worth its time: few bytes were stepped on again,
+    /// few entries asked, and the chunk is no long run.
+    fn pays(&self) -> bool {
+        let Some(chunk) = self.chunk.as_ref().filter(|_| self.len != 0) else {
+            return true;
+        };
+        if self.cost > self.len {
+            return false;
         }
+        let words = self.len / WORD;
+        let ends: u32 = chunk.ends[..words].iter().map(|ends| ends.count_ones()).sum();
+        if words == 0 || ends as usize >= self.len / 16 {
+            return true;
+        }
+        let middle = &chunk.trace[WORD * (words / 2)..][..WORD];
+        let stays = middle.windows(2).filter(|two| (two[0] ^ two[1]) & PLACE == 0);
+        stays.count() < 56
+    }
+
+    /// Goes on with the next word of the chunk. Returns whether there is one.
+    #[inline(always)]
+    fn load_next(&mut self) -> bool {
+        self.pass_word();
+        let at = WORD * (self.word + 1);
+        if self.cut.is_some() || at >= self.len {
+            return false;
+        }
+        self.load(at);
+        true
     }
 }
 
-/// An enum whose lexer is tables, and can walk over chunks of the input.
+/// An enum whose lexer is tables, and can walk over the input by chunks.
 ///
-/// [`Scan::scan`] yields what [`Lexer::spanned`] does, and is about twice as fast.
+/// The derive macro, and `logos_cli`, implement it with [`Logos`] in the shape `tables`.
+#[diagnostic::on_unimplemented(
+    message = "`{Self}` has no lexer that scans",
+    label = "its lexer is no table",
+    note = "`scan` is there for lexers in the shape `tables`, which is the default one"
+)]
 pub trait Scan<'source>: Tables<'source> {
-    /// Returns an iterator over the tokens of an input, with their places.
+    /// Returns an iterator over the tokens of an input, with their places: the items of
+    /// [`Lexer::spanned`], found by walks over chunks of the input.
     fn scan(source: &'source Self::Source) -> Scanner<'source, Self>
     where
         Self::Extras: Default,
     {
-        Scanner::new(Lexer::new(source))
+        Lexer::new(source).scan()
+    }
+
+    /// Returns an iterator over those items of an input of which this is the first part that are
+    /// the same whatever follows. See [`Lexer::scan_part`].
+    fn scan_part(source: &'source Self::Source) -> Scanner<'source, Self>
+    where
+        Self::Extras: Default,
+    {
+        Lexer::new(source).scan_part()
     }
 }
 
 impl<'source, T: Tables<'source>> Scan<'source> for T {}
 
 /// An iterator over tokens with their places, by chunks of the input.
+///
+/// It dereferences to the lexer, which stands behind the last token.
 pub struct Scanner<'source, Token: Scan<'source>> {
     lexer: Lexer<'source, Token>,
     walk: Walk,
+    /// More of the input may follow.
+    is_part: bool,
+    /// The lexer may have been moved.
+    is_moved: bool,
 }
 
-type Item<'source, Token> = (
-    Result<Token, <Token as crate::Logos<'source>>::Error>,
-    Span,
-);
+type Item<'source, Token> = (Result<Token, <Token as Logos<'source>>::Error>, Span);
 
 impl<'source, Token: Scan<'source>> Scanner<'source, Token> {
-    pub(crate) fn new(lexer: Lexer<'source, Token>) -> Self {
-        let mut walk = Walk::new(lexer.span().end);
-        walk.place = Token::ROWS.root();
-        if !Token::Rows::ARE_THERE {
-            walk.plain_to = usize::MAX;
+    pub(crate) fn new(lexer: Lexer<'source, Token>, is_part: bool) -> Self {
+        let walk = Walk::new(lexer.span().end);
+        Scanner {
+            lexer,
+            walk,
+            is_part,
+            is_moved: true,
         }
-        Scanner { lexer, walk }
     }
 
-    /// Returns what becomes of a match, or of an error where no leaf has the number.
+    /// Returns the lexer, which stands behind the last token.
+    pub fn into_lexer(self) -> Lexer<'source, Token> {
+        self.lexer
+    }
+
+    /// Returns what becomes of a match.
     #[inline(always)]
-    fn act(&mut self, leaf: usize, span: Span) -> Option<Item<'source, Token>> {
-        let source = self.lexer.source();
+    fn item_of(&mut self, leaf: usize, span: Span) -> Option<Item<'source, Token>> {
         self.lexer.set_span(span.clone());
-        let found = Token::act(&mut self.lexer, leaf, span.end);
-        if self.lexer.span().end != span.end || !core::ptr::eq(self.lexer.source(), source) {
-            self.go_on();
+        if let Some(token) = Token::plain(leaf) {
+            return Some((Ok(token), span));
         }
-        Some((found?, self.lexer.span()))
+        self.item_of_call(leaf, span.end)
     }
 
-    /// Goes on from where the lexer stands.
-    #[cold]
-    #[inline(never)]
-    fn go_on(&mut self) {
-        self.walk.begin_at::<Token>(Token::bytes(self.lexer.source()), self.lexer.span().end);
+    /// Returns what becomes of a match for which something is called, or that has a value.
+    fn item_of_call(&mut self, leaf: usize, end: usize) -> Option<Item<'source, Token>> {
+        let source = self.lexer.source();
+        let item = Token::act(&mut self.lexer, leaf, end);
+        self.follow(source, end);
+        Some((item?, self.lexer.span()))
     }
 
-    /// Finds the next item behind the word, or after a match that is left out.
-    #[cold]
-    #[inline(never)]
-    fn next_slowly(&mut self) -> Option<Item<'source, Token>> {
-        loop {
-            if let Some((leaf, start, end)) = self.walk.take() {
-                if let Some(item) = self.act(leaf, start..end) {
-                    return Some(item);
-                }
-                continue;
-            }
-            match self.refill() {
-                Next::Again => {}
-                Next::Item(item) => return Some(item),
-                Next::End => return None,
-            }
+    /// Goes on from where the lexer stands, if a callback has moved it from a byte offset.
+    #[inline]
+    fn follow(&mut self, source: &'source Token::Source, end: usize) {
+        if !core::ptr::eq(self.lexer.source(), source) {
+            self.is_moved = true;
+            self.walk.forget();
+        } else if self.lexer.span().end != end {
+            self.begin_at(self.lexer.span().end);
         }
     }
 
-    /// Finds the next word with a token, or an item in another way.
+    #[cold]
+    fn begin_at(&mut self, start: usize) {
+        self.walk
+            .begin_at::<Token>(Token::bytes(self.lexer.source()), start);
+    }
+
+    /// Finds the next word, or an item in another way.
     #[cold]
     #[inline(never)]
     fn refill(&mut self) -> Next<Item<'source, Token>> {
-        let bytes = Token::bytes(self.lexer.source());
-        if self.walk.load_next() {
-            return Next::Again;
+        if self.is_moved {
+            self.is_moved = false;
+            self.walk.begin_anew(self.lexer.span().end, Token::ROWS.root());
         }
+        let bytes = Token::bytes(self.lexer.source());
         let start = self.walk.start;
         if start < self.walk.plain_to {
             return self.plain_item(start);
         }
-        if self.walk.cut {
-            return self.item_of_try(Token::again(bytes, start), start);
+        if let Some(cut) = self.walk.cut {
+            let found = self.walk.found_at::<Token>(bytes, cut);
+            return self.item_of_try(found, start);
         }
         let next = self.walk.base + self.walk.len;
-        if bytes.len().saturating_sub(next) < FEWEST {
-            self.walk.plain_to = usize::MAX;
-            return Next::Again;
+        let left = bytes.len().saturating_sub(next);
+        if self.is_part && (left == 0 || !Token::Rows::ARE_THERE) {
+            self.lexer.set_span(start..start);
+            return Next::End;
         }
-        self.walk.walk::<Token>(bytes);
+        if !self.is_part && (left < FEWEST || !Token::Rows::ARE_THERE) {
+            self.walk.plain_to = usize::MAX;
+        } else if !self.is_part && !self.walk.pays() {
+            self.walk.plain = (2 * self.walk.plain).clamp(4, 64);
+            self.walk.plain_to = next + self.walk.plain * CHUNK;
+        } else {
+            self.walk.plain /= 2;
+            self.walk.walk::<Token>(bytes);
+        }
         Next::Again
     }
 
-    /// Returns what becomes of a try that was made by itself.
+    /// Returns what becomes of a try whose entry asks.
     fn item_of_try(&mut self, found: (usize, usize), start: usize) -> Next<Item<'source, Token>> {
         let (leaf, end) = found;
         self.lexer.set_span(start..end);
+        let source = self.lexer.source();
         let item = Token::act(&mut self.lexer, leaf, end);
         let span = self.lexer.span();
-        self.walk.cost += TRY;
-        self.go_on();
+        self.walk.cost += ASK;
+        self.begin_at(span.end);
+        self.follow(source, span.end);
         match item {
             Some(item) => Next::Item((item, span)),
             None => Next::Again,
@@ -445,15 +541,18 @@ impl<'source, Token: Scan<'source>> Scanner<'source, Token> {
 
     /// Finds an item by `Logos::lex`.
     fn plain_item(&mut self, start: usize) -> Next<Item<'source, Token>> {
+        let source = self.lexer.source();
         self.lexer.set_span(start..start);
         let Some(item) = self.lexer.next() else {
+            self.walk.start = self.lexer.span().end;
             return Next::End;
         };
         let span = self.lexer.span();
         self.walk.start = span.end;
         if span.end >= self.walk.plain_to {
-            self.go_on();
+            self.begin_at(span.end);
         }
+        self.follow(source, span.end);
         Next::Item((item, span))
     }
 }
@@ -463,11 +562,60 @@ impl<'source, Token: Scan<'source>> Iterator for Scanner<'source, Token> {
 
     #[inline(always)]
     fn next(&mut self) -> Option<Self::Item> {
-        if let Some((leaf, start, end)) = self.walk.take() {
-            if let Some(item) = self.act(leaf, start..end) {
-                return Some(item);
+        loop {
+            if let Some((leaf, start, end)) = self.walk.take() {
+                if let Some(item) = self.item_of(leaf, start..end) {
+                    return Some(item);
+                }
+                continue;
+            }
+            if self.walk.load_next() {
+                continue;
+            }
+            match self.refill() {
+                Next::Again => {}
+                Next::Item(item) => return Some(item),
+                Next::End => return None,
             }
         }
-        self.next_slowly()
+    }
+}
+
+impl<'source, Token: Scan<'source>> Clone for Scanner<'source, Token>
+where
+    Token::Extras: Clone,
+{
+    fn clone(&self) -> Self {
+        Scanner {
+            lexer: self.lexer.clone(),
+            walk: self.walk.clone(),
+            ..*self
+        }
+    }
+}
+
+impl<'source, Token: Scan<'source>> fmt::Debug for Scanner<'source, Token>
+where
+    Token::Source: fmt::Debug,
+    Token::Extras: fmt::Debug,
+{
+    fn fmt(&self, f: &mut fmt::Formatter<'_>) -> fmt::Result {
+        f.debug_struct("Scanner").field("lexer", &self.lexer).finish()
+    }
+}
+
+impl<'source, Token: Scan<'source>> Deref for Scanner<'source, Token> {
+    type Target = Lexer<'source, Token>;
+
+    fn deref(&self) -> &Self::Target {
+        &self.lexer
+    }
+}
+
+impl<'source, Token: Scan<'source>> DerefMut for Scanner<'source, Token> {
+    fn deref_mut(&mut self) -> &mut Self::Target {
+        self.is_moved = true;
+        self.walk.forget();
+        &mut self.lexer
     }
 }
