@@ -159,26 +159,32 @@ pub const fn fold<const N: usize>(
     table[LAST] = columns as u32 - 1;
     let places: [Row; N] = printed.row_places();
     let lasts = printed.lasts(&places);
-    let first = printed.steps_of(&places[rows[root] as usize]);
+    let first = printed.first_steps(&places);
     let mut state = 0;
     while state < rows.len() {
-        let row = printed.steps_of(&places[rows[state] as usize]);
+        let row = printed.row_of(&places, state, &first);
         let at = HEAD + state * columns;
-        let (mut last, mut entry) = ((u32::MAX, u32::MAX), 0);
         let mut column = 0;
-        while column < if by_bytes { 256 } else { width } {
-            let class = if by_bytes { classes[column] as usize } else { column };
-            if row[class] != last.0 || first[class] != last.1 {
-                last = (row[class], first[class]);
-                entry = printed.entry(&places, state, last);
-            }
-            table[at + column] = entry;
+        while by_bytes && column < 256 {
+            table[at + column] = row[classes[column] as usize];
+            column += 1;
+        }
+        while column < width {
+            table[at + column] = row[column];
             column += 1;
         }
         table[at + columns - 1] = printed.last_in(&places, state, lasts[state]);
         state += 1;
     }
     table
+}
+
+/// What the first byte of a try does, by its class: the place of the next state, and whether a try
+/// can begin with it.
+#[derive(Clone, Copy)]
+struct First {
+    place: u32,
+    begins: bool,
 }
 
 impl Printed<'_> {
@@ -206,48 +212,80 @@ impl Printed<'_> {
         places
     }
 
-    /// Returns the steps of a row.
-    const fn steps_of(&self, row: &Row) -> [u32; 257] {
-        let mut steps = [0; 257];
+    /// Returns what the first byte of a try does.
+    const fn first_steps(&self, places: &[Row]) -> [First; 257] {
+        let mut first = [First { place: 0, begins: false }; 257];
+        let row = &places[self.rows[self.root] as usize];
         let (mut run, mut passed, mut column) = (row.run, row.passed, 0);
         while column < self.width {
+            let step = self.steps[run] as usize;
+            let next = if step < 2 { self.root } else { step - 2 };
+            let begins = step != 0 && self.marks[next] % 2 == 0;
+            first[column] = First { place: self.place(next), begins };
+            column += 1;
+            passed += 1;
             if passed == self.lengths[run] as usize {
                 (run, passed) = (run + 1, 0);
             }
-            steps[column] = self.steps[run];
-            column += 1;
-            passed += 1;
         }
-        steps
+        first
     }
 
-    /// Returns the entry for a symbol in a state, by its steps there and in the root.
-    const fn entry(&self, places: &[Row], state: usize, steps: (u32, u32)) -> u32 {
-        let (step, first) = steps;
+    /// Returns the entries of a state, by classes. They are set run by run, since there can be many.
+    const fn row_of(&self, places: &[Row], state: usize, first: &[First; 257]) -> [u32; 257] {
+        let mut entries = [0; 257];
+        let row = &places[self.rows[state] as usize];
+        let (mut run, mut passed, mut column) = (row.run, row.passed, 0);
+        while column < self.width {
+            let mut end = column + self.lengths[run] as usize - passed;
+            if end > self.width {
+                end = self.width;
+            }
+            let (entry, is_over) = self.entry(places, state, self.steps[run]);
+            let asking = self.asking(entry);
+            while !is_over && column < end {
+                entries[column] = entry;
+                column += 1;
+            }
+            while column < end {
+                let First { place, begins } = first[column];
+                entries[column] = if begins { entry | place } else { asking | place };
+                column += 1;
+            }
+            (run, passed) = (run + 1, 0);
+        }
+        entries
+    }
+
+    /// Returns the entry of a step in a state, and whether the try is over there. Then the place is
+    /// still to be added.
+    const fn entry(&self, places: &[Row], state: usize, step: u32) -> (u32, bool) {
         let ended = match step {
             0 => self.early(state),
-            1 => return self.place(state),
+            1 => return (self.place(state), false),
             _ => {
                 let next = step as usize - 2;
                 if self.marks[next] % 2 == 0 || places[self.rows[next] as usize].leads {
-                    return self.place(next);
+                    return (self.place(next), false);
                 }
                 self.marks[next]
             }
         };
-        let next = match first {
-            0 | 1 => self.root,
-            _ => first as usize - 2,
-        };
         if ended == 0 {
-            return TOKEN | self.place(next);
+            return (TOKEN, true);
         }
         let leaf = ended / 2 - 1;
-        if first == 0 || self.marks[next] % 2 == 1 {
-            return TOKEN | (leaf + 1) << LEAF_BIT | self.place(next);
-        }
         let token = if self.skips[leaf as usize] == 0 { TOKEN } else { 0 };
-        ENDED | token | leaf << LEAF_BIT | self.place(next)
+        (ENDED | token | leaf << LEAF_BIT, true)
+    }
+
+    /// Returns the entry that asks in place of one that ends a match.
+    const fn asking(&self, entry: u32) -> u32 {
+        if entry < ENDED {
+            return entry;
+        }
+        let leaf = entry >> LEAF_BIT & MOST_LEAVES as u32;
+        TOKEN | (leaf + 1) << LEAF_BIT
     }
 
     /// Returns for each state what the last match of a try was before it came there.

@@ -1,6 +1,7 @@
 //! What printed texts call. Programs have no need of it.
 
-pub use crate::folded::{fold as _fold, size as _size, Rows};
+use crate::folded::Rows;
+pub use crate::folded::{fold as _fold, size as _size};
 pub use Tables as _Tables;
 use crate::source::Chunk;
 use crate::{Filter, FilterResult, Lexer, Logos, Skip, Source};

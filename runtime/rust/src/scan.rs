@@ -471,7 +471,7 @@ impl<'source, Token: Scan<'source>> Scanner<'source, Token> {
         Some((item?, self.lexer.span()))
     }
 
-    /// Goes on from where the lexer stands, if a callback has moved it from a byte offset.
+    /// Goes on from where the lexer stands, if that is not this byte offset of the source.
     #[inline]
     fn follow(&mut self, source: &'source Token::Source, end: usize) {
         if !core::ptr::eq(self.lexer.source(), source) {
@@ -531,8 +531,7 @@ impl<'source, Token: Scan<'source>> Scanner<'source, Token> {
         let item = Token::act(&mut self.lexer, leaf, end);
         let span = self.lexer.span();
         self.walk.cost += ASK;
-        self.begin_at(span.end);
-        self.follow(source, span.end);
+        self.follow(source, usize::MAX);
         match item {
             Some(item) => Next::Item((item, span)),
             None => Next::Again,
@@ -549,10 +548,8 @@ impl<'source, Token: Scan<'source>> Scanner<'source, Token> {
         };
         let span = self.lexer.span();
         self.walk.start = span.end;
-        if span.end >= self.walk.plain_to {
-            self.begin_at(span.end);
-        }
-        self.follow(source, span.end);
+        let is_last = span.end >= self.walk.plain_to;
+        self.follow(source, if is_last { usize::MAX } else { span.end });
         Next::Item((item, span))
     }
 }
