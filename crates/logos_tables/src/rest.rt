@@ -23,7 +23,10 @@ const AFTER_TYPE: &str = " { type Error = ";
 pub(crate) fn scanned_head(alloc: Global, front: &str) -> Result<String, Memory> {
     let mut head = String::new(alloc);
     if let Some((path, this)) = names_in(front) {
-        write!(head, "{path}:: internal :: * ;\n    impl < 's > _Tables < 's > for {this}")?;
+        write!(
+            head,
+            "{path}:: internal :: * ;\n    impl < 's > _Tables < 's > for {this}"
+        )?;
     }
     Ok(head)
 }
@@ -51,11 +54,7 @@ pub(crate) fn push_rest(text: &mut String, head: &str, code: &Code<'_>) -> Resul
 }
 
 /// Appends the match arms of the leaves for which nothing is called, each with its token.
-fn push_plain_leaves(
-    text: &mut String,
-    name: &str,
-    leaves: &[CodeLeaf<'_>],
-) -> Result<(), Memory>
+fn push_plain_leaves(text: &mut String, name: &str, leaves: &[CodeLeaf<'_>]) -> Result<(), Memory>
     ensures { OnOk result (Grows (string_bytes text.old) (string_bytes text.new)) }
 {
     for n in 0..leaves.len() {
