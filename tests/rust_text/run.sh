@@ -15,6 +15,8 @@
 # where a skip's callback has to say that it was called, `made` in front of `error` where the callback that makes errors has to say so. Each prints
 # where the lexer stands, and `told`, in the file beside, looks at the value of each error.
 #
+# What `scan` finds by the tables of a source has to be what they find otherwise, in inputs made of each input, whole and in parts.
+#
 # The tables of a source have to find in each beginning of an input, up to 512 bytes of it, what its code finds there.
 #
 # An input that is not UTF-8 has to be refused by each source that does not read bytes, and is then compared no further. Which inputs and
@@ -25,6 +27,8 @@ set -euo pipefail
 
 comparisons=768
 refusals=120
+# the least number of items that `scan` has to find
+scans=100000
 # The inputs that are not UTF-8, with the length of their longest beginning that is, and the sources that read bytes.
 declare -A not_utf8=([bytes]=2 [marks]=31 [records]=0 [program]=97)
 of_bytes=' bytes marks program records '
@@ -215,5 +219,6 @@ for inputs in "$room"/inputs/*; do
 done
 [ "$compared $refused" = "$comparisons $refusals" ] \
     || fail "$compared comparisons and $refused refusals, where $comparisons and $refusals are stated"
-echo "rust_text: the compiled texts find what the lexer finds, in $compared comparisons, and $refused inputs are refused"
+[ "$scanned" -ge "$scans" ] || fail "scan found $scanned items, where $scans are stated"
+echo "rust_text: the compiled texts find what the lexer finds, in $compared comparisons, and $refused inputs are refused; scan found $scanned items"
 echo "$((compared + refused)) passed, 0 failed"

@@ -14,7 +14,7 @@ const CHUNK: usize = BLOCKS * BLOCK;
 const WORD: usize = 64;
 const WORDS: usize = CHUNK / WORD;
 /// So many bytes before a block are looked at to guess its state.
-const WINDOW: usize = 128;
+const WINDOW: usize = 384;
 /// Fewer bytes than these are not worth a walk.
 const FEWEST: usize = 256;
 /// What an entry that asks costs, and what another try does, in bytes of a walk.
