@@ -28,7 +28,7 @@ set -euo pipefail
 comparisons=768
 refusals=120
 # the least number of items that `scan` has to find
-scans=100000
+scans=3000000
 # The inputs that are not UTF-8, with the length of their longest beginning that is, and the sources that read bytes.
 declare -A not_utf8=([bytes]=2 [marks]=31 [records]=0 [program]=97)
 of_bytes=' bytes marks program records '

@@ -352,17 +352,18 @@ impl Walk {
     /// Forgets the chunk.
     fn forget(&mut self) {
         (self.ends, self.tokens, self.cut, self.len, self.word) = (0, 0, None, 0, 0);
+        self.plain_to = 0;
     }
 
     /// Forgets what there was, and lets the next match begin at a byte offset.
     fn begin_anew(&mut self, start: usize, root: u32) {
         self.forget();
         (self.start, self.here, self.base, self.place) = (start, start, start, root);
-        (self.plain_to, self.cost) = (0, 0);
+        self.cost = 0;
     }
 
     /// Returns whether the walk over the chunk was worth its time: few bytes were stepped on again,
-    /// few entries asked, and the chunk is no long run.
+    /// few entries asked, and matches are neither of a byte each nor long runs.
     fn pays(&self) -> bool {
         let Some(chunk) = self.chunk.as_ref().filter(|_| self.len != 0) else {
             return true;
@@ -373,7 +374,7 @@ impl Walk {
         let words = self.len / WORD;
         let ends: u32 = chunk.ends[..words].iter().map(|ends| ends.count_ones()).sum();
         if words == 0 || ends as usize >= self.len / 16 {
-            return true;
+            return (ends as usize) < self.len / 2;
         }
         let middle = &chunk.trace[WORD * (words / 2)..][..WORD];
         let stays = middle.windows(2).filter(|two| (two[0] ^ two[1]) & PLACE == 0);
@@ -498,9 +499,6 @@ impl<'source, Token: Scan<'source>> Scanner<'source, Token> {
         }
         let bytes = Token::bytes(self.lexer.source());
         let start = self.walk.start;
-        if start < self.walk.plain_to {
-            return self.plain_item(start);
-        }
         if let Some(cut) = self.walk.cut {
             let found = self.walk.found_at::<Token>(bytes, cut);
             return self.item_of_try(found, start);
@@ -539,18 +537,16 @@ impl<'source, Token: Scan<'source>> Scanner<'source, Token> {
     }
 
     /// Finds an item by `Logos::lex`.
-    fn plain_item(&mut self, start: usize) -> Next<Item<'source, Token>> {
-        let source = self.lexer.source();
+    #[inline]
+    fn plain_item(&mut self) -> Option<Item<'source, Token>> {
+        let (source, start) = (self.lexer.source(), self.walk.start);
         self.lexer.set_span(start..start);
-        let Some(item) = self.lexer.next() else {
-            self.walk.start = self.lexer.span().end;
-            return Next::End;
-        };
+        let item = self.lexer.next();
         let span = self.lexer.span();
         self.walk.start = span.end;
         let is_last = span.end >= self.walk.plain_to;
         self.follow(source, if is_last { usize::MAX } else { span.end });
-        Next::Item((item, span))
+        Some((item?, span))
     }
 }
 
@@ -565,6 +561,9 @@ impl<'source, Token: Scan<'source>> Iterator for Scanner<'source, Token> {
                     return Some(item);
                 }
                 continue;
+            }
+            if self.walk.start < self.walk.plain_to {
+                return self.plain_item();
             }
             if self.walk.load_next() {
                 continue;
