@@ -1,9 +1,9 @@
 //! The tables of a printed text, folded: an entry ends one match and begins the next.
 //!
 //! An entry says what a byte does in a state. Its lower bits are the place of the row of the next
-//! state. [`ENDED`] says that a match ends before the byte, and then the next state is the one after
-//! the next match's first byte; the leaf of the match stands in the bits between, and [`TOKEN`] says
-//! that it is not left out.
+//! state. [`ENDED`] says that a match ends before the byte, and then the next state is the one
+//! after the next match's first byte; the leaf of the match stands in the bits between, and
+//! [`TOKEN`] says that it is not left out.
 //!
 //! [`TOKEN`] alone says that no next match begins right there: the entry *asks*. In place of a leaf
 //! it has 1 more than the leaf whose match ends before the byte, or 0 if none does. Then the last
@@ -20,8 +20,8 @@ const LEAF_BIT: u32 = 20;
 /// Entries have 1 more than the number of a leaf.
 const MOST_LEAVES: usize = (1 << (30 - LEAF_BIT)) - 1;
 
-/// In front of the rows stand the column of each byte, the place of the root, and the column of last
-/// matches.
+/// In front of the rows stand the column of each byte, the place of the root, and the column of
+/// last matches.
 const HEAD: usize = 512;
 const ROOT: usize = 256;
 const LAST: usize = 257;
@@ -145,7 +145,16 @@ pub const fn fold<const N: usize>(
 ) -> [u32; N] {
     let [classes, lengths, steps, rows, marks, skips] = tables;
     let columns = if by_bytes { BYTES } else { width + 1 };
-    let printed = Printed { lengths, steps, rows, marks, skips, root, width, columns };
+    let printed = Printed {
+        lengths,
+        steps,
+        rows,
+        marks,
+        skips,
+        root,
+        width,
+        columns,
+    };
     let mut table = [0; N];
     if N <= HEAD + 1 + TAIL {
         return table;
@@ -194,7 +203,12 @@ impl Printed<'_> {
 
     /// Returns where each row begins.
     const fn row_places<const N: usize>(&self) -> [Row; N] {
-        let mut places = [Row { run: 0, passed: 0, leads: false, stays: false }; N];
+        let mut places = [Row {
+            run: 0,
+            passed: 0,
+            leads: false,
+            stays: false,
+        }; N];
         let (mut row, mut run, mut passed, mut column) = (0, 0, 0, 0);
         while run < self.steps.len() {
             places[row].leads |= self.steps[run] != 0;
@@ -206,22 +220,37 @@ impl Printed<'_> {
                 continue;
             }
             (row, column) = (row + 1, 0);
-            (run, passed) = if left == room { (run + 1, 0) } else { (run, passed + room) };
-            places[row] = Row { run, passed, leads: false, stays: false };
+            (run, passed) = if left == room {
+                (run + 1, 0)
+            } else {
+                (run, passed + room)
+            };
+            places[row] = Row {
+                run,
+                passed,
+                leads: false,
+                stays: false,
+            };
         }
         places
     }
 
     /// Returns what the first byte of a try does.
     const fn first_steps(&self, places: &[Row]) -> [First; 257] {
-        let mut first = [First { place: 0, begins: false }; 257];
+        let mut first = [First {
+            place: 0,
+            begins: false,
+        }; 257];
         let row = &places[self.rows[self.root] as usize];
         let (mut run, mut passed, mut column) = (row.run, row.passed, 0);
         while column < self.width {
             let step = self.steps[run] as usize;
             let next = if step < 2 { self.root } else { step - 2 };
             let begins = step != 0 && self.marks[next] % 2 == 0;
-            first[column] = First { place: self.place(next), begins };
+            first[column] = First {
+                place: self.place(next),
+                begins,
+            };
             column += 1;
             passed += 1;
             if passed == self.lengths[run] as usize {
@@ -231,7 +260,7 @@ impl Printed<'_> {
         first
     }
 
-    /// Returns the entries of a state, by classes. They are set run by run, since there can be many.
+    /// Returns the entries of a state, by classes, of which there can be many: run by run.
     const fn row_of(&self, places: &[Row], state: usize, first: &[First; 257]) -> [u32; 257] {
         let mut entries = [0; 257];
         let row = &places[self.rows[state] as usize];
@@ -249,7 +278,11 @@ impl Printed<'_> {
             }
             while column < end {
                 let First { place, begins } = first[column];
-                entries[column] = if begins { entry | place } else { asking | place };
+                entries[column] = if begins {
+                    entry | place
+                } else {
+                    asking | place
+                };
                 column += 1;
             }
             (run, passed) = (run + 1, 0);
@@ -275,7 +308,11 @@ impl Printed<'_> {
             return (TOKEN, true);
         }
         let leaf = ended / 2 - 1;
-        let token = if self.skips[leaf as usize] == 0 { TOKEN } else { 0 };
+        let token = if self.skips[leaf as usize] == 0 {
+            TOKEN
+        } else {
+            0
+        };
         (ENDED | token | leaf << LEAF_BIT, true)
     }
 
@@ -336,6 +373,10 @@ impl Printed<'_> {
 
     /// Returns the mark of a state if it is an early one, and else 0.
     const fn early(&self, state: usize) -> u32 {
-        if self.marks[state] % 2 == 0 { self.marks[state] } else { 0 }
+        if self.marks[state] % 2 == 0 {
+            self.marks[state]
+        } else {
+            0
+        }
     }
 }

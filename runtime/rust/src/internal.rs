@@ -2,9 +2,9 @@
 
 use crate::folded::Rows;
 pub use crate::folded::{fold as _fold, size as _size};
-pub use Tables as _Tables;
 use crate::source::Chunk;
 use crate::{Filter, FilterResult, Lexer, Logos, Skip, Source};
+pub use Tables as _Tables;
 
 /// What a text calls on its lexer.
 pub trait LexerInternal<'source> {

@@ -2,8 +2,8 @@
 //!
 //! An enum implements [`Logos`] by the derive macro, or by a text that the program `logos_cli`
 //! prints. [`Logos::lexer`] begins a run over an input, and the run is an iterator over tokens.
-//! [`Scan::scan`], for lexers that are tables, is one over tokens with their places, by chunks of the
-//! input.
+//! [`Scan::scan`], for lexers that are tables, is one over tokens with their places, by chunks of
+//! the input.
 //!
 //! # Features
 //!

@@ -80,7 +80,11 @@ fn upper_bits(eight: u64) -> u64 {
 /// Returns the entry of a byte in the row at a place.
 #[inline(always)]
 fn step<'s, T: Tables<'s>>(byte: u8, place: u32) -> u32 {
-    let column = if T::BY_BYTES { byte as usize } else { T::ROWS.column(byte) };
+    let column = if T::BY_BYTES {
+        byte as usize
+    } else {
+        T::ROWS.column(byte)
+    };
     T::ROWS.entry(column, place)
 }
 
@@ -150,7 +154,9 @@ fn guess_place<'s, T: Tables<'s>>(window: &[u8; WINDOW], place: u32) -> u32 {
             break;
         }
     }
-    window[from..].iter().fold(place, |place, byte| step::<T>(*byte, place) & PLACE)
+    window[from..]
+        .iter()
+        .fold(place, |place, byte| step::<T>(*byte, place) & PLACE)
 }
 
 /// A walk over an input, chunk by chunk.
@@ -256,7 +262,11 @@ impl Walk {
         let from = !0 << (at % WORD);
         let (ends, tokens) = (chunk.ends[word] & from, chunk.tokens[word] & from);
         let asks = tokens & !ends;
-        let before = if asks == 0 { !0 } else { (asks & asks.wrapping_neg()) - 1 };
+        let before = if asks == 0 {
+            !0
+        } else {
+            (asks & asks.wrapping_neg()) - 1
+        };
         (self.ends, self.tokens) = (ends & before, tokens & before);
         self.cut = (asks != 0).then(|| WORD * self.word + asks.trailing_zeros() as usize);
     }
@@ -269,7 +279,11 @@ impl Walk {
         let rest = bytes.get(self.base..).unwrap_or_default();
         let chunk = self.chunk.get_or_insert_with(new_room);
         if let Some(input) = rest.first_chunk::<CHUNK>() {
-            let start = if self.missed { self.place } else { T::ROWS.root() };
+            let start = if self.missed {
+                self.place
+            } else {
+                T::ROWS.root()
+            };
             let mut guesses = [self.place; BLOCKS];
             for (k, guess) in guesses.iter_mut().enumerate().skip(1) {
                 let window = input[k * BLOCK - WINDOW..].first_chunk().expect("a window");
@@ -280,7 +294,8 @@ impl Walk {
             for k in 1..BLOCKS {
                 if places[k - 1] != guesses[k] {
                     let (from, to) = (k * BLOCK, (k + 1) * BLOCK);
-                    let (at, place) = walk_again::<T>(input, &mut chunk.trace, from..to, places[k - 1]);
+                    let (at, place) =
+                        walk_again::<T>(input, &mut chunk.trace, from..to, places[k - 1]);
                     self.cost += at - from;
                     if at == to {
                         places[k] = place;
@@ -302,10 +317,12 @@ impl Walk {
         self.load(0);
     }
 
-    /// Returns the leaf of the try that is over at a byte of the chunk, and where its match ends; or
-    /// a number that no leaf has, and where the try is over.
+    /// Returns the leaf of the try that is over at a byte of the chunk, and where its match ends;
+    /// or a number that no leaf has, and where the try is over.
     fn found_at<'s, T: Tables<'s>>(&mut self, bytes: &[u8], cut: usize) -> (usize, usize) {
-        let Some(chunk) = &self.chunk else { return T::again(bytes, self.start) };
+        let Some(chunk) = &self.chunk else {
+            return T::again(bytes, self.start);
+        };
         let end = self.base + cut;
         let leaf = leaf_of(chunk.trace[cut & (CHUNK - 1)]);
         if leaf != 0 {
@@ -372,12 +389,17 @@ impl Walk {
             return false;
         }
         let words = self.len / WORD;
-        let ends: u32 = chunk.ends[..words].iter().map(|ends| ends.count_ones()).sum();
+        let ends: u32 = chunk.ends[..words]
+            .iter()
+            .map(|ends| ends.count_ones())
+            .sum();
         if words == 0 || ends as usize >= self.len / 16 {
             return (ends as usize) < self.len / 2;
         }
         let middle = &chunk.trace[WORD * (words / 2)..][..WORD];
-        let stays = middle.windows(2).filter(|two| (two[0] ^ two[1]) & PLACE == 0);
+        let stays = middle
+            .windows(2)
+            .filter(|two| (two[0] ^ two[1]) & PLACE == 0);
         stays.count() < 56
     }
 
@@ -495,7 +517,8 @@ impl<'source, Token: Scan<'source>> Scanner<'source, Token> {
     fn refill(&mut self) -> Next<Item<'source, Token>> {
         if self.is_moved {
             self.is_moved = false;
-            self.walk.begin_anew(self.lexer.span().end, Token::ROWS.root());
+            self.walk
+                .begin_anew(self.lexer.span().end, Token::ROWS.root());
         }
         let bytes = Token::bytes(self.lexer.source());
         let start = self.walk.start;
@@ -596,7 +619,9 @@ where
     Token::Extras: fmt::Debug,
 {
     fn fmt(&self, f: &mut fmt::Formatter<'_>) -> fmt::Result {
-        f.debug_struct("Scanner").field("lexer", &self.lexer).finish()
+        f.debug_struct("Scanner")
+            .field("lexer", &self.lexer)
+            .finish()
     }
 }
 

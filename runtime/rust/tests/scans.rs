@@ -1,6 +1,6 @@
 //! `Scan`, by tables that are written by hand. `tests/rust_text` has those of printed lexers.
 
-use logos::internal::{_fold, _size, _Tables};
+use logos::internal::{_Tables, _fold, _size};
 use logos::{Lexer, Logos, Scan, Scanner, Span};
 
 /// The classes: no other, letters, `(`, blanks, digits, `.`, `<`.
@@ -42,7 +42,9 @@ const SKIPS: [u32; 5] = [1, 0, 0, 0, 0];
 const LEAVES: usize = SKIPS.len();
 
 fn step(state: usize, bytes: &[u8], at: usize) -> u32 {
-    bytes.get(at).map_or(0, |byte| STEPS[WIDTH * state + CLASSES[*byte as usize] as usize])
+    bytes.get(at).map_or(0, |byte| {
+        STEPS[WIDTH * state + CLASSES[*byte as usize] as usize]
+    })
 }
 
 /// Returns the leaf of the longest match and where it ends, or no leaf and where the try is over.
@@ -113,12 +115,18 @@ macro_rules! lexer {
             }
 
             fn plain(leaf: usize) -> Option<Self> {
-                [None, Some($Token::Word), None, Some($Token::Number), None].into_iter().nth(leaf)?
+                [None, Some($Token::Word), None, Some($Token::Number), None]
+                    .into_iter()
+                    .nth(leaf)?
             }
 
             /// `(` goes on to the next `)`, and is left out where there is none. `<` goes on in
             /// another text where the extras are 7.
-            fn act(lexer: &mut Lexer<'s, Self>, leaf: usize, end: usize) -> Option<Result<Self, ()>> {
+            fn act(
+                lexer: &mut Lexer<'s, Self>,
+                leaf: usize,
+                end: usize,
+            ) -> Option<Result<Self, ()>> {
                 use logos::internal::LexerInternal;
                 match leaf {
                     0 => None,
@@ -157,11 +165,26 @@ lexer!(ByClasses, false, WIDTH);
 /// Returns a text of so many pieces, the same each time.
 fn text(pieces: usize, seed: u64) -> String {
     const PIECES: [&str; 14] = [
-        "a", "word ", " ", "12", "3.4", "5.", "(", "(in here) ", ")", "é", "<", "\n", "x y z ", "..",
+        "a",
+        "word ",
+        " ",
+        "12",
+        "3.4",
+        "5.",
+        "(",
+        "(in here) ",
+        ")",
+        "é",
+        "<",
+        "\n",
+        "x y z ",
+        "..",
     ];
     let mut seed = seed;
     let mut next = || {
-        seed = seed.wrapping_mul(6364136223846793005).wrapping_add(1442695040888963407);
+        seed = seed
+            .wrapping_mul(6364136223846793005)
+            .wrapping_add(1442695040888963407);
         PIECES[(seed >> 33) as usize % PIECES.len()]
     };
     (0..pieces).map(|_| next()).collect()
@@ -178,7 +201,9 @@ fn compare<Token: PartialEq + std::fmt::Debug>(found: Found<Token>, wanted: Foun
 /// What is found, and the extras after it.
 type Found<Token> = Vec<(Result<Token, ()>, Span, usize)>;
 
-fn lexed<'s, Token: Logos<'s, Error = (), Extras = usize>>(lexer: Lexer<'s, Token>) -> Found<Token> {
+fn lexed<'s, Token: Logos<'s, Error = (), Extras = usize>>(
+    lexer: Lexer<'s, Token>,
+) -> Found<Token> {
     let (mut found, mut items) = (vec![], lexer.spanned());
     while let Some((item, span)) = items.next() {
         found.push((item, span, items.extras));
@@ -202,17 +227,37 @@ where
 fn scanning_finds_what_the_lexer_does() {
     for n in 0..150 {
         let text = text(n * n % 4001, n as u64);
-        compare(scanned(&mut ByBytes::scan(&text)), lexed(ByBytes::lexer(&text)));
-        compare(scanned(&mut ByClasses::scan(&text)), lexed(ByClasses::lexer(&text)));
+        compare(
+            scanned(&mut ByBytes::scan(&text)),
+            lexed(ByBytes::lexer(&text)),
+        );
+        compare(
+            scanned(&mut ByClasses::scan(&text)),
+            lexed(ByClasses::lexer(&text)),
+        );
     }
 }
 
 #[test]
 fn long_runs_and_errors_are_found() {
-    let texts = ["a".repeat(70_000), " ".repeat(70_000), "é".repeat(70_000), "1.".repeat(35_000)];
-    for text in texts.iter().chain([&texts.concat(), &texts.concat().repeat(4)]) {
-        compare(scanned(&mut ByBytes::scan(text)), lexed(ByBytes::lexer(text)));
-        compare(scanned(&mut ByClasses::scan(text)), lexed(ByClasses::lexer(text)));
+    let texts = [
+        "a".repeat(70_000),
+        " ".repeat(70_000),
+        "é".repeat(70_000),
+        "1.".repeat(35_000),
+    ];
+    for text in texts
+        .iter()
+        .chain([&texts.concat(), &texts.concat().repeat(4)])
+    {
+        compare(
+            scanned(&mut ByBytes::scan(text)),
+            lexed(ByBytes::lexer(text)),
+        );
+        compare(
+            scanned(&mut ByClasses::scan(text)),
+            lexed(ByClasses::lexer(text)),
+        );
     }
 }
 
@@ -265,7 +310,10 @@ fn a_clone_goes_on_by_itself() {
     scanner.by_ref().take(1000).for_each(drop);
     let mut other = scanner.clone();
     compare(scanned(&mut other), scanned(&mut scanner));
-    assert_eq!(format!("{:?}", ByBytes::scan("a")), "Scanner { lexer: {\"source\": \"a\", \"extras\": 0} }");
+    assert_eq!(
+        format!("{:?}", ByBytes::scan("a")),
+        "Scanner { lexer: {\"source\": \"a\", \"extras\": 0} }"
+    );
 }
 
 #[test]
@@ -279,9 +327,16 @@ fn parts_give_the_items_of_the_whole() {
                 to += 1;
             }
             let lexer = ByBytes::lexer_with_extras(&text[from..to], extras);
-            let mut scanner = if to == text.len() { lexer.scan() } else { lexer.scan_part() };
+            let mut scanner = if to == text.len() {
+                lexer.scan()
+            } else {
+                lexer.scan_part()
+            };
             let items = scanned(&mut scanner).into_iter();
-            found.extend(items.map(|(item, span, extras)| (item, from + span.start..from + span.end, extras)));
+            found
+                .extend(items.map(|(item, span, extras)| {
+                    (item, from + span.start..from + span.end, extras)
+                }));
             from = to - scanner.remainder().len();
             extras = scanner.into_lexer().extras;
         }
@@ -292,7 +347,10 @@ fn parts_give_the_items_of_the_whole() {
 #[test]
 fn the_last_token_of_a_part_is_left() {
     let mut scanner = ByBytes::scan_part("one two 3.");
-    assert_eq!(scanner.by_ref().map(|(_, span)| span).collect::<Vec<_>>(), [0..3, 4..7]);
+    assert_eq!(
+        scanner.by_ref().map(|(_, span)| span).collect::<Vec<_>>(),
+        [0..3, 4..7]
+    );
     assert_eq!(scanner.remainder(), "3.");
     let mut scanner = ByBytes::scan_part("");
     assert_eq!((scanner.next(), scanner.remainder()), (None, ""));
