@@ -3,6 +3,7 @@ ghost use Rattle.std.specs.Prelude.{OnOk, string_bytes};
 ghost use Rattle.logos_tables.specs.Words.{Grows};
 
 use crate::fixed::{ACTIONS, BODY, OPENING, SCANNED, STEPS};
+use crate::printing::push;
 use logos_code::code::{Code, CodeLeaf};
 use logos_pattern::leaf::VariantKind;
 use logos_token::error::Memory;
@@ -43,14 +44,27 @@ fn names_in(front: &str) -> Option<(&str, &str)> {
 pub(crate) fn push_rest(text: &mut String, head: &str, code: &Code<'_>) -> Result<(), Memory>
     ensures { OnOk result (Grows (string_bytes text.old) (string_bytes text.new)) }
 {
-    text.push_str(STEPS)?;
-    text.push_str(OPENING)?;
-    text.push_str(head)?;
-    text.push_str(SCANNED)?;
+    push(text, STEPS)?;
+    push_scanned(text, head, code)?;
+    push(text, BODY)
+}
+
+/// Appends what `scan` reads.
+fn push_scanned(text: &mut String, head: &str, code: &Code<'_>) -> Result<(), Memory>
+    ensures { OnOk result (Grows (string_bytes text.old) (string_bytes text.new)) }
+{
+    push_opening(text, head)?;
     push_plain_leaves(text, code.name().text, code.leaves())?;
-    text.push_str(ACTIONS)?;
-    text.push_str(BODY)?;
-    Ok(())
+    push(text, ACTIONS)
+}
+
+/// Appends what `scan` reads up to the tokens of leaves.
+fn push_opening(text: &mut String, head: &str) -> Result<(), Memory>
+    ensures { OnOk result (Grows (string_bytes text.old) (string_bytes text.new)) }
+{
+    push(text, OPENING)?;
+    push(text, head)?;
+    push(text, SCANNED)
 }
 
 /// Appends the match arms of the leaves for which nothing is called, each with its token.
