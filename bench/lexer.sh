@@ -1,8 +1,8 @@
 #!/usr/bin/env bash
 # Measures `Lexer` beside scanners of the same rules on the same texts: those that flex and re2c make, and, where rustc is found,
 # what it makes of the Rust text of these rules, over `runtime/rust`: in both shapes of `logos gen`, and as tables. Each text has 32 MiB and is made by
-# bench/lexer/text.py. Prints a table of megabytes a second, the time of `Lexer` by that of the fastest of these but the tables, and the time of the
-# tables by that of the faster other shape. Where rustc is found a second
+# bench/lexer/text.py. Prints a table of megabytes a second, the time of `Lexer` by that of the fastest of these but the tables, and the times of the
+# tables and of their `scan` by that of the faster other shape. Where rustc is found a second
 # table follows: `logos lex` beside programs in Rust that print the same lines through a `BufWriter`, on texts of 64 MiB. Of the runs, taken in turns,
 # the fastest of each counts; the first argument says how many, ten without it. Further arguments name the texts that are measured, instead of all.
 #
@@ -58,7 +58,7 @@ fi
 scanners=(lexer flex re2c)
 if command -v rustc > /dev/null; then
     scanners+=(tailcall state_machine)
-    rustc --edition 2021 -C opt-level=3 --crate-type rlib --crate-name logos -o "$copy/liblogos.rlib" "$bench/../runtime/rust/src/lib.rs"
+    rustc --edition 2021 -C opt-level=3 --crate-type rlib --crate-name logos --cfg 'feature="std"' -o "$copy/liblogos.rlib" "$bench/../runtime/rust/src/lib.rs"
     for name in "${enums[@]}"; do
         for shape in tailcall state_machine; do
             folder="$copy/$name.$shape.text"
@@ -87,8 +87,9 @@ add_tables() {
         cp "$copy/$name.tailcall.text"/{main,rules}.rs "$folder"
         "$cli" "$bench/lexer/rules/$name.rs" --shape tables | sed -n '/^impl < /,$p' > "$folder/lexer.rs"
         rustc --edition 2021 -C opt-level=3 --extern "logos=$copy/liblogos.rlib" -o "$copy/$name.tables" "$folder/main.rs"
+        rustc --edition 2021 -C opt-level=3 --cfg scan --extern "logos=$copy/liblogos.rlib" -o "$copy/$name.scan" "$folder/main.rs"
     done
-    scanners+=(tables)
+    scanners+=(tables scan)
 }
 if command -v rustc > /dev/null; then
     add_tables
@@ -119,7 +120,7 @@ awk -v size="$size" -v texts="${texts[*]}" -v scanners="${scanners[*]}" '
         line = "|---|---|"
         for (i = 1; i <= count; i++) { head = head " " scanner[i] " |"; line = line "---|" }
         has_tables = scanners ~ /tables/
-        print head " lexer by the fastest other |" (has_tables ? " tables by the faster other shape |" : "") "\n" line "---|" (has_tables ? "---|" : "")
+        print head " lexer by the fastest other |" (has_tables ? " tables by the faster other shape | scan by it |" : "") "\n" line "---|" (has_tables ? "---|---|" : "")
         for (t = 1; t <= many; t++) {
             row = "| " text[t] " | " tokens[text[t]] " |"
             least = 0
@@ -127,7 +128,7 @@ awk -v size="$size" -v texts="${texts[*]}" -v scanners="${scanners[*]}" '
             for (i = 1; i <= count; i++) {
                 seconds = best[text[t], scanner[i]]
                 row = row sprintf(" %.0f |", size / seconds / 1e6)
-                if (scanner[i] !~ /lexer|tables/ && (least == 0 || seconds < least)) { least = seconds }
+                if (scanner[i] !~ /lexer|tables|scan/ && (least == 0 || seconds < least)) { least = seconds }
                 if (scanner[i] ~ /tailcall|state_machine/ && (shape == 0 || seconds < shape)) { shape = seconds }
                 if (found[text[t], scanner[i]] != found[text[t], "lexer"]) {
                     print text[t] ": " scanner[i] " finds " found[text[t], scanner[i]] > "/dev/stderr"
@@ -135,12 +136,12 @@ awk -v size="$size" -v texts="${texts[*]}" -v scanners="${scanners[*]}" '
                 }
             }
             row = row sprintf(" %.2f |", best[text[t], "lexer"] / least)
-            print row (has_tables ? sprintf(" %.2f |", best[text[t], "tables"] / shape) : "")
+            print row (has_tables ? sprintf(" %.2f | %.2f |", best[text[t], "tables"] / shape, best[text[t], "scan"] / shape) : "")
         }
         exit different
     }' "$copy/runs"
 
-if [ "${#lines[@]}" != 0 ] && [ "${#scanners[@]}" = 6 ]; then
+if [ "${#lines[@]}" != 0 ] && [ "${#scanners[@]}" = 7 ]; then
     echo
     echo "| Text | Lines | logos lex | MiB | tailcall | MiB | state_machine | MiB | logos lex by the fastest other |"
     echo "|---|---|---|---|---|---|---|---|---|"

@@ -2,7 +2,7 @@
 # Measures the texts of lexers in their three shapes: the bytes of the text, the processor seconds that `rustc -O` takes for a program with it, the
 # bytes of that program's machine code and tables, and the MB that it lexes in a second, the fastest of some runs. The lexers are like those
 # of Rust, SQL and Python, with Unicode identifiers, and that of JSON. Each reads a text of its kind, made by bench/text/text.py; all
-# three shapes have to find as many tokens and errors in it.
+# three shapes have to find as many tokens and errors in it. The row `scan` is of a program that calls `scan` of the shape `tables`.
 #
 #   bash bench/text.sh [RUNS]
 #
@@ -13,7 +13,7 @@ set -euo pipefail
 . "$(dirname "${BASH_SOURCE[0]}")/program.sh"
 runs=${1:-5}
 size=16777216
-shapes=(state_machine tailcall tables)
+shapes=(state_machine tailcall tables scan)
 names=(rust_like sql_unicode python_like json)
 for tool in rustc python3; do
     command -v "$tool" > /dev/null || { echo "needs $tool" >&2; exit 2; }
@@ -34,14 +34,14 @@ rules_of() {
 
 # the text of a lexer in a shape: the implementation alone
 text_of() {
-    if [ "$2" = tables ]; then
+    if [ "$2" = tables ] || [ "$2" = scan ]; then
         "$cli" "$(rules_of "$1")" --shape tables | sed -n '/^impl < /,$p'
     else
         "$logos" gen "$(rules_of "$1")" --shape "$2"
     fi
 }
 
-rustc --edition 2021 -C opt-level=3 --crate-type rlib --crate-name logos -o "$copy/liblogos.rlib" "$bench/../runtime/rust/src/lib.rs"
+rustc --edition 2021 -C opt-level=3 --crate-type rlib --crate-name logos --cfg 'feature="std"' -o "$copy/liblogos.rlib" "$bench/../runtime/rust/src/lib.rs"
 for name in "${names[@]}"; do
     if [ "$name" = json ]; then
         python3 "$bench/lexer/text.py" "$size" json > "$copy/$name.input"
@@ -55,9 +55,9 @@ for name in "${names[@]}"; do
         { grep -v '^ *#\[' "$(rules_of "$name")"
           sed -n 's/^enum \([A-Za-z]*\) {$/type Rules = \1;/p' "$(rules_of "$name")"; } > "$folder/rules.rs"
         text_of "$name" "$shape" > "$folder/lexer.rs"
-        python3 - "$copy/liblogos.rlib" "$folder" <<'PY' > "$folder/seconds"
+        python3 - "$copy/liblogos.rlib" "$folder" "$shape" <<'PY' > "$folder/seconds"
 import resource, subprocess, sys
-subprocess.run(["rustc", "--edition", "2021", "-C", "opt-level=3", "--extern", f"logos={sys.argv[1]}", "-o", f"{sys.argv[2]}/lexer", f"{sys.argv[2]}/main.rs"], check=True)
+subprocess.run(["rustc", "--edition", "2021", "-C", "opt-level=3", "--cfg", sys.argv[3], "--extern", f"logos={sys.argv[1]}", "-o", f"{sys.argv[2]}/lexer", f"{sys.argv[2]}/main.rs"], check=True)
 used = resource.getrusage(resource.RUSAGE_CHILDREN)
 print(f"{used.ru_utime + used.ru_stime:.2f}")
 PY

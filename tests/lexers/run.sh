@@ -7,6 +7,7 @@
 # kinds. Beside it stands an input. The derive is expanded in all three shapes; lines outside of the enums have to stay; another file
 # includes the results, and rustc and clippy accept them where all warnings are errors; a result is as rustfmt leaves it where its source
 # is. What each lexer finds in its input is compared with what `logos_show` prints, line by line: callbacks give an item for each match.
+# So is what `scan` finds, in the shape that has it. The tables have to compile over a runtime without `scan`, too.
 #
 # It needs rustc, and the programs that the gate has built, or the first two arguments. Where rustfmt or clippy is missing it says so.
 set -euo pipefail
@@ -17,6 +18,7 @@ cli=$(realpath -m "${1:-$root/crates/logos_cli/out/logos_cli}")
 show=$(realpath -m "${2:-$root/crates/logos_show/out/logos_show}")
 lexers=40
 settled=32
+scanning=8
 shapes='state_machine tailcall tables'
 # The enum of a file whose items are compared, where that is not the last one.
 declare -A enums=([conditions]=Token [dense]=Token [errors]=Token [ini]=Line [paths]=Token [several]=Token [template]=Outside)
@@ -69,9 +71,20 @@ deriving() {
 
 # Has rustc compile the expanded files, where all warnings are errors, and a program that lexes by them.
 compile() {
-    (cd "$room" && rustc --edition 2021 -A warnings --crate-name logos --crate-type rlib -o liblogos.rlib "$root/runtime/rust/src/lib.rs" \
+    (cd "$room" && rustc --edition 2021 -A warnings --crate-name logos --crate-type rlib --cfg 'feature="std"' -o liblogos.rlib "$root/runtime/rust/src/lib.rs" \
         && rustc --edition 2021 --extern logos=liblogos.rlib --crate-name expanded --crate-type rlib -o libexpanded.rlib expanded.rs \
-        && rustc --edition 2021 -A warnings --extern logos=liblogos.rlib --extern expanded=libexpanded.rlib -o lexers main.rs)
+        && rustc --edition 2021 -A warnings --extern logos=liblogos.rlib --extern expanded=libexpanded.rlib -o lexers main.rs \
+        && compile_plainly)
+}
+
+# Has rustc check the expanded files over a runtime that lacks the names which `scan` reads.
+compile_plainly() {
+    mkdir -p plain
+    cp -R "$root/runtime/rust/src" plain/src
+    sed -i '/_Tables/d; /_fold/d' plain/src/internal.rs
+    rustc --edition 2021 -A warnings --crate-name logos --crate-type rlib --emit metadata -o plain/liblogos.rmeta plain/src/lib.rs \
+        && rustc --edition 2021 -A warnings --extern logos=plain/liblogos.rmeta --crate-name expanded --crate-type rlib --emit metadata \
+            -o plain/libexpanded.rmeta plain.rs
 }
 
 # Fails unless clippy accepts the expanded files, where all warnings are errors.
@@ -85,7 +98,8 @@ accepted_by_clippy() {
 arm() {
     local source='std::str::from_utf8(&bytes).expect("UTF-8")'
     [ "$3" = text ] || source='&bytes'
-    printf '"%s" => print(&mut out, &bytes, logos::Lexer::<expanded::%s::%s>::new(%s)),\n' "$1" "$1" "$2" "$source"
+    printf '"%s" => print(&mut out, &bytes, logos::Lexer::<expanded::%s::%s>::new(%s).spanned()),\n' "$1" "$1" "$2" "$source"
+    [ -z "${4:-}" ] || printf '"%s_scan" => print(&mut out, &bytes, <expanded::%s::%s as logos::Scan>::scan(%s)),\n' "${1%_tables}" "$1" "$2" "$source"
 }
 
 # Fails unless a result is as rustfmt leaves it, where its source is. Says whether that is so.
@@ -96,6 +110,7 @@ stays_settled() {
 
 lay_out
 echo '#![deny(warnings)]' > "$room/expanded.rs"
+touch "$room/scanning"
 found=0
 stable=0
 for file in "$room"/files/*.rs; do
@@ -113,12 +128,19 @@ for file in "$room"/files/*.rs; do
         # What stands outside the enums is there as before.
         grep -vxF -f "$expanded" "$file" | grep -E '^(use|pub (type|const|fn|struct)|impl)' && fail "$name lost these lines"
         printf 'pub mod %s {\n    include!("%s");\n}\n' "${name}_$shape" "$(basename "$expanded")" >> "$room/expanded.rs"
-        arm "${name}_$shape" "${types[$name]:-$enum}" "$reads" >> "$room/arms"
+        scans=
+        [ "$shape" != tables ] || {
+            printf 'pub mod %s {\n    include!("%s");\n}\n' "${name}_$shape" "$(basename "$expanded")" >> "$room/plain.rs"
+            [ ! -f "$root/examples/lexers/$name.rs" ] || scans=scan
+        }
+        arm "${name}_$shape" "${types[$name]:-$enum}" "$reads" "$scans" >> "$room/arms"
+        [ -z "$scans" ] || echo "$name" >> "$room/scanning"
         ! command -v rustfmt > /dev/null || ! stays_settled "$file" "$expanded" || stable=$((stable + 1))
     done
     found=$((found + 1))
 done
 [ "$found" = "$lexers" ] || fail "$found lexers in place of $lexers"
+[ "$(wc -l < "$room/scanning")" = "$scanning" ] || fail "$(wc -l < "$room/scanning") lexers scan, in place of $scanning"
 if command -v rustfmt > /dev/null; then
     [ "$stable" = "$((settled * 3))" ] || fail "rustfmt leaves $stable results as they are, in place of $((settled * 3))"
 else
@@ -139,7 +161,9 @@ compared=0
 items=0
 for wanted in "$room"/*.wanted; do
     name=$(basename "$wanted" .wanted)
-    for shape in $shapes; do
+    ways=$shapes
+    ! grep -qx "$name" "$room/scanning" || ways="$shapes scan"
+    for shape in $ways; do
         "$room/lexers" "${name}_$shape" "$room/files/$name.input" | diff "$wanted" - > "$room/difference" \
             || { cat "$room/difference" >&2; fail "$name, $shape, finds other items"; }
         compared=$((compared + 1))

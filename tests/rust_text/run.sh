@@ -15,6 +15,8 @@
 # where a skip's callback has to say that it was called, `made` in front of `error` where the callback that makes errors has to say so. Each prints
 # where the lexer stands, and `told`, in the file beside, looks at the value of each error.
 #
+# What `scan` finds by the tables of a source has to be what they find otherwise, in inputs made of each input, whole and in parts.
+#
 # The tables of a source have to find in each beginning of an input, up to 512 bytes of it, what its code finds there.
 #
 # An input that is not UTF-8 has to be refused by each source that does not read bytes, and is then compared no further. Which inputs and
@@ -25,9 +27,13 @@ set -euo pipefail
 
 comparisons=768
 refusals=120
+# the least number of items that `scan` has to find
+scans=3000000
 # The inputs that are not UTF-8, with the length of their longest beginning that is, and the sources that read bytes.
 declare -A not_utf8=([bytes]=2 [marks]=31 [records]=0 [program]=97)
 of_bytes=' bytes marks program records '
+# The sources whose errors know where they are, which is another place in a part.
+placed=' marks notes '
 root=$(cd "$(dirname "${BASH_SOURCE[0]}")/../.." && pwd)
 here=$root/tests/rust_text
 logos=$(realpath "${1:-$root/crates/logos_program/out/logos_program}")
@@ -39,6 +45,7 @@ trap 'rm -rf "$room"' EXIT
 exec 3>&1
 compared=0
 refused=0
+scanned=0
 
 fail() {
     echo "rust_text: $1" >&2
@@ -76,20 +83,20 @@ with_skips_shown() {
 
 # Prints the function that lexes an input by the text of a source.
 lines_function() {
-    local name=$1 source=$room/sources/$1.rs enum skips told='|_, _| ()'
+    local name=$1 source=$room/sources/$1.rs enum skips leaf told='|_, _| ()'
     [ ! -e "$here/skips/$name.sed" ] || told=told
     if [ -e "$here/beside/$name.rs" ]; then
         cat "$here/beside/$name.rs"
         echo "pub fn lines(input: &[u8]) { super::lines::<Tokens>(super::Input::of(input), leaf, $told) }"
+        echo "pub fn scanned(input: &[u8], parted: bool) { super::scanned::<Tokens>(input, leaf, parted) }"
         return
     fi
     enum=$(sed -n 's/^\(.* \)\{0,1\}enum \([A-Za-z]*\) {.*/\2/p' "$source")
     skips=$(grep -c '^#\[logos(skip' "$source" || true)
-    if [ "$name" = nothing ]; then
-        echo "pub fn lines(input: &[u8]) { super::lines::<$enum>(super::Input::of(input), |_, token| match token {}, $told) }"
-    else
-        echo "pub fn lines(input: &[u8]) { super::lines::<$enum>(super::Input::of(input), |_, token| token as usize + $skips, $told) }"
-    fi
+    leaf="token as usize + $skips"
+    [ "$name" != nothing ] || leaf='match token {}'
+    echo "pub fn lines(input: &[u8]) { super::lines::<$enum>(super::Input::of(input), |_, token| $leaf, $told) }"
+    echo "pub fn scanned(input: &[u8], parted: bool) { super::scanned::<$enum>(input, |_, token| $leaf, parted) }"
 }
 
 # Prints a source without what belongs to the derive, and its lexer in a shape.
@@ -129,10 +136,12 @@ write_program() {
         for shape in "${shapes[@]}"; do
             { echo "mod ${name}_$shape {"
               lexer_text "$source" "$shape"
-              lines_function "$name"
+              lines_function "$name" | if [ "$shape" = tables ]; then cat; else grep -v '^pub fn scanned'; fi
               echo "}"; } >> "$room/main.rs"
             arms+="(\"$name\", \"$shape\") => ${name}_$shape::lines(input), "
         done
+        arms+="(\"$name\", \"scan\") => ${name}_tables::scanned(input, false), "
+        arms+="(\"$name\", \"parted\") => ${name}_tables::scanned(input, true), "
     done
     { echo "fn main() {"
       echo "let words: Vec<String> = std::env::args().collect();"
@@ -173,6 +182,7 @@ compare() {
         fail "$what finds other items"
     fi
     [ "$shape" != tables ] || compare_cuts "$name" "$input"
+    [ "$shape" != tables ] || compare_scan "$name" "$input"
     compared=$((compared + 1))
 }
 
@@ -185,6 +195,15 @@ compare_cuts() {
     done
     cmp -s "$room/cuts.state_machine" "$room/cuts.tables" || fail "the tables of $name find other items in a beginning of $(basename "$input")"
     grep -q '^cut 0$' "$room/cuts.tables" || fail "$name on $(basename "$input") was not cut"
+}
+
+# Compares what `scan` finds by the tables of a source with what they find otherwise, in inputs that are made of this one, whole and in parts.
+compare_scan() {
+    local name=$1 input=$2 how=parted
+    [[ $placed != *" $name "* ]] || how=scan
+    "$room/rust_text" "$name" $how "$input" > "$room/told" 2> "$room/scanned" \
+        || { cat "$room/scanned" >&2; fail "what scan finds by the tables of $name in inputs made of $(basename "$input")"; }
+    scanned=$((scanned + $(tail -n 1 "$room/scanned")))
 }
 
 command -v rustc > /dev/null || fail "rustc is missing"
@@ -200,5 +219,6 @@ for inputs in "$room"/inputs/*; do
 done
 [ "$compared $refused" = "$comparisons $refusals" ] \
     || fail "$compared comparisons and $refused refusals, where $comparisons and $refusals are stated"
-echo "rust_text: the compiled texts find what the lexer finds, in $compared comparisons, and $refused inputs are refused"
+[ "$scanned" -ge "$scans" ] || fail "scan found $scanned items, where $scans are stated"
+echo "rust_text: the compiled texts find what the lexer finds, in $compared comparisons, and $refused inputs are refused; scan found $scanned items"
 echo "$((compared + refused)) passed, 0 failed"

@@ -1,5 +1,6 @@
 //! Measures the lexer that the text beside this file says: `rules.rs` is the enum without its attributes, `lexer.rs` the text.
-//! Lexes the file that the first argument names, and prints the seconds, the tokens and the errors.
+//! Lexes the file that the first argument names, and prints the seconds, the tokens and the errors. With `--cfg scan` the items are those of
+//! `Scan::scan`.
 #![allow(warnings)]
 
 include!("rules.rs");
@@ -10,16 +11,19 @@ fn main() {
     let input = std::fs::read(path).expect("a file that can be read");
     let source = <<Rules as logos::Logos>::Source as Read>::read(&input);
     let start = std::time::Instant::now();
-    let (tokens, errors) = count(logos::Lexer::new(source));
+    #[cfg(not(scan))]
+    let (tokens, errors) = count(logos::Lexer::<Rules>::new(source));
+    #[cfg(scan)]
+    let (tokens, errors) = count(<Rules as logos::Scan>::scan(source).map(|(item, _)| item));
     let seconds = start.elapsed().as_secs_f64();
     println!("{seconds:.6} {tokens} {errors}");
 }
 
 /// Returns how many tokens and errors there are. It is a function of its own, so that the counts stay in registers.
 #[inline(never)]
-fn count(mut lexer: logos::Lexer<'_, Rules>) -> (u64, u64) {
+fn count<Error>(items: impl Iterator<Item = Result<Rules, Error>>) -> (u64, u64) {
     let (mut tokens, mut errors) = (0, 0);
-    while let Some(item) = lexer.next() {
+    for item in items {
         match item {
             Ok(_) => tokens += 1,
             Err(_) => errors += 1,

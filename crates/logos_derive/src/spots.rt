@@ -45,7 +45,20 @@ pub(crate) fn spots_of(alloc: Global, source: &str, code: &Code<'_>) -> Result<V
     for leaf in code.leaves() {
         push_leaf(leaf, code.name().span, &mut spots)?;
     }
+    push_scanned(&mut spots)?;
     Ok(spots)
+}
+
+/// Pushes the spot of the path of the library where tables import what `scan` reads. The first spot
+/// is of that path, too.
+fn push_scanned(spots: &mut Vec<Spot>) -> Result<(), Memory> {
+    match spots.first() {
+        Some(library) => {
+            let span = library.span;
+            push("const _: () = {\n    use ", span, spots)
+        }
+        None => Ok(()),
+    }
 }
 
 /// Pushes a spot.

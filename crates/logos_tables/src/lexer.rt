@@ -3,10 +3,10 @@ ghost use Rattle.std.specs.Prelude.{ℕ, List, ◌∷◌, [], IfOk, OnOk, string
 ghost use Rattle.logos_tables.specs.Words.{BeginsWith, IsFrontOf, HoldsTables, end_texts, marks_text, skips_text, Appends, AppendsSteps, AppendsTables};
 
 use crate::classes::{Classes, classes_of};
-use crate::fixed::LOOP;
 use crate::marks::{marks_of, skips_of};
 use crate::parts::{push_entry_type, push_names, push_sizes, push_steps};
 use crate::printing::{push, push_table};
+use crate::rest::{push_rest, scanned_head};
 use crate::rows::{Rows, rows_of};
 use crate::runs::runs_of;
 use logos_code::code::Code;
@@ -26,9 +26,10 @@ pub fn tables(alloc: Global, made: &Generated<'_>) -> Result<String, Memory>
         × BeginsWith front (string_bytes text)) }
 {
     let mut text = made.front(alloc)?;
+    let head = scanned_head(alloc, &text)?;
     push(&mut text, "\n")?;
     push_code(alloc, &mut text, &made.code)?;
-    push(&mut text, LOOP)?;
+    push_rest(&mut text, &head, &made.code)?;
     Ok(text)
 }
 

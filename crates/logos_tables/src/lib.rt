@@ -8,6 +8,7 @@ mod lexer;
 mod marks;
 mod parts;
 mod printing;
+mod rest;
 mod rows;
 mod runs;
 mod steps;

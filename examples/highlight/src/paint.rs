@@ -96,3 +96,19 @@ pub fn page(title: &str, text: &str) -> String {
 fn escaped(text: &str) -> String {
     text.replace('&', "&amp;").replace('<', "&lt;").replace('>', "&gt;").replace('"', "&quot;")
 }
+
+#[cfg(test)]
+mod tests {
+    use super::*;
+    use logos::Scan;
+
+    #[test]
+    fn scanning_finds_the_same_tokens() {
+        let text = include_str!("../data/sample.rs.txt").repeat(20);
+        for text in [&text, &text.replace('"', ""), &text.replace('\n', " ")] {
+            let found: Vec<_> = Token::scan(text).map(|(token, span)| (style(token, false), span)).collect();
+            let wanted: Vec<_> = Token::lexer(text).spanned().map(|(token, span)| (style(token, false), span)).collect();
+            assert_eq!(found, wanted);
+        }
+    }
+}

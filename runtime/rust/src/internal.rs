@@ -1,7 +1,10 @@
 //! What printed texts call. Programs have no need of it.
 
+use crate::folded::Rows;
+pub use crate::folded::{fold as _fold, size as _size};
 use crate::source::Chunk;
 use crate::{Filter, FilterResult, Lexer, Logos, Skip, Source};
+pub use Tables as _Tables;
 
 /// What a text calls on its lexer.
 pub trait LexerInternal<'source> {
@@ -47,6 +50,33 @@ impl<'source, Token: Logos<'source>> LexerInternal<'source> for Lexer<'source, T
     fn trivia(&mut self) {
         self.begin();
     }
+}
+
+/// What a text whose lexer is tables says of it, for `Scan`.
+pub trait Tables<'source>: Logos<'source> {
+    /// The rows have an entry for each byte, and not for each class of bytes.
+    const BY_BYTES: bool;
+
+    /// The folded tables.
+    type Rows: Rows;
+    const ROWS: &'static Self::Rows;
+
+    /// Returns the bytes of an input.
+    fn bytes(source: &'source Self::Source) -> &'source [u8];
+
+    /// Returns the token of a leaf for which nothing is called, and which has no value.
+    fn plain(leaf: usize) -> Option<Self>;
+
+    /// Returns what becomes of a match of the leaf, or of an error where no leaf has the number.
+    /// `None` means that nothing does.
+    fn act(
+        lexer: &mut Lexer<'source, Self>,
+        leaf: usize,
+        end: usize,
+    ) -> Option<Result<Self, Self::Error>>;
+
+    /// Makes a try from a byte offset, and returns its leaf and where it ends.
+    fn again(bytes: &[u8], start: usize) -> (usize, usize);
 }
 
 /// What becomes of a match.

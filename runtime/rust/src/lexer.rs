@@ -1,5 +1,6 @@
 //! Lexers: runs of a printed text over an input.
 
+use crate::scan::{Scan, Scanner};
 use crate::{Logos, Source};
 use core::fmt;
 use core::ops::{Deref, DerefMut, Range};
@@ -85,6 +86,26 @@ impl<'source, Token: Logos<'source>> Lexer<'source, Token> {
         SpannedIter { lexer: self }
     }
 
+    /// Returns an iterator over the tokens that follow, with their places, by chunks of the input:
+    /// the items of [`Lexer::spanned`].
+    pub fn scan(self) -> Scanner<'source, Token>
+    where
+        Token: Scan<'source>,
+    {
+        Scanner::new(self, false)
+    }
+
+    /// Returns an iterator over those items that are the same whatever follows the input, of which
+    /// more is to come. At its end [`Lexer::remainder`] is what the next part has to begin with.
+    ///
+    /// That holds for callbacks that read their match alone: others see the part and not the rest.
+    pub fn scan_part(self) -> Scanner<'source, Token>
+    where
+        Token: Scan<'source>,
+    {
+        Scanner::new(self, true)
+    }
+
     /// Sets where the token begins to where the last one ended.
     pub(crate) fn begin(&mut self) {
         self.start = self.end;
@@ -92,6 +113,10 @@ impl<'source, Token: Logos<'source>> Lexer<'source, Token> {
 
     pub(crate) fn start(&self) -> usize {
         self.start
+    }
+
+    pub(crate) fn set_span(&mut self, span: Span) {
+        (self.start, self.end) = (span.start, span.end);
     }
 
     pub(crate) fn set_end(&mut self, end: usize) {

@@ -2,11 +2,14 @@
 //!
 //! An enum implements [`Logos`] by the derive macro, or by a text that the program `logos_cli`
 //! prints. [`Logos::lexer`] begins a run over an input, and the run is an iterator over tokens.
+//! [`Scan::scan`], for lexers that are tables, is one over tokens with their places, by chunks of
+//! the input.
 //!
 //! # Features
 //!
 //! - `export_derive`, on by default: the derive macro, which asks the program `logos_cli`.
-//! - `std`, on by default, changes nothing: this crate asks for `core` alone.
+//! - `std`, on by default: a [`Scanner`] keeps what it looked ahead in a box, and not in itself.
+//!   Nothing else asks for more than `core`.
 //! - `state_machine_codegen`: the derive macro prints the shape `state_machine`, not `tables`.
 //! - `debug`: the derive macro says on standard error which program it asks, and prints the
 //!   implementations.
@@ -17,14 +20,20 @@
 #![cfg_attr(not(feature = "forbid_unsafe"), deny(unsafe_code))]
 #![warn(missing_docs)]
 
+#[cfg(feature = "std")]
+extern crate std;
+
+mod folded;
 #[allow(missing_docs)]
 pub mod internal;
 mod lexer;
+mod scan;
 pub mod source;
 
 pub use lexer::{Lexer, Span, SpannedIter};
 #[cfg(feature = "export_derive")]
 pub use logos_derive::Logos;
+pub use scan::{Scan, Scanner};
 pub use source::Source;
 
 /// An enum whose variants are tokens.
