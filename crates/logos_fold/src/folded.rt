@@ -34,10 +34,12 @@ impl<'c, 's> Model for Folded<'c, 's> {
 }
 
 impl<'c, 's> Folded<'c, 's> {
-    /// Folds the rows of a code. Returns `None` if it has more states than folded entries can name: more than 3,855.
+    /// Folds the rows of a code. Returns `None` if it has more states than folded entries can name:
+    /// more than 3,855.
     ///
     /// # Errors
-    /// Returns `AllocError` when memory runs out.
+    ///
+    /// Returns `AllocError` if memory runs out.
     pub fn new(alloc: Global, code: &'c Code<'s>) -> Result<Option<Folded<'c, 's>>, AllocError>
         ensures { IfOk result (λ o. IfSome o (λ folded. folded.code ≡ code.now)) }
     {
@@ -56,8 +58,8 @@ impl<'c, 's> Folded<'c, 's> {
         self.code
     }
 
-    /// Returns the rows of all states, one after another, `WIDTH` entries each. What byte `b` does in state `s` is entry
-    /// `WIDTH * s + b`.
+    /// Returns the rows of all states, one after another, `WIDTH` entries each. What byte `b` does
+    /// in state `s` is entry `WIDTH * s + b`.
     pub fn rows(&self) -> &[u32]
         ensures rows { result.now ≡ self.now.rows }
         ensures folded { AreFolded self.now.code self.now.rows }
@@ -69,7 +71,8 @@ impl<'c, 's> Folded<'c, 's> {
 /// Makes the folded rows of all states.
 ///
 /// # Errors
-/// Returns an error when memory runs out.
+///
+/// Returns an error if memory runs out.
 fn fold_rows(alloc: Global, code: &Code, states: usize) -> Result<Vec<u32>, AllocError>
     requires few { IsFew code.now }
     requires states { states ≡ length code.now.states }

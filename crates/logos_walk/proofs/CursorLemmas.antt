@@ -32,7 +32,7 @@ high_bits k l = let s = one_bit k l in omega (arith, s.0, s.1)
 pub left_at : (flag : ℕ) (trace : List ℕ) (word bits from low mask : ℕ) → MarksFrom flag trace (64 * word) bits → low < 64 → from ≡ 64 * word + low → mask ≡ 2 ^ 64 - 2 ^ low
     → IsLeft flag trace word (bit_and bits mask) from
 left_at flag trace word bits from low mask m small e is = record {
-  behind = λ i l b.
+  earlier = λ i l b.
       bit_at_and bits mask i ∙ ap (λ k. min (bit_at bits i) k) (ap (λ k. bit_at k i) is ∙ bit_at_mask_below low 64 i (omega (arith, b, e))) ∙ none_of (bit_at bits i);
   ahead = λ i l a.
       bit_at_and bits mask i ∙ ap (λ k. min (bit_at bits i) k) (ap (λ k. bit_at k i) is ∙ bit_at_mask_inside low 64 i (omega (arith, a, e)) l)
@@ -42,14 +42,14 @@ left_at flag trace word bits from low mask m small e is = record {
 -- all of the bits
 pub left_whole : (flag : ℕ) (trace : List ℕ) (word bits : ℕ) → MarksFrom flag trace (64 * word) bits → IsLeft flag trace word bits (64 * word)
 left_whole flag trace word bits m = record {
-  behind = λ i l b. absurd (omega (arith, b));
+  earlier = λ i l b. absurd (omega (arith, b));
   ahead = λ i l a. m i l;
 }
 
 -- none of them
 pub left_none : (flag : ℕ) (trace : List ℕ) (word from : ℕ) → 64 * word + 64 ≤ from → IsLeft flag trace word 0 from
 left_none flag trace word from past = record {
-  behind = λ i l b. bit_at-zero i;
+  earlier = λ i l b. bit_at-zero i;
   ahead = λ i l a. absurd (omega (arith, l, a, past));
 }
 
@@ -62,7 +62,7 @@ left_after flag trace word bits from bit mask small near is left =
     bit_at_clear_other w64 mask bit small i l (elim d [ inl a ↦ omega (arith, a) | inr b ↦ omega (arith, b) ]) in
     let same : bit_at later bit ≡ 0 = bit_at_clear_same w64 mask bit small in
     record {
-      behind = λ i l b. bit_at_and bits later i ∙ ap (λ k. min (bit_at bits i) k) (elim (ways i bit) [
+      earlier = λ i l b. bit_at_and bits later i ∙ ap (λ k. min (bit_at bits i) k) (elim (ways i bit) [
         | inl a ↦ other i l (inr a) ∙ ap (λ k. bit_at k i) is ∙ bit_at_mask_below bit 64 i a
         | inr g ↦ ap (bit_at later) (omega (arith, g, b)) ∙ same
       ]) ∙ none_of (bit_at bits i);
@@ -77,7 +77,7 @@ pub under_bit : (trace : List ℕ) (word bits from bit mask : ℕ) → bit < 64 
 under_bit trace word bits from bit mask small near is left = record {
   near = near;
   far = omega (arith, small);
-  behind = λ i l b. bit_at_and bits mask i ∙ ap (λ k. min k (bit_at mask i)) (left.behind i l b) ∙ least (bit_at mask i);
+  earlier = λ i l b. bit_at_and bits mask i ∙ ap (λ k. min k (bit_at mask i)) (left.earlier i l b) ∙ least (bit_at mask i);
   below = λ i l f h.
       bit_at_and bits mask i ∙ ap (λ k. min (bit_at bits i) k) (ap (λ k. bit_at k i) is ∙ bit_at_ones bit i (omega (arith, h)))
       ∙ one_of (bit_at bits i) (bit_at-lt bits i) ∙ left.ahead i l f;
@@ -92,7 +92,7 @@ pub under_whole : (trace : List ℕ) (word bits from : ℕ) → 64 * word ≤ fr
 under_whole trace word bits from near left = record {
   near = near;
   far = omega arith;
-  behind = left.behind;
+  earlier = left.earlier;
   below = λ i l f h. left.ahead i l f;
   above = λ i l h. absurd (omega (arith, l, h));
 }
@@ -136,7 +136,7 @@ starts_highest base trace word from start at bits pos fits u =
       | inr g ↦ absurd (omega (arith, top, u.above k small g))
     ] in
     let after : from ≤ 64 * word + k = elim (ways (64 * word + k) from) [
-      | inl l ↦ absurd (omega (arith, top, u.behind k small l))
+      | inl l ↦ absurd (omega (arith, top, u.earlier k small l))
       | inr g ↦ g
     ] in
     let last : IsLastEnd trace from at (64 * word + k) = record {
@@ -166,7 +166,7 @@ next_lowest trace word bits from within pos fits near left =
     let k = trailing_zeros w64 bits in
     let at = 64 * word + k in
     let after : from ≤ at = elim (ways at from) [
-      | inl l ↦ absurd (omega (arith, z.1, left.behind k z.0 l))
+      | inl l ↦ absurd (omega (arith, z.1, left.earlier k z.0 l))
       | inr g ↦ g
     ] in
     record {

@@ -5,21 +5,21 @@ use Rattle.logos_walk.specs.declared.masks.Chunk.{Chunk}
 use Rattle.logos_walk.specs.Masks.{Marks, MarksFrom}
 use Rattle.logos_walk.specs.Cursor.{Awaits, NoToken, StartsAt}
 
--- the words hold the flags of all entries
+-- The words hold the flags of all entries.
 pub record IsMarked (chunk : Chunk) : Type 0 where
   pub ends : Marks 31 chunk.entries 64 chunk.ends
   pub tokens : Marks 30 chunk.entries 64 chunk.tokens
 
--- the words but those from `from` up to `to` do
+-- The words but those from `from` up to `to` do.
 pub record IsMarkedBeside (from to : ℕ) (chunk : Chunk) : Type 0 where
   pub ends : (w : ℕ) → w < 64 → (w < from) ⊎ (to ≤ w) → MarksFrom 31 chunk.entries (64 * w) (slice_index chunk.ends w)
   pub tokens : (w : ℕ) → w < 64 → (w < from) ⊎ (to ≤ w) → MarksFrom 30 chunk.entries (64 * w) (slice_index chunk.tokens w)
 
--- the cursor has the flags that are left
+-- The cursor has the flags that are left.
 abbrev pub Stands : List ℕ → Cursor → Type 0
 Stands trace cursor = Awaits trace cursor.word cursor.tokens cursor.ends cursor.from
 
--- the cursor has passed entries at which there is nothing to do
+-- The cursor has passed entries at which there is nothing to do.
 pub record Passes (trace : List ℕ) (old new : Cursor) : Type 0 where
   pub base : new.base ≡ old.base
   pub order : old.from ≤ new.from

@@ -4,7 +4,7 @@ use Rattle.logos_walk.specs.declared.repair.Stretch.{Stretch}
 use Rattle.logos_walk.specs.declared.repair.Repaired.{Repaired}
 use Rattle.logos_walk.specs.Walk.{IsPlace, IsSameBeside, Walked}
 
--- the trace holds the walk of the stretch
+-- The trace holds the walk of the stretch.
 pub record HoldsStretch (rows text trace : List ℕ) (stretch : Stretch) : Type 0 where
   pub order : stretch.from ≤ stretch.to
   pub in_text : stretch.to ≤ length text
@@ -12,7 +12,8 @@ pub record HoldsStretch (rows text trace : List ℕ) (stretch : Stretch) : Type 
   pub walked : Walked rows text stretch.begin trace stretch.from stretch.to stretch.end
   pub stays : IsPlace rows stretch.end
 
--- the trace holds a walk over the same bytes from another place, and no entry differs but those up to the stop
+-- The trace holds a walk over the same bytes from another place, and no entry differs but those up
+-- to the stop.
 pub record IsRepaired (rows text : List ℕ) (place : ℕ) (stretch : Stretch) (old new : List ℕ) (repaired : Repaired) : Type 0 where
   pub walked : Walked rows text place new stretch.from stretch.to repaired.place
   pub stays : IsPlace rows repaired.place

@@ -65,8 +65,9 @@ fn walk_blocks(rows: &[u32], text: &[u8], from: Places, trace: &mut [u32]) -> Pl
     now
 }
 
-/// Steps over a chunk from a place on, and returns the place after it. The blocks but the first begin in places that are
-/// guessed from the bytes before them, in a walk from the root. Where a guess was wrong, the block is repaired.
+/// Steps over a chunk from a place on, and returns the place after it. The blocks but the first
+/// begin in places that are guessed from the bytes before them, in a walk from the root. Where a
+/// guess was wrong, the block is repaired.
 pub fn walk_chunk(rows: &[u32], text: &[u8], root: usize, place: usize, trace: &mut [u32]) -> usize
     requires closed { IsClosed rows.now }
     requires root { IsPlace rows.now root }
@@ -85,7 +86,8 @@ pub fn walk_chunk(rows: &[u32], text: &[u8], root: usize, place: usize, trace: &
     walk_from(rows, text, from, trace)
 }
 
-/// Steps over a chunk from the place of its first block on, with guesses for the others. Returns the place after it.
+/// Steps over a chunk from the place of its first block on, with guesses for the others. Returns
+/// the place after it.
 fn walk_from(rows: &[u32], text: &[u8], from: Places, trace: &mut [u32]) -> usize
     requires closed { IsClosed rows.now }
     requires places { ArePlaces rows.now from }
@@ -118,7 +120,8 @@ fn walk_from(rows: &[u32], text: &[u8], from: Places, trace: &mut [u32]) -> usiz
     mended(rows, text, after_third, trace, fourth)
 }
 
-/// Steps again over a block that began in a guess, if that was not its place. Returns the place after the block.
+/// Steps again over a block that began in a guess, if that was not its place. Returns the place
+/// after the block.
 #[inline(always)]
 fn mended(rows: &[u32], text: &[u8], place: usize, trace: &mut [u32], stretch: Stretch) -> usize
     requires closed { IsClosed rows.now }

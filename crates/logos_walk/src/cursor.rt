@@ -6,7 +6,8 @@ ghost use Rattle.logos_walk.specs.Views.{IsMarked, Passes, Stands};
 
 use crate::masks::Chunk;
 
-/// Where a scan stands in a chunk: before the entry `from`, in a word of flags. Of the word it has those that are left.
+/// Where a scan stands in a chunk: before the entry `from`, in a word of flags. Of the word it has
+/// those that are left.
 #[derive(Clone, Copy, Drop)]
 pub struct Cursor {
     /// Where the chunk begins in the input.
@@ -21,7 +22,8 @@ pub struct Cursor {
 }
 
 impl Cursor {
-    /// Returns the cursor before the entry `from` of a chunk, where a try stands that begins at `start`.
+    /// Returns the cursor before the entry `from` of a chunk, where a try stands that begins at
+    /// `start`.
     pub fn new(chunk: &Chunk, base: usize, start: usize, from: usize) -> Cursor
         requires marked { IsMarked chunk.now }
         requires from { from < 4096 }
@@ -99,8 +101,8 @@ impl Cursor {
         cursor
     }
 
-    /// Returns the next entry at which there is something to do, and passes it. The try that stands before the entry begins
-    /// at `start` then. If there is none, all entries are passed.
+    /// Returns the next entry at which there is something to do, and passes it. The try that stands
+    /// before the entry begins at `start` then. If there is none, all entries are passed.
     #[inline(always)]
     pub fn next(&mut self, chunk: &Chunk) -> Option<usize>
         requires marked { IsMarked chunk.now }

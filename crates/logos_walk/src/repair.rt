@@ -6,7 +6,8 @@ ghost use Rattle.logos_walk.specs.Views.{HoldsStretch, IsRepaired};
 
 use crate::walk::{PLACE, step};
 
-/// A walk that a trace holds: over the bytes from `from` up to `to`, from the place `begin` to the place `end`.
+/// A walk that a trace holds: over the bytes from `from` up to `to`, from the place `begin` to the
+/// place `end`.
 #[derive(Clone, Copy, Drop)]
 pub struct Stretch {
     pub from: usize,
@@ -24,7 +25,8 @@ pub struct Repaired {
     pub stop: usize,
 }
 
-/// Steps again over the bytes of a stretch from another place on, until the trace holds what is written.
+/// Steps again over the bytes of a stretch from another place on, until the trace holds what is
+/// written.
 pub fn repair(
     rows: &[u32],
     text: &[u8],

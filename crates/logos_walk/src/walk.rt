@@ -1,8 +1,8 @@
 //! Steps over bytes, one after the other.
 //!
-//! Folded rows are rows of 256 entries. The entry of a byte in the row at a place names, in its lowest twenty bits, the
-//! place of the next row. Its two highest bits are flags: `ENDED` says that a match ends before the byte, and `TOKEN` that
-//! there is something to do there.
+//! Folded rows are rows of 256 entries. The entry of a byte in the row at a place names, in its
+//! lowest twenty bits, the place of the next row. Its two highest bits are flags: `ENDED` says that
+//! a match ends before the byte, and `TOKEN` that there is something to do there.
 
 ghost use Rattle.std.specs.Prelude.{◌≡◌, ◌<◌, ◌≤◌, length, slice_set};
 ghost use Rattle.logos_walk.specs.Words.{IsClosed, IsPlace, IsSameBeside, Walked, entry_at, place_of};
@@ -27,7 +27,8 @@ pub fn step(rows: &[u32], text: &[u8], place: usize, trace: &mut [u32], at: usiz
     ensures result { result ≡ place_of (entry_at rows.now text.now at place) }
     ensures stays { IsPlace rows.now result }
 {
-    // In this order the place, which comes from the entry before, need not be added before the load.
+    // In this order the place, which comes from the entry before, need not be added before the
+    // load.
     let entry = rows[text[at] as usize + place];
     trace[at] = entry;
     (entry & PLACE) as usize
