@@ -1,0 +1,3 @@
+pub mod TryLemmas
+pub mod RunLemmas
+pub mod LoadLemmas

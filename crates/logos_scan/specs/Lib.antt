@@ -1,0 +1,5 @@
+pub mod Attempts
+pub mod Tries
+pub mod Runs
+pub mod Words
+pub mod Views
