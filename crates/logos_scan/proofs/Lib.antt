@@ -1,3 +1,4 @@
 pub mod TryLemmas
 pub mod RunLemmas
 pub mod LoadLemmas
+pub mod ItemLemmas

@@ -1,19 +1,18 @@
 -- A run by the entries of a chunk: from one entry to a later one, and past what is there.
-use Rattle.std.proofs.Common.{◌≡◌, ℕ, zero, suc, ◌+◌, ◌-◌, ◌*◌, ◌/◌, ◌<◌, ◌≤◌, ◌⊎◌, inl, inr, true, false, List, length, drop, get_or, slice_index, Some, refl, sym, ap, ap₂, subst, ◌∙◌, arith, min, length-drop, get_or-drop}
+use Rattle.std.proofs.Common.{◌≡◌, ℕ, zero, suc, ◌+◌, ◌-◌, ◌*◌, ◌<◌, ◌≤◌, ◌⊎◌, inl, inr, List, length, drop, get_or, slice_index, refl, sym, ap, subst, ◌∙◌, arith, get_or-drop}
 use Rattle.std.specs.Int.{bit_at}
 use Rattle.std.proofs.lemmas.Nat.Bits.{bit_at-lt, bit_at-zero}
 use Rattle.logos_automaton.specs.Munch.{matched}
-use Rattle.logos_hir.specs.Text.{IsBytes}
 use Rattle.logos_code.specs.Code.{CodeValue}
 use Rattle.logos_code.specs.Rows.{IsUse}
 use Rattle.logos_code.specs.declared.code.rows.MatchUse.{MatchUse}
 use Rattle.logos_code.specs.declared.code.rows.MatchUse.TheVariants.{Emits, Skips, Asks}
-use Rattle.logos_fold.specs.Folds.{AreFolded, IsFolded, EndsAs, Goes, HasUse, leaf_of}
+use Rattle.logos_fold.specs.Folds.{AreFolded, IsFolded, EndsAs, HasUse, leaf_of}
 use Rattle.logos_machine.specs.inside.Looks.{Tried}
 use Rattle.logos_scan.specs.Tries.{StandsIn, SkipsTo, skips_none, skips_then}
 use Rattle.logos_scan.proofs.TryLemmas.{stands_begun, stands_goes, tried_ends}
-use Rattle.logos_walk.specs.Cursor.{token_bit, end_bit, NoToken, NoEnd, IsLastEnd, StartsAt}
-use Rattle.logos_walk.specs.Walk.{Walked, entry_at, place_of}
+use Rattle.logos_walk.specs.Cursor.{token_bit, end_bit, NoToken, IsLastEnd, StartsAt}
+use Rattle.logos_walk.specs.Walk.{Walked, place_of}
 use Rattle.logos_walk.proofs.CursorLemmas.{ways, starts_join}
 use Rattle.logos_walk.proofs.WalkLemmas.{walked_rest}
 

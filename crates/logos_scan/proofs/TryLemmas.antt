@@ -1,5 +1,5 @@
 -- A try by folded entries.
-use Rattle.std.proofs.Common.{◌≡◌, ℕ, suc, ◌+◌, ◌-◌, ◌*◌, ◌/◌, ◌<◌, ◌≤◌, inl, inr, ⊎_elim, true, false, List, length, drop, get_or, Option, Some, None, slice_get, refl, sym, ap, subst, ◌∙◌, arith}
+use Rattle.std.proofs.Common.{◌≡◌, ℕ, suc, ◌+◌, ◌*◌, ◌<◌, ◌≤◌, inl, inr, true, false, List, length, drop, get_or, Option, Some, None, refl, sym, subst, arith}
 use Rattle.std.proofs.lemmas.Option.{slice_get-get_or}
 use Rattle.logos_automaton.specs.Munch.{matched}
 use Rattle.logos_code.specs.Code.{CodeValue}
@@ -12,7 +12,7 @@ use Rattle.logos_code.specs.declared.code.rows.MatchUse.{MatchUse}
 use Rattle.logos_code.specs.declared.code.rows.Step.{Step}
 use Rattle.logos_code.specs.declared.code.rows.Step.TheVariants.{Leads, Halts, Looks}
 use Rattle.logos_fold.specs.Folds.{Goes, EndsAs, leaf_of}
-use Rattle.logos_machine.specs.inside.Looks.{Comes, Sees, Tried}
+use Rattle.logos_machine.specs.inside.Looks.{Sees, Tried}
 use Rattle.logos_machine.proofs.LookLemmas.{loops_no, loops_on, sees_byte}
 use Rattle.logos_machine.proofs.StandLemmas.{stands_next, stands_match}
 use Rattle.logos_machine.proofs.WalkLemmas.{comes_first}

@@ -3,4 +3,5 @@
 #![tactic(auto)]
 
 mod attempt;
+mod items;
 pub mod run;

@@ -1,14 +1,17 @@
 //! Tries of an input, one after the other, by the entries of a chunk.
 
 ghost use Rattle.std.specs.Prelude.{◌≡◌, ◌+◌, ◌<◌, ◌≤◌, length, MatchOption};
-ghost use Rattle.logos_scan.specs.Words.{IsBytes, IsPlace, StandsIn};
-ghost use Rattle.logos_scan.specs.Views.{IsFlagged, IsHeld, IsLoaded, IsOver, IsReading, IsReady, IsRun, IsTaken};
+ghost use Rattle.logos_scan.specs.Words.{IsBytes, IsPlace, StandsIn, answers_of, item_of};
+ghost use Rattle.logos_scan.specs.Views.{EndsItems, GivesItem, IsFlagged, IsHeld, IsLoaded, IsOver, IsReading, IsReady, IsRun, IsTaken};
 
 use crate::attempt::{Found, attempt_with_marks};
+use crate::items::{error, matched_item, token};
+use logos_code::action::Action;
 use logos_code::code::Code;
 use logos_fold::entries::CALLS;
 use logos_fold::folded::Folded;
 use logos_hir::leaf::LeafId;
+use logos_machine::machine::Item;
 use logos_token::token::Span;
 use logos_walk::blocks::walk_chunk;
 use logos_walk::cursor::Cursor;
@@ -257,6 +260,38 @@ impl Run {
             Taken::Emits(leaf, span)
         } else {
             Taken::Asks(leaf, span)
+        }
+    }
+
+    /// Returns the next item, or `None` at the end of the input, and on every later call: what a
+    /// lexer returns with this callback, which is called for each match of a leaf that has one.
+    #[inline(always)]
+    pub fn next_item<'i, C: Fn(LeafId, &[u8]) -> Action>(
+        &mut self,
+        reading: &Reading<'_, '_, 'i>,
+        callback: &C,
+    ) -> Option<Item<'i>>
+        requires callable { C.IsAlwaysCallable callback.now }
+        requires reading { IsReading reading.now }
+        requires ready { IsReady reading.now self.old }
+        ensures ready { IsReady reading.now self.new }
+        ensures item { MatchOption result
+            (EndsItems (answers_of C.Fn callback.now) reading.now callback.now self.old self.new)
+            (λ i. GivesItem (answers_of C.Fn callback.now) reading.now callback.now self.old self.new
+            (item_of i)) }
+    {
+        loop {
+            match self.next(reading) {
+                Taken::Emits(leaf, span) => return Some(token(reading.input, leaf, span)),
+                Taken::Asks(leaf, span) => {
+                    let (code, input) = (reading.code, reading.input);
+                    if let Some(item) = matched_item(code, input, callback, leaf, span) {
+                        return Some(item);
+                    }
+                }
+                Taken::Fails(span) => return Some(error(reading.input, span)),
+                Taken::Ends => return None,
+            }
         }
     }
 }

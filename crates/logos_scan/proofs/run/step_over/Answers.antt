@@ -1,4 +1,4 @@
-use Rattle.std.proofs.Common.{◌≡◌, ◌+◌, ◌≤◌, ◌∙◌, drop, length, refl, inr, arith}
+use Rattle.std.proofs.Common.{◌+◌, ◌≤◌, ◌∙◌, drop, length, refl, inr, arith}
 use Rattle.std.proofs.lemmas.List.{get_or-replicate}
 use Rattle.logos_scan.proofs.LoadLemmas.{walked_text, rest_there, rest_long, part_there}
 use Rattle.logos_scan.proofs.run.step_over.Goals as goal

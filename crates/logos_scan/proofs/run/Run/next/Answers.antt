@@ -1,4 +1,4 @@
-use Rattle.std.proofs.Common.{◌≡◌, ℕ, ◌+◌, ◌<◌, min, slice_index, bit_and, refl, subst, sym, arith}
+use Rattle.std.proofs.Common.{◌≡◌, ℕ, ◌+◌, min, slice_index, refl, subst, sym, arith}
 use Rattle.logos_scan.specs.Runs.{IsRun}
 use Rattle.logos_scan.proofs.LoadLemmas.{bytes_at, calls_not, found_match, found_next, found_use, is_ended, leaf_is, moved, taken_after}
 use Rattle.logos_walk.specs.declared.cursor.Cursor.{Cursor}

@@ -1,4 +1,4 @@
-use Rattle.std.proofs.Common.{◌≡◌, ◌+◌, ◌-◌, ◌/◌, ◌<◌, ◌≤◌, inl, inr, take, drop, length, sym, refl, subst, rules, arith}
+use Rattle.std.proofs.Common.{◌≡◌, ◌+◌, ◌-◌, ◌/◌, ◌<◌, inl, inr, take, drop, length, sym, refl, subst, rules, arith}
 use Rattle.logos_walk.specs.Walk.{Walked}
 use Rattle.logos_scan.proofs.LoadLemmas.{walked_text, walked_suffix, rest_there, rest_long, marks_beside, repaired_run}
 use Rattle.logos_scan.proofs.run.Run.repair_from.Goals as goal

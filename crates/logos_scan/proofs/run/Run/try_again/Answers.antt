@@ -1,6 +1,3 @@
-use Rattle.std.proofs.Common.{ap, arith}
-use Rattle.logos_automaton.specs.Munch.{ended, matched, failed}
-use Rattle.logos_machine.specs.inside.Looks.{Tried}
 use Rattle.logos_scan.specs.Tries.{skips_none}
 use Rattle.logos_scan.proofs.run.Run.try_again.Goals as goal
 
