@@ -1,19 +1,17 @@
 -- Where a try goes, and the entries that say it.
-use Rattle.std.proofs.Common.{◌≡◌, ◌≢◌, ℕ, ◌+◌, ◌-◌, ◌*◌, ◌/◌, ◌%◌, ◌<◌, ◌≤◌, ◌⊎◌, inl, inr, ⊎_elim, true, false, List, ◌++◌, length, length-append, length-set, set, get_or-set_same, get_or-set_other, get_or-append-add, replicate, Some, refl, sym, ap, subst, ◌∙◌, arith, slice_get, slice_index, bit_and}
+use Rattle.std.proofs.Common.{◌≡◌, ◌≢◌, ℕ, ◌+◌, ◌-◌, ◌*◌, ◌%◌, ◌<◌, ◌≤◌, ◌⊎◌, inl, inr, ⊎_elim, true, false, List, ◌++◌, length, length-append, set, get_or-set_same, get_or-set_other, get_or-append-add, replicate, Some, refl, sym, ap, subst, ◌∙◌, arith, slice_index}
 use Rattle.std.proofs.lemmas.List.{get_or_append_left, get_or-replicate}
 use Rattle.std.proofs.lemmas.Nat.{and_mask}
 use Rattle.std.proofs.lemmas.Option.{slice_get-get_or}
-use Rattle.std.specs.Int.{bit_at}
 use Rattle.logos_code.specs.Code.{CodeValue}
 use Rattle.logos_code.specs.CodeView.{state_at, no_state}
 use Rattle.logos_code.specs.Headline.{IsSound, NamesWhatIsThere}
-use Rattle.logos_code.specs.Rows.{Says}
 use Rattle.logos_code.specs.Runs.{stays, target}
 use Rattle.logos_code.specs.declared.code.rows.MatchUse.{MatchUse}
 use Rattle.logos_code.specs.declared.code.rows.MatchUse.TheVariants.{Emits, Skips, Asks}
 use Rattle.logos_code.proofs.TargetLemmas.{All-slice_get, target_there}
 use Rattle.logos_walk.specs.Walk.{place_of}
-use Rattle.logos_fold.specs.Folds.{Goes, IsEnded, IsFew, IsFolded, IsFoldedRow, IsWithin, HasUse, EndsAs, flags_of, leaf_of}
+use Rattle.logos_fold.specs.Folds.{Goes, IsEnded, IsFew, IsFolded, IsFoldedRow, IsWithin, flags_of}
 
 -- a state is small
 pub small : (code : CodeValue) (s : ℕ) → IsFew code → s < length code.states → 272 * s + 272 ≤ 1048576

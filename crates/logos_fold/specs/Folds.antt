@@ -1,5 +1,5 @@
 -- What folded rows say of a code.
-use Rattle.std.specs.Prelude.{◌≡◌, ℕ, ◌+◌, ◌*◌, ◌/◌, ◌%◌, ◌<◌, ◌≤◌, ◌⊎◌, true, false, List, length, Some, slice_index, bit_and}
+use Rattle.std.specs.Prelude.{◌≡◌, ℕ, ◌+◌, ◌*◌, ◌/◌, ◌%◌, ◌<◌, ◌≤◌, ◌⊎◌, true, false, List, length, Some, slice_index}
 use Rattle.logos_walk.specs.Walk.{IsClosed, place_of}
 use Rattle.std.specs.Int.{bit_at}
 use Rattle.logos_code.specs.Code.{CodeValue}

@@ -1,15 +1,15 @@
 -- A cursor at an entry, at the word after an empty one, and after a bit.
-use Rattle.std.proofs.Common.{◌≡◌, ℕ, ◌+◌, ◌-◌, ◌*◌, ◌/◌, ◌%◌, ◌^◌, ◌<◌, ◌≤◌, ◌⊎◌, inl, inr, List, slice_index, sym, ap, subst, ◌∙◌, refl, arith, bit_and, min, w64, suc}
+use Rattle.std.proofs.Common.{◌≡◌, ℕ, ◌+◌, ◌-◌, ◌*◌, ◌%◌, ◌^◌, ◌<◌, ◌≤◌, ◌⊎◌, inl, inr, List, sym, ap, subst, ◌∙◌, refl, arith, bit_and, min, w64, suc}
 use Rattle.std.proofs.Math.Nat.{pow-suc}
 use Rattle.std.proofs.lemmas.Nat.{leading_top}
 use Rattle.std.proofs.lemmas.Nat.Bits.{bit_at_and, bit_at-zero, bit_at-trailing_zeros, bit_at_clear_same, bit_at_clear_other, bit_at_ones, bit_at_ones_above, bit_at_mask_inside, bit_at_mask_below, bit_at_above, bit_at_cat_high, bit_at-lt}
 use Rattle.std.proofs.lemmas.Grind.{one_shifted}
 use Rattle.std.specs.Int.{bit_at, bit_not, trailing_zeros}
 use Rattle.std.specs.Int.Count.{count_leading_zeros}
-use Rattle.logos_walk.specs.Masks.{Marks, MarksFrom}
+use Rattle.logos_walk.specs.Masks.{MarksFrom}
 use Rattle.logos_walk.specs.declared.cursor.Cursor.{Cursor}
 use Rattle.logos_walk.specs.Cursors.{Passes}
-use Rattle.logos_walk.specs.Cursor.{token_bit, end_bit, NoToken, NoEnd, IsNext, IsLastEnd, StartsAt, IsLeft, IsUnder, Awaits}
+use Rattle.logos_walk.specs.Cursor.{token_bit, end_bit, NoToken, IsNext, IsLastEnd, StartsAt, IsLeft, IsUnder}
 
 pub ways : (a b : ℕ) → (a < b) ⊎ (b ≤ a)
 ways a b = grind arith

@@ -1,5 +1,4 @@
 use Rattle.std.proofs.Common.{arith}
-use Rattle.logos_code.specs.CodeView.{state_at}
 use Rattle.logos_fold.proofs.FoldLemmas.{goes_target, target_small}
 use Rattle.logos_fold.proofs.entries.place_after.Goals as goal
 

@@ -1,4 +1,3 @@
-use Rattle.std.proofs.Common.{refl, inl, arith}
 use Rattle.logos_walk.proofs.CursorLemmas.{passes_none, passes_on}
 use Rattle.logos_walk.proofs.cursor.Cursor.filled.Goals as goal
 
