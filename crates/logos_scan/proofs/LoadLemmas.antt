@@ -73,9 +73,9 @@ root_is_place code rows folded =
 
 -- a run from what was loaded
 pub loaded_run : (code : CodeValue) (rows input : List ℕ) (run : Run) (base place : ℕ) (entries : List ℕ) (loaded : Loaded) → IsLoaded rows input base place entries loaded →
-    run.chunk.entries ≡ entries → run.cursor.base ≡ base → run.count ≡ loaded.count → run.place ≡ loaded.place → IsMarked run.chunk → Stands run.chunk.entries run.cursor → HasRoom base →
+    run.chunk.entries ≡ entries → run.cursor.base ≡ base → run.count ≡ loaded.count → run.place ≡ loaded.place → run.low ≡ 0 → IsMarked run.chunk → Stands run.chunk.entries run.cursor → HasRoom base →
     StandsIn code input run.cursor.start base place → IsRun code rows input run 0
-loaded_run code rows input run base place entries loaded l ee eb ec ep marked stands room s =
+loaded_run code rows input run base place entries loaded l ee eb ec ep el marked stands room s =
     let within = l.within in
     let few = l.few in
     let zero : base ≡ run.cursor.base + 0 = omega (arith, eb) in
@@ -89,6 +89,7 @@ loaded_run code rows input run base place entries loaded l ee eb ec ep marked st
         marked = marked;
         cursor = stands;
         room = omega (arith, room, eb);
+        whole = (place, rw (ee, eb, ec, ep, el) l.walked);
       };
       near = omega arith;
       before = place;
@@ -107,14 +108,15 @@ marks_beside flag from stop words old new w word same le out m i l =
 
 -- a run that was stepped over again from an entry on
 pub repaired_run : (code : CodeValue) (rows input : List ℕ) (old run : Run) (from stop : ℕ) (entries : List ℕ) → AreFolded code rows → IsChunk rows input old →
-    run.chunk.entries ≡ entries → run.cursor.base ≡ old.cursor.base → run.cursor.start ≡ old.cursor.base + from → run.count ≡ old.count → from ≤ old.count → stop ≤ old.count →
+    run.chunk.entries ≡ entries → run.cursor.base ≡ old.cursor.base → run.cursor.start ≡ old.cursor.base + from → run.count ≡ old.count → run.low ≡ from → from ≤ old.count → stop ≤ old.count →
     IsSameBeside from stop old.chunk.entries entries → IsMarked run.chunk → Stands run.chunk.entries run.cursor → IsPlace rows run.place →
     Walked rows (take (length input - old.cursor.base) (drop old.cursor.base input)) (272 * code.root) entries from old.count run.place → IsRun code rows input run from
-repaired_run code rows input old run from stop entries folded c ee eb es ec le ls same marked stands stays w =
+repaired_run code rows input old run from stop entries folded c ee eb es ec el le ls same marked stands stays w =
     let within = c.within in
     let few = c.few in
     let past : old.cursor.base + from ≤ length input = omega (arith, within, le) in
     let there = stands_begun code folded.sound input (old.cursor.base + from) past in
+    let there_walked = (walked_text rows _ (drop old.cursor.base input) (272 * code.root) entries from old.count run.place (λ j h. rest_there input old.cursor.base j (omega (arith, h, within))) w) in
     record {
       in_chunk = record {
         within = omega (arith, eb, ec, within);
@@ -125,16 +127,17 @@ repaired_run code rows input old run from stop entries folded c ee eb es ec le l
         marked = marked;
         cursor = stands;
         room = (let room = c.room in omega (arith, room, eb));
+        whole = (272 * code.root, rw (ee, eb, ec, el) there_walked);
       };
       near = omega (arith, le, ec);
       before = 272 * code.root;
       stands = rw (es, eb) there;
-      walked = rw (ee, eb, ec) (walked_text rows _ (drop old.cursor.base input) (272 * code.root) entries from old.count run.place (λ j h. rest_there input old.cursor.base j (omega (arith, h, within))) w);
+      walked = rw (ee, eb, ec) there_walked;
     }
 
 -- the run with another cursor
 abbrev pub moved : Run → Cursor → Run
-moved run cursor = record { chunk = run.chunk; cursor = cursor; count = run.count; place = run.place }
+moved run cursor = record { chunk = run.chunk; cursor = cursor; count = run.count; place = run.place; low = run.low }
 
 -- skipped, and then skipped again
 pub skips_join : (code : CodeValue) (bytes : List ℕ) (from mid to : ℕ) → SkipsTo code bytes from mid → SkipsTo code bytes mid to → SkipsTo code bytes from to
@@ -184,6 +187,7 @@ module _ (code : CodeValue) (rows : List ℕ) (folded : AreFolded code rows) (in
               marked = c.marked;
               cursor = stands;
               room = (let room = c.room in omega (arith, room, same_base));
+              whole = (c.whole.0, rw same_base c.whole.1);
             };
             near = near;
             before = l.place;
@@ -272,6 +276,7 @@ module _ (code : CodeValue) (rows : List ℕ) (folded : AreFolded code rows) (in
             marked = c.marked;
             cursor = stands;
             room = (let room = c.room in omega (arith, room, eb));
+            whole = (c.whole.0, rw eb c.whole.1);
           };
           near = omega (arith, inside);
           before = place_of entry;

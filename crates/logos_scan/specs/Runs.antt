@@ -33,7 +33,7 @@ pub record IsLoaded (rows input : List ℕ) (base place : ℕ) (entries : List �
   pub stays : IsPlace rows loaded.place
   pub rest : IsEmptyFrom loaded.count entries
 
--- A run has a chunk of the input, with its flags.
+-- A run has a chunk of the input, with its flags. From one entry on, its entries are those of a walk.
 pub record IsChunk (rows input : List ℕ) (run : Run) : Type 0 where
   pub within : run.cursor.base + run.count ≤ length input
   pub few : run.count ≤ 4096
@@ -43,6 +43,7 @@ pub record IsChunk (rows input : List ℕ) (run : Run) : Type 0 where
   pub marked : IsMarked run.chunk
   pub cursor : Stands run.chunk.entries run.cursor
   pub room : HasRoom run.cursor.base
+  pub whole : (place : ℕ) × Walked rows (drop run.cursor.base input) place run.chunk.entries run.low run.count run.place
 
 -- Its try stands before the byte of entry `at`, from where on the entries are those of a walk.
 pub record IsRun (code : CodeValue) (rows input : List ℕ) (run : Run) (at : ℕ) : Type 0 where

@@ -69,6 +69,8 @@ pub struct Run {
     pub cursor: Cursor,
     pub count: usize,
     pub place: usize,
+    /// The first entry of those that one walk wrote.
+    pub low: usize,
 }
 
 /// Does nothing. A call says that what stands in a slice of bytes are bytes.
@@ -119,6 +121,7 @@ impl Run {
             cursor,
             count: loaded.count,
             place: loaded.place,
+            low: 0,
         }
     }
 
@@ -139,6 +142,7 @@ impl Run {
         self.cursor = Cursor::new(&self.chunk, base, start, 0);
         self.count = loaded.count;
         self.place = loaded.place;
+        self.low = 0;
     }
 
     /// Begins a try at an entry of the chunk that is not passed, and steps again over the bytes
@@ -146,7 +150,7 @@ impl Run {
     fn repair_from(&mut self, reading: &Reading, from: usize)
         requires reading { IsReading reading.now }
         requires held { IsHeld reading.now self.old }
-        requires left { self.old.cursor.from ≤ from }
+        requires left { self.old.low < from }
         requires inside { from < self.old.count }
         ensures run { IsRun reading.now.code.now reading.now.rows.now reading.now.input.now
             self.new from }
@@ -166,6 +170,7 @@ impl Run {
         self.chunk.mark(from / 64, (repaired.stop + 63) / 64);
         self.cursor = Cursor::new(&self.chunk, base, base + from, from);
         self.place = repaired.place;
+        self.low = from;
     }
 
     /// Begins a try at a point of the input.
@@ -177,7 +182,7 @@ impl Run {
         ensures start { self.new.cursor.start ≡ to }
     {
         let base = self.cursor.base;
-        if to >= base + self.cursor.from && to < base + self.count {
+        if to > base && to - base > self.low && to - base < self.count {
             self.repair_from(reading, to - base);
         } else {
             self.fill(reading, to, to, reading.code.root_place());

@@ -17,6 +17,6 @@ returns-clause-ready c =
     let none : 0 ≤ length input = omega arith in
     let begun = stands_begun code c.requires.reading.sound input 0 none in
     let stands : StandsIn code input c.new-cursor.result.start 0 c.root_place.result = rw (cur.start, c.root_place.ensures.place) begun in
-    let run : Run = record { chunk = c.mark.new.self; cursor = c.new-cursor.result; count = l.result.count; place = l.result.place } in
+    let run : Run = record { chunk = c.mark.new.self; cursor = c.new-cursor.result; count = l.result.count; place = l.result.place; low = 0 } in
     subst (λ (k : ℕ). IsRun code rows input run k) (sym zero)
-    (loaded_run code rows input run 0 c.root_place.result l.new.entries l.result l.ensures c.mark.ensures.entries cur.base refl refl c.mark.ensures.marked cur.stands (omega arith) stands)
+    (loaded_run code rows input run 0 c.root_place.result l.new.entries l.result l.ensures c.mark.ensures.entries cur.base refl refl refl c.mark.ensures.marked cur.stands (omega arith) stands)

@@ -1,4 +1,4 @@
-use Rattle.std.proofs.Common.{◌≡◌, ◌+◌, ◌-◌, ◌/◌, ◌<◌, inl, inr, take, drop, length, sym, refl, subst, rules, arith}
+use Rattle.std.proofs.Common.{◌≡◌, ◌+◌, ◌-◌, ◌/◌, take, drop, length, sym, refl, subst, rules, arith}
 use Rattle.logos_walk.specs.Walk.{Walked}
 use Rattle.logos_scan.proofs.LoadLemmas.{walked_text, walked_suffix, rest_there, rest_long, marks_beside, repaired_run}
 use Rattle.logos_scan.proofs.run.Run.repair_from.Goals as goal
@@ -14,18 +14,13 @@ repair-repaired-requires-clause-holds c =
     let within = ch.within in
     let few = ch.few in
     let inside = c.requires.inside in
-    let left = c.requires.left in
-    let before : h.at < c.args.from = elim h.passed [
-      | inl p ↦ omega (arith, p.1, left)
-      | inr p ↦ absurd (omega (arith, p.1, left, inside))
-    ] in
     let long : length run.chunk.entries ≡ 4096 = search rules in
     record {
       order = omega (arith, inside);
       in_text = omega (arith, rest_long input base, within);
       in_trace = omega (arith, long, few);
       walked = walked_text c.args.reading.now.rows.now (drop base input) _ _ run.chunk.entries c.args.from run.count run.place (λ j l. sym (rest_there input base j (omega (arith, l, within))))
-          (walked_suffix c.args.reading.now.rows.now (drop base input) r.before run.chunk.entries h.at c.args.from run.count run.place before (omega (arith, inside)) r.walked);
+          (walked_suffix c.args.reading.now.rows.now (drop base input) ch.whole.0 run.chunk.entries run.low c.args.from run.count run.place c.requires.left (omega (arith, inside)) ch.whole.1);
       stays = ch.stays;
     }
 
@@ -52,5 +47,5 @@ returns-clause-run c =
     let rep = c.repair-repaired in
     let e = rep.ensures in
     let cur = c.new-self.ensures in
-    repaired_run code rows input run _ c.args.from rep.result.stop rep.new.trace c.requires.reading r.in_chunk c.mark.ensures.entries cur.base cur.start refl (omega (arith, c.requires.inside)) e.within
+    repaired_run code rows input run _ c.args.from rep.result.stop rep.new.trace c.requires.reading r.in_chunk c.mark.ensures.entries cur.base cur.start refl refl (omega (arith, c.requires.inside)) e.within
     e.beside c.mark.ensures.marked cur.stands e.stays (subst (λ p. Walked rows (take (length input - run.cursor.base) (drop run.cursor.base input)) p rep.new.trace c.args.from run.count rep.result.place) c.root_place-root.ensures.place e.walked)
