@@ -33,7 +33,8 @@ pub record IsLoaded (rows input : List ℕ) (base place : ℕ) (entries : List �
   pub stays : IsPlace rows loaded.place
   pub rest : IsEmptyFrom loaded.count entries
 
--- A run has a chunk of the input, with its flags. From one entry on, its entries are those of a walk.
+-- A run has a chunk of the input, with its flags. From one entry on, its entries are those of a
+-- walk.
 pub record IsChunk (rows input : List ℕ) (run : Run) : Type 0 where
   pub within : run.cursor.base + run.count ≤ length input
   pub few : run.count ≤ 4096
