@@ -38,7 +38,7 @@ USED_IN = {
     "place, outside of graphs": """
 logos_automaton logos_byte_class logos_code logos_codegen logos_generator logos_graph logos_inspect logos_machine logos_places logos_warnings logos_reduce logos_tables logos_text
 logos_cli logos_commands logos_disk logos_host logos_report logos_show logos_program logos_type_reader tests/calls
-logos_derive logos_expansion logos_layout logos_messages logos_pieces logos_placeholder logos_spelling logos_written logos_search
+logos_derive logos_expansion logos_layout logos_messages logos_pieces logos_placeholder logos_spelling logos_written logos_search logos_walk logos_fold logos_scan
 """.split()
 }
 # Each entry of the glossary's last table: the words in a name, and the pattern in a sentence.

@@ -1,0 +1,159 @@
+//! Entries of folded rows.
+
+ghost use Rattle.std.specs.Prelude.{◌≡◌, ◌+◌, ◌<◌, false, length, IfSome};
+ghost use Rattle.logos_fold.specs.Words.{first_halting, flags_of, place_of, state_at, stays, Goes, IsEnded, IsFew, IsFolded, IsFoldedRow, IsSound, IsStepOf, IsWithin, LeadsToPlace, Says};
+
+use logos_code::code::Code;
+use logos_code::code::rows::{
+    ASKS, ASKS_AFTER, CLOSES, HALTS, LATE, LEAVES, MatchUse, SHUTS, STAYS, STUCK, Step, UNSAID,
+    WIDTH,
+};
+use logos_hir::leaf::LeafId;
+use logos_walk::walk::{ENDED, TOKEN};
+
+/// The flag of an entry before whose byte a match ends that may be up to a callback.
+pub const CALLS: u32 = 1 << 29;
+
+/// How many leaves entries can name.
+const LEAVES_NAMED: usize = 512;
+
+/// What the number of a leaf is multiplied by in an entry.
+const LEAF: u32 = 1 << 20;
+
+/// Returns the step for which the entry of a code stands.
+fn step_of(entry: u32) -> Step
+    requires { LeadsToPlace entry }
+    ensures { IsStepOf entry result }
+{
+    match entry {
+        0..STAYS => Step::Leads(entry as usize / WIDTH),
+        STAYS..LEAVES => Step::Stays((entry - STAYS) as usize),
+        LEAVES..HALTS => before(entry - LEAVES, MatchUse::Skips),
+        HALTS..CLOSES => before(entry - HALTS, MatchUse::Emits),
+        CLOSES..SHUTS => Step::Closes(LeafId((entry - CLOSES) as usize), MatchUse::Emits),
+        SHUTS..ASKS => Step::Closes(LeafId((entry - SHUTS) as usize), MatchUse::Skips),
+        ASKS..ASKS_AFTER => before(entry - ASKS, MatchUse::Asks),
+        ASKS_AFTER..STUCK => Step::Closes(LeafId((entry - ASKS_AFTER) as usize), MatchUse::Asks),
+        STUCK..UNSAID => Step::Stuck,
+        _ => Step::Unsaid,
+    }
+}
+
+/// Returns the step of a match that ends before its byte, from the entry without its kind.
+fn before(named: u32, used: MatchUse) -> Step
+    requires { named < 268435456 }
+    ensures { IsStepOf (first_halting used + named) result }
+{
+    if named < LATE {
+        Step::Halts(LeafId(named as usize), used)
+    } else {
+        Step::Looks(LeafId((named - LATE) as usize), used)
+    }
+}
+
+/// Returns what the byte does in the state.
+fn step_at(code: &Code, state: usize, byte: u8) -> Step
+    requires few { IsFew code.now }
+    requires state { state < length code.now.states }
+    ensures { Says code.now (state_at code.now state) byte result }
+{
+    step_of(code.entry(WIDTH * state, byte))
+}
+
+/// Returns the place of the state in which a try stands after the byte, if it is known that the
+/// byte keeps the try going.
+fn place_after(code: &Code, state: usize, byte: u8) -> Option<usize>
+    requires few { IsFew code.now }
+    requires sound { IsSound code.now }
+    requires state { state < length code.now.states }
+    ensures { IfSome result (Goes code.now state byte) }
+{
+    match step_at(code, state, byte) {
+        Step::Leads(next) => Some(WIDTH * next),
+        Step::Stays(_) => Some(WIDTH * state),
+        Step::Closes(..) => place_of_target(code, state, byte),
+        _ => None,
+    }
+}
+
+/// Returns the place of the state to which the byte leads.
+fn place_of_target(code: &Code, state: usize, byte: u8) -> Option<usize>
+    requires few { IsFew code.now }
+    requires sound { IsSound code.now }
+    requires state { state < length code.now.states }
+    requires out { stays code.now (state_at code.now state).fast_loop byte ≡ false }
+    ensures { IfSome result (Goes code.now state byte) }
+{
+    match code.target(state, byte) {
+        Some(next) => Some(WIDTH * next),
+        None => None,
+    }
+}
+
+/// Returns the flags of an entry before whose byte a match ends.
+fn flags(used: MatchUse) -> u32
+    ensures { result ≡ flags_of used }
+{
+    match used {
+        MatchUse::Emits => ENDED + TOKEN,
+        MatchUse::Skips => ENDED,
+        MatchUse::Asks => ENDED + TOKEN + CALLS,
+    }
+}
+
+/// Returns the entry of a byte before which a match ends, and after which the next try stands at
+/// the place.
+fn ended(leaf: LeafId, used: MatchUse, place: usize) -> u32
+    requires leaf { leaf.0 < 512 }
+    requires place { place < 1048576 }
+    ensures { IsEnded result leaf.0 used place }
+{
+    flags(used) + LEAF * leaf.0 as u32 + place as u32
+}
+
+/// Returns the entry of a byte that does not keep the try going, from the place after the byte in a
+/// new try.
+fn fold_end(code: &Code, state: usize, byte: u8, place: usize) -> u32
+    requires few { IsFew code.now }
+    requires state { state < length code.now.states }
+    requires place { Goes code.now code.now.root byte place }
+    ensures folded { IsFolded code.now state byte result }
+    ensures within { IsWithin code.now (place_of result) }
+{
+    match step_at(code, state, byte) {
+        Step::Halts(leaf, used) if leaf.0 < LEAVES_NAMED => ended(leaf, used, place),
+        Step::Looks(leaf, used) if leaf.0 < LEAVES_NAMED => ended(leaf, used, place),
+        _ => TOKEN + place as u32,
+    }
+}
+
+/// Returns the folded entry of the byte in the state.
+fn fold(code: &Code, state: usize, byte: u8) -> u32
+    requires few { IsFew code.now }
+    requires sound { IsSound code.now }
+    requires state { state < length code.now.states }
+    ensures folded { IsFolded code.now state byte result }
+    ensures within { IsWithin code.now (place_of result) }
+{
+    if let Some(place) = place_after(code, state, byte) {
+        return place as u32;
+    }
+    match place_after(code, code.root(), byte) {
+        Some(place) => fold_end(code, state, byte, place),
+        None => TOKEN,
+    }
+}
+
+/// Returns the folded entries of all bytes in the state.
+pub(crate) fn row_of(code: &Code, state: usize) -> [u32; 272]
+    requires few { IsFew code.now }
+    requires sound { IsSound code.now }
+    requires state { state < length code.now.states }
+    ensures { IsFoldedRow code.now state result }
+{
+    let mut row = [0; 272];
+    for b in 0..256 {
+        row[b] = fold(code, state, b as u8);
+    }
+    row
+}

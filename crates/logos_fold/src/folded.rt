@@ -1,0 +1,88 @@
+//! The folded rows of a code.
+
+ghost use Rattle.std.specs.Prelude.{◌≡◌, IfOk, IfSome, length};
+ghost use Rattle.logos_fold.specs.Words.{AreFolded, IsFew};
+
+use crate::entries::row_of;
+use logos_code::code::Code;
+use logos_code::code::rows::WIDTH;
+use std::alloc::{AllocError, Global};
+use std::marker::Model;
+
+/// How many entries folded rows can have.
+const ENTRIES: usize = 1 << 20;
+
+/// A code with its folded rows. `rows` describes the entries.
+#[derive(Drop)]
+pub struct Folded<'c, 's> {
+    code: &'c Code<'s>,
+    rows: Vec<u32>,
+}
+
+impl<'c, 's> Model for Folded<'c, 's> {
+    ghost use Rattle.std.specs.Prelude.{[]};
+    ghost use Rattle.logos_fold.specs.Words.{codes, named, AreFolded, FoldedValue};
+    ghost use Rattle.logos_type.specs.contracts.type_expr.Part as p;
+
+    ghost Value = { FoldedValue };
+
+    ghost coded = { Prim.hlevel (codes, (p.the_row (record { mir = named 1; lft = [] })).coded) };
+
+    ghost view = { λ f. record { code = f.code.now; rows = f.rows.items } };
+
+    ghost invariant = { λ f. AreFolded f.code.now f.rows.items };
+}
+
+impl<'c, 's> Folded<'c, 's> {
+    /// Folds the rows of a code. Returns `None` if it has more states than folded entries can name:
+    /// more than 3,855.
+    ///
+    /// # Errors
+    ///
+    /// Returns `AllocError` if memory runs out.
+    pub fn new(alloc: Global, code: &'c Code<'s>) -> Result<Option<Folded<'c, 's>>, AllocError>
+        ensures { IfOk result (λ o. IfSome o (λ folded. folded.code ≡ code.now)) }
+    {
+        let states = code.parts().states.len();
+        if states > ENTRIES / WIDTH {
+            return Ok(None);
+        }
+        let rows = fold_rows(alloc, code, states)?;
+        Ok(Some(Folded { code, rows }))
+    }
+
+    /// Returns the code.
+    pub fn code(&self) -> &'c Code<'s>
+        ensures { result.now ≡ self.now.code }
+    {
+        self.code
+    }
+
+    /// Returns the rows of all states, one after another, `WIDTH` entries each. What byte `b` does
+    /// in state `s` is entry `WIDTH * s + b`.
+    pub fn rows(&self) -> &[u32]
+        ensures rows { result.now ≡ self.now.rows }
+        ensures folded { AreFolded self.now.code self.now.rows }
+    {
+        &self.rows
+    }
+}
+
+/// Makes the folded rows of all states.
+///
+/// # Errors
+///
+/// Returns an error if memory runs out.
+fn fold_rows(alloc: Global, code: &Code, states: usize) -> Result<Vec<u32>, AllocError>
+    requires few { IsFew code.now }
+    requires states { states ≡ length code.now.states }
+    ensures { IfOk result (λ rows. AreFolded code.now rows.items) }
+{
+    // A call of `root` says that the code is sound.
+    let _ = code.root();
+    let mut rows = Vec::new(alloc);
+    for state in 0..states {
+        rows.extend_from_slice(&row_of(code, state))?;
+    }
+    Ok(rows)
+}

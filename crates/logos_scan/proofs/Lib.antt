@@ -1,0 +1,4 @@
+pub mod TryLemmas
+pub mod RunLemmas
+pub mod LoadLemmas
+pub mod ItemLemmas

@@ -1,0 +1,196 @@
+-- A run by the entries of a chunk: from one entry to a later one, and past what is there.
+use Rattle.std.proofs.Common.{◌≡◌, ℕ, zero, suc, ◌+◌, ◌-◌, ◌*◌, ◌<◌, ◌≤◌, ◌⊎◌, inl, inr, List, length, drop, get_or, slice_index, refl, sym, ap, subst, ◌∙◌, arith, get_or-drop}
+use Rattle.std.specs.Int.{bit_at}
+use Rattle.std.proofs.lemmas.Nat.Bits.{bit_at-lt, bit_at-zero}
+use Rattle.logos_automaton.specs.Munch.{matched}
+use Rattle.logos_code.specs.Code.{CodeValue}
+use Rattle.logos_code.specs.Rows.{IsUse}
+use Rattle.logos_code.specs.declared.code.rows.MatchUse.{MatchUse}
+use Rattle.logos_code.specs.declared.code.rows.MatchUse.TheVariants.{Emits, Skips, Asks}
+use Rattle.logos_fold.specs.Folds.{AreFolded, IsFolded, EndsAs, HasUse, leaf_of}
+use Rattle.logos_machine.specs.inside.Looks.{Tried}
+use Rattle.logos_scan.specs.Tries.{StandsIn, SkipsTo, skips_none, skips_then}
+use Rattle.logos_scan.proofs.TryLemmas.{stands_begun, stands_goes, tried_ends}
+use Rattle.logos_walk.specs.Cursor.{token_bit, end_bit, NoToken, IsLastEnd, StartsAt}
+use Rattle.logos_walk.specs.Walk.{Walked, place_of}
+use Rattle.logos_walk.proofs.CursorLemmas.{ways, starts_join}
+use Rattle.logos_walk.proofs.WalkLemmas.{walked_rest}
+
+-- the try that stands before an entry begins at one point
+pub starts_same : (base : ℕ) (trace : List ℕ) (from start at a b : ℕ) → StartsAt base trace from start at a → StartsAt base trace from start at b → a ≡ b
+starts_same base trace from start at a b one other = elim one [
+  | inl m ↦ elim other [
+    | inl n ↦ m.0 ∙ sym n.0
+    | inr n ↦ let l = n.1 in absurd (omega (arith, l.ended, m.1 n.0 l.after l.before))
+  ]
+  | inr m ↦ elim other [
+    | inl n ↦ let l = m.1 in absurd (omega (arith, l.ended, n.1 m.0 l.after l.before))
+    | inr n ↦ m.2 ∙ ap (λ k. base + k) (same m.0 n.0 m.1 n.1) ∙ sym n.2
+  ]
+]
+  where
+    three : (x y : ℕ) → (x < y) ⊎ ((x ≡ y) ⊎ (y < x))
+    three x y = grind arith
+
+    same : (x y : ℕ) → IsLastEnd trace from at x → IsLastEnd trace from at y → x ≡ y
+    same x y p q = elim (three x y) [
+      | inl l ↦ let e = q.ended in let b = q.before in absurd (omega (arith, e, p.none y (omega (arith, l)) b))
+      | inr (inl e) ↦ e
+      | inr (inr g) ↦ let e = p.ended in let b = p.before in absurd (omega (arith, e, q.none x (omega (arith, g)) b))
+    ]
+
+module _ (code : CodeValue) (rows : List ℕ) (folded : AreFolded code rows) (input : List ℕ) (are : (k : ℕ) → get_or input k 0 < 256) (base count last : ℕ) (entries : List ℕ)
+    (fits : base + count ≤ length input) where
+  -- a try stands before an entry, and the entries from there on are those of a walk
+  pub record Holds (start at place : ℕ) : Type 0 where
+    pub stands : StandsIn code input start (base + at) place
+    pub walked : Walked rows (drop base input) place entries at count last
+    pub starts : start ≤ length input
+
+  module _ (start at place : ℕ) (h : Holds start at place) (inside : at < count) where
+    abbrev entry : ℕ
+    entry = slice_index entries at
+
+    abbrev state : ℕ
+    state = h.stands.state
+
+    abbrev byte : ℕ
+    byte = get_or input (base + at) 0
+
+    -- the entry is that of its byte
+    is_folded : IsFolded code state byte entry
+    is_folded =
+        let s = h.stands in
+        let w = h.walked in
+        let stands = s.comes.stands in
+        let same : slice_index (drop base input) at ≡ byte = get_or-drop base input at 0 in
+        let row : slice_index (drop base input) at + place ≡ 272 * state + byte = omega (arith, same, s.is) in
+        let is : entry ≡ slice_index rows (272 * state + byte) = w.first inside ∙ ap (slice_index rows) row in
+        subst (IsFolded code state byte) (sym is) (folded.each state byte stands.state (are (base + at)))
+
+    within : base + at < length input
+    within = omega (arith, inside, fits)
+
+    rest : Walked rows (drop base input) (place_of entry) entries (at + 1) count last
+    rest = walked_rest rows (drop base input) place entries at count last inside h.walked
+
+    next_byte : (p : ℕ) → StandsIn code input start (base + at + 1) p → StandsIn code input start (base + (at + 1)) p
+    next_byte p s = let e : base + at + 1 ≡ base + (at + 1) = omega arith in subst (λ (k : ℕ). StandsIn code input start k p) e s
+
+    -- an entry without flags
+    pub holds_on : end_bit entries at ≡ 0 → token_bit entries at ≡ 0 → Holds start (at + 1) (place_of entry)
+    holds_on e t = record {
+      stands = next_byte (place_of entry) (stands_goes code folded.sound input start h.starts (base + at) place h.stands within (place_of entry) (let f = is_folded in f.goes e t));
+      walked = rest;
+      starts = h.starts;
+    }
+
+    -- one before whose byte a match ends
+    pub ends_as : end_bit entries at ≡ 1 → EndsAs code state byte entry
+    ends_as e = let f = is_folded in (f.ends e).0
+
+    pub tried : (e : end_bit entries at ≡ 1) → ((n : ℕ) × Tried code input start (matched (leaf_of entry) (base + at)) n) × IsUse code (leaf_of entry) (ends_as e).used
+    tried e = tried_ends code folded.sound input start h.starts (base + at) place h.stands within entry (ends_as e)
+
+    -- the next try begins there
+    pub holds_next : end_bit entries at ≡ 1 → Holds (base + at) (at + 1) (place_of entry)
+    holds_next e =
+        let f = is_folded in
+        let past : base + at ≤ length input = omega (arith, within) in
+        let s = stands_goes code folded.sound input (base + at) past (base + at) (272 * code.root) (stands_begun code folded.sound input (base + at) past) within (place_of entry) (f.ends e).1 in
+        record {
+          stands = (let e : base + at + 1 ≡ base + (at + 1) = omega arith in subst (λ (k : ℕ). StandsIn code input (base + at) k (place_of entry)) e s);
+          walked = rest;
+          starts = past;
+        }
+
+    -- it is skipped where there is nothing to do
+    skips : (e : end_bit entries at ≡ 1) → token_bit entries at ≡ 0 → IsUse code (leaf_of entry) Skips
+    skips e t = by_use (ends_as e).used ((ends_as e).has_use) (tried e).1
+      where
+        by_use : (used : MatchUse) → HasUse entry used → IsUse code (leaf_of entry) used → IsUse code (leaf_of entry) Skips
+        by_use Skips has is = is
+        by_use Emits has is = absurd (let o = has.0 in omega (arith, o, t))
+        by_use Asks has is = absurd (let o = has.0 in omega (arith, o, t))
+
+  -- from the entry on, where the one try stands, this try stands before a later entry, and those between are skipped
+  pub record Later (from first at : ℕ) : Type 0 where
+    pub start : ℕ
+    pub place : ℕ
+    pub holds : Holds start at place
+    pub skipped : SkipsTo code input first start
+    pub starts_at : StartsAt base entries from first at start
+
+  one : (k at : ℕ) → at ≤ k → k < at + 1 → at ≡ k
+  one k at f h = omega (arith, f, h)
+
+  later_none : (at start place : ℕ) → Holds start at place → Later at start at
+  later_none at start place h = record {
+    start = start;
+    place = place;
+    holds = h;
+    skipped = skips_none start;
+    starts_at = inl (refl, λ k f l. absurd (omega (arith, f, l)));
+  }
+
+  later_more : (from first at : ℕ) → from ≤ at → at < count → token_bit entries at ≡ 0 → Later from first at → Later from first (at + 1)
+  later_more from first at le inside t l = by (end_bit entries at) refl (bit_at-lt (slice_index entries at) 31)
+    where
+      by : (b : ℕ) → end_bit entries at ≡ b → b < 2 → Later from first (at + 1)
+      by zero e s = record {
+        start = l.start;
+        place = place_of (slice_index entries at);
+        holds = holds_on l.start at l.place l.holds inside e t;
+        skipped = l.skipped;
+        starts_at = starts_join base entries from first at l.start (at + 1) l.start le (omega arith) l.starts_at
+            (inl (refl, λ k f h. ap (end_bit entries) (sym (one k at f h)) ∙ e));
+      }
+      by (suc zero) e s = record {
+        start = base + at;
+        place = place_of (slice_index entries at);
+        holds = holds_next l.start at l.place l.holds inside e;
+        skipped = skips_then first l.start (base + at) (leaf_of (slice_index entries at)) (tried l.start at l.place l.holds inside e).0.0 l.skipped
+            (tried l.start at l.place l.holds inside e).0.1 (skips l.start at l.place l.holds inside e t);
+        starts_at = inr (
+          at,
+          record {
+            after = le;
+            before = omega arith;
+            ended = e;
+            none = λ k f h. absurd (omega (arith, f, h));
+          },
+          refl,
+        );
+      }
+      by (suc (suc b)) e s = absurd (omega (arith, s))
+
+  later_up : (n from start place : ℕ) → from + n ≤ count → NoToken entries from (from + n) → Holds start from place → Later from start (from + n)
+  later_up zero from start place le none h =
+      let e : from ≡ from + zero = omega arith in
+      subst (λ (k : ℕ). Later from start k) e (later_none from start place h)
+  later_up (suc n) from start place le none h =
+      let e : from + n + 1 ≡ from + suc n = omega arith in
+      let before = later_up n from start place (omega (arith, le)) (λ k f l. none k f (omega (arith, l))) h in
+      subst (λ (k : ℕ). Later from start k) e (later_more from start (from + n) (omega arith) (omega (arith, le)) (none (from + n) (omega arith) (omega arith)) before)
+
+  -- the try that stands before a later entry
+  pub later_at : (from to start place : ℕ) → from ≤ to → to ≤ count → NoToken entries from to → Holds start from place → Later from start to
+  later_at from to start place le inside none h =
+      let n = to - from in
+      let e : from + n ≡ to = omega (arith, le) in
+      subst (λ (k : ℕ). Later from start k) e (later_up n from start place (omega (arith, e, inside)) (λ k f l. none k f (omega (arith, l, e))) h)
+
+  -- the end of the bytes, where no flag stands after them
+  pub starts_short : (from start now : ℕ) → count ≤ 4096 → ((k : ℕ) → count ≤ k → k < 4096 → slice_index entries k ≡ 0) → StartsAt base entries from start 4096 now →
+      StartsAt base entries from start count now
+  starts_short from start now few none s = elim s [
+    | inl m ↦ inl (m.0, λ k f h. m.1 k f (omega (arith, h, few)))
+    | inr m ↦
+        let l = m.1 in
+        let ended = l.ended in
+        let lt : m.0 < count = elim (ways m.0 count) [
+          | inl a ↦ a
+          | inr g ↦ absurd (omega (arith, ended, ap (λ x. bit_at x 31) (none m.0 g l.before), bit_at-zero 31))
+        ] in
+        inr (m.0, record { after = l.after; before = lt; ended = ended; none = λ k f h. l.none k f (omega (arith, h, few)) }, m.2)
+  ]

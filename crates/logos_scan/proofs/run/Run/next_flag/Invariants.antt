@@ -1,0 +1,13 @@
+use Rattle.std.proofs.Common.{◌-◌, length}
+use Rattle.logos_scan.specs.Runs.{IsReady}
+use Rattle.logos_scan.specs.Tries.{SkipsTo}
+use Rattle.logos_scan.proofs.run.Run.next_flag.Given as goal
+
+abbrev pub invariant-loop-at : goal.invariant-loop-at
+invariant-loop-at l = record {
+  ready : IsReady l.reading l.self;
+  skips : SkipsTo l.reading.code.now l.reading.input.now l.initial.self.cursor.start l.self.cursor.start;
+}
+
+abbrev pub decreases-loop-at : goal.decreases-loop-at
+decreases-loop-at l = length l.reading.input.now - l.self.cursor.base

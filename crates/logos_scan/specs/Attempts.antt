@@ -1,0 +1,26 @@
+-- What contracts see of a try.
+use Rattle.std.specs.Prelude.{ℕ, Option, option_map}
+use Rattle.logos_hir.specs.declared.leaf.LeafId.{LeafId}
+use Rattle.logos_automaton.specs.Munch.{Found, ended, matched, failed}
+use Rattle.logos_code.specs.Runs.{Stand, Turn, enters, acts, returns}
+use Rattle.logos_scan.specs.declared.attempt.Stand.{Stand as TheStand}
+use Rattle.logos_scan.specs.declared.attempt.Turn.{Turn as TheTurn}
+use Rattle.logos_scan.specs.declared.attempt.Turn.TheVariants.{Enters, Acts, Returns}
+use Rattle.logos_scan.specs.declared.attempt.Found.{Found as TheFound}
+use Rattle.logos_scan.specs.declared.attempt.Found.TheVariants.{Ended, Matched, Failed}
+
+abbrev pub context_of : Option (LeafId × ℕ) → Option (ℕ × ℕ)
+context_of = option_map (λ c. (c.0.0, c.1))
+
+abbrev pub stand_of : TheStand → Stand
+stand_of at = record { state = at.state; offset = at.offset; context = context_of at.context }
+
+abbrev pub turn_of : TheTurn → Turn
+turn_of (Enters next) = enters (stand_of next)
+turn_of (Acts context offset) = acts (context_of context) offset
+turn_of Returns = returns
+
+abbrev pub found_of : TheFound → Found
+found_of Ended = ended
+found_of (Matched leaf to) = matched leaf.0 to
+found_of (Failed to) = failed to

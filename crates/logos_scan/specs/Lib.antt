@@ -1,0 +1,6 @@
+pub mod Attempts
+pub mod Tries
+pub mod Runs
+pub mod Items
+pub mod Words
+pub mod Views

@@ -1,0 +1,93 @@
+-- What contracts see of a run over the chunks of an input.
+use Rattle.std.specs.Prelude.{◌≡◌, ℕ, ◌+◌, ◌<◌, ◌≤◌, ◌⊎◌, min, List, length, drop, slice_index}
+use Rattle.logos_automaton.specs.Munch.{matched, failed, ended}
+use Rattle.logos_code.specs.Code.{CodeValue}
+use Rattle.logos_code.specs.Rows.{IsUse}
+use Rattle.logos_code.specs.declared.code.rows.MatchUse.TheVariants.{Emits as IsEmitted}
+use Rattle.logos_fold.specs.Folds.{AreFolded}
+use Rattle.logos_machine.specs.inside.Looks.{Tried}
+use Rattle.logos_scan.specs.Tries.{StandsIn, SkipsTo}
+use Rattle.logos_scan.specs.declared.run.Loaded.{Loaded}
+use Rattle.logos_scan.specs.declared.run.Reading.{Reading}
+use Rattle.logos_scan.specs.declared.run.Run.{Run}
+use Rattle.logos_scan.specs.declared.run.Taken.{Taken}
+use Rattle.logos_scan.specs.declared.run.Taken.TheVariants.{Emits, Asks, Fails, Ends}
+use Rattle.logos_walk.specs.Cursor.{HasRoom, token_bit}
+use Rattle.logos_walk.specs.Cursors.{IsMarked, Stands}
+use Rattle.logos_walk.specs.Walk.{IsPlace, Walked}
+
+-- The rows are those of the code.
+abbrev pub IsReading : Reading → Type 0
+IsReading reading = AreFolded reading.code.now reading.rows.now
+
+-- No flag stands after the bytes of a chunk.
+abbrev pub IsEmptyFrom : ℕ → List ℕ → Type 0
+IsEmptyFrom count entries = (k : ℕ) → count ≤ k → k < 4096 → slice_index entries k ≡ 0
+
+-- Entries of the bytes of an input from the base on, which begin in the place.
+pub record IsLoaded (rows input : List ℕ) (base place : ℕ) (entries : List ℕ) (loaded : Loaded) : Type 0 where
+  pub within : base + loaded.count ≤ length input
+  pub few : loaded.count ≤ 4096
+  pub full : base + loaded.count < length input → loaded.count ≡ 4096
+  pub walked : Walked rows (drop base input) place entries 0 loaded.count loaded.place
+  pub stays : IsPlace rows loaded.place
+  pub rest : IsEmptyFrom loaded.count entries
+
+-- A run has a chunk of the input, with its flags. From one entry on, its entries are those of a
+-- walk.
+pub record IsChunk (rows input : List ℕ) (run : Run) : Type 0 where
+  pub within : run.cursor.base + run.count ≤ length input
+  pub few : run.count ≤ 4096
+  pub full : run.cursor.base + run.count < length input → run.count ≡ 4096
+  pub stays : IsPlace rows run.place
+  pub rest : IsEmptyFrom run.count run.chunk.entries
+  pub marked : IsMarked run.chunk
+  pub cursor : Stands run.chunk.entries run.cursor
+  pub room : HasRoom run.cursor.base
+  pub whole : (place : ℕ) × Walked rows (drop run.cursor.base input) place run.chunk.entries run.low run.count run.place
+
+-- Its try stands before the byte of entry `at`, from where on the entries are those of a walk.
+pub record IsRun (code : CodeValue) (rows input : List ℕ) (run : Run) (at : ℕ) : Type 0 where
+  pub in_chunk : IsChunk rows input run
+  pub near : at ≤ run.count
+  pub before : ℕ
+  pub stands : StandsIn code input run.cursor.start (run.cursor.base + at) before
+  pub walked : Walked rows (drop run.cursor.base input) before run.chunk.entries at run.count run.place
+
+-- The entry before which a run stands.
+abbrev pub point_of : Run → ℕ
+point_of run = min run.cursor.from run.count
+
+-- The run stands between two calls.
+abbrev pub IsReady : Reading → Run → Type 0
+IsReady reading run = IsRun reading.code.now reading.rows.now reading.input.now run (point_of run)
+
+-- The try of a run stands before an entry that its cursor has passed, or at the end of the chunk.
+pub record IsHeld (reading : Reading) (run : Run) : Type 0 where
+  pub at : ℕ
+  pub stands : IsRun reading.code.now reading.rows.now reading.input.now run at
+  pub passed : ((at < run.count) × (at < run.cursor.from)) ⊎ ((at ≡ run.count) × (run.count ≤ run.cursor.from))
+
+-- A run has come to an entry with the flag that there is something to do, and its cursor is after
+-- it.
+pub record IsFlagged (reading : Reading) (start : ℕ) (run : Run) (at : ℕ) : Type 0 where
+  pub stands : IsRun reading.code.now reading.rows.now reading.input.now run at
+  pub inside : at < run.count
+  pub token : token_bit run.chunk.entries at ≡ 1
+  pub after : run.cursor.from ≡ at + 1
+  pub skips : SkipsTo reading.code.now reading.input.now start run.cursor.start
+
+-- Or to the end of the input.
+pub record IsOver (reading : Reading) (start : ℕ) (run : Run) : Type 0 where
+  pub stands : IsRun reading.code.now reading.rows.now reading.input.now run run.count
+  pub last : run.cursor.base + run.count ≡ length reading.input.now
+  pub after : run.cursor.from ≡ 4096
+  pub skips : SkipsTo reading.code.now reading.input.now start run.cursor.start
+
+-- What is taken: after matches that are skipped, what a try finds, and where the next one begins.
+abbrev pub IsTaken : CodeValue → List ℕ → ℕ → Taken → ℕ → Type 0
+IsTaken code bytes from (Emits leaf span) next =
+    SkipsTo code bytes from span.from × ((steps : ℕ) × Tried code bytes span.from (matched leaf.0 span.to) steps) × IsUse code leaf.0 IsEmitted × (next ≡ span.to)
+IsTaken code bytes from (Asks leaf span) next = SkipsTo code bytes from span.from × ((steps : ℕ) × Tried code bytes span.from (matched leaf.0 span.to) steps) × (next ≡ span.to)
+IsTaken code bytes from (Fails span) next = SkipsTo code bytes from span.from × ((steps : ℕ) × Tried code bytes span.from (failed span.to) steps) × (next ≡ span.to)
+IsTaken code bytes from Ends next = SkipsTo code bytes from next × ((steps : ℕ) × Tried code bytes next ended steps)

@@ -1,0 +1,215 @@
+//! A try by itself: state by state, with a note of the last mark passed.
+
+ghost use Rattle.std.specs.Prelude.{◌≡◌, ◌+◌, ◌-◌, ◌<◌, ◌≤◌, ℕ, max, length, slice_get, drop, option_map, IfSome, IsTrue, IsCharBoundary, ◌^◌, ◌↔◌};
+ghost use Rattle.logos_scan.specs.Words.{state_at, mark_by, Does, Tries, EndsError, target, looped, marked, IsStand, StaysWithin, StopsAt, NamesTest};
+ghost use Rattle.logos_scan.specs.Views.{context_of, stand_of, turn_of, found_of};
+
+use logos_code::code::Code;
+use logos_code::code::signs::Sign;
+use logos_hir::leaf::LeafId;
+
+/// Where a try stands as it enters a state.
+#[derive(Clone, Copy)]
+pub(crate) struct Stand {
+    pub state: usize,
+    pub offset: usize,
+    /// The last mark passed: its leaf, and where the match ends.
+    pub context: Option<(LeafId, usize)>,
+}
+
+/// What a state does.
+#[derive(Clone, Copy)]
+pub(crate) enum Turn {
+    Enters(Stand),
+    /// The try is over at this offset, with this last mark.
+    Acts(Option<(LeafId, usize)>, usize),
+    /// The input is over, and nothing was read in this try.
+    Returns,
+}
+
+/// What a try finds.
+#[derive(Clone, Copy)]
+pub(crate) enum Found {
+    Ended,
+    /// A match of this leaf up to this offset.
+    Matched(LeafId, usize),
+    /// No match; the error ends at this offset.
+    Failed(usize),
+}
+
+/// Where a state's fast loop ends.
+#[derive(Clone, Copy)]
+pub(crate) struct Stop {
+    pub offset: usize,
+    /// Where the byte there leads, if a byte is there.
+    pub target: Option<Option<usize>>,
+}
+
+/// Does what the entered state does.
+#[inline]
+fn run_state(code: &Code, input: &[u8], start: usize, at: Stand) -> Turn
+    requires { IsStand code.now input.now start (stand_of at) }
+    ensures { Does code.now input.now start (stand_of at) (turn_of result) }
+{
+    let stop = stop_of(code, input, at.state, at.offset);
+    let target = match stop.target {
+        Some(target) => target,
+        None if at.state == code.root() && stop.offset == start => return Turn::Returns,
+        None => code.at_end(at.state),
+    };
+    let context = marked(code.sign(at.state), stop.offset, at.context);
+    match target {
+        Some(state) => Turn::Enters(Stand {
+            state,
+            offset: stop.offset + 1,
+            context,
+        }),
+        None => Turn::Acts(context, stop.offset),
+    }
+}
+
+/// Returns where the state's fast loop ends, and where the byte there leads.
+#[inline]
+pub(crate) fn stop_of(code: &Code, input: &[u8], state: usize, offset: usize) -> Stop
+    requires { state < length code.now.states }
+    ensures offset { result.offset
+        ≡ offset + looped code.now (state_at code.now state).fast_loop (drop offset input.now) }
+    ensures target { result.target ≡ option_map (target code.now (state_at code.now state).fork)
+        (slice_get input.now result.offset) }
+    ensures within { result.offset ≤ max offset (length input.now) }
+{
+    if offset >= input.len() {
+        return Stop {
+            offset,
+            target: None,
+        };
+    }
+    let end = loop_end(code, input, state, offset);
+    if end >= input.len() {
+        return Stop {
+            offset: end,
+            target: None,
+        };
+    }
+    Stop {
+        offset: end,
+        target: Some(code.target(state, input[end])),
+    }
+}
+
+/// Returns the end of the fast loop of a state that is entered at the offset.
+#[inline]
+fn loop_end(code: &Code, input: &[u8], state: usize, offset: usize) -> usize
+    requires state { state < length code.now.states }
+    requires within { offset ≤ length input.now }
+    ensures is { result
+        ≡ offset + looped code.now (state_at code.now state).fast_loop (drop offset input.now) }
+    ensures within { result ≤ length input.now }
+{
+    match code.fast_loop(state) {
+        Some(test) => passed_until(code, test, input, offset),
+        None => offset,
+    }
+}
+
+/// Returns the index of the first byte from `from` on that does not pass the test, or the length of
+/// the input.
+fn passed_until(code: &Code, test: usize, input: &[u8], from: usize) -> usize
+    requires test { NamesTest code.now test }
+    requires within { from ≤ length input.now }
+    ensures { StopsAt code.now test input.now from result }
+{
+    let mut at = from;
+    while at < input.len() && code.passes_test(test, input[at]) {
+        at += 1;
+    }
+    at
+}
+
+/// Returns the context after a mark.
+#[inline]
+pub(crate) fn marked(
+    sign: Sign,
+    offset: usize,
+    context: Option<(LeafId, usize)>,
+) -> Option<(LeafId, usize)>
+    requires { IfSome (mark_by sign) (λ m. IsTrue m.late → 0 < offset) }
+    ensures { context_of result ≡ marked (mark_by sign) offset (context_of context) }
+{
+    match sign {
+        Sign::Here(leaf) => Some((leaf, offset)),
+        Sign::Before(leaf) => Some((leaf, offset - 1)),
+        Sign::Nothing => context,
+    }
+}
+
+/// Returns the end of an error that has come to the offset: after one byte at least, and in UTF-8
+/// mode between characters.
+#[cold]
+#[inline(never)]
+pub(crate) fn error_end(code: &Code, input: &[u8], start: usize, offset: usize) -> usize
+    requires start { start < length input.now }
+    requires offset { offset ≤ length input.now }
+    ensures ends { EndsError code.now input.now start offset result }
+    ensures within { result ≤ length input.now }
+{
+    let least = offset.max(start + 1);
+    if code.is_utf8() {
+        boundary_from(input, least)
+    } else {
+        least
+    }
+}
+
+/// Returns the first boundary between characters from the offset on.
+fn boundary_from(input: &[u8], from: usize) -> usize
+    requires { from ≤ length input.now }
+    ensures past { from ≤ result }
+    ensures boundary { IsCharBoundary input.now result }
+    ensures least { (other : ℕ) → from ≤ other → IsCharBoundary input.now other → result ≤ other }
+{
+    let mut to = from;
+    while to < input.len() && is_continuation(input[to]) {
+        to += 1;
+    }
+    to
+}
+
+/// Returns whether the byte continues a character.
+fn is_continuation(byte: u8) -> bool
+    ensures { IsTrue result ↔ (128 ≤ byte) × (byte < 192) }
+{
+    matches!(byte, 0x80..=0xBF)
+}
+
+/// Returns what is found from a place on, and how many states were entered, by a try that notes the
+/// marks passed.
+#[cold]
+#[inline(never)]
+pub(crate) fn attempt_with_marks(code: &Code, input: &[u8], start: usize) -> (Found, usize)
+    requires { start ≤ length input.now }
+    ensures tries { Tries code.now input.now start (found_of result.0) result.1 }
+    ensures within { StaysWithin code.now input.now start (found_of result.0) }
+    ensures few { result.1 ≤ (length input.now - start) + 2 }
+{
+    let mut at = Stand {
+        state: code.root(),
+        offset: start,
+        context: None,
+    };
+    let mut before = 0;
+    loop {
+        match run_state(code, input, start, at) {
+            Turn::Enters(next) => at = next,
+            Turn::Acts(Some((leaf, to)), _) => return (Found::Matched(leaf, to), before + 1),
+            Turn::Acts(None, offset) => {
+                return (
+                    Found::Failed(error_end(code, input, start, offset)),
+                    before + 1,
+                );
+            }
+            Turn::Returns => return (Found::Ended, before + 1),
+        }
+        before += 1;
+    }
+}

@@ -1,0 +1,7 @@
+//! Runs of a code that look at a chunk of the input at once, and give what its tries find.
+
+#![tactic(auto)]
+
+mod attempt;
+mod items;
+pub mod run;

@@ -1,0 +1,4 @@
+pub mod BlocksLemmas
+pub mod WalkLemmas
+pub mod MaskLemmas
+pub mod CursorLemmas

@@ -1,0 +1,14 @@
+use Rattle.logos_walk.proofs.CursorLemmas.{passes_none, passes_on}
+use Rattle.logos_walk.proofs.cursor.Cursor.filled.Goals as goal
+
+pub loop-cursor-init : goal.loop-cursor-init
+loop-cursor-init c = record {
+  stands = c.requires.stands;
+  passes = passes_none c.args.chunk.now.entries c.args.self;
+}
+
+pub loop-cursor-preserved : goal.loop-cursor-preserved
+loop-cursor-preserved c = record {
+  stands = c.moved-cursor.ensures.stands;
+  passes = passes_on c.args.chunk.now.entries c.args.self c.loop-cursor.cursor c.moved-cursor.result c.loop-cursor.invariant.passes c.moved-cursor.ensures.passes;
+}

@@ -1,0 +1,12 @@
+use Rattle.std.proofs.Common.{◌-◌}
+use Rattle.logos_walk.specs.Cursors.{Passes, Stands}
+use Rattle.logos_walk.proofs.cursor.Cursor.filled.Given as goal
+
+abbrev pub invariant-loop-cursor : goal.invariant-loop-cursor
+invariant-loop-cursor l = record {
+  stands : Stands l.chunk.entries l.cursor;
+  passes : Passes l.chunk.entries l.fn.self l.cursor;
+}
+
+abbrev pub decreases-loop-cursor : goal.decreases-loop-cursor
+decreases-loop-cursor l = 64 - l.cursor.word

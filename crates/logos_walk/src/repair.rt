@@ -1,0 +1,57 @@
+//! Steps again over bytes where a walk began in another place.
+
+ghost use Rattle.std.specs.Prelude.{◌≡◌, ◌<◌, ◌≤◌, length};
+ghost use Rattle.logos_walk.specs.Words.{IsClosed, IsPlace, IsSameBeside, Walked};
+ghost use Rattle.logos_walk.specs.Views.{HoldsStretch, IsRepaired};
+
+use crate::walk::{PLACE, step};
+
+/// A walk that a trace holds: over the bytes from `from` up to `to`, from the place `begin` to the
+/// place `end`.
+#[derive(Clone, Copy, Drop)]
+pub struct Stretch {
+    pub from: usize,
+    pub to: usize,
+    pub begin: usize,
+    pub end: usize,
+}
+
+/// What a repair leaves.
+#[derive(Clone, Copy, Drop)]
+pub struct Repaired {
+    /// The place after the last byte of the stretch.
+    pub place: usize,
+    /// The first byte whose entry need not be written again.
+    pub stop: usize,
+}
+
+/// Steps again over the bytes of a stretch from another place on, until the trace holds what is
+/// written.
+pub fn repair(
+    rows: &[u32],
+    text: &[u8],
+    place: usize,
+    trace: &mut [u32],
+    stretch: Stretch,
+) -> Repaired
+    requires closed { IsClosed rows.now }
+    requires place { IsPlace rows.now place }
+    requires holds { HoldsStretch rows.now text.now trace.old stretch }
+    ensures { IsRepaired rows.now text.now place stretch trace.old trace.new result }
+{
+    let mut now = place;
+    for at in stretch.from..stretch.to {
+        let before = (trace[at] & PLACE) as usize;
+        now = step(rows, text, now, trace, at);
+        if before == now {
+            return Repaired {
+                place: stretch.end,
+                stop: at + 1,
+            };
+        }
+    }
+    Repaired {
+        place: now,
+        stop: stretch.to,
+    }
+}
