@@ -50,7 +50,8 @@ fn explain_analysis(
     Ok(Explained { clues, warnings })
 }
 
-/// Returns what is known of the faults of the graph of an analysis, whose leaves are taken out of it.
+/// Returns what is known of the faults of the graph of an analysis, whose leaves are taken out of
+/// it.
 fn clues_of_analysis(alloc: Global, analysis: &mut Analysis<'_>) -> Result<Clues, Memory> {
     let utf8_mode = analysis.parser.is_utf8();
     let leaves = mem::replace(&mut analysis.leaves, Vec::new(alloc));

@@ -19,6 +19,8 @@ pub use logos_parser::refusal::Refusal;
 pub use logos_parser::{item, nested, parser};
 pub use logos_parts::Parts;
 pub use logos_pattern::{leaf, pattern};
+pub use logos_relex::{Chunk, Edit, ItemAt, Lexed, RelexError};
+pub use logos_stream::{Stream, StreamItem, Streamed};
 pub use logos_strip::stripping::strip_attributes;
 pub use logos_text::text;
 pub use logos_token::{error, token, util};
