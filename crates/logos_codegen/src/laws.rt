@@ -17,6 +17,8 @@ pub use logos_machine::laws::{
     items_given_are_a_run, next_adds_its_item, parts_are_of_the_whole, runs_go_later, runs_go_over,
     tries_agree,
 };
+pub use logos_relex::laws::lexed_is_run;
+pub use logos_stream::laws::streams_are_of_the_whole;
 
 /// A source without faults has one list of rules and one mode.
 pub fn a_source_has_one_list_of_rules()
