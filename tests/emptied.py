@@ -82,6 +82,7 @@ TAKEN = {
     "rattle_examples": {"all examples but the first": without("tests/rattle_examples.sh", r"^(query|log) data[^\n]*\n")},
     "memory_tools": {"all runs": without("tests/memory/run.py", r"\(cli, CLI\), \(show, SHOW\)", "()"), "the runs of logos_show": without("tests/memory/run.py", r", \(show, SHOW\)", ",")},
     "evidence": {"the sets of words": without("tests/evidence/main.py", r", \*WORDS\[::8\]", "")},
+    "edits": {"most sources": without("tests/edits/main.py", r" or ALL\)", " or ALL[:50])")},
     "generated": {
         "the sources of words": without("tests/generated/main.py", r"\*PATTERNS, \*WORDS\]", "*PATTERNS]"),
         "the rows of automata": without("tests/generated/automata.py", r"PATTERNS\[:SETS\]:", "PATTERNS[:5]:"),
@@ -103,6 +104,7 @@ TAKEN = {
     "files_logos_cli": {"all blocks but the first": without("tests/files/logos_cli.sh", r"^# A new file, one that is there.*(?=^echo)")},
     "texts": {"a source": every(removed("tests/texts/jumps.*"), without("tests/texts/run.sh", r" jumps", ""))},
     "strips": {"the sources that are made": without("tests/generated/strips.py", r"^SOURCES = 600", "SOURCES = 0")},
+    "whole_files": {"most files": without("tests/generated/whole_files.py", r"^FILES = 240", "FILES = 24")},
     "guide": {"the page": without("tests/guide.sh", r"^check_page docs/GUIDE[^\n]*\n")},
     "streams": {"the long streams": without("tests/streams.py", r" a_token_that_is_too_long, memory_stays,")},
     "terminal": {"all places but one": without("tests/terminal.py", r'^    "the line of a pattern".*?^}', "}")},
