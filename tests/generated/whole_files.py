@@ -96,13 +96,15 @@ class FileMaker:
         return ''.join(text for text, _ in front), ''.join(plain for _, plain in front), texts, enums
 
 
-def by_name(enum):
-    """Says whether an enum derives `Logos` without a path."""
+def imported(source, enum):
+    """Says whether an enum derives `Logos` without a path, in a file that may import it."""
+    if not any(path in source for path in ('::Logos', 'logos::{', '::*')):
+        return False
     listed = printed(tokenize(enum)).split('derive (')[1].split(')')[0]
     return 'Logos' in [entry.strip() for entry in listed.split(',')]
 
 
-def is_expansion(enum, text):
+def is_expansion(source, enum, text):
     """Says what is wrong with the text that stands for an enum, or nothing."""
     found, left = printed(tokenize(text)), stripped(enum)
     guard = printed(tokenize('#[rustfmt::skip]')) + ' '
@@ -113,7 +115,7 @@ def is_expansion(enum, text):
     found = found[len(left) + 1:]
     name = left.split('enum ')[1].split(' ')[0]
     imports = found.count(printed(tokenize('use self::Logos as _;')))
-    if imports != by_name(enum):
+    if imports != imported(source, enum):
         return f'{imports} imports'
     lexer = found.find(printed(tokenize("impl < 's> ::logos::Logos< 's> for")) + f' {name} {{')
     if lexer < 0 or not found.endswith('}'):
@@ -146,7 +148,7 @@ def differences(program, seed):
         if found < 0 or (number == 0 and found != at):
             return 1, [f'seed {seed}: this does not stay: {text!r}\n{source}']
         if number:
-            what = is_expansion(enums[number - 1], out[at:found])
+            what = is_expansion(source, enums[number - 1], out[at:found])
             wrong += [f'seed {seed}: {what}\n{enums[number - 1]}'] if what else []
         at = found + len(text)
     if at != len(out):

@@ -106,7 +106,7 @@ fn expand_enums<'w>(
         shape,
         file: source,
         offset: 0,
-        by_name: false,
+        by_name: has_import(source.text()),
     };
     let gathered = gather(source.text(), site, found, &mut warned)?;
     add_passed(source.text(), found, &mut warned)?;
@@ -115,6 +115,11 @@ fn expand_enums<'w>(
         return accepted_file(source, shape, showing, &gathered.parts, &warned);
     }
     Err(refused_file(source, showing, &gathered.refused, &warned))
+}
+
+/// Returns whether a file may have an import of `Logos`: whether it has such a path in it.
+fn has_import(text: &str) -> bool {
+    text.contains("::Logos") | text.contains("logos::{") | text.contains("::*")
 }
 
 /// Returns a file with parts replaced, unless its warnings are denied.
@@ -211,7 +216,7 @@ fn gather_enum(
     }
     let site = Site {
         offset: span.from,
-        by_name: one.by_name,
+        by_name: one.by_name & site.by_name,
         ..site
     };
     match expanded(source, site, warned) {

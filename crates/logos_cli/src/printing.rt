@@ -26,7 +26,7 @@ pub(crate) struct Site<'f, 't> {
     pub(crate) file: &'f Source<'t>,
     /// Where the enum begins in the file, in bytes.
     pub(crate) offset: usize,
-    /// Whether it derives `Logos` without a path.
+    /// Whether the file may have an import of `Logos`, and the enum derives it without a path.
     pub(crate) by_name: bool,
 }
 
