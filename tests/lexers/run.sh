@@ -17,7 +17,7 @@ here=$root/tests/lexers
 cli=$(realpath -m "${1:-$root/crates/logos_cli/out/logos_cli}")
 show=$(realpath -m "${2:-$root/crates/logos_show/out/logos_show}")
 lexers=40
-settled=32
+settled=33
 scanning=8
 shapes='state_machine tailcall tables'
 # The enum of a file whose items are compared, where that is not the last one.
