@@ -333,13 +333,13 @@ pub(crate) const SCANNED: &str = " {
         // a table, and no jump.
         #[inline(never)]
         fn plain(leaf: usize) -> _Option<Self> {
-            _Option::Some(match leaf {
+            match leaf {
 ";
 
 /// What follows the tokens of leaves.
 pub(crate) const ACTIONS: &str = "\
-                _ => return _Option::None,
-            })
+                _ => _Option::None,
+            }
         }
         fn act(
             lex: &mut _Lexer<'s>,

@@ -67,7 +67,8 @@ fn push_opening(text: &mut String, head: &str) -> Result<(), Memory>
     push(text, SCANNED)
 }
 
-/// Appends the match arms of the leaves for which nothing is called, each with its token.
+/// Appends the match arms of the leaves for which nothing is called, each with its token. There may
+/// be none, so each arm is an option: rustc warns of a call around a `match` that only returns.
 fn push_plain_leaves(text: &mut String, name: &str, leaves: &[CodeLeaf<'_>]) -> Result<(), Memory>
     ensures { OnOk result (Grows (string_bytes text.old) (string_bytes text.new)) }
 {
@@ -89,7 +90,7 @@ fn push_plain_leaf(
     match &leaf.kind {
         VariantKind::Unit(variant) if leaf.callback.is_none() => {
             let variant = variant.text;
-            write!(text, "{n} => {name} :: {variant} , ")?;
+            write!(text, "{n} => _Option :: Some ( {name} :: {variant} ) , ")?;
         }
         _ => {}
     }
