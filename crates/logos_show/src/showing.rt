@@ -92,6 +92,22 @@ pub(crate) fn shown_of(
         Ok(found) => found,
         Err(refusal) => return Err(refused(alloc, whole, style.showing, refusal)),
     };
+    let mut pages = pages_of(alloc, source, &found, style, name)?;
+    add_passed(source.text(), &found, &mut pages.warned)?;
+    add_missing(style.showing, &found, &mut pages.warned)?;
+    shown_by(source, pages, !has_lexer(&found))
+}
+
+/// Returns the pages of the enums of a file, or of those that have a name.
+fn pages_of(
+    alloc: Global,
+    source: &Source<'_>,
+    found: &[FoundEnum],
+    style: PageStyle,
+    name: Option<&str>,
+) -> Result<Pages, Failure<'static>>
+    ensures { IfErr result IsNoMisuse }
+{
     let lines = LineIndex::new(alloc, source.text())?;
     let mut pages = Pages {
         tables: Page::new(alloc, false),
@@ -99,12 +115,10 @@ pub(crate) fn shown_of(
         warned: Vec::new(alloc),
         style,
     };
-    for one in &found {
+    for one in found {
         push_named(alloc, &mut pages, enum_in(source, &lines, *one), name)?;
     }
-    add_passed(source.text(), &found, &mut pages.warned)?;
-    add_missing(style.showing, &found, &mut pages.warned)?;
-    shown_by(source, pages, !has_lexer(&found))
+    Ok(pages)
 }
 
 /// Returns what is shown of a file with these pages. `is_missing` says whether none of its enums
