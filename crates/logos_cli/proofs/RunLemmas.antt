@@ -1,5 +1,5 @@
 -- Why a run fails, and what is said of that.
-use Rattle.std.proofs.Common.{◌≡◌, ◌≢◌, ◌⊎◌, ◌≤◌, ℕ, List, [], ◌++◌, Option, Bool, true, false, Result, Ok, Err, IfErr, IfSome, IsTrue, inl, inr, refl, sym, subst, ◌∙◌, arith, string_bytes}
+use Rattle.std.proofs.Common.{◌≡◌, ◌≢◌, ◌⊎◌, ◌≤◌, ℕ, List, [], ◌++◌, Option, Bool, Result, Ok, Err, IfErr, IfSome, IsTrue, inl, inr, refl, subst, arith, string_bytes}
 use Rattle.std.proofs.KnownBytes.{Appends-trans}
 use Rattle.std.specs.Io.KnownBytes.{Appends}
 use Rattle.logos_host.specs.declared.comparing.Standing.{Standing}

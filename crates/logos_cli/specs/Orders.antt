@@ -14,7 +14,7 @@ use Rattle.logos_cli.specs.declared.options.Order.{Order}
 use Rattle.logos_cli.specs.declared.options.Request.{Request}
 use Rattle.logos_cli.specs.declared.options.DeriveOrder.{DeriveOrder}
 use Rattle.logos_host.specs.declared.message_format.MessageFormat.{MessageFormat}
-use Rattle.logos_host.specs.declared.message_format.MessageFormat.TheVariants.{Human, Json}
+use Rattle.logos_host.specs.declared.message_format.MessageFormat.TheVariants.{Human}
 use Rattle.logos_cli.specs.declared.options.Request.TheVariants as requests
 use Rattle.logos_cli.specs.declared.options.Given.{Given}
 use Rattle.logos_cli.specs.declared.options.Answer.{Answer}
