@@ -92,23 +92,24 @@ pub(crate) fn shown_of(
         Ok(found) => found,
         Err(refusal) => return Err(refused(alloc, whole, style.showing, refusal)),
     };
-    let mut pages = pages_of(alloc, source, &found, style, name)?;
+    let lines = LineIndex::new(alloc, source.text())?;
+    let mut pages = pages_of(alloc, &*source, &lines, &found, style, name)?;
     add_passed(source.text(), &found, &mut pages.warned)?;
     add_missing(style.showing, &found, &mut pages.warned)?;
     shown_by(source, pages, !has_lexer(&found))
 }
 
 /// Returns the pages of the enums of a file, or of those that have a name.
-fn pages_of(
+fn pages_of<'f, 's>(
     alloc: Global,
-    source: &Source<'_>,
+    source: &'f Source<'s>,
+    lines: &'f LineIndex<'s>,
     found: &[FoundEnum],
     style: PageStyle,
     name: Option<&str>,
 ) -> Result<Pages, Failure<'static>>
     ensures { IfErr result IsNoMisuse }
 {
-    let lines = LineIndex::new(alloc, source.text())?;
     let mut pages = Pages {
         tables: Page::new(alloc, false),
         records: JsonLines::new(alloc, Vec::new(alloc)),
@@ -116,7 +117,7 @@ fn pages_of(
         style,
     };
     for one in found {
-        push_named(alloc, &mut pages, enum_in(source, &lines, *one), name)?;
+        push_named(alloc, &mut pages, enum_in(source, lines, *one), name)?;
     }
     Ok(pages)
 }
