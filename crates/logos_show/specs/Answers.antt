@@ -1,7 +1,7 @@
 -- What is printed about lexers.
 pub use Rattle.logos_answers.specs.Comparing.{IsCompared}
 pub use Rattle.logos_graph.specs.View.{GraphValue}
-use Rattle.std.specs.Prelude.{◌≡◌, ◌≢◌, ℕ, Bool, List, ◌++◌, Option, codes, decimal, take}
+use Rattle.std.specs.Prelude.{◌≢◌, ℕ, Bool, List, ◌++◌, Option, codes, decimal, take}
 use Rattle.std.specs.List.{flat_map}
 use Rattle.std.specs.Io.KnownBytes.{Appends}
 use Rattle.logos_answers.specs.Inputs.{input_line}
