@@ -106,7 +106,7 @@ fn expand_enums<'w>(
         shape,
         file: source,
         offset: 0,
-        by_name: has_import(source.text()),
+        by_name: has_import(source),
     };
     let gathered = gather(source.text(), site, found, &mut warned)?;
     add_passed(source.text(), found, &mut warned)?;
@@ -118,7 +118,8 @@ fn expand_enums<'w>(
 }
 
 /// Returns whether a file may have an import of `Logos`: whether it has such a path in it.
-fn has_import(text: &str) -> bool {
+fn has_import(source: &Source<'_>) -> bool {
+    let text = source.text();
     text.contains("::Logos") | text.contains("logos::{") | text.contains("::*")
 }
 

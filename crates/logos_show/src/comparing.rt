@@ -18,7 +18,6 @@ use std::time::Clock;
 
 /// Writes whether the lexer of another file is the same, and returns that.
 pub(crate) fn compare<'w, F: Files, C: Clock, O: Write, E: Write + IsTerminal>(
-    alloc: Global,
     task: Task<'w>,
     other: &'w str,
     host: &mut Host<'_, F, C, E>,
@@ -26,6 +25,7 @@ pub(crate) fn compare<'w, F: Files, C: Clock, O: Write, E: Write + IsTerminal>(
 ) -> Result<Standing, Failure<'w>>
     ensures { IfErr result IsNoMisuse }
 {
+    let alloc = task.showing.alloc;
     let path = task.order.file;
     let text = text_at(path, host.files)?;
     let other_text = text_at(other, host.files)?;

@@ -191,7 +191,7 @@ fn answer<'w, F: Files, C: Clock + StandardInput, O: Write, E: Write + IsTermina
         ),
         Question::Items(input) => lex(alloc, task, input, None, host, out),
         Question::Matches(input, place) => lex(alloc, task, input, Some(place), host, out),
-        Question::Comparison(other) => return compare(alloc, task, other, host, out),
+        Question::Comparison(other) => return compare(task, other, host, out),
     };
     as_same(done)
 }

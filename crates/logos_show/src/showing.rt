@@ -93,7 +93,7 @@ pub(crate) fn shown_of(
         Err(refusal) => return Err(refused(alloc, whole, style.showing, refusal)),
     };
     let lines = LineIndex::new(alloc, source.text())?;
-    let mut pages = pages_of(alloc, &*source, &lines, &found, style, name)?;
+    let mut pages = pages_of(&*source, &lines, &found, style, name)?;
     add_passed(source.text(), &found, &mut pages.warned)?;
     add_missing(style.showing, &found, &mut pages.warned)?;
     shown_by(source, pages, !has_lexer(&found))
@@ -101,7 +101,6 @@ pub(crate) fn shown_of(
 
 /// Returns the pages of the enums of a file, or of those that have a name.
 fn pages_of<'f, 's>(
-    alloc: Global,
     source: &'f Source<'s>,
     lines: &'f LineIndex<'s>,
     found: &[FoundEnum],
@@ -110,6 +109,7 @@ fn pages_of<'f, 's>(
 ) -> Result<Pages, Failure<'static>>
     ensures { IfErr result IsNoMisuse }
 {
+    let alloc = style.showing.alloc;
     let mut pages = Pages {
         tables: Page::new(alloc, false),
         records: JsonLines::new(alloc, Vec::new(alloc)),
