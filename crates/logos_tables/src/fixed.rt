@@ -332,6 +332,7 @@ pub(crate) const SCANNED: &str = " {
         // The tokens of the leaves for which nothing is called. Out of line, so that it is a look into
         // a table, and no jump.
         #[inline(never)]
+        #[allow(clippy::match_single_binding)]
         fn plain(leaf: usize) -> _Option<Self> {
             match leaf {
 ";
