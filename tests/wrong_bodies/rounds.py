@@ -52,6 +52,9 @@ def of_whole(outcome):
     if outcome.status == 0:
         return ACCEPTED, 'the crate is proved'
     wrong = [it for path, words in outcome.functions.items() for it in failures_of(outcome, path, words)]
+    if not wrong and any(words == 'not proved' for words in outcome.functions.values()):
+        # The error stands in a file of lemmas, as where the body changes a definition.
+        wrong = [words for _, words in outcome.proofs if 'admitted' not in words]
     return refused_for(wrong) if wrong else None
 
 
