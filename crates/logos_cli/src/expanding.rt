@@ -172,8 +172,8 @@ fn expanded_file(
     with_head(alloc, source.path(), shape, &bytes)
 }
 
-/// Returns the replacements of these enums of a file, and the faults of those that are refused. Adds
-/// their warnings.
+/// Returns the replacements of these enums of a file, and the faults of those that are refused.
+/// Adds their warnings.
 fn gather(
     text: &str,
     site: Site<'_, '_>,

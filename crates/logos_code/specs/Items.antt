@@ -5,7 +5,7 @@ use Rattle.logos_code.specs.declared.action.Action.{Action}
 use Rattle.logos_code.specs.declared.action.Action.TheVariants.{Emit, Skip, Error}
 use Rattle.logos_automaton.specs.Munch.{Use, Rule, Found, ended, matched, failed, Finds}
 
--- an item, its span, and the input at its span
+-- An item, its span, and the input at its span.
 pub data Item : Type 0 where
   token : (leaf from to : ℕ) (slice : List ℕ) → Item
   error : (leaf : Option ℕ) (from to : ℕ) (slice : List ℕ) → Item
@@ -14,7 +14,7 @@ pub data Item : Type 0 where
 abbrev pub Callback : Type 1
 Callback = ℕ → List ℕ → Action → Type 0
 
--- from a place, what is found there
+-- From a place, what is found there.
 abbrev pub Search : Type 1
 Search = ℕ → Found → Type 0
 
@@ -26,11 +26,11 @@ module _ (uses : List Use) (callback : Callback) (bytes : List ℕ) where
   abbrev pub skips : ℕ → Bool
   skips leaf = option_map_or (λ use_of. use_of.skips) (slice_get uses leaf) false
 
-  -- what may be answered to a match; a leaf without a callback emits
+  -- What may be answered to a match; a leaf without a callback emits.
   abbrev pub MayAnswer : ℕ → List ℕ → Action → Type 0
   MayAnswer leaf slice answer = MatchBool (asks leaf) (callback leaf slice answer) (answer ≡ Emit)
 
-  -- the items that a match gives
+  -- The items that a match gives.
   abbrev pub items_of : Action → ℕ → ℕ → ℕ → List Item
   items_of Emit leaf from to = if skips leaf then [] else token leaf from to (slice_range bytes from to) ∷ []
   items_of Skip leaf from to = []
@@ -56,10 +56,10 @@ module _ (uses : List Use) (callback : Callback) (bytes : List ℕ) where
         NextItem search from item to
     fails : (from to : ℕ) → search from (failed to) → NextItem search from (error None from to (slice_range bytes from to)) to
 
--- the items of maximal munch, from a place on
+-- The items of maximal munch, from a place on.
 abbrev pub Items : List Rule → Callback → Bool → List ℕ → ℕ → List Item → Type 0
 Items rules callback utf8 bytes = Lexes (map (λ rule. rule.use_of) rules) callback bytes (Finds rules utf8 bytes)
 
--- the next item of maximal munch from a place on, and the place after it
+-- The next item of maximal munch from a place on, and the place after it.
 abbrev pub IsNext : List Rule → Callback → Bool → List ℕ → ℕ → Item → ℕ → Type 0
 IsNext rules callback utf8 bytes = NextItem (map (λ rule. rule.use_of) rules) callback bytes (Finds rules utf8 bytes)

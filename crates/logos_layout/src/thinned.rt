@@ -28,18 +28,18 @@ pub(crate) fn text_without(
     source: &str,
     left: Tokens<'_, '_>,
 ) -> Result<String, Memory> {
-    let mut kept = Rest::new(alloc);
+    let mut thinned = Rest::new(alloc);
     let mut staying = Staying::new(alloc, left);
     let mut from = 0;
     while from < source.len() {
         let Ok((kind, to)) = lexeme_at(source, from) else {
-            return Ok(kept.text);
+            return Ok(thinned.text);
         };
         let stays = stays(&mut staying, kind, Span { from, to })?;
-        kept.add_piece(kind, &source[from..to], stays)?;
+        thinned.add_piece(kind, &source[from..to], stays)?;
         from = to;
     }
-    Ok(kept.text)
+    Ok(thinned.text)
 }
 
 /// Returns whether a lexeme stays. A gap is none.

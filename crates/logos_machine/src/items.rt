@@ -12,7 +12,8 @@ impl<'c, 's, 'i, C: Fn(LeafId, &[u8]) -> Action + Drop> Lexer<'c, 's, 'i, C> {
     /// Returns all items that are left, in order.
     ///
     /// # Errors
-    /// Returns `AllocError` when memory runs out.
+    ///
+    /// Returns `AllocError` if memory runs out.
     pub fn items(self, alloc: Global) -> Result<Vec<Item<'i>>, AllocError>
         requires { C.IsAlwaysCallable self.callback }
         // They are the items of a run of the code from the lexer's place to the end of the input.

@@ -6,12 +6,12 @@ use Rattle.logos_reduce.specs.Rows.{target_of}
 use Rattle.logos_reduce.specs.Table.{size, to, mark}
 use Rattle.logos_reduce.specs.declared.table.Table.{Table}
 
--- the symbol l of the place r comes before the symbol k of the place i
+-- The symbol l of the place r comes before the symbol k of the place i.
 abbrev pub ComesBefore : ℕ → ℕ → ℕ → ℕ → Type 0
 ComesBefore r l i k = (r < i) ⊎ ((r ≡ i) × (l < k))
 
 module _ (edge : ℕ → ℕ → Option ℕ) where
-  -- the first edge into the block at the place j is by the symbol l of the place r, a lower one
+  -- The first edge into the block at the place j is by the symbol l of the place r, a lower one.
   pub record IsFirstInto (states : List ℕ) (j r l : ℕ) : Type 0 where
     pub lower : r < j
     pub enters : edge (slice_index states r) l ≡ Some (slice_index states j)
@@ -29,12 +29,13 @@ module _ (edge : ℕ → ℕ → Option ℕ) where
     pub rises : (j h : ℕ) → 0 < j → j < h → h < length states →
         ComesBefore (place j) (symbol j) (place h) (symbol h)
 
--- each block is that of a state
+-- Each block is that of a state.
 abbrev pub AreUsed : ℕ → (ℕ → ℕ) → List ℕ → Type 0
 AreUsed n block states = (i : ℕ) → i < length states →
     (s : ℕ) × (s < n) × (block s ≡ slice_index states i)
 
--- The new table has the blocks of the old one in the order of first visits, from the block of the root.
+-- The new table has the blocks of the old one in the order of first visits, from the block of the
+-- root.
 pub record IsNumbered (old : Table) (block leader : ℕ → ℕ) (root : ℕ)
     (states : List ℕ) (new : Table) : Type 0 where
   pub numbers : List ℕ

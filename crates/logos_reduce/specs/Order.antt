@@ -8,6 +8,6 @@ pub record IsOrder (numbers states : List ℕ) : Type 0 where
   pub named : (s i : ℕ) → slice_index numbers s ≡ i + 1 →
       (i < length states) × (slice_index states i ≡ s)
 
--- the state is in the order
+-- The state is in the order.
 abbrev pub IsMet : List ℕ → ℕ → Type 0
 IsMet numbers s = 0 < slice_index numbers s

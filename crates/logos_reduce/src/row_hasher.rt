@@ -1,7 +1,8 @@
 //! A hasher for rows of targets.
 //!
-//! A row has 257 entries, and few of them differ from the entry before. So only these are mixed into the hash, each with its
-//! place.
+//! A row has 257 entries, and few of them differ from the entry before. So only these are mixed
+//! into the hash, each with its place.
+
 ghost use Rattle.std.specs.Prelude.{◌≡◌};
 ghost use Rattle.logos_reduce.specs.RowHash.{initial, mixed, write, word_of};
 

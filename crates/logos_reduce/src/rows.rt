@@ -1,4 +1,5 @@
 //! A list of rows of targets, which holds equal rows once.
+
 ghost use Rattle.std.specs.Prelude.{◌≡◌, ℕ, ◌-◌, ◌<◌, ◌⊎◌, ◌++◌, ◌∷◌, [], MatchOption, IfOk, IfSome, OnOk, None, Some, length, vec_len, slice_index, slice_index_or};
 ghost use Rattle.logos_reduce.specs.Rows.{AreWide, target_by, target_of};
 
@@ -14,8 +15,8 @@ pub const WIDTH: usize = 257;
 /// The symbol that stands for the end.
 pub const END: usize = 256;
 
-/// For each symbol its target: 0 where there is none, and else one more than the number of the state. The symbols are the
-/// bytes, and then the end.
+/// For each symbol its target: 0 where there is none, and else one more than the number of the
+/// state. The symbols are the bytes, and then the end.
 pub type Row = [u32; 257];
 
 /// A list of rows.

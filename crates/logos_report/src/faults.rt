@@ -49,8 +49,8 @@ fn push_all(page: &mut Page, part: Part<'_, '_>, faults: &[SpannedError], first:
     }
 }
 
-/// Pushes a fault, which is one of `faults`, after those in front of it. Of the faults of one code 50 are
-/// shown. In place of the next one stands how many are left out.
+/// Pushes a fault, which is one of `faults`, after those in front of it. Of the faults of one code
+/// 50 are shown. In place of the next one stands how many are left out.
 fn push_counted(
     page: &mut Page,
     part: Part<'_, '_>,
@@ -114,8 +114,9 @@ fn count_code(faults: &[SpannedError], code: FaultCode) -> usize
     count
 }
 
-/// Returns how many of these faults have a code, but no more than one above the number that is shown. It
-/// looks from the last one on, so that the time of all these calls is linear in the number of faults.
+/// Returns how many of these faults have a code, but no more than one above the number that is
+/// shown. It looks from the last one on, so that the time of all these calls is linear in the
+/// number of faults.
 fn seen_of(faults: &[SpannedError], code: FaultCode) -> usize
     ensures { result ≡ seen_of code (faults_of faults.now) }
 {

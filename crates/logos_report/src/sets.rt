@@ -1,5 +1,5 @@
-//! Faults of a graph: one report for each set of ambiguous leaves, and the patterns that can look at
-//! what stands before their first byte.
+//! Faults of a graph: one report for each set of ambiguous leaves, and the patterns that can look
+//! at what stands before their first byte.
 
 ghost use Rattle.std.specs.Prelude.{◌∷◌, [], nat_lt, if◌then◌else◌};
 ghost use Rattle.logos_token.specs.FaultView.{fault_of};
@@ -75,8 +75,8 @@ fn push_place_of(
     }
 }
 
-/// Pushes the line of a report and the place of its fault, with a label. Returns how wide the column
-/// of line numbers is.
+/// Pushes the line of a report and the place of its fault, with a label. Returns how wide the
+/// column of line numbers is.
 fn push_begin(page: &mut Page, part: Part<'_, '_>, fault: &SpannedError, label: &str) -> usize
     ensures { Shows (fault_texts page.old.is_colored part.entry.source.now part.entry.offset
         (fault_of fault.now)) page.old page.new }

@@ -51,8 +51,8 @@ pub(crate) struct Spot<'w, 'i> {
 ///
 /// # Errors
 ///
-/// Returns `Refused` if the input does not have the place, `Output` if writing fails, and `Memory` if
-/// memory runs out.
+/// Returns `Refused` if the input does not have the place, `Output` if writing fails, and `Memory`
+/// if memory runs out.
 pub(crate) fn write_matches<O: Write>(
     alloc: Global,
     graph: &Graph<'_>,
@@ -79,8 +79,8 @@ pub(crate) fn write_matches<O: Write>(
 ///
 /// # Errors
 ///
-/// Returns `Refused` if the input does not have the place, `Output` if writing fails, and `Memory` if
-/// memory runs out.
+/// Returns `Refused` if the input does not have the place, `Output` if writing fails, and `Memory`
+/// if memory runs out.
 pub(crate) fn write_match_records<O: Write>(
     alloc: Global,
     graph: &Graph<'_>,
@@ -129,8 +129,8 @@ fn no_place(alloc: Global, path: &str, place: Position) -> Failure<'static>
     }
 }
 
-/// Writes at most so many inputs of those that together pass all edges of a graph, as literals of Rust.
-/// Returns a note that says how many were left out, which is empty if none was.
+/// Writes at most so many inputs of those that together pass all edges of a graph, as literals of
+/// Rust. Returns a note that says how many were left out, which is empty if none was.
 ///
 /// # Errors
 ///
@@ -154,8 +154,8 @@ pub(crate) fn write_inputs<O: Write>(
     Ok(note)
 }
 
-/// Writes at most so many inputs of those that together pass all edges of a graph, as lines of JSON.
-/// Returns a note that says how many were left out, which is empty if none was.
+/// Writes at most so many inputs of those that together pass all edges of a graph, as lines of
+/// JSON. Returns a note that says how many were left out, which is empty if none was.
 ///
 /// # Errors
 ///
@@ -189,8 +189,8 @@ fn note_of_cut(alloc: Global, most: usize, count: usize) -> Result<String, Alloc
     page.finish()
 }
 
-/// Writes whether an answer is the stored one at a path, and returns that. If not, writes where they
-/// differ.
+/// Writes whether an answer is the stored one at a path, and returns that. If not, writes where
+/// they differ.
 ///
 /// # Errors
 ///
@@ -229,8 +229,8 @@ pub(crate) struct Judgment {
     pub(crate) note: String,
 }
 
-/// Writes whether two lexers are the same, and returns that. If they differ, writes a shortest input at
-/// whose beginning they find different things, and what each of them finds there.
+/// Writes whether two lexers are the same, and returns that. If they differ, writes a shortest
+/// input at whose beginning they find different things, and what each of them finds there.
 ///
 /// # Errors
 ///

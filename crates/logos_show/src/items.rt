@@ -43,10 +43,11 @@ pub(crate) struct Totals {
     pub(crate) passed: Option<usize>,
 }
 
-/// Writes a line for each item of an input, and then what was counted. Returns a note about callbacks,
-/// which is empty if no leaf with a callback has an item.
+/// Writes a line for each item of an input, and then what was counted. Returns a note about
+/// callbacks, which is empty if no leaf with a callback has an item.
 ///
 /// # Errors
+///
 /// Returns `NotUtf8` if the lexer reads text and the input is not UTF-8, `Output` if writing fails,
 /// and `Memory` if memory runs out.
 pub(crate) fn write_items<O: Write, C: Clock>(
@@ -72,8 +73,8 @@ pub(crate) fn write_items<O: Write, C: Clock>(
     Ok(note)
 }
 
-/// Writes an object of JSON for each item of an input. Returns a note about callbacks, which is empty if
-/// no leaf with a callback has an item.
+/// Writes an object of JSON for each item of an input. Returns a note about callbacks, which is
+/// empty if no leaf with a callback has an item.
 ///
 /// # Errors
 ///

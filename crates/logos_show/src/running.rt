@@ -69,8 +69,8 @@ options:
 
 const VERSION: &str = "logos_show 0.1.0 (for logos 0.16)\n";
 
-/// What the program reads, and where messages go: files, a clock, which also gives standard input, and
-/// standard error.
+/// What the program reads, and where messages go: files, a clock, which also gives standard input,
+/// and standard error.
 #[derive(Drop)]
 pub(crate) struct Host<'h, F, C, E> {
     pub(crate) files: &'h mut F,
@@ -78,9 +78,9 @@ pub(crate) struct Host<'h, F, C, E> {
     pub(crate) err: &'h mut E,
 }
 
-/// Runs the program, and returns the exit status: 0 done, 1 refused, or two lexers differ, 2 for words
-/// that are not a command, 3 for files, outputs and memory. What is refused or fails has a message on
-/// standard error, and warnings go there too.
+/// Runs the program, and returns the exit status: 0 done, 1 refused, or two lexers differ, 2 for
+/// words that are not a command, 3 for files, outputs and memory. What is refused or fails has a
+/// message on standard error, and warnings go there too.
 pub(crate) fn run<F: Files, C: Clock + StandardInput, O: Write, E: Write + IsTerminal>(
     alloc: Global,
     words: &[String],
@@ -173,8 +173,8 @@ fn answer_or_compare<'w, F: Files, C: Clock + StandardInput, O: Write, E: Write 
     write_standing(alloc, path, &stored, &made, out)
 }
 
-/// Answers what is asked of the lexers of a file, and returns whether what was to be compared is the
-/// same.
+/// Answers what is asked of the lexers of a file, and returns whether what was to be compared is
+/// the same.
 fn answer<'w, F: Files, C: Clock + StandardInput, O: Write, E: Write + IsTerminal>(
     alloc: Global,
     task: Task<'w>,

@@ -1,4 +1,5 @@
 //! The lexers of a file, as tables.
+
 ghost use Rattle.std.specs.Prelude.{IfErr};
 ghost use Rattle.logos_show.specs.Orders.{IsNoMisuse};
 

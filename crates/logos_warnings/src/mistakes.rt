@@ -1,4 +1,5 @@
 //! Probable mistakes in an enum that are not faults.
+
 ghost use Rattle.std.specs.Prelude.{◌≡◌, IfOk, None, OnOk, Some, [], map};
 ghost use Rattle.logos_warnings.specs.Words.{attribute_value, enum_value, variant_value, tokens_of};
 ghost use Rattle.logos_warnings.specs.Views.{mistake_value, is_conditional, is_useless, name_of, AreMistakes, AreOfLexer, AttributeAdds, LacksPatterns, RunAdds, VariantAdds, VariantsAdd, NamesAdd, ForgetsDerive};
@@ -51,7 +52,8 @@ pub enum Mistake<'s> {
 /// attributes. An enum that does not derive `Logos` and has no helper attribute has none.
 ///
 /// # Errors
-/// Returns `AllocError` when memory runs out.
+///
+/// Returns `AllocError` if memory runs out.
 pub fn mistakes_of<'s>(
     alloc: Global,
     item: &ItemEnum<'_, 's>,

@@ -29,7 +29,8 @@ pub fn passed_over(alloc: Global, text: &str, found: &[Span]) -> Result<Vec<Warn
     Ok(warnings_of(alloc, &derives, found)?)
 }
 
-/// Returns the warnings of those of these spans that stand in none of the others. Both are in order.
+/// Returns the warnings of those of these spans that stand in none of the others. Both are in
+/// order.
 fn warnings_of(
     alloc: Global,
     derives: &[Span],
