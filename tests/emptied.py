@@ -1,11 +1,13 @@
 #!/usr/bin/env python3
-"""Takes the work of each part away in a copy of the checkout, and runs the part there: it has to fail.
+"""Takes the work of each part away in a copy of the checkout, and runs the part there: it has to
+fail.
 
   emptied.py [PART ..]
 
-Cases are emptied, folders of tests removed, wrong bodies deleted, a shape left out. A part of the list that has no such change here
-fails. In place of the proofs, which take an hour, stands a toolchain that counts the crates and the wrong bodies of the copy, as `rt ci`
-does. The last line is `N passed, M failed`: a change has passed if its part failed."""
+Cases are emptied, folders of tests removed, wrong bodies deleted, a shape left out. A part of the
+list that has no such change here fails. In place of the proofs, which take an hour, stands a
+toolchain that counts the crates and the wrong bodies of the copy, as `rt ci` does. The last line is
+`N passed, M failed`: a change has passed if its part failed."""
 import os
 import pathlib
 import re
@@ -139,7 +141,8 @@ def stand_in(room):
 
 
 def tried(room, part):
-    """Yields for each change of a part what is taken away, whether the part fails without it, and its last line."""
+    """Yields for each change of a part what is taken away, whether the part fails without it, and
+    its last line."""
     before = stand_in(room) if part.name == "proofs" else os.environ["PATH"]
     if part.name == "proofs":
         failing, last = fails(room, part, lambda copy: None)

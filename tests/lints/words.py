@@ -1,18 +1,23 @@
 #!/usr/bin/env python3
-"""Looks for words that this repository does not use, for the form of comments, and for the homes of words.
+"""Looks for words that this repository does not use, for the form of comments, and for the homes of
+words.
 
   words.py           fails where such a word stands in a crate or on a page that is clean
   words.py --all     prints each place, and how many are left in each crate and on each page
 
-Read are the comments and the names in `src` and `specs` of each crate and of tests/calls, the names of these files, the pages in `docs`, and the README. Text
-between quotes is left out, and so are blocks of code on pages. `docs/GLOSSARY.md` has the words that are not used, with what stands in their place;
-each of them has its patterns here. Each word of that page has a home, which must be there.
+Read are the comments and the names in `src` and `specs` of each crate and of tests/calls, the names
+of these files, the pages in `docs`, and the README. Text between quotes is left out, and so are
+blocks of code on pages. `docs/GLOSSARY.md` has the words that are not used, with what stands in
+their place; each of them has its patterns here. Each word of that page has a home, which must be
+there.
 
-Comments have a form, too: at most 100 columns; a blank line after `# Errors`, and after the first comment of a file in `src`; "if memory runs out" where
-memory can; and in `specs` a capital letter first.
+Comments have a form, too: at most 100 columns; a blank line after `# Errors`, and after the first
+comment of a file in `src`; "if memory runs out" where memory can; and in `specs` a capital letter
+first.
 
-The crates and pages in `NOT_YET` are not clean yet, and those in `FORM_NOT_YET` have not this form yet; both are only counted. Each other crate and page
-counts as one for its words, each other crate as one for its form, and each home as one. The last line is `words: N passed, M failed`."""
+The crates and pages in `NOT_YET` are not clean yet, and those in `FORM_NOT_YET` have not this form
+yet; both are only counted. Each other crate and page counts as one for its words, each other crate
+as one for its form, and each home as one. The last line is `words: N passed, M failed`."""
 import collections
 import os
 import re

@@ -42,7 +42,8 @@ def words_of(argv):
 
 
 def pages_of(names):
-    """The folders of the crates that are named, or of all, that have a page of bodies, largest page first."""
+    """The folders of the crates that are named, or of all, that have a page of bodies, largest page
+    first."""
     folders = [it.parent.parent for it in (ROOT / 'crates').glob('*/must-fail/others.md')]
     lacking = [it for it in names if it not in [folder.name for folder in folders]]
     if lacking:
@@ -52,7 +53,8 @@ def pages_of(names):
 
 
 def sum_of(crate):
-    """The sum of all on which the verdicts on the bodies of a crate depend: its texts and those of the crates below it, its page, the toolchain, and these scripts."""
+    """The sum of all on which the verdicts on the bodies of a crate depend: its texts and those of
+    the crates below it, its page, the toolchain, and these scripts."""
     made = hashlib.sha256()
     folders = [ROOT / 'crates' / name / part for name in sorted(crates_below(ROOT, crate)) for part in PARTS]
     paths = [it for folder in folders for it in sorted(folder.rglob('*')) if it.is_file()]
