@@ -38,13 +38,9 @@ logos_places logos_reduce logos_search logos_tables logos_text logos_cli logos_c
 logos_show logos_program tests/calls
 """.split()
 COLUMNS = 100
-# The crates and pages where a word is used, or is not replaced yet.
+# The crates where a word has its home. On pages it is used, too.
 USED_IN = {
-    "place, outside of graphs": """
-logos_automaton logos_byte_class logos_code logos_codegen logos_generator logos_graph logos_inspect logos_machine logos_places logos_warnings logos_reduce logos_tables logos_text
-logos_cli logos_commands logos_disk logos_host logos_report logos_show logos_program logos_type_reader tests/calls
-logos_derive logos_expansion logos_layout logos_messages logos_pieces logos_placeholder logos_spelling logos_written logos_search logos_walk logos_fold logos_scan
-""".split()
+    "place, outside of graphs": "logos_places logos_automaton logos_graph logos_generator".split()
 }
 # Each entry of the glossary's last table: the words in a name, and the pattern in a sentence.
 UNUSED = {
@@ -59,7 +55,7 @@ UNUSED = {
         r"|\blists? (?:its|their|the|a|an|no|one|all|each) faults?\b|\bfaults (?:that )?(?:\w+ )?(?:lists?|listed)\b",
     ),
     "just, for exactly": ([], r"\bjust\b"),
-    "place, outside of graphs": ([], r"(?<!\bin )\b(?:a|one|each|this|that|any|no|its|their|second|same) places?\b|\bplaces\b"),
+    "place, outside of graphs": ([], r"(?<=.)(?<!\bin )(?<!\bin its )(?<!\bin their )(?<!\btakes the )(?<!\btook the )\bplaces?\b"),
     "what is no": ([], r"\bwhat (?:is|are) no\b"),
     "reached, work, as names of types": ([], r"(?!)"),
 }

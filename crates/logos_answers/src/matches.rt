@@ -97,7 +97,7 @@ pub fn longest_of(
     Ok(longest)
 }
 
-/// Puts a match in the place of an earlier one of its leaf.
+/// Puts a match in place of an earlier one of its leaf.
 fn set_longest(longest: &mut Vec<Option<Match>>, found: Match)
     ensures count { length longest.new.items ≡ length longest.old.items }
     ensures each { (leaf : ℕ) → leaf < length longest.old.items →

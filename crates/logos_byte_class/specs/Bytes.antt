@@ -47,8 +47,8 @@ compares c b = nat_le c.first b && nat_le b c.last && not (is_among c.except b)
 abbrev pub some_compares : List Comparison → ℕ → Bool
 some_compares cs b = list_any (λ c. compares c b) cs
 
--- A range before comparisons. The first comparison takes it in if exactly one byte lies between them,
--- which becomes an exception.
+-- A range before comparisons. The first comparison takes it in if exactly one byte lies between
+-- them, which becomes an exception.
 abbrev pub join : ℕ × ℕ → List Comparison → List Comparison
 join r [] = record { first = r.0; last = r.1; except = [] } ∷ []
 join r (c ∷ cs) =

@@ -90,9 +90,9 @@ impl ByteClass {
         table
     }
 
-    /// Returns comparisons that hold for exactly the bytes of the class. Ranges with exactly one byte
-    /// between them share a comparison, and that byte is one of its exceptions. The class must be
-    /// separated, as `is_separated` tests.
+    /// Returns comparisons that hold for exactly the bytes of the class. Ranges with exactly one
+    /// byte between them share a comparison, and that byte is one of its exceptions. The class must
+    /// be separated, as `is_separated` tests.
     ///
     /// # Errors
     ///

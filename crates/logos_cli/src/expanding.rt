@@ -384,8 +384,8 @@ fn fault_lines(
 }
 
 /// Returns the text of all faults of a file, in order, with their number, after its warnings. For
-/// each, a line with the name of its code and the first line of its message, and one with its place
-/// in the file stand in it.
+/// each, a line with the name of its code and the first line of its message, and one with its
+/// position in the file stand in it.
 fn refusal_text(
     source: &Source<'_>,
     showing: Showing,

@@ -1,4 +1,4 @@
-//! What stands in the place of an enum: the enum without what belongs to the derive, and the
+//! What stands in place of an enum: the enum without what belongs to the derive, and the
 //! implementation.
 
 ghost use Rattle.std.specs.Prelude.{◌≡◌, ◌++◌, true, IfOk, OnOk, string_bytes};

@@ -7,7 +7,7 @@ use Rattle.logos_code.specs.Code.{CodeValue, CodeState, Condition, by_comparison
 use Rattle.logos_code.specs.Runs.{Tries, CodeFinds, target}
 use Rattle.logos_code.specs.Items.{Item, token, error}
 
--- The headline: at each place of each input the code finds exactly what maximal munch finds there,
+-- The headline: at each point of each input the code finds exactly what maximal munch finds there,
 -- and its leaves are used as the rules say.
 pub record IsLexer (rules : List Rule) (utf8 : Bool) (code : CodeValue) : Type 0 where
   pub mode : code.utf8 ≡ utf8

@@ -35,7 +35,7 @@ IsStepOf entry (Closes leaf used) = (entry ≡ first_closing used + leaf.0) × (
 IsStepOf entry Stuck = (2147483648 ≤ entry) × (entry < 2415919104)
 IsStepOf entry Unsaid = 2415919104 ≤ entry
 
--- The place of a state: 272 times its number.
+-- The offset of a state: 272 times its number.
 abbrev pub IsPlace : CodeValue → ℕ → Type 0
 IsPlace code place = (272 * (place / 272) ≡ place) × (place / 272 < length code.states)
 

@@ -91,14 +91,14 @@ module _ (code : CodeValue) where
     abbrev pub Tries : Found → ℕ → Type 0
     Tries = Goes (record { state = code.root; offset = start; context = None })
 
--- What a code value finds at a place.
+-- What a code value finds at a point.
 abbrev pub CodeFinds : CodeValue → List ℕ → ℕ → Found → Type 0
 CodeFinds code bytes from found = (n : ℕ) × Tries code bytes from found n
 
--- The items of a run of the code value, from a place on.
+-- The items of a run of the code value, from a point on.
 abbrev pub Runs : CodeValue → Callback → List ℕ → ℕ → List Item → Type 0
 Runs code callback bytes = Lexes code.leaves callback bytes (CodeFinds code bytes)
 
--- The next item of a run of the code value from a place on, and the place after it.
+-- The next item of a run of the code value from a point on, and the point after it.
 abbrev pub RunsOn : CodeValue → Callback → List ℕ → ℕ → Item → ℕ → Type 0
 RunsOn code callback bytes = NextItem code.leaves callback bytes (CodeFinds code bytes)

@@ -245,14 +245,14 @@ impl Code<'_> {
         self.first[byte as usize]
     }
 
-    /// Returns the entry of the byte in the state at the place, which is `WIDTH` times the number
+    /// Returns the entry of the byte in the state at the offset, which is `WIDTH` times the number
     /// of the state.
     #[inline(always)]
     pub fn entry(&self, place: usize, byte: u8) -> u32
         requires { IsPlace self.now place }
         ensures { IsEntry self.now (state_at self.now (place / 272)) byte result }
     {
-        // In this order the place, which comes from the entry before, need not be added before the
+        // In this order the offset, which comes from the entry before, need not be added before the
         // load.
         let column = &self.rows[byte as usize..];
         column[place]
@@ -291,7 +291,7 @@ impl Code<'_> {
         self.parts.target(&self.parts.states[state].fork, byte)
     }
 
-    /// Returns the entry of the end of the input in the state at the place.
+    /// Returns the entry of the end of the input in the state at the offset.
     #[cold]
     #[inline(never)]
     pub fn last_entry(&self, place: usize) -> u32
@@ -324,7 +324,7 @@ impl Code<'_> {
     }
 
     /// Returns what is known of the last mark that a try has passed, where it ends in the state at
-    /// the place. It spares a lexer a second walk, and may be `Unseen` or `Varies` of any state.
+    /// the offset. It spares a lexer a second walk, and may be `Unseen` or `Varies` of any state.
     #[cold]
     #[inline(never)]
     pub fn last_mark(&self, place: usize) -> LastMark
@@ -333,7 +333,7 @@ impl Code<'_> {
         last_mark_at(&self.last_marks, place / WIDTH)
     }
 
-    /// Returns the place of the state in which each try begins.
+    /// Returns the offset of the state in which each try begins.
     #[inline(always)]
     pub fn root_place(&self) -> usize
         ensures place { result ≡ 272 * self.now.root }

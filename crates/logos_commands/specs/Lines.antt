@@ -24,7 +24,7 @@ lines_of items = flat_map line_of items
 abbrev pub emits : Callback
 emits leaf slice answer = answer ≡ Emit
 
--- After these bytes, the lines of all items of a run of a code from a place of the input on were
+-- After these bytes, the lines of all items of a run of a code from a point of the input on were
 -- written.
 pub record WritesLines (code : CodeValue) (callback : Callback) (bytes : List ℕ) (from : ℕ) (before : List ℕ) (old new : Option (List ℕ)) : Type 0 where
   pub items : List Item

@@ -4,7 +4,7 @@ use crate::piece::Piece;
 use logos_token::error::Memory;
 use std::alloc::Global;
 
-/// Returns an implementation with a placeholder in the place of each piece.
+/// Returns an implementation with a placeholder in place of each piece.
 pub(crate) fn filled(alloc: Global, text: &str, pieces: &[Piece]) -> Result<String, Memory> {
     let mut shown = String::new(alloc);
     let mut from = 0;

@@ -1,4 +1,4 @@
--- What a graph finds at a place of an input.
+-- What a graph finds at a point of an input.
 use Rattle.std.specs.Prelude.{◌≡◌, ℕ, ◌+◌, ◌-◌, ◌<◌, ◌≤◌, ◌↔◌, Bool, false, List, length, take, drop, Option, Some, None, option_and_then, IsSome, IsTrue, IsCharBoundary, nat_lt}
 use Rattle.logos_automaton.specs.Munch.{Rule, IsInput, Found, ended, matched, failed, Finds}
 use Rattle.logos_graph.specs.Graph.{GraphState, walk, type_after}
@@ -38,7 +38,7 @@ module _ (graph : List GraphState) (utf8 : Bool) (bytes : List ℕ) (from : ℕ)
     pub covers : (n : ℕ) → n ≤ length rest → IsSome (walk graph 0 (take n rest) false) → from + n ≤ to
     pub boundary : IsTrue utf8 → IsCharBoundary bytes to
 
-  -- There is no mark on the way, and the error ends at the first place where it may.
+  -- There is no mark on the way, and the error ends at the first point where it may.
   pub record IsUnmarked (to : ℕ) : Type 0 where
     pub starts : from < length bytes
     pub unmarked : (n : ℕ) → n ≤ length rest + 1 → mark_after n ≡ None
@@ -50,7 +50,7 @@ module _ (graph : List GraphState) (utf8 : Bool) (bytes : List ℕ) (from : ℕ)
   GraphFinds (matched leaf to) = (from < length bytes) × IsLastMark leaf to
   GraphFinds (failed to) = IsUnmarked to
 
--- At each place of each input the graph finds what maximal munch finds there.
+-- At each point of each input the graph finds what maximal munch finds there.
 abbrev pub FindsTheLongest : List Rule → Bool → List GraphState → Type 0
 FindsTheLongest rules utf8 graph =
     (bytes : List ℕ) (from : ℕ) (found : Found) → IsInput utf8 bytes → GraphFinds graph utf8 bytes from found ↔ Finds rules utf8 bytes from found

@@ -21,7 +21,7 @@ pub record IsGraphOf (leaves : List Leaf) (utf8 : Bool) (graph : GraphValue) : T
   -- Where each pattern takes a byte before it looks or matches, the automaton lists each match one
   -- byte late.
   pub late : AllStart (rules_of leaves) → ReadsOneByteLate (rules_of leaves) graph.automaton
-  -- Without a fault the graph finds at each place of each input what maximal munch finds.
+  -- Without a fault the graph finds at each point of each input what maximal munch finds.
   pub finds : graph.faults ≡ [] → FindsTheLongest (rules_of leaves) utf8 graph.states
   pub reduced : graph.faults ≡ [] → IsReduced (rules_of leaves) graph.states
   pub least : graph.faults ≡ [] → IsLeast graph.states

@@ -4,7 +4,7 @@
 ghost use Rattle.std.specs.Prelude.{◌≡◌, ℕ, ◌<◌, ◌≤◌, Bool, false, List, Some, length};
 ghost use Rattle.logos_graph.specs.Words.{IsBytes, Rule, Found, Finds, matched, Fault, AreFaults, GraphState, walk, HasType, IsReduced};
 
-/// At a place of an input, maximal munch finds one thing.
+/// At a point of an input, maximal munch finds one thing.
 pub fn one_is_found()
     ensures { (rules : List Rule) (utf8 : Bool) (bytes : List ℕ) (from : ℕ) (f g : Found) →
         from ≤ length bytes → Finds rules utf8 bytes from f →

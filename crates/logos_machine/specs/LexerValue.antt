@@ -49,7 +49,7 @@ pub record Gives {C : Type 0} (callback : Callback) (old new : LexerValue C) (it
   pub after : old.to ≤ new.from
   pub nonempty : new.from < new.to
   pub within : new.to ≤ length new.input
-  -- It is the next one from the old place on, whatever comes after it.
+  -- It is the next one from the old point on, whatever comes after it.
   pub is : RunsOn old.code callback old.input old.to item new.to
   pub next : (rest : List Item) → Runs new.code callback new.input new.to rest → Runs old.code callback old.input old.to (item ∷ rest)
 

@@ -20,7 +20,7 @@ RunsGoOver callback other = AnswersAmong callback other →
     (code : CodeValue) (input : List ℕ) (from : ℕ) (items : List Item) → Runs code callback input from items → Runs code other input from items
 
 module _ {C : Type 0} (calls : Shared C (LeafId × (Bor (List ℕ) × Unit {0})) Action) where
-  -- A lexer has given these items: what completes the run from its place on completes, after them,
+  -- A lexer has given these items: what completes the run from its point on completes, after them,
   -- the whole run.
   abbrev pub HasGiven : LexerValue C → List Item → Type 0
   HasGiven lexer items = (rest : List Item) → Runs lexer.code (answers_of calls lexer.callback) lexer.input lexer.to rest →

@@ -30,7 +30,7 @@ AreLines text [] = Unit {0}
 AreLines text (line ∷ lines) = ((number : ℕ) × IsShownLine text number line.text) × AreLines text lines
 
 -- This may be shown of a fault of the part of a file that begins at an offset: the lines are lines
--- of the file, and the report has the line of the fault and the one that names its place.
+-- of the file, and the report has the line of the fault and the one that names its position.
 pub record IsShown (source : SourceValue) (begin : ℕ) (fault : Fault) (shown : Shown) : Type 0 where
   pub lines : AreLines source.text shown.lines
   pub other_lines : AreLines source.text shown.other_lines

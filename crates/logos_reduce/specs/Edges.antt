@@ -2,7 +2,7 @@
 use Rattle.std.specs.Prelude.{◌≡◌, ◌<◌, ◌⊎◌, ℕ, List, [], ◌∷◌, Option, Some, IsSome, option_and_then}
 
 pub record StateType : Type 0 where
-  -- A match of this leaf ends one byte before the place reached.
+  -- A match of this leaf ends one byte before the point reached.
   pub accept : Option ℕ
   -- A match of this leaf ends there.
   pub early : Option ℕ

@@ -17,7 +17,8 @@ module _ (table : Table) where
   mark_after s bytes ends = option_and_then (λ t. mark_with_end t ends)
       (state_after table (Some s) bytes)
 
-  -- They lead from the two states to different marks, or can be followed from exactly one of the two.
+  -- They lead from the two states to different marks, or can be followed from exactly one of the
+  -- two.
   abbrev pub Distinguishes : ℕ → ℕ → List ℕ → Bool → Type 0
   Distinguishes s t bytes ends = mark_after s bytes ends ≢ mark_after t bytes ends
 

@@ -13,7 +13,7 @@ word_of bytes =
     if nat_lt (length bytes) 4 then 0
     else from_le_bytes w32 (slice_index bytes 0 ∷ slice_index bytes 1 ∷ slice_index bytes 2 ∷ slice_index bytes 3 ∷ [])
 
--- The hash with one more number at a place.
+-- The hash with one more number at an index.
 abbrev pub mixed : ℕ → ℕ → ℕ → ℕ
 mixed hash word place =
     rotate_left w64 ((bit_xor hash (bit_xor ((place * 2 ^ 32) % 2 ^ 64) word) * 0x9e37_79b9_7f4a_7c15) % 2 ^ 64) 29

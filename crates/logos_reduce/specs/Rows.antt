@@ -10,7 +10,7 @@ target_of (suc t) = Some t
 abbrev pub target_by : List ℕ → ℕ → Option ℕ
 target_by row k = target_of (slice_index row k)
 
--- The rows at these places among the distinct ones.
+-- The rows at these indeices among the distinct ones.
 abbrev pub rows_at : List ℕ → List (List ℕ) → List (List ℕ)
 rows_at places distinct = map (λ place. slice_index_or distinct place []) places
 

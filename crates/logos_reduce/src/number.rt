@@ -32,7 +32,7 @@ fn meet_target(order: &mut Order, target: Option<usize>) -> Result<(), AllocErro
     Ok(())
 }
 
-/// Adds the blocks to which the block at place `i` leads.
+/// Adds the blocks to which the block at index `i` leads.
 fn meet_targets(
     order: &mut Order,
     table: &Table,

@@ -22,7 +22,7 @@ pub type Row = [u32; 257];
 /// A list of rows.
 #[derive(Drop)]
 pub struct Rows {
-    /// For each row of the list its place among the distinct ones.
+    /// For each row of the list its index among the distinct ones.
     pub(crate) places: Vec<usize>,
     /// The rows of the list, each once.
     distinct: IndexSet<Row, BuildHasherDefault<RowHasher>>,
@@ -62,7 +62,7 @@ impl Rows {
         }
     }
 
-    /// Returns the place of the row at an index among the distinct rows.
+    /// Returns the index of row `i` among the distinct rows.
     pub fn place(&self, i: usize) -> usize
         requires { i < length (rows_of self.now) }
         ensures { result ≡ slice_index self.now.places.items i }
@@ -77,7 +77,7 @@ impl Rows {
         self.distinct.len()
     }
 
-    /// Returns the distinct row at a place.
+    /// Returns the distinct row at an index.
     pub(crate) fn distinct(&self, place: usize) -> &Row
         requires { place < length self.now.distinct.keys }
         ensures { result.now ≡ slice_index_or self.now.distinct.keys place [] }

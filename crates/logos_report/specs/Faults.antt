@@ -27,7 +27,7 @@ abbrev pub head_line : Bool → Fault → List ℕ
 head_line is_colored fault =
     code_text is_colored fault.code ++ (painted is_colored Strong (codes ": " ++ shown_text (first_line fault.message)) ++ codes "\n")
 
--- The line of a fault, and the one that names its place in the file.
+-- The line of a fault, and the one that names its position in the file.
 abbrev pub fault_texts : Bool → SourceValue → ℕ → Fault → List (List ℕ)
 fault_texts is_colored source begin fault = head_line is_colored fault ∷ place_line is_colored source begin fault.span.from ∷ []
 
@@ -46,7 +46,7 @@ rest_text count = codes ": " ++ (decimal count ++ codes " more are not shown")
 abbrev pub rest_line : Bool → FaultCode → ℕ → List ℕ
 rest_line is_colored code count = code_text is_colored code ++ (painted is_colored Strong (rest_text count) ++ codes "\n")
 
--- The same of a fault that comes next: one that belongs to an earlier report is a place of that.
+-- The same of a fault that comes next: one that belongs to an earlier report is a position of that.
 abbrev pub listed_texts : Bool → SourceValue → ℕ → TurnValue → Fault → List (List ℕ)
 listed_texts is_colored source begin turn fault =
     if follows turn fault then place_line is_colored source begin fault.span.from ∷ [] else fault_texts is_colored source begin fault

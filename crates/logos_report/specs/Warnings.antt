@@ -11,7 +11,7 @@ use Rattle.logos_report.specs.Shown.{shown_text}
 abbrev pub warning_head : Bool → List ℕ → List ℕ
 warning_head is_colored message = painted is_colored Warning (codes "warning") ++ (painted is_colored Strong (codes ": " ++ shown_text message) ++ codes "\n")
 
--- The line of a warning, and the one that names its place in the file.
+-- The line of a warning, and the one that names its position in the file.
 abbrev pub warning_texts : Bool → SourceValue → ℕ → Shown → List (List ℕ)
 warning_texts is_colored source begin warning =
     warning_head is_colored (string_bytes warning.message) ∷ place_line is_colored source begin warning.span.from ∷ []

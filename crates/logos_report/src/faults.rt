@@ -25,9 +25,9 @@ use logos_token::error::{Errors, FaultCode, SpannedError};
 const MOST: usize = 50;
 
 /// Pushes the faults of a part of a file, in order. For each, a line with the name of its code and
-/// the first line of its message, and one with its place in the file stand in what is pushed. Of
+/// the first line of its message, and one with its position in the file stand in what is pushed. Of
 /// the faults of a set of ambiguous leaves of which something is known the first one has the line,
-/// and all have their places under it.
+/// and all have their positions under it.
 pub fn push_faults(page: &mut Page, part: Part<'_, '_>, errors: &Errors, clues: &Clues)
     ensures { Shows (faults_texts page.old.is_colored part.entry.source.now part.entry.offset
         (sizes_of clues.now) errors.now) page.old page.new }
@@ -139,7 +139,7 @@ fn has_code(fault: &SpannedError, code: FaultCode) -> bool
     fault.code.name() == code.name()
 }
 
-/// Returns how many reports of errors these faults give. `Previous` is the place of an earlier
+/// Returns how many reports of errors these faults give. `Previous` marks an earlier
 /// definition that an error speaks of, and a set of ambiguous leaves of which something is known
 /// has one report.
 pub fn count_errors(errors: &Errors, clues: &Clues) -> usize

@@ -54,8 +54,8 @@ fn push_member(page: &mut Page, part: Part<'_, '_>, fault: &SpannedError, member
     push_end(page, shown, member);
 }
 
-/// Pushes the place of a fault of a set of ambiguous leaves, and in front of the first one the line
-/// of the report. Returns how wide the column of line numbers is.
+/// Pushes the position of a fault of a set of ambiguous leaves, and in front of the first one the
+/// line of the report. Returns how wide the column of line numbers is.
 fn push_place_of(
     page: &mut Page,
     part: Part<'_, '_>,
@@ -75,7 +75,7 @@ fn push_place_of(
     }
 }
 
-/// Pushes the line of a report and the place of its fault, with a label. Returns how wide the
+/// Pushes the line of a report and the position of its fault, with a label. Returns how wide the
 /// column of line numbers is.
 fn push_begin(page: &mut Page, part: Part<'_, '_>, fault: &SpannedError, label: &str) -> usize
     ensures { Shows (fault_texts page.old.is_colored part.entry.source.now part.entry.offset

@@ -31,7 +31,7 @@ pub struct Warning {
 }
 
 /// Pushes the warnings of a part of a file, in order, but no more than 50, and how many are left
-/// out. For each, a line with its message and one with its place stand in what is pushed.
+/// out. For each, a line with its message and one with its position stand in what is pushed.
 pub fn push_warnings(page: &mut Page, part: Part<'_, '_>, warnings: &[Warning])
     ensures { Shows (warnings_texts page.old.is_colored part.entry.source.now part.entry.offset
         warnings.now) page.old page.new }
@@ -126,7 +126,7 @@ fn push_line(page: &mut Page, width: usize, kind: &str, text: &str)
     page.push("\n");
 }
 
-/// Pushes the place of a second span, if there is one.
+/// Pushes the position of a second span, if there is one.
 fn push_other(page: &mut Page, part: Part<'_, '_>, width: usize, also: Option<Span>)
     ensures { Shows [] page.old page.new }
 {

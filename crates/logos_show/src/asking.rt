@@ -29,7 +29,7 @@ pub(crate) enum Standing {
     Different,
 }
 
-/// An input: its path, its bytes, and the place that is asked for, if one is.
+/// An input: its path, its bytes, and the point that is asked for, if one is.
 #[derive(Clone, Copy)]
 pub(crate) struct Input<'w, 'i> {
     pub(crate) path: &'w str,
@@ -39,7 +39,7 @@ pub(crate) struct Input<'w, 'i> {
     pub(crate) is_json: bool,
 }
 
-/// A place of an input: the path and the bytes of the input, and the place.
+/// A point of an input: the path and the bytes of the input, and the point.
 #[derive(Clone, Copy)]
 pub(crate) struct Spot<'w, 'i> {
     pub(crate) path: &'w str,
@@ -47,11 +47,11 @@ pub(crate) struct Spot<'w, 'i> {
     pub(crate) place: Position,
 }
 
-/// Writes what matches from a place of an input, as lines of text.
+/// Writes what matches from a point of an input, as lines of text.
 ///
 /// # Errors
 ///
-/// Returns `Refused` if the input does not have the place, `Output` if writing fails, and `Memory`
+/// Returns `Refused` if the input does not have the point, `Output` if writing fails, and `Memory`
 /// if memory runs out.
 pub(crate) fn write_matches<O: Write>(
     alloc: Global,
@@ -75,11 +75,11 @@ pub(crate) fn write_matches<O: Write>(
     print_bytes(text.as_str().as_bytes(), out)
 }
 
-/// Writes what matches from a place of an input, as lines of JSON.
+/// Writes what matches from a point of an input, as lines of JSON.
 ///
 /// # Errors
 ///
-/// Returns `Refused` if the input does not have the place, `Output` if writing fails, and `Memory`
+/// Returns `Refused` if the input does not have the point, `Output` if writing fails, and `Memory`
 /// if memory runs out.
 pub(crate) fn write_match_records<O: Write>(
     alloc: Global,
@@ -100,7 +100,7 @@ pub(crate) fn write_match_records<O: Write>(
     print_bytes(&bytes, out)
 }
 
-/// Pushes the line that names a place.
+/// Pushes the line that names a point.
 fn push_place(page: &mut Page, place: Position)
     ensures { Gains (place_line place) page.old page.new }
 {
@@ -111,7 +111,7 @@ fn push_place(page: &mut Page, place: Position)
     page.push("\n");
 }
 
-/// Returns the refusal of an input that does not have a place.
+/// Returns the refusal of an input that does not have a point.
 fn no_place(alloc: Global, path: &str, place: Position) -> Failure<'static>
     ensures { IsNoMisuse result }
 {

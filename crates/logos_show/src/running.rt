@@ -296,7 +296,7 @@ fn most_of(question: Question<'_>) -> usize {
     }
 }
 
-/// Writes the items of an input, or what matches from a place of it.
+/// Writes the items of an input, or what matches from a point of it.
 fn lex<'w, F: Files, C: Clock, O: Write, E: Write + IsTerminal>(
     alloc: Global,
     task: Task<'w>,
@@ -320,7 +320,7 @@ fn lex<'w, F: Files, C: Clock, O: Write, E: Write + IsTerminal>(
     lex_by_file(alloc, task, &source, input, host, out)
 }
 
-/// Writes the items of an input or what matches from a place of it, by the lexer of a file that is
+/// Writes the items of an input or what matches from a point of it, by the lexer of a file that is
 /// asked for.
 fn lex_by_file<'w, F: Files, C: Clock, O: Write, E: Write + IsTerminal>(
     alloc: Global,
@@ -348,7 +348,7 @@ pub(crate) fn part_of<'f, 's>(source: &'f Source<'s>, one: FoundEnum) -> Part<'f
     }
 }
 
-/// Writes the items of an input, or what matches from a place of it.
+/// Writes the items of an input, or what matches from a point of it.
 fn lex_by_lexer<'w, F: Files, C: Clock, O: Write, E: Write + IsTerminal>(
     alloc: Global,
     made: &Generated<'_>,
@@ -389,7 +389,7 @@ fn items_by_lexer<C: Clock, O: Write>(
     }
 }
 
-/// Writes what matches from a place of an input.
+/// Writes what matches from a point of an input.
 fn match_by_lexer<O: Write>(
     alloc: Global,
     graph: &Graph<'_>,

@@ -38,8 +38,8 @@ step_in tables state symbol =
     option_and_then (λ row. option_and_then (slice_get row) (slice_get tables.classes symbol)) (row_in tables state)
 
 -- The tables hold the step of each symbol in each state of a code: there are as many classes as
--- symbols and as many places of rows as states, each class is one of a row, and each place is that
--- of a row.
+-- symbols and as many numbers of rows as states, each class is one of a row, and each number is
+-- that of a row.
 pub record Hold (code : CodeValue) (tables : Tables) : Type 0 where
   pub symbols : length tables.classes ≡ 257
   pub states : length tables.places ≡ length code.states
@@ -50,7 +50,7 @@ pub record Hold (code : CodeValue) (tables : Tables) : Type 0 where
   pub wide : (i : ℕ) → i < length tables.rows → length (slice_index_or tables.rows i []) ≡ tables.width
   pub runs : spread tables.runs ≡ flat_map (λ row. row) tables.rows
 
--- Rows by their places among the distinct ones.
+-- Rows by their indices among the distinct ones.
 abbrev pub rows_at : List ℕ → List (List ℕ) → List (List ℕ)
 rows_at places distinct = map (λ place. slice_index_or distinct place []) places
 

@@ -111,7 +111,7 @@ pub(crate) fn push_entry_type(text: &mut String, states: usize, width: usize) ->
     Ok(())
 }
 
-/// Returns the text of the type of entries: it has room for a place in the table and three bits.
+/// Returns the text of the type of entries: it has room for an offset of the table and three bits.
 fn entry_type(states: usize, width: usize) -> &'static str
     ensures { result.now ≡ entry_type_text states width }
 {

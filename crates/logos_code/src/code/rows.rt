@@ -1,13 +1,13 @@
 //! Rows: what each byte does in each state, as one number.
 //!
 //! The rows of all states lie in one table, one after another, `WIDTH` entries each: what byte `b`
-//! does in state `s` is entry `WIDTH * s + b`. The place of a state is the index of the first entry
-//! of its row. An entry has its kind in the upper four bits, and below them what it names. The
-//! kinds are numbered in the order in which a lexer asks for them:
+//! does in state `s` is entry `WIDTH * s + b`. The offset of a state is the index of the first
+//! entry of its row. An entry has its kind in the upper four bits, and below them what it names.
+//! The kinds are numbered in the order in which a lexer asks for them:
 //!
 //! | Kind | It names | The byte |
 //! |---|---|---|
-//! | 0 | the place of a state | leads to this state |
+//! | 0 | the offset of a state | leads to this state |
 //! | 1, `STAYS` | a test | stays in the state, whose fast loop has this test |
 //! | 2, `LEAVES` | a leaf, `LATE` | ends a match before it, which is skipped without a callback |
 //! | 3, `HALTS` | a leaf, `LATE` | ends a match before it, which is a token without a callback |
@@ -49,7 +49,7 @@ const STATES: usize = 986_896;
 pub const LATE: u32 = 1 << 27;
 
 /// The first entry that names a test: the byte stays in the state, whose fast loop has this test.
-/// An entry below it is the place of the state to which the byte leads.
+/// An entry below it is the offset of the state to which the byte leads.
 pub const STAYS: u32 = NAMED;
 
 /// The first entry that names a leaf whose match ends before the byte, and is skipped without a

@@ -8,7 +8,7 @@ use Rattle.logos_graph.specs.inside.First.{first_of}
 use Rattle.logos_automaton.specs.Automaton.{Automaton, dfa_next}
 use Rattle.logos_reduce.specs.Edges.{StateType, Edges, reach, Leads}
 
--- The mark of a state that is entered by one step from the place `at`: a leaf and the end of its
+-- The mark of a state that is entered by one step from the point `at`: a leaf and the end of its
 -- match. A state with no mark leaves the mark before it.
 abbrev pub marked : StateType → ℕ → Option (ℕ × ℕ) → Option (ℕ × ℕ)
 marked type at last = go type.early type.accept
@@ -19,7 +19,7 @@ marked type at last = go type.early type.accept
     go None None = last
 
 module _ {S : Type 0} (g : Edges S) where
-  -- The last mark on the way along the rest and the end, from a state at a place.
+  -- The last mark on the way along the rest and the end, from a state at a point.
   abbrev pub last_mark : S → List ℕ → ℕ → Option (ℕ × ℕ) → Option (ℕ × ℕ)
   last_mark s [] at last = option_map_or (λ t. marked (g.type_of t) at last) (g.at_end s) last
   last_mark s (b ∷ rest) at last = option_map_or (λ t. last_mark t rest (at + 1) (marked (g.type_of t) at last)) (g.next s b) last
@@ -29,7 +29,7 @@ module _ {S : Type 0} (g : Edges S) where
   followed s [] = 0
   followed s (b ∷ rest) = option_map_or (λ t. followed t rest + 1) (g.next s b) 0
 
-  -- No beginning of the rest that leads on goes beyond the place.
+  -- No beginning of the rest that leads on goes beyond the point.
   abbrev pub Covers : S → List ℕ → ℕ → ℕ → Type 0
   Covers s [] at to = Unit {0}
   Covers s (b ∷ rest) at to = (t : S) → g.next s b ≡ Some t → Leads g t → (at + 1 ≤ to) × Covers t rest (at + 1) to
@@ -42,7 +42,7 @@ module _ {S : Type 0} (g : Edges S) (root : S) (utf8 : Bool) (bytes : List ℕ) 
     pub covers : from + followed g root (drop from bytes) ≤ to
     pub boundary : IsTrue utf8 → IsCharBoundary bytes to
 
-  -- There is no mark on the way, and the error ends at the first place where it may.
+  -- There is no mark on the way, and the error ends at the first point where it may.
   pub record IsUnmarked (to : ℕ) : Type 0 where
     pub starts : from < length bytes
     pub unmarked : last_mark g root (drop from bytes) from None ≡ None
@@ -80,7 +80,7 @@ edges_of graph = record {
   at_end = next_at_end graph;
 }
 
--- What a finished graph finds at a place.
+-- What a finished graph finds at a point.
 abbrev pub GraphFindsByWalk : List GraphState → Bool → List ℕ → ℕ → Found → Type 0
 GraphFindsByWalk graph utf8 bytes from = WalkFinds (edges_of graph) 0 utf8 bytes from
 

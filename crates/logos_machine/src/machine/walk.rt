@@ -29,7 +29,7 @@ pub(super) enum Outcome {
     Ends(usize),
 }
 
-/// Returns what is found from a place of the input on.
+/// Returns what is found from a point of the input on.
 #[inline(always)]
 pub(super) fn attempt(code: &Code, input: &[u8], start: usize) -> Outcome
     requires { start ≤ length input.now }
@@ -49,7 +49,7 @@ pub(super) fn attempt(code: &Code, input: &[u8], start: usize) -> Outcome
     end_of(code, input, start, last)
 }
 
-/// Returns what is found from a place on by a try that notes the marks passed. Only that try is
+/// Returns what is found from a point on by a try that notes the marks passed. Only that try is
 /// called out of line: its result is in memory, and this one is made anew from it, so that the
 /// compiler can hold it in registers.
 #[inline(always)]
@@ -65,7 +65,7 @@ fn attempt_slowly(code: &Code, input: &[u8], start: usize) -> Outcome
 }
 
 /// Returns what a try finds that ends with this entry, where and after so many states, in the state
-/// at a place.
+/// at a point.
 #[inline(always)]
 fn end_of(code: &Code, input: &[u8], start: usize, last: (u32, usize, usize, usize)) -> Outcome
     requires sound { IsSound code.now }
@@ -131,7 +131,7 @@ fn halted(entry: u32) -> (LeafId, usize)
 }
 
 /// Returns the last entry of a try, where its byte is, how many states were entered before the one
-/// that has it, and the place of this state.
+/// that has it, and the offset of this state.
 #[inline(always)]
 fn walk(code: &Code, input: &[u8], start: usize, first: u32) -> (u32, usize, usize, usize)
     requires sound { IsSound code.now }

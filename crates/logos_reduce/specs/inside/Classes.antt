@@ -5,7 +5,7 @@ use Rattle.logos_reduce.specs.Table.{size, to, mark}
 use Rattle.logos_reduce.specs.inside.Merge.{key_of}
 use Rattle.logos_reduce.specs.declared.table.Table.{Table}
 
--- The place of the row of a state, and its mark, as a key.
+-- The index of the row of a state, and its mark, as a key.
 abbrev pub class_key : Table → ℕ → List ℕ
 class_key table s = slice_index table.rows.places.items s ∷ key_of (mark table s)
 

@@ -26,7 +26,7 @@ pub struct Classes {
     ghost few: { count ≤ vec_len of },
 }
 
-/// Returns the place of the row of a state, and its mark, as a key.
+/// Returns the index of the row of a state, and its mark, as a key.
 fn class_key(table: &Table, s: usize) -> [usize; 5]
     requires { s < size table.now }
     ensures { result ≡ inside.class_key table.now s }
