@@ -173,7 +173,8 @@ pub struct StateSteps<'c> {
     pub looks: bool,
 }
 
-/// Adds the places of a tree that read a byte, and returns whether the tree can be left before it.
+/// Appends the places of a tree that read a byte, and returns whether the tree can be left before
+/// it.
 ///
 /// # Errors
 ///
@@ -199,7 +200,7 @@ fn push_places(
     Ok(step.left)
 }
 
-/// Adds the number if `is_one` is true.
+/// Appends the number if `is_one` is true.
 ///
 /// # Errors
 ///

@@ -240,7 +240,7 @@ fn clues_of(text: &str, offset: usize, warned: &mut Vec<Warning>) -> Result<Clue
     Ok(clues)
 }
 
-/// Pushes the faults of what begins at an offset of the file, with what is known of them.
+/// Appends the faults of what begins at an offset of the file, with what is known of them.
 fn push_refusal(
     refused: &mut Vec<Refused>,
     offset: usize,
@@ -402,7 +402,7 @@ fn refusal_text(
     page.finish()
 }
 
-/// Pushes all these faults. Returns how many of them are errors.
+/// Appends all these faults. Returns how many of them are errors.
 fn push_refused(page: &mut Page, source: &Source<'_>, refused: &[Refused]) -> usize
     ensures { Shows (refused_texts page.old.is_colored source.now refused.now) page.old page.new }
 {

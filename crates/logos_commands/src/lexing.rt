@@ -175,7 +175,7 @@ fn write_rest<O: Write>(block: &[u8], out: &mut O) -> Result<(), Failure<'static
     }
 }
 
-/// Adds the line of an item to a block that has room for it.
+/// Appends the line of an item to a block that has room for it.
 #[inline(always)]
 fn push_line(block: &mut Vec<u8>, item: Item<'_>)
     requires { vec_len block.old + LONGEST ≤ vec_capacity block.old }

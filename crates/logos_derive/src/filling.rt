@@ -17,7 +17,7 @@ pub(crate) fn filled(alloc: Global, text: &str, pieces: &[Piece]) -> Result<Stri
     Ok(shown)
 }
 
-/// Pushes what stands between two offsets of a text.
+/// Appends what stands between two offsets of a text.
 fn push_between(shown: &mut String, text: &str, from: usize, to: usize) -> Result<(), Memory> {
     if let Some(part) = text.get(from..to) {
         shown.push_str(part)?;

@@ -119,7 +119,7 @@ impl Rest {
         self.push_gap(space)
     }
 
-    /// Adds a piece to the end of the gap.
+    /// Appends a piece to the end of the gap.
     fn push_gap(&mut self, piece: &str) -> Result<(), Memory> {
         self.gap.push_str(piece)?;
         self.has_line = self.has_line | has_line(piece.as_bytes());

@@ -110,7 +110,7 @@ pub(crate) fn rest_by(utf8: bool, rest: Rest, byte: u8) -> Option<Rest>
     }
 }
 
-/// Adds the least bytes that complete a character.
+/// Appends the least bytes that complete a character.
 ///
 /// # Errors
 ///

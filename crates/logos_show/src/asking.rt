@@ -100,7 +100,7 @@ pub(crate) fn write_match_records<O: Write>(
     print_bytes(&bytes, out)
 }
 
-/// Pushes the line that names a point.
+/// Appends the line that names a point.
 fn push_place(page: &mut Page, place: Position)
     ensures { Gains (place_line place) page.old page.new }
 {
@@ -331,7 +331,7 @@ fn compared_record(
     lines.finish()
 }
 
-/// Pushes the object of an input on which two lexers differ.
+/// Appends the object of an input on which two lexers differ.
 fn push_findings(
     alloc: Global,
     lines: &mut JsonLines,

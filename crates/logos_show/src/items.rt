@@ -183,7 +183,7 @@ fn add_record(
     }
 }
 
-/// Adds an object to a block. If memory runs out the block is empty.
+/// Appends an object to a block. If memory runs out the block is empty.
 fn push_record(
     alloc: Global,
     block: &mut Vec<u8>,
@@ -206,7 +206,7 @@ pub(crate) fn no_lines(alloc: Global, code: &Code<'_>) -> Result<Lines, AllocErr
     })
 }
 
-/// Adds what was counted of a whole input.
+/// Appends what was counted of a whole input.
 pub(crate) fn push_totals(
     code: &Code<'_>,
     lines: &mut Lines,

@@ -443,7 +443,7 @@ fn no_lexer(alloc: Global, file: &str, name: Option<&str>) -> Failure<'static>
     }
 }
 
-/// Pushes the name of an enum, if one is given.
+/// Appends the name of an enum, if one is given.
 fn push_name(page: &mut Page, name: Option<&str>) {
     if let Some(name) = name {
         page.push("`");

@@ -121,7 +121,7 @@ fn forgotten_of<'s>(alloc: Global, item: &ItemEnum<'_, 's>) -> Result<Vec<Mistak
     Ok(warnings)
 }
 
-/// Adds the warnings of the attributes of an enum and of its variants.
+/// Reports the warnings of the attributes of an enum and of its variants.
 fn report_names<'s>(
     item: &ItemEnum<'_, 's>,
     warnings: &mut Vec<Mistake<'s>>,
@@ -133,7 +133,7 @@ fn report_names<'s>(
     report_variants(item.variants.as_slice(), warnings)
 }
 
-/// Adds the warnings of the attributes of variants.
+/// Reports the warnings of the attributes of variants.
 fn report_variants<'s>(
     variants: &[Variant<'_, 's>],
     warnings: &mut Vec<Mistake<'s>>,
@@ -149,7 +149,7 @@ fn report_variants<'s>(
     Ok(())
 }
 
-/// Adds the mistakes of the attributes of a variant.
+/// Reports the mistakes of the attributes of a variant.
 fn report_variant<'s>(
     run: Tokens<'_, 's>,
     warnings: &mut Vec<Mistake<'s>>,
@@ -165,7 +165,7 @@ fn report_variant<'s>(
     Ok(())
 }
 
-/// Adds the warnings of the attributes of a run.
+/// Reports the warnings of the attributes of a run.
 fn report_run<'s>(
     site: Site,
     run: Tokens<'_, 's>,
@@ -204,7 +204,7 @@ fn is_conditional(site: Site, name: &str) -> bool
     }
 }
 
-/// Adds the mistake of an attribute, if it has one.
+/// Reports the mistake of an attribute, if it has one.
 fn report_attribute<'s>(
     site: Site,
     attribute: Attribute<'_, 's>,
@@ -219,7 +219,7 @@ fn report_attribute<'s>(
     }
 }
 
-/// Adds the mistake of an attribute whose path is not one identifier, if it has one.
+/// Reports the mistake of an attribute whose path is not one identifier, if it has one.
 fn report_unnamed<'s>(
     site: Site,
     attribute: Attribute<'_, 's>,
@@ -236,7 +236,7 @@ fn report_unnamed<'s>(
     Ok(())
 }
 
-/// Adds the mistake of an attribute with this name, if it has one.
+/// Reports the mistake of an attribute with this name, if it has one.
 fn report_named<'s>(
     site: Site,
     attribute: Attribute<'_, 's>,

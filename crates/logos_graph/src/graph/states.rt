@@ -47,7 +47,7 @@ fn is_at(edges: &[Edge], place: usize, target: usize) -> bool
     edges[place].1.0 == target
 }
 
-/// Adds bytes to an edge.
+/// Appends bytes to an edge.
 fn push_range(edge: &mut Edge, range: RangeInclusive<u8>) -> Result<(), AllocError>
     ensures { OnOk result (edge_of edge.new
         ≡ ((edge_of edge.old).0 ++ bounds range ∷ [], (edge_of edge.old).1)) }

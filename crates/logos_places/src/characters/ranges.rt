@@ -43,7 +43,7 @@ fn clip_range(range: CharRange, window: Window) -> Option<CharRange>
     })
 }
 
-/// Adds the offsets of the numbers that are in the range and in the window.
+/// Appends the offsets of the numbers that are in the range and in the window.
 ///
 /// # Errors
 ///
@@ -88,7 +88,7 @@ pub fn clip(
     Ok(out)
 }
 
-/// Adds the range, unless it is empty.
+/// Appends the range, unless it is empty.
 ///
 /// # Errors
 ///
@@ -103,7 +103,7 @@ fn push_range(out: &mut Vec<CharRange>, first: u32, last: u32) -> Result<(), All
     Ok(())
 }
 
-/// Adds the characters of a range.
+/// Appends the characters of a range.
 ///
 /// # Errors
 ///
