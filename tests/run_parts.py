@@ -1,7 +1,7 @@
 #!/usr/bin/env python3
 """Runs the parts of tests/parts, and counts what passed.
 
-  run_parts.py proved [--anew] [PART..]   with the programs that the part `proofs` leaves in the crates
+  run_parts.py proved [--anew] [PART..]   with the programs that the part `proofs` has left
   run_parts.py quick [PART..]             without `proofs`, with programs that are built unproved
 
 What is built unproved is kept in `out/quick`, and for the proved programs beside it in
