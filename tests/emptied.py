@@ -1,5 +1,6 @@
 #!/usr/bin/env python3
-"""Takes the work of each part away in a copy of the checkout, and runs the part there: it has to fail.
+"""Takes the work of each part away in a copy of the checkout, and runs the part there: it has to
+fail.
 
   emptied.py [PART ..]
 
@@ -143,7 +144,8 @@ def stand_in(room):
 
 
 def tried(room, part):
-    """Yields for each change of a part what is taken away, whether the part fails without it, and its last line."""
+    """Yields for each change of a part what is taken away, whether the part fails without it, and
+    its last line."""
     before = stand_in(room) if part.name == "proofs" else os.environ["PATH"]
     if part.name in run_parts.OF_PROOFS:
         failing, last = fails(room, part, lambda copy: None)

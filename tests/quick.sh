@@ -4,7 +4,8 @@
 #
 #   bash tests/quick.sh [PART..]
 #
-# A program is built where its sources, those of the crates below it, or the toolchain have changed. At the end stand the time and the
-# counts of each part, and last a line `N passed, M failed`. The status is 1 if anything failed.
+# A program is built where its sources, those of the crates below it, or the toolchain have changed.
+# At the end stand the time and the counts of each part, and last a line `N passed, M failed`. The
+# status is 1 if anything failed.
 set -euo pipefail
 exec python3 "$(dirname "${BASH_SOURCE[0]}")/run_parts.py" quick "$@"

@@ -1,12 +1,15 @@
 #!/usr/bin/env python3
-"""Counts the lines of code of each function and each file. Contracts, ghost lines, comments and blank lines are not code.
+"""Counts the lines of code of each function and each file. Contracts, ghost lines, comments and
+blank lines are not code.
 
   lengths.py           prints for each crate how many lines its longest function and its longest file have
   lengths.py --names   prints the ten longest functions of each crate too
 
-A function has at most 40 lines, from its name to its last brace, and a file at most 400. A block of `ghost use` lines, at the top of a file or of an `impl`,
-has at most four. Each bound counts once for each crate; the blocks of the crates in `WALLS_NOT_YET` are only counted. All blocks together have at most 900
-lines, once no crate is left there. The last line is `lengths: N passed, M failed`."""
+A function has at most 40 lines, from its name to its last brace, and a file at most 400. A block of
+`ghost use` lines, at the top of a file or of an `impl`, has at most four. Each bound counts once
+for each crate; the blocks of the crates in `WALLS_NOT_YET` are only counted. All blocks together
+have at most 900 lines, once no crate is left there. The last line is
+`lengths: N passed, M failed`."""
 import glob
 import os
 import re
@@ -40,7 +43,8 @@ def lines_of_code(path):
 
 
 def functions(lines):
-    """Yields the name and the number of lines of each function. As `rt fmt` lays files out, its last brace stands as far right as its first word."""
+    """Yields the name and the number of lines of each function. As `rt fmt` lays files out, its
+    last brace stands as far right as its first word."""
     for at, line in enumerate(lines):
         found = FUNCTION.match(line)
         if not found:
@@ -53,7 +57,8 @@ def functions(lines):
 
 
 def blocks(path):
-    """Yields the number of the first line of each block of `ghost use` lines of a file, and how many lines it has."""
+    """Yields the number of the first line of each block of `ghost use` lines of a file, and how
+    many lines it has."""
     count = 0
     with open(path, encoding="utf-8") as lines:
         for number, line in enumerate([*lines, ""], 1):

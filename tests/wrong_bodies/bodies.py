@@ -26,7 +26,8 @@ class Change:
 
 @dataclass
 class Body:
-    """A wrong body: its changes, and the functions in which they lie. What is wrong with its page stands in `fault`."""
+    """A wrong body: its changes, and the functions in which they lie. What is wrong with its page
+    stands in `fault`."""
 
     crate: str
     name: str
@@ -112,7 +113,8 @@ def bodies_of(folder, names):
 
 
 def together(bodies):
-    """The first body, and those after it that can be tried in one check with it and with one another."""
+    """The first body, and those after it that can be tried in one check with it and with one
+    another."""
     chosen = []
     for body in bodies:
         if not any(body.clashes(it) for it in chosen):

@@ -1,4 +1,5 @@
 //! The targets of states, while the automaton is built.
+
 ghost use Rattle.std.specs.Prelude.{Bool, List, ℕ, ◌≡◌, ◌^◌, ◌<◌, ◌≤◌, ◌+◌, IfOk, IfSome, IsFalse, OnOk, length, slice_index};
 ghost use Rattle.logos_automaton.specs.inside.Alike.{AreKindBytes};
 ghost use Rattle.logos_automaton.specs.inside.Prepared.{IsCacheOf, IsPrepared, cores_of};
@@ -16,14 +17,15 @@ use std::alloc::AllocError;
 /// The targets of a state by bytes.
 pub type Row = [u16; 256];
 
-/// The targets of a state by bytes while the automaton is built, which may then have a few more states than the limit.
+/// The targets of a state by bytes while the automaton is built, which may then have a few more
+/// states than the limit.
 pub type DraftRow = [u32; 256];
 
 /// Returns the target of a state by a byte. The target is added if it is new.
 ///
 /// # Errors
 ///
-/// Returns `AllocError` when memory runs out.
+/// Returns `AllocError` if memory runs out.
 fn target_of(
     trees: &Trees<'_>,
     states: &mut IndexSet<Key>,
@@ -52,7 +54,7 @@ fn target_of(
 ///
 /// # Errors
 ///
-/// Returns `AllocError` when memory runs out.
+/// Returns `AllocError` if memory runs out.
 pub fn end_of(
     trees: &Trees<'_>,
     states: &mut IndexSet<Key>,
@@ -79,7 +81,7 @@ pub fn end_of(
 ///
 /// # Errors
 ///
-/// Returns `AllocError` when memory runs out.
+/// Returns `AllocError` if memory runs out.
 fn next_target(
     trees: &Trees<'_>,
     states: &mut IndexSet<Key>,
@@ -122,7 +124,7 @@ fn first_in(trees: &Trees<'_>, states: &IndexSet<Key>, state: usize) -> [bool; 2
 ///
 /// # Errors
 ///
-/// Returns `AllocError` when memory runs out.
+/// Returns `AllocError` if memory runs out.
 fn plain_row(
     trees: &Trees<'_>,
     states: &mut IndexSet<Key>,
@@ -153,7 +155,7 @@ fn plain_row(
 ///
 /// # Errors
 ///
-/// Returns `AllocError` when memory runs out.
+/// Returns `AllocError` if memory runs out.
 fn target_by(steps: StateSteps<'_>, states: &mut IndexSet<Key>, byte: u8) -> Result<u32, AllocError>
     requires few { length states.old.keys < 2 ^ 31 }
     ensures extends { (ts : List Core) (i : ℕ) →
@@ -173,7 +175,7 @@ fn target_by(steps: StateSteps<'_>, states: &mut IndexSet<Key>, byte: u8) -> Res
 ///
 /// # Errors
 ///
-/// Returns `AllocError` when memory runs out.
+/// Returns `AllocError` if memory runs out.
 fn known_or_target_by(
     steps: StateSteps<'_>,
     states: &mut IndexSet<Key>,
@@ -201,7 +203,7 @@ fn known_or_target_by(
 ///
 /// # Errors
 ///
-/// Returns `AllocError` when memory runs out.
+/// Returns `AllocError` if memory runs out.
 fn row_by(
     steps: StateSteps<'_>,
     kinds: &[bool; 256],
@@ -231,7 +233,7 @@ fn row_by(
 ///
 /// # Errors
 ///
-/// Returns `AllocError` when memory runs out.
+/// Returns `AllocError` if memory runs out.
 fn live_in(
     trees: &Trees<'_>,
     cache: &mut StepCache,
@@ -264,12 +266,13 @@ fn is_start_at(states: &IndexSet<Key>, state: usize) -> bool
     }
 }
 
-/// Returns all targets of a state by bytes. The start enters each tree, and its steps serve no other state, so they are not
-/// stored; nor are those of a single tree, whose states seldom come twice.
+/// Returns all targets of a state by bytes. The start enters each tree, and its steps serve no
+/// other state, so they are not stored; nor are those of a single tree, whose states seldom come
+/// twice.
 ///
 /// # Errors
 ///
-/// Returns `AllocError` when memory runs out.
+/// Returns `AllocError` if memory runs out.
 pub fn row_of(
     trees: &Trees<'_>,
     cache: &mut StepCache,

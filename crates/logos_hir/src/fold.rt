@@ -19,7 +19,7 @@ fn within(table: &[(u32, u32)], range: Range) -> &[(u32, u32)]
     &rest[..rest.partition_point(|pair| pair.0 <= range.last)]
 }
 
-/// Adds what the pairs end with.
+/// Appends what the pairs end with.
 fn push_values(out: &mut Vec<Range>, table: &[(u32, u32)]) -> Result<(), AllocError>
     ensures { OnOk result (Adds (pairs out.old.items) (pairs out.new.items) (in_values table.now)) }
 {
@@ -32,7 +32,7 @@ fn push_values(out: &mut Vec<Range>, table: &[(u32, u32)]) -> Result<(), AllocEr
     Ok(())
 }
 
-/// Adds the other characters that share a simple folding with one in the ranges.
+/// Appends the other characters that share a simple folding with one in the ranges.
 fn push_folds(out: &mut Vec<Range>, ranges: &[Range]) -> Result<(), AllocError>
     ensures { OnOk result (Adds (pairs out.old.items) (pairs out.new.items)
         (in_image fold_pairs (in_ranges (pairs ranges.now)))) }
@@ -53,7 +53,7 @@ pub fn fold_case(alloc: Global, set: &RangeSet) -> Result<RangeSet, AllocError>
     RangeSet::from_ranges(alloc, &ranges)
 }
 
-/// Adds the numbers of the range from `first` to `last`, moved so that `first` becomes `to`.
+/// Appends the numbers of the range from `first` to `last`, moved so that `first` becomes `to`.
 fn push_shift(
     out: &mut Vec<Range>,
     range: Range,
@@ -79,7 +79,7 @@ fn push_shift(
     Ok(())
 }
 
-/// Adds the other case of each ASCII letter in the ranges.
+/// Appends the other case of each ASCII letter in the ranges.
 fn push_cases(out: &mut Vec<Range>, ranges: &[Range]) -> Result<(), AllocError>
     ensures { OnOk result (Adds (pairs out.old.items) (pairs out.new.items) (λ c.
         shift 65 90 97 (in_ranges (pairs ranges.now)) c ||

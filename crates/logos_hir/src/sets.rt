@@ -37,7 +37,7 @@ fn before(place: u32) -> u32
     if place == 0xE000 { 0xD7FF } else { place - 1 }
 }
 
-/// Adds the characters from `first` up to `end`, which is left out, and up to `last`.
+/// Appends the characters from `first` up to `end`, which is left out, and up to `last`.
 fn push_gap(out: &mut Vec<Range>, first: u32, end: u32, last: u32) -> Result<(), AllocError>
     requires first { IsPlace first }
     requires end { IsPlace end }
@@ -104,7 +104,7 @@ fn last_char(c: u32) -> u32
     }
 }
 
-/// Adds the characters of a range.
+/// Appends the characters of a range.
 fn push_chars(out: &mut Vec<Range>, range: Range) -> Result<(), AllocError>
     requires { AreRanges (pairs out.old.items) }
     ensures ranges { OnOk result (AreRanges (pairs out.new.items)) }

@@ -18,7 +18,8 @@ pub enum Failure<'w> {
         what: &'static str,
         word: &'w str,
     },
-    /// A word is no option of the program. The option that may be meant stands with it, if there is one.
+    /// A word is no option of the program. The option that may be meant stands with it, if there is
+    /// one.
     UnknownOption {
         word: &'w str,
         nearest: &'static str,
@@ -85,8 +86,8 @@ impl Failure<'_> {
     ghost use Rattle.std.specs.Prelude.{◌≡◌};
     ghost use Rattle.logos_host.specs.Failures.{status_of};
 
-    /// Returns the exit status: 1 if something is refused, 2 if the words are no command or name the
-    /// input as the output, 3 if a file or memory fails.
+    /// Returns the exit status: 1 if something is refused, 2 if the words are no command or name
+    /// the input as the output, 3 if a file or memory fails.
     pub fn status(&self) -> u8
         ensures { result ≡ status_of self.now }
     {

@@ -1,4 +1,5 @@
 //! Distinguishes two states of a reduced table by bytes.
+
 ghost use Rattle.std.specs.Prelude.{◌≡◌, ◌≢◌, ◌⊎◌, ◌↔◌, ◌<◌, ℕ, IsTrue, IfOk, IfSome, MatchOption, Some, None};
 ghost use Rattle.logos_reduce.specs.Table.{size, to};
 ghost use Rattle.logos_reduce.specs.History.{GivesEvidence};
@@ -45,7 +46,7 @@ fn mark_after(table: &Table, s: usize, bytes: &[u8], at_end: bool) -> Option<Mar
     mark_with_end(table, t, at_end)
 }
 
-/// Returns whether two marks differ, or there is just one.
+/// Returns whether two marks differ, or exactly one is there.
 fn differ(one: Option<Mark>, other: Option<Mark>) -> bool
     ensures { IsTrue result ↔ (one ≢ other) }
 {
@@ -92,7 +93,8 @@ fn parted_at(reduced: &Reduction, s: usize, t: usize) -> usize
 }
 
 impl Reduction {
-    /// Returns whether the bytes, with the end after them or without, distinguish the two states. It takes no memory.
+    /// Returns whether the bytes, with the end after them or without, distinguish the two states.
+    /// It takes no memory.
     pub fn checks(&self, s: usize, t: usize, bytes: &[u8], at_end: bool) -> bool
         requires s_in { s < size self.now.table }
         requires t_in { t < size self.now.table }
@@ -103,7 +105,8 @@ impl Reduction {
         differ(one, other)
     }
 
-    /// Returns bytes that distinguish two different states, fewer than there are states, and whether the end follows them.
+    /// Returns bytes that distinguish two different states, fewer than there are states, and
+    /// whether the end follows them.
     ///
     /// # Errors
     ///

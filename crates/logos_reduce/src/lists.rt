@@ -1,4 +1,5 @@
 //! A list of states for each state or block.
+
 ghost use Rattle.std.specs.Prelude.{true, ◌≡◌, ◌≢◌, ℕ, ◌+◌, ◌-◌, ◌<◌, ◌≤◌, ◌⊎◌, Some, OnOk, IfOk, IsTrue, IsFalse, length, slice_get, vec_len, slice_index};
 ghost use Rattle.logos_reduce.specs.Lists.{has, has_in, Rises, AreRising, ArePredecessors};
 ghost use Rattle.logos_reduce.specs.Table.{size, to};
@@ -87,7 +88,8 @@ fn file_row(
     Ok(())
 }
 
-/// Returns for each state the states that lead to it by one of the first `width` symbols, ascending and each once.
+/// Returns for each state the states that lead to it by one of the first `width` symbols, ascending
+/// and each once.
 pub fn predecessors(
     alloc: Global,
     table: &Table,

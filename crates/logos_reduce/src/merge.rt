@@ -1,4 +1,5 @@
 //! Merges states that no word distinguishes.
+
 ghost use Rattle.std.specs.Prelude.{◌≡◌, ◌≢◌, ℕ, ◌+◌, ◌<◌, ◌≤◌, Some, IfOk, MatchOption, length, vec_len, slice_index, option_map};
 ghost use Rattle.logos_reduce.specs.Merge.{target_block, IsSound, AreLeaders, IsMerged};
 ghost use Rattle.logos_reduce.specs.inside.Merge.{IsFiner, IsExtension, IsLanding};
@@ -41,7 +42,8 @@ fn first_difference(row: &Row, other: &Row, blocks: &Vec<usize>) -> Option<usize
     None
 }
 
-/// A state and a symbol by which it does not lead to the block to which the leader of its block does.
+/// A state and a symbol by which it does not lead to the block to which the leader of its block
+/// does.
 #[derive(Clone, Copy, Drop)]
 struct Difference {
     leader: usize,
@@ -79,7 +81,8 @@ fn find_difference(table: &Table, blocks: &Vec<usize>, leaders: &Vec<usize>) -> 
     None
 }
 
-/// A cut of a block: its states that lead to one block by a symbol, or nowhere, go into a new block.
+/// A cut of a block: its states that lead to one block by a symbol, or nowhere, go into a new
+/// block.
 #[derive(Clone, Copy, Drop)]
 struct Cut {
     /// The block that is cut.
@@ -175,7 +178,8 @@ pub struct Partition {
     pub leaders: Vec<usize>,
 }
 
-/// Returns the blocks of the states that no word distinguishes. States with one mark and one row are one state here.
+/// Returns the blocks of the states that no word distinguishes. States with one mark and one row
+/// are one state here.
 pub fn merge(alloc: Global, table: &Table) -> Result<Partition, AllocError>
     ensures len { IfOk result (λ m. vec_len m.blocks.of ≡ size table.now) }
     ensures leaders_len { IfOk result (λ m. vec_len m.leaders ≡ vec_len m.blocks.splits) }

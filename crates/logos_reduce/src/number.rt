@@ -1,4 +1,5 @@
 //! Numbers states by first visit.
+
 ghost use Rattle.std.specs.Prelude.{◌≡◌, ℕ, ◌+◌, ◌-◌, ◌<◌, ◌≤◌, ◌++◌, ◌∷◌, ◌⊎◌, ◌^◌, [], Some, OnOk, IfOk, length, vec_len, slice_index, option_map, option_and_then};
 ghost use Rattle.logos_reduce.specs.Merge.{target_block, AreLeaders};
 ghost use Rattle.logos_reduce.specs.Table.{size, to, mark, mark_in};
@@ -31,7 +32,7 @@ fn meet_target(order: &mut Order, target: Option<usize>) -> Result<(), AllocErro
     Ok(())
 }
 
-/// Adds the blocks to which the block at place `i` leads.
+/// Adds the blocks to which the block at index `i` leads.
 fn meet_targets(
     order: &mut Order,
     table: &Table,
@@ -202,7 +203,8 @@ pub struct Numbering {
     pub states: Vec<usize>,
 }
 
-/// Returns the blocks as the states of a table, in the order of first visits from the block of the root.
+/// Returns the blocks as the states of a table, in the order of first visits from the block of the
+/// root.
 pub fn number(
     alloc: Global,
     table: &Table,

@@ -1,4 +1,5 @@
 //! Leaves out the edges to states that have no mark and lead to none.
+
 ghost use Rattle.std.specs.Prelude.{true, ◌≡◌, ℕ, ◌+◌, ◌<◌, ◌≤◌, ◌↔◌, ◌⊎◌, Some, OnOk, IfOk, IsTrue, IsSome, length, vec_len, slice_index};
 ghost use Rattle.logos_reduce.specs.Lists.{has};
 ghost use Rattle.logos_reduce.specs.Table.{size, to, mark, type_of};

@@ -1,4 +1,5 @@
 //! Sets early marks, and drops the late marks that they make needless.
+
 ghost use Rattle.std.specs.Prelude.{◌≡◌, ◌≢◌, ℕ, ◌+◌, ◌<◌, ◌↔◌, ◌⊎◌, None, Some, IfOk, length, vec_len, slice_index_or, if◌then◌else◌};
 ghost use Rattle.logos_reduce.specs.Table.{size, to, mark, mark_in};
 ghost use Rattle.logos_reduce.specs.Settle.{IsNeeded, IsSpare, IsSettled};
@@ -17,7 +18,8 @@ fn accepted_by(table: &Table, row: &Row, k: usize) -> Option<usize>
     table.accept(target_at(row, k)?)
 }
 
-/// Returns the leaf that is accepted wherever a row leads, if every byte and the end lead somewhere.
+/// Returns the leaf that is accepted wherever a row leads, if every byte and the end lead
+/// somewhere.
 fn common_leaf(table: &Table, row: &Row) -> Option<usize>
     ensures { IsCommonIn table.now row.now result }
 {

@@ -1,4 +1,5 @@
 //! What each byte, and the end of the input, does in a state, as one number.
+
 ghost use Rattle.std.specs.Prelude.{◌≡◌, ◌<◌, length, IfSome, IsTrue};
 ghost use Rattle.logos_tables.specs.Words.{passes_test, code_of, state_at, NamesState, NamesTest, stays, target, HasSteps, led_number, step_number};
 
@@ -22,8 +23,8 @@ pub(crate) fn steps_of(code: &Code<'_>, state: usize) -> Steps
     steps
 }
 
-/// Returns the number of what the symbol does in the state: 0 for nothing, 1 where the byte stays, and else 2 more than
-/// the state that it leads to.
+/// Returns the number of what the symbol does in the state: 0 for nothing, 1 where the byte stays,
+/// and else 2 more than the state that it leads to.
 fn step_number(code: &Code<'_>, state: usize, symbol: usize) -> usize
     requires state { state < length code.now.states }
     requires symbol { symbol < 257 }

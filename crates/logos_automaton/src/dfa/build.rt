@@ -1,4 +1,6 @@
-//! Building the automaton of rules: one loop over its states, from the start on, until each has its targets.
+//! Building the automaton of rules: one loop over its states, from the start on, until each has its
+//! targets.
+
 ghost use Rattle.std.specs.Prelude.{◌≡◌, ◌^◌, ◌<◌, ◌≤◌, ◌+◌, [], Bool, List, IfOk, IfErr, OnOk, length, map, vec_len};
 ghost use Rattle.logos_automaton.specs.inside.Prepared.{IsCacheOf, IsPrepared, cores_of};
 ghost use Rattle.logos_automaton.specs.Building.{IsUnderway, FailsOn, FailsFor};
@@ -33,7 +35,7 @@ pub const MAX_STATES: usize = 65_536;
 ///
 /// # Errors
 ///
-/// Returns `AllocError` when memory runs out.
+/// Returns `AllocError` if memory runs out.
 fn only_start(alloc: Global) -> Result<IndexSet<Key>, AllocError>
     ensures { (looks : Bool) (ts : List Core) →
         IfOk result (λ states. IsUnderway ts looks states.keys [] []) }
@@ -47,7 +49,8 @@ fn only_start(alloc: Global) -> Result<IndexSet<Key>, AllocError>
 ///
 /// # Errors
 ///
-/// Returns `LimitStates` when there are more states than an automaton may have, and `Memory` when memory runs out.
+/// Returns `LimitStates` when there are more states than an automaton may have, and `Memory` when
+/// memory runs out.
 fn fill_next(
     trees: &Trees<'_>,
     cache: &mut StepCache,
@@ -81,7 +84,8 @@ fn fill_next(
 ///
 /// # Errors
 ///
-/// Returns `LimitStates` when there are more states than an automaton may have, and `Memory` when memory runs out.
+/// Returns `LimitStates` when there are more states than an automaton may have, and `Memory` when
+/// memory runs out.
 fn build_nodes(alloc: Global, nodes: &[Node], looks: bool) -> Result<Dfa, BuildError>
     requires fits { width_of (map core_of nodes.now) < 2 ^ 64 }
     requires measured { AreMeasured nodes.now }
@@ -118,7 +122,8 @@ fn build_nodes(alloc: Global, nodes: &[Node], looks: bool) -> Result<Dfa, BuildE
 ///
 /// # Errors
 ///
-/// Returns `LimitStates` when the automaton would have more than 65,536 states, and `Memory` when memory runs out.
+/// Returns `LimitStates` when the automaton would have more than 65,536 states, and `Memory` when
+/// memory runs out.
 pub fn build(alloc: Global, rules: &[RuleView<'_>]) -> Result<Dfa, BuildError>
     requires size { size_of (rules_of rules.now) ≤ 2 ^ 20 }
     requires start { AllStart (rules_of rules.now) }

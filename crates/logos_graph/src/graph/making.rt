@@ -1,4 +1,5 @@
 //! Makes the graph of leaves.
+
 ghost use Rattle.std.specs.Prelude.{◌≡◌, ◌^◌, ◌<◌, ◌≤◌, [], IfOk, IfErr, length, map};
 ghost use Rattle.logos_graph.specs.Words.{dfa_of, AreFaults, AllStart, fault_of, IsGraphOf, AreFindings, Refuses, size_of, rules_of, IsTotal, ReadsOneByteLate, Memory, LimitSize};
 ghost use Rattle.logos_automaton.specs.View as views;
@@ -26,7 +27,8 @@ fn automaton_of_none(alloc: Global) -> Result<Dfa, BuildError>
     }
 }
 
-/// Returns the automaton of the rules, if each of their trees takes a byte before it looks or matches, and else of no rules.
+/// Returns the automaton of the rules, if each of their trees takes a byte before it looks or
+/// matches, and else of no rules.
 fn automaton(alloc: Global, rules: &[RuleView<'_>]) -> Result<Dfa, BuildError>
     requires { size_of (views.rules_of rules.now) ≤ 2 ^ 20 }
     ensures late { IfOk result (λ dfa. AllStart (views.rules_of rules.now) →
@@ -96,13 +98,15 @@ fn finished<'s>(
 impl<'s> Graph<'s> {
     /// Returns the graph of leaves, which are numbered in their order.
     ///
-    /// The faults of the leaves are in `errors`: a missing universal start alone; else the leaves that match nothing; else
-    /// all sets of leaves that are ambiguous, ascending. Where there is a fault, the graph has no states.
+    /// The faults of the leaves are in `errors`: a missing universal start alone; else the leaves
+    /// that match nothing; else all sets of leaves that are ambiguous, ascending. Where there is a
+    /// fault, the graph has no states.
     ///
     /// # Errors
     ///
-    /// `LimitSize` exactly where the size of all trees passes 1,048,576. `LimitStates` only where each pattern takes a byte
-    /// before it looks or matches, and the automaton would have more than 65,536 states. `Memory` where memory runs out.
+    /// `LimitSize` exactly where the size of all trees passes 1,048,576. `LimitStates` only where
+    /// each pattern takes a byte before it looks or matches, and the automaton would have more than
+    /// 65,536 states. `Memory` where memory runs out.
     pub fn new(
         alloc: Global,
         leaves: Vec<Leaf<'s>>,

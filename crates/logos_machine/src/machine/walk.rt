@@ -1,4 +1,5 @@
 //! The fast way of a try: a look at an entry for each byte.
+
 ghost use Rattle.std.specs.Prelude.{◌≡◌, ◌<◌, ◌≤◌, ◌/◌, ◌%◌, length, slice_index_or};
 ghost use Rattle.logos_machine.specs.Words.{state_at, IsSound, IsEntry, IsPlace};
 ghost use Rattle.logos_machine.specs.Views.{Reaches, LooksAhead, IsOutcome};
@@ -12,7 +13,8 @@ use logos_code::code::rows::{
 };
 use logos_hir::leaf::LeafId;
 
-/// What a try finds. The numbers after leaves are the end of the match and how many states were entered.
+/// What a try finds. The numbers after leaves are the end of the match and how many states were
+/// entered.
 #[derive(Clone, Copy)]
 pub(super) enum Outcome {
     /// A match up to this offset that is skipped.
@@ -27,7 +29,7 @@ pub(super) enum Outcome {
     Ends(usize),
 }
 
-/// Returns what is found from a place of the input on.
+/// Returns what is found from a point of the input on.
 #[inline(always)]
 pub(super) fn attempt(code: &Code, input: &[u8], start: usize) -> Outcome
     requires { start ≤ length input.now }
@@ -47,8 +49,9 @@ pub(super) fn attempt(code: &Code, input: &[u8], start: usize) -> Outcome
     end_of(code, input, start, last)
 }
 
-/// Returns what is found from a place on by a try that notes the marks passed. Only that try is called out of line: its
-/// result is in memory, and this one is made anew from it, so that the compiler can hold it in registers.
+/// Returns what is found from a point on by a try that notes the marks passed. Only that try is
+/// called out of line: its result is in memory, and this one is made anew from it, so that the
+/// compiler can hold it in registers.
 #[inline(always)]
 fn attempt_slowly(code: &Code, input: &[u8], start: usize) -> Outcome
     requires { start ≤ length input.now }
@@ -61,7 +64,8 @@ fn attempt_slowly(code: &Code, input: &[u8], start: usize) -> Outcome
     }
 }
 
-/// Returns what a try finds that ends with this entry, where and after so many states, in the state at a place.
+/// Returns what a try finds that ends with this entry, where and after so many states, in the state
+/// at a point.
 #[inline(always)]
 fn end_of(code: &Code, input: &[u8], start: usize, last: (u32, usize, usize, usize)) -> Outcome
     requires sound { IsSound code.now }
@@ -97,8 +101,8 @@ fn end_of(code: &Code, input: &[u8], start: usize, last: (u32, usize, usize, usi
     attempt_slowly(code, input, start)
 }
 
-/// Returns what a try finds that ends before a byte that leads nowhere. Where the last mark passed is known of its last
-/// state, the try need not be made again.
+/// Returns what a try finds that ends before a byte that leads nowhere. Where the last mark passed
+/// is known of its last state, the try need not be made again.
 #[inline(always)]
 fn stuck(code: &Code, input: &[u8], start: usize, last: (u32, usize, usize, usize)) -> Outcome
     requires sound { IsSound code.now }
@@ -116,8 +120,8 @@ fn stuck(code: &Code, input: &[u8], start: usize, last: (u32, usize, usize, usiz
     }
 }
 
-/// Returns the leaf of a match that ends before the byte, and how many states were entered after the one that has the
-/// entry, from the entry without its kind.
+/// Returns the leaf of a match that ends before the byte, and how many states were entered after
+/// the one that has the entry, from the entry without its kind.
 #[inline(always)]
 fn halted(entry: u32) -> (LeafId, usize)
     ensures leaf { result.0.0 ≡ entry % 134217728 }
@@ -126,8 +130,8 @@ fn halted(entry: u32) -> (LeafId, usize)
     (LeafId((entry % LATE) as usize), (entry / LATE) as usize)
 }
 
-/// Returns the last entry of a try, where its byte is, how many states were entered before the one that has it, and the
-/// place of this state.
+/// Returns the last entry of a try, where its byte is, how many states were entered before the one
+/// that has it, and the offset of this state.
 #[inline(always)]
 fn walk(code: &Code, input: &[u8], start: usize, first: u32) -> (u32, usize, usize, usize)
     requires sound { IsSound code.now }

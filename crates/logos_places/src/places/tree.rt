@@ -1,4 +1,5 @@
 //! Steps on one tree of several, whose places stand one after another.
+
 ghost use Rattle.std.specs.Prelude.{◌≡◌, ◌^◌, ◌<◌, ◌≤◌, ◌↔◌, ◌+◌, ℕ, IsTrue, IfOk};
 ghost use Rattle.logos_places.specs.Core as core;
 ghost use Rattle.logos_places.specs.Kinds.{test_at};
@@ -24,7 +25,7 @@ pub struct TreeStep {
 ///
 /// # Errors
 ///
-/// Returns `AllocError` when memory runs out.
+/// Returns `AllocError` if memory runs out.
 pub fn step_tree(
     alloc: Global,
     node: &Node,
@@ -50,7 +51,7 @@ pub fn step_tree(
 ///
 /// # Errors
 ///
-/// Returns `AllocError` when memory runs out.
+/// Returns `AllocError` if memory runs out.
 pub fn marks_between(
     alloc: Global,
     marks: &[usize],

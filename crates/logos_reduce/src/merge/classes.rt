@@ -1,4 +1,5 @@
 //! Puts states with one mark and one row into one class, so that blocks are split by classes.
+
 ghost use Rattle.std.specs.Prelude.{◌≡◌, ℕ, ◌+◌, ◌<◌, ◌≤◌, ◌^◌, Some, IfOk, length, vec_len, slice_index, option_map};
 ghost use Rattle.logos_reduce.specs.Merge.{target_block};
 ghost use Rattle.logos_reduce.specs.Rows.{target_by, target_in, target_of};
@@ -25,7 +26,7 @@ pub struct Classes {
     ghost few: { count ≤ vec_len of },
 }
 
-/// Returns the place of the row of a state, and its mark, as a key.
+/// Returns the index of the row of a state, and its mark, as a key.
 fn class_key(table: &Table, s: usize) -> [usize; 5]
     requires { s < size table.now }
     ensures { result ≡ inside.class_key table.now s }

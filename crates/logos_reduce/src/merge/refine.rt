@@ -1,4 +1,5 @@
 //! Splits blocks by the blocks that their states lead to.
+
 ghost use Rattle.std.specs.Prelude.{true, ◌≡◌, ◌≢◌, ℕ, ◌+◌, ◌-◌, ◌*◌, ◌<◌, ◌≤◌, ◌↔◌, Some, OnSome, OnOk, IfOk, IsTrue, length, vec_len, slice_index, option_map};
 ghost use Rattle.logos_reduce.specs.Merge.{target_block, IsSound};
 ghost use Rattle.logos_reduce.specs.inside.Merge.{IsFiner};
@@ -97,7 +98,8 @@ fn leads_into(table: &Table, blocks: &Vec<usize>, s: usize, b: usize, k: usize) 
     s < table.len() && block_of(table.target(s, k), blocks) == Some(b)
 }
 
-/// What blocks are split by: a block, the states with an edge into it, perhaps with others, and the symbols of these edges.
+/// What blocks are split by: a block, the states with an edge into it, perhaps with others, and the
+/// symbols of these edges.
 #[derive(Drop)]
 struct Splitter {
     block: usize,
@@ -304,7 +306,8 @@ struct Edges {
     symbols: Vec<Symbols>,
 }
 
-/// Splits the blocks by the states that lead into a block, if there is such a block, and notes that it was looked at.
+/// Splits the blocks by the states that lead into a block, if there is such a block, and notes that
+/// it was looked at.
 fn look_at(
     alloc: Global,
     table: &Table,
@@ -369,7 +372,8 @@ fn look_at_all(
     Ok(split)
 }
 
-/// Splits the blocks by the blocks to which their states lead, until no block is left to be looked at.
+/// Splits the blocks by the blocks to which their states lead, until no block is left to be looked
+/// at.
 pub fn refine(alloc: Global, table: &Table, blocks: Blocks) -> Result<Blocks, AllocError>
     requires len { vec_len blocks.of ≡ size table.now }
     requires sound { IsSound table.now blocks.splits.items (slice_index blocks.of.items) }

@@ -1,4 +1,5 @@
 //! Sets of symbols, by which a block is looked at: no proof about blocks depends on them.
+
 ghost use Rattle.std.specs.Prelude.{◌<◌};
 
 use crate::rows::{Row, WIDTH, target_at};
