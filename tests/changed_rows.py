@@ -101,7 +101,7 @@ def shows(room, part):
 
 
 def main(names):
-    parts = {it.name: it for it in run_parts.listed() if it.name != "proofs"}
+    parts = {it.name: it for it in run_parts.listed() if it.name not in run_parts.OF_PROOFS}
     unknown = [it for it in [*names, *parts] if it not in parts or it not in PARTS]
     if unknown:
         sys.exit(f"changed_rows: no value is stated here of a part {unknown[0]}")

@@ -1,6 +1,5 @@
 #!/usr/bin/env bash
-# Proves every crate, has each wrong body in the folders `must-fail` refused, and builds the
-# programs.
+# Proves every crate, and builds the programs.
 #
 #   bash tests/proofs.sh            proves what has changed since the last run
 #   bash tests/proofs.sh --anew     proves everything

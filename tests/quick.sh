@@ -1,6 +1,6 @@
 #!/usr/bin/env bash
-# Tests a change in minutes: runs all parts of tests/parts but the proofs, or those that are named,
-# with programs that are built unproved.
+# Tests a change in minutes: runs all parts of tests/parts but the proofs and wrong bodies, or those
+# that are named, with programs that are built unproved.
 #
 #   bash tests/quick.sh [PART..]
 #

@@ -2,7 +2,8 @@
 """Runs the parts of tests/parts, and counts what passed.
 
   run_parts.py proved [--anew] [PART..]   with the programs that the part `proofs` has left
-  run_parts.py quick [PART..]             without `proofs`, with programs that are built unproved
+  run_parts.py quick [PART..]             without `proofs` and `wrong_bodies`, with programs that
+                                          are built unproved
 
 What is built unproved is kept in `out/quick`, and for the proved programs beside it in
 `out/installed`, since it is then built as `tools/install.sh` builds programs.
@@ -34,6 +35,9 @@ NAMES = {"logos": "logos", "logos_cli": "logos_cli", "logos_show": "logos_show",
 # Where `proofs` leaves programs.
 PROVED = {name: f"{ROOT}/crates/{crate}/out/{crate}" for name, crate in (("logos", "logos_program"), ("logos_cli", "logos_cli"), ("logos_show", "logos_show"))}
 BUILD = "programs"
+# The parts that the quick test leaves out: the proofs, and what needs the libraries that they
+# leave.
+OF_PROOFS = ("proofs", "wrong_bodies")
 PRINTING = threading.Lock()
 
 
@@ -198,7 +202,7 @@ def table(results):
 
 def chosen(given):
     """Returns the parts that are asked for, and lines for those that are left out."""
-    parts = [it for it in listed() if given.how == "proved" or it.name != "proofs"]
+    parts = [it for it in listed() if given.how == "proved" or it.name not in OF_PROOFS]
     unknown = set(given.parts) - {it.name for it in parts}
     if unknown:
         fail(f"no part is named {sorted(unknown)[0]}: there are {', '.join(it.name for it in parts)}")
@@ -216,7 +220,7 @@ def main():
     parts, left_out = chosen(given)
     if given.anew:
         for part in parts:
-            part.command += " --anew" * (part.name == "proofs")
+            part.command += " --anew" * (part.name in OF_PROOFS)
     begun = time.monotonic()
     line = Line(parts, given.how)
     os.environ["PYTHONDONTWRITEBYTECODE"] = "1"

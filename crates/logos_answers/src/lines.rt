@@ -64,7 +64,7 @@ fn write_short(line: &mut [u8; LINE], head: &[u8], slice: &[u8]) -> usize
     requires head { length head.now ≤ 64 }
     requires short { length slice.now ≤ 60 }
     ensures after { 41 ≤ result }
-    ensures within { result ≤ 347 }
+    ensures within { result ≤ LINE }
 {
     let mut at = write_text(line, POSITION, head);
     for byte in slice {

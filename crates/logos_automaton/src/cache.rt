@@ -215,7 +215,8 @@ fn push_if(numbers: &mut Vec<usize>, number: usize, is_one: bool) -> Result<(), 
     Ok(())
 }
 
-/// Marks the bytes that looks can distinguish from the byte before, if some tree has a look.
+/// Sets the flags of the bytes that looks can distinguish from the byte before, if some tree has a
+/// look.
 fn first_by_kind(looks: bool, kinds: &[bool; 256]) -> [bool; 256]
     requires kinds { AreKindBytes kinds.now }
     ensures { (x : ℕ) → x + 1 < 256 → slice_index_or result (x + 1) false ≡ false →
@@ -224,7 +225,7 @@ fn first_by_kind(looks: bool, kinds: &[bool; 256]) -> [bool; 256]
     if looks { *kinds } else { [false; 256] }
 }
 
-/// Marks the bytes whose step on a tree differs from that of the byte before.
+/// Sets the flags of the bytes whose step on a tree differs from that of the byte before.
 fn add_changes(steps: &[TreeSteps], live: LiveTree, first: &mut [bool; 256])
     ensures { (x : ℕ) → x + 1 < 256 → slice_index_or first.new (x + 1) false ≡ false →
         (slice_index_or first.old (x + 1) false ≡ false)
@@ -258,7 +259,7 @@ impl StateSteps<'_> {
         })
     }
 
-    /// Marks the bytes that can lead to another state than the byte before.
+    /// Sets the flags of the bytes that can lead to another state than the byte before.
     pub fn changes(self, kinds: &[bool; 256]) -> [bool; 256]
         requires kinds { AreKindBytes kinds.now }
         ensures { (x : ℕ) → x + 1 < 256 → slice_index_or result (x + 1) false ≡ false →

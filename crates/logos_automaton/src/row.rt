@@ -17,6 +17,9 @@ use std::alloc::AllocError;
 /// The targets of a state by bytes.
 pub type Row = [u16; 256];
 
+/// The number of symbols: each byte, and after them the end of the input.
+pub const SYMBOLS: usize = 257;
+
 /// The targets of a state by bytes while the automaton is built, which may then have a few more
 /// states than the limit.
 pub type DraftRow = [u32; 256];
@@ -107,7 +110,7 @@ fn next_target(
     }
 }
 
-/// Marks the bytes that a state distinguishes from the byte before.
+/// Sets the flags of the bytes that a state distinguishes from the byte before.
 fn first_in(trees: &Trees<'_>, states: &IndexSet<Key>, state: usize) -> [bool; 256]
     requires prepared { IsPrepared trees.now }
     requires within { state < length states.now.keys }
@@ -136,7 +139,7 @@ fn plain_row(
     requires reached { AreReached (cores_of trees.now) trees.now.looks states.old.keys }
     requires few { length states.old.keys < 2 ^ 30 }
     ensures extends { OnOk result (Extends (cores_of trees.now)
-        trees.now.looks states.old.keys states.new.keys 257) }
+        trees.now.looks states.old.keys states.new.keys SYMBOLS) }
     ensures row { IfOk result (λ row.
         IsRow (cores_of trees.now) trees.now.looks states.new.keys state row 256) }
     ensures wide { IfOk result (λ row. length row ≡ 256) }
@@ -213,7 +216,7 @@ fn row_by(
     requires kinds { AreKindBytes kinds.now }
     ensures extends { (ts : List Core) (i : ℕ) →
         Foresees ts steps.entry.looks states.old.keys i steps.entry.steps.now steps.entry.lives.now →
-        OnOk result (Extends ts steps.entry.looks states.old.keys states.new.keys 257) }
+        OnOk result (Extends ts steps.entry.looks states.old.keys states.new.keys SYMBOLS) }
     ensures row { (ts : List Core) (i : ℕ) →
         Foresees ts steps.entry.looks states.old.keys i steps.entry.steps.now steps.entry.lives.now →
         IfOk result (λ row. IsRow ts steps.entry.looks states.new.keys i row 256) }
@@ -287,7 +290,7 @@ pub fn row_of(
     requires few { length states.old.keys < 2 ^ 30 }
     ensures cached { OnOk result (IsCacheOf trees.now cache.new) }
     ensures extends { OnOk result (Extends (cores_of trees.now)
-        trees.now.looks states.old.keys states.new.keys 257) }
+        trees.now.looks states.old.keys states.new.keys SYMBOLS) }
     ensures row { IfOk result (λ row.
         IsRow (cores_of trees.now) trees.now.looks states.new.keys state row 256) }
     ensures wide { IfOk result (λ row. length row ≡ 256) }

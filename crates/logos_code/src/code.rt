@@ -250,7 +250,7 @@ impl Code<'_> {
     #[inline(always)]
     pub fn entry(&self, place: usize, byte: u8) -> u32
         requires { IsPlace self.now place }
-        ensures { IsEntry self.now (state_at self.now (place / 272)) byte result }
+        ensures { IsEntry self.now (state_at self.now (place / WIDTH)) byte result }
     {
         // In this order the offset, which comes from the entry before, need not be added before the
         // load.
@@ -296,7 +296,7 @@ impl Code<'_> {
     #[inline(never)]
     pub fn last_entry(&self, place: usize) -> u32
         requires { IsPlace self.now place }
-        ensures { IsLastEntry self.now (state_at self.now (place / 272)) result }
+        ensures { IsLastEntry self.now (state_at self.now (place / WIDTH)) result }
     {
         let state = &self.parts.states[place / WIDTH];
         if state.at_end.is_some() {
@@ -328,7 +328,7 @@ impl Code<'_> {
     #[cold]
     #[inline(never)]
     pub fn last_mark(&self, place: usize) -> LastMark
-        ensures { IsLastMark self.now (place / 272) result }
+        ensures { IsLastMark self.now (place / WIDTH) result }
     {
         last_mark_at(&self.last_marks, place / WIDTH)
     }
@@ -336,8 +336,8 @@ impl Code<'_> {
     /// Returns the offset of the state in which each try begins.
     #[inline(always)]
     pub fn root_place(&self) -> usize
-        ensures place { result ≡ 272 * self.now.root }
-        ensures state { result / 272 ≡ self.now.root }
+        ensures place { result ≡ WIDTH * self.now.root }
+        ensures state { result / WIDTH ≡ self.now.root }
     {
         WIDTH * self.parts.root
     }

@@ -21,6 +21,9 @@ use logos_type::TypeExpr;
 use std::alloc::Global;
 use std::mem;
 
+/// The most bytes that a source may have.
+pub const MAX_SOURCE: usize = 16_777_216;
+
 /// What `generate` makes of a source.
 #[derive(Drop)]
 pub struct Generated<'s> {
@@ -242,7 +245,7 @@ fn accept<'s>(alloc: Global, src: &'s str) -> Result<(Graph<'s>, Analysis<'s>), 
     ensures ok { IfOk result (λ read. IsGraphMade src.now (analysis_view read.1) read.0) }
     ensures typed { IfOk result (λ read. HasItsType (analysis_view read.1)) }
     ensures err { IfErr result (Refuses (IsRefused src.now)) }
-    ensures long { 16777216 < length src.now → IsErrAnd result (Refuses (λ faults.
+    ensures long { MAX_SOURCE < length src.now → IsErrAnd result (Refuses (λ faults.
         faults ≡ too_long src.now ∷ [])) }
 {
     let mut analysis = match analyze(alloc, src) {
@@ -319,7 +322,7 @@ pub fn generate<'s>(alloc: Global, src: &'s str, config: Config) -> Result<Gener
     // A source that is refused has these faults.
     ensures refused { IfErr result (Refuses (IsRefused src.now)) }
     // A source that is longer than the limit has that one fault.
-    ensures long { 16777216 < length src.now → IsErrAnd result (Refuses (λ faults.
+    ensures long { MAX_SOURCE < length src.now → IsErrAnd result (Refuses (λ faults.
         faults ≡ too_long src.now ∷ [])) }
     // A source without faults, within the limits, is not refused.
     ensures complete { (rules : List Rule) (utf8 : Bool) → IsAccepted src.now rules utf8 →

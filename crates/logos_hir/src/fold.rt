@@ -9,6 +9,12 @@ use crate::sets::RangeSet;
 use std::alloc::{AllocError, Global};
 use unicode::case;
 
+/// The first and the last capital letter of ASCII, and those of the small ones.
+const CAPITAL_A: u32 = 65;
+const CAPITAL_Z: u32 = 90;
+const SMALL_A: u32 = 97;
+const SMALL_Z: u32 = 122;
+
 /// Returns the pairs of a sorted table whose first number is in the range.
 fn within(table: &[(u32, u32)], range: Range) -> &[(u32, u32)]
     requires { IsNonDecreasingBy (λ p. p.0) table.now }
@@ -82,12 +88,12 @@ fn push_shift(
 /// Appends the other case of each ASCII letter in the ranges.
 fn push_cases(out: &mut Vec<Range>, ranges: &[Range]) -> Result<(), AllocError>
     ensures { OnOk result (Adds (pairs out.old.items) (pairs out.new.items) (λ c.
-        shift 65 90 97 (in_ranges (pairs ranges.now)) c ||
-        shift 97 122 65 (in_ranges (pairs ranges.now)) c)) }
+        shift CAPITAL_A CAPITAL_Z SMALL_A (in_ranges (pairs ranges.now)) c ||
+        shift SMALL_A SMALL_Z CAPITAL_A (in_ranges (pairs ranges.now)) c)) }
 {
     for range in ranges {
-        push_shift(out, *range, 65, 90, 97)?;
-        push_shift(out, *range, 97, 122, 65)?;
+        push_shift(out, *range, CAPITAL_A, CAPITAL_Z, SMALL_A)?;
+        push_shift(out, *range, SMALL_A, SMALL_Z, CAPITAL_A)?;
     }
     Ok(())
 }

@@ -7,6 +7,9 @@ ghost use Rattle.logos_hir.specs.Hir.{pairs};
 use crate::hir::Range;
 use std::alloc::{AllocError, Global};
 
+/// The greatest byte.
+pub const LAST_BYTE: u32 = 0xFF;
+
 /// The greatest character.
 pub const LAST_CHAR: u32 = 0x10_FFFF;
 
@@ -162,7 +165,7 @@ impl RangeSet {
     /// Returns the members up to U+00FF, which are bytes.
     pub fn bytes(&self) -> Result<RangeSet, AllocError>
         ensures { IfOk result (λ set. set_of set ≡
-            intersection (set_of self.now) (in_range (0, 255))) }
+            intersection (set_of self.now) (in_range (0, LAST_BYTE))) }
     {
         self.complement(char::MAX)?.complement('\u{FF}')
     }

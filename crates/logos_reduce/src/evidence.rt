@@ -8,7 +8,7 @@ ghost use Rattle.logos_reduce.specs.Words.{state_after};
 ghost use Rattle.logos_reduce.specs.inside.Evidence.{ArePartedAt};
 
 use crate::reduction::Reduction;
-use crate::rows::END;
+use crate::rows::{END, WIDTH};
 use crate::table::{Mark, Table};
 use std::alloc::{AllocError, Global};
 
@@ -57,7 +57,7 @@ fn differ(one: Option<Mark>, other: Option<Mark>) -> bool
 fn both_targets(table: &Table, s: usize, t: usize, k: usize) -> Option<(usize, usize)>
     requires s_in { s < size table.now }
     requires t_in { t < size table.now }
-    requires k_in { k < 257 }
+    requires k_in { k < WIDTH }
     ensures { MatchOption result
         ((to table.now s k ≡ None) ⊎ (to table.now t k ≡ None))
         (λ p. (to table.now s k ≡ Some p.0) × (to table.now t k ≡ Some p.1)) }

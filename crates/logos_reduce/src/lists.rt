@@ -5,7 +5,7 @@ ghost use Rattle.logos_reduce.specs.Lists.{has, has_in, Rises, AreRising, ArePre
 ghost use Rattle.logos_reduce.specs.Table.{size, to};
 ghost use Rattle.logos_reduce.specs.Rows.{target_by};
 
-use crate::rows::{Row, changed_target};
+use crate::rows::{Row, WIDTH, changed_target};
 use crate::table::Table;
 use std::alloc::{AllocError, Global};
 
@@ -68,7 +68,7 @@ fn file_row(
     s: usize,
     width: usize,
 ) -> Result<(), AllocError>
-    requires width { width ≤ 257 }
+    requires width { width ≤ WIDTH }
     requires inside { (k t : ℕ) → target_by row.now k ≡ Some t → t < vec_len lists.old }
     ensures len { vec_len lists.new ≡ vec_len lists.old }
     ensures stays { (t u : ℕ) → has_in lists.old.items t u ≡ true →
@@ -95,7 +95,7 @@ pub fn predecessors(
     table: &Table,
     width: usize,
 ) -> Result<Vec<Vec<usize>>, AllocError>
-    requires { width ≤ 257 }
+    requires { width ≤ WIDTH }
     ensures len { IfOk result (λ v. vec_len v ≡ size table.now) }
     ensures lists { IfOk result (λ v.
         ArePredecessors (size table.now) width (to table.now) v.items) }

@@ -28,7 +28,7 @@ fn first_difference(row: &Row, other: &Row, blocks: &Vec<usize>) -> Option<usize
     ensures { MatchOption result
         ((k : ℕ) → option_map (slice_index blocks.now.items) (target_by row.now k)
         ≡ option_map (slice_index blocks.now.items) (target_by other.now k))
-        (λ k. (k < 257)
+        (λ k. (k < WIDTH)
         × (option_map (slice_index blocks.now.items) (target_by row.now k)
         ≢ option_map (slice_index blocks.now.items) (target_by other.now k))) }
 {
@@ -63,7 +63,7 @@ fn find_difference(table: &Table, blocks: &Vec<usize>, leaders: &Vec<usize>) -> 
         target_block table.now (slice_index blocks.now.items) s k
         ≡ target_block table.now (slice_index blocks.now.items)
         (slice_index leaders.now.items (slice_index blocks.now.items s)) k)
-        (λ d. (d.state < size table.now) × (d.symbol < 257)
+        (λ d. (d.state < size table.now) × (d.symbol < WIDTH)
         × (d.leader ≡ slice_index leaders.now.items (slice_index blocks.now.items d.state))
         × (target_block table.now (slice_index blocks.now.items) d.state d.symbol
         ≢ target_block table.now (slice_index blocks.now.items) d.leader d.symbol)) }
@@ -98,7 +98,7 @@ struct Cut {
 fn part_of(table: &Table, blocks: &Vec<usize>, t: usize, cut: Cut) -> usize
     requires len { vec_len blocks.now ≡ size table.now }
     requires t_in { t < size table.now }
-    requires symbol_in { cut.symbol < 257 }
+    requires symbol_in { cut.symbol < WIDTH }
     ensures { IsLanding cut.home cut.to cut.fresh (slice_index blocks.now.items t)
         (target_block table.now (slice_index blocks.now.items) t cut.symbol) result }
 {
@@ -119,7 +119,7 @@ fn parts(
     cut: Cut,
 ) -> Result<Vec<usize>, AllocError>
     requires len { vec_len blocks.now ≡ size table.now }
-    requires symbol_in { cut.symbol < 257 }
+    requires symbol_in { cut.symbol < WIDTH }
     ensures len { IfOk result (λ v. vec_len v ≡ size table.now) }
     ensures parts { IfOk result (λ v. (t : ℕ) → t < size table.now →
         IsLanding cut.home cut.to cut.fresh (slice_index blocks.now.items t)
@@ -143,7 +143,7 @@ fn split_off(
     requires len { vec_len blocks.of ≡ size table.now }
     requires state_in { found.state < size table.now }
     requires leader_in { found.leader < size table.now }
-    requires symbol_in { found.symbol < 257 }
+    requires symbol_in { found.symbol < WIDTH }
     requires together { slice_index blocks.of.items found.leader
         ≡ slice_index blocks.of.items found.state }
     requires different { target_block table.now (slice_index blocks.of.items) found.state found.symbol

@@ -112,7 +112,7 @@ fn numbered_row(row: &Row, blocks: &Vec<usize>, numbers: &Vec<usize>) -> Row
         ≡ option_and_then (λ b. target_of (slice_index numbers.now.items b))
         (option_map (slice_index blocks.now.items) (target_by row.now k)) }
 {
-    let mut numbered = [0; 257];
+    let mut numbered = [0; WIDTH];
     for k in 0..WIDTH {
         numbered[k] = match entry_before(row, &numbered, k) {
             Some(entry) => entry,

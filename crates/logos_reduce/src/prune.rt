@@ -101,7 +101,7 @@ fn pruned_row(row: &Row, order: &Order) -> Row
 
 /// Returns the entry of the row, or 0 where its target is not in the order.
 fn pruned_entry(row: &Row, k: usize, order: &Order) -> u32
-    requires { k < 257 }
+    requires { k < WIDTH }
     ensures { target_of result ≡ met_target order.now.numbers.items (target_by row.now k) }
 {
     match target_at(row, k) {

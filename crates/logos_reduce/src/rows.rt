@@ -17,7 +17,7 @@ pub const END: usize = 256;
 
 /// For each symbol its target: 0 where there is none, and else one more than the number of the
 /// state. The symbols are the bytes, and then the end.
-pub type Row = [u32; 257];
+pub type Row = [u32; WIDTH];
 
 /// A list of rows.
 #[derive(Drop)]
@@ -125,7 +125,7 @@ impl Rows {
 
 /// Returns the target of a row by a symbol.
 pub fn target_at(row: &Row, k: usize) -> Option<usize>
-    requires { k < 257 }
+    requires { k < WIDTH }
     ensures { result ≡ target_by row.now k }
 {
     let entry = row[k] as usize;
@@ -134,7 +134,7 @@ pub fn target_at(row: &Row, k: usize) -> Option<usize>
 
 /// Returns the entry that is made of the symbol before, if the row leads to the same state by both.
 pub(crate) fn entry_before(row: &Row, made: &Row, k: usize) -> Option<u32>
-    requires { k < 257 }
+    requires { k < WIDTH }
     ensures { IfSome result (λ entry. (0 < k) × (target_by row.now k ≡ target_by row.now (k - 1))
         × (target_of entry ≡ target_by made.now (k - 1))) }
 {
@@ -146,7 +146,7 @@ pub(crate) fn entry_before(row: &Row, made: &Row, k: usize) -> Option<u32>
 
 /// Returns the target of a row by a symbol, unless the symbol before it leads to the same one.
 pub(crate) fn changed_target(row: &Row, k: usize) -> Option<usize>
-    requires { k < 257 }
+    requires { k < WIDTH }
     ensures { MatchOption result
         ((target_by row.now k ≡ None)
         ⊎ ((0 < k) × (target_by row.now k ≡ target_by row.now (k - 1))))

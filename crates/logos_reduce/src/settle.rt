@@ -12,7 +12,7 @@ use std::alloc::{AllocError, Global};
 
 /// Returns the leaf that is accepted where a row leads by a symbol.
 fn accepted_by(table: &Table, row: &Row, k: usize) -> Option<usize>
-    requires { k < 257 }
+    requires { k < WIDTH }
     ensures { result ≡ accepted_in table.now row.now k }
 {
     table.accept(target_at(row, k)?)

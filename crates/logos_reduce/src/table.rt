@@ -4,7 +4,7 @@ ghost use Rattle.std.specs.Prelude.{◌≡◌, ℕ, ◌+◌, ◌<◌, ◌^◌, S
 ghost use Rattle.logos_reduce.specs.Rows.{IsClosed, target_by};
 ghost use Rattle.logos_reduce.specs.RowsView.{rows_of};
 
-use crate::rows::{Row, Rows, target_at};
+use crate::rows::{Row, Rows, WIDTH, target_at};
 
 /// The leaves whose matches end where a state is, or one byte before.
 #[derive(Clone, Copy, PartialEq, Eq, Drop)]
@@ -81,7 +81,7 @@ impl Table {
     /// Returns the state to which a state leads by a symbol.
     pub fn target(&self, s: usize, k: usize) -> Option<usize>
         requires state { s < size self.now }
-        requires symbol { k < 257 }
+        requires symbol { k < WIDTH }
         ensures { result ≡ to self.now s k }
     {
         target_at(self.row(s), k)

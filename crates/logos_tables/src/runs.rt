@@ -60,7 +60,7 @@ fn push_step(runs: &mut Vec<Run>, step: usize) -> Result<(), AllocError>
 
 /// Returns whether a run can have this step too.
 fn goes_on(run: Run, step: usize) -> bool
-    ensures { IsTrue result → (run.1 ≡ step) × (run.0 < 65535) }
+    ensures { IsTrue result → (run.1 ≡ step) × (run.0 < LONGEST) }
 {
     (run.1 == step) & (run.0 < LONGEST)
 }

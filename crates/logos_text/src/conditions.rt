@@ -8,6 +8,9 @@ use logos_byte_class::byte_class::Comparisons;
 use logos_code::code::{Condition, Config};
 use logos_token::error::Memory;
 
+/// The characters below this one are ASCII.
+const ASCII: u32 = 128;
+
 /// Returns whether the byte is written as a character between quotes.
 fn is_quoted(byte: u8) -> bool
     ensures { result ≡ is_quoted byte }
@@ -33,7 +36,7 @@ fn push_end(text: &mut String, byte: u8) -> Result<(), Memory>
 
 /// Appends a character between quotes.
 fn push_quoted(text: &mut String, character: char) -> Result<(), Memory>
-    requires { character < 128 }
+    requires { character < ASCII }
     ensures { OnOk result (string_bytes text.new
         ≡ string_bytes text.old ++ 98 ∷ 39 ∷ character ∷ 39 ∷ []) }
 {

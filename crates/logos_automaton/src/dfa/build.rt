@@ -94,7 +94,7 @@ fn build_nodes(alloc: Global, nodes: &[Node], looks: bool) -> Result<Dfa, BuildE
     ensures distinct { IfOk result (λ dfa. AreDistinct dfa.states.keys) }
     ensures reached { IfOk result (λ dfa.
         AreReached (map core_of nodes.now) looks dfa.states.keys) }
-    ensures few { IfOk result (λ dfa. length dfa.states.keys ≤ 65536) }
+    ensures few { IfOk result (λ dfa. length dfa.states.keys ≤ MAX_STATES) }
     ensures fails { IfErr result (FailsOn (map core_of nodes.now) looks) }
 {
     let starts = starts_of(alloc, nodes)?;
@@ -129,7 +129,7 @@ pub fn build(alloc: Global, rules: &[RuleView<'_>]) -> Result<Dfa, BuildError>
     requires start { AllStart (rules_of rules.now) }
     ensures late { IfOk result (λ dfa. ReadsOneByteLate (rules_of rules.now) (dfa_of dfa)) }
     ensures total { IfOk result (λ dfa. IsTotal (dfa_of dfa)) }
-    ensures few { IfOk result (λ dfa. length (dfa_of dfa).matches ≤ 65536) }
+    ensures few { IfOk result (λ dfa. length (dfa_of dfa).matches ≤ MAX_STATES) }
     ensures fails { IfErr result (FailsFor (rules_of rules.now)) }
 {
     let nodes = nodes_of(alloc, rules)?;

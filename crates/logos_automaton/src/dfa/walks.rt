@@ -4,6 +4,7 @@ ghost use Rattle.std.specs.Prelude.{◌≤◌};
 
 use super::Dfa;
 use super::parts::leaves_at;
+use crate::row::SYMBOLS;
 use logos_hir::leaf::LeafId;
 
 /// A state of an automaton, by its number.
@@ -98,7 +99,7 @@ impl Dfa {
     /// automaton must have the state.
     pub fn iter_children(&self, state: StateId) -> Children<'_>
         requires { state.0 < length (dfa_of self.now).matches }
-        ensures count { length (children_left result) ≡ 257 }
+        ensures count { length (children_left result) ≡ SYMBOLS }
         ensures by_byte { (byte : ℕ) → byte < 256 → slice_get (children_left result) byte ≡
             dfa_next (dfa_of self.now) (Some state.0) byte }
         ensures at_end { slice_get (children_left result) 256 ≡

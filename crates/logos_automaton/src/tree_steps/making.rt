@@ -130,7 +130,7 @@ fn first_in(trees: &Trees<'_>, tree: usize) -> [bool; 256]
     first
 }
 
-/// Returns the index of the step by the byte before, if the byte is not marked.
+/// Returns the index of the step by the byte before, if the flag of the byte is not set.
 fn index_before(first: &[bool; 256], by_byte: &[u8; 256], byte: usize) -> Option<u8>
     requires within { byte < 256 }
     ensures { IfSome result (λ i. (1 ≤ byte) × (slice_index_or first.now byte false ≡ false)

@@ -174,7 +174,7 @@ fn begins_unmarked(mark: LastMark) -> bool
 fn state_agrees(parts: &CodeParts, rows: &[u32], marks: &[LastMark], state: usize) -> bool
     requires rows { AreRows (code_of parts.now) rows.now }
     requires state { state < length parts.now.states.items }
-    requires room { 272 * state + 256 ≤ length rows.now }
+    requires room { WIDTH * state + 256 ≤ length rows.now }
     ensures { IsTrue result → StateAgrees (code_of parts.now) marks.now state }
 {
     let from = last_mark_at(marks, state);

@@ -37,11 +37,14 @@ fn mask_of(parts: &CodeParts, test: usize) -> [u8; 32]
     mask
 }
 
+/// The bytes below this one have seven more that follow them 16 apart.
+const FIRSTS: usize = 144;
+
 /// Returns the entry of a mask for the eight bytes that are 16 apart from the first one on: bit `k`
 /// is set where byte `k` of these passes the test.
 fn mask_entry(parts: &CodeParts, test: usize, first: usize) -> u8
     requires test { NamesTest (code_of parts.now) test }
-    requires first { first < 144 }
+    requires first { first < FIRSTS }
     ensures { (k : ℕ) → k < 8 → (bit_at result k == 1)
         ≡ passes_test parts.now.bit_tables.items test (first + 16 * k) }
 {

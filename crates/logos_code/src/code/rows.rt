@@ -192,7 +192,7 @@ fn entry_at(parts: &CodeParts, state: &CodeState, byte: u8) -> u32
 /// Returns the row for the first byte of a try, from the rows of all states and the state in which
 /// tries begin. An entry of it leads to a state, closes a match or says nothing.
 pub(super) fn first_row(rows: &[u32], root: usize) -> [u32; 256]
-    requires { 272 * root + 256 ≤ length rows.now }
+    requires { WIDTH * root + 256 ≤ length rows.now }
     ensures { IsFirstOf rows.now root result }
 {
     let mut first = [UNSAID; 256];

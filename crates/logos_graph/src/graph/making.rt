@@ -9,7 +9,7 @@ use super::{BuildError, Config, Graph, GraphError};
 use crate::leaves::{is_size_within, rule_views};
 use crate::raw_table::raw_table;
 use logos_automaton::dfa::Dfa;
-use logos_automaton::dfa::build::build;
+use logos_automaton::dfa::build::{MAX_STATES, build};
 use logos_automaton::faults::graph_errors;
 use logos_automaton::rule::{RuleView, some_leads, some_passable};
 use logos_pattern::leaf::Leaf;
@@ -18,7 +18,7 @@ use std::alloc::Global;
 /// Returns the automaton of no rules.
 fn automaton_of_none(alloc: Global) -> Result<Dfa, BuildError>
     ensures total { IfOk result (λ dfa. IsTotal (dfa_of dfa)) }
-    ensures few { IfOk result (λ dfa. length (dfa_of dfa).matches ≤ 65536) }
+    ensures few { IfOk result (λ dfa. length (dfa_of dfa).matches ≤ MAX_STATES) }
     ensures err { IfErr result (λ e. e ≡ Memory) }
 {
     match build(alloc, &[]) {
@@ -34,7 +34,7 @@ fn automaton(alloc: Global, rules: &[RuleView<'_>]) -> Result<Dfa, BuildError>
     ensures late { IfOk result (λ dfa. AllStart (views.rules_of rules.now) →
         ReadsOneByteLate (views.rules_of rules.now) (dfa_of dfa)) }
     ensures total { IfOk result (λ dfa. IsTotal (dfa_of dfa)) }
-    ensures few { IfOk result (λ dfa. length (dfa_of dfa).matches ≤ 65536) }
+    ensures few { IfOk result (λ dfa. length (dfa_of dfa).matches ≤ MAX_STATES) }
     ensures err { IfErr result (Refuses (views.rules_of rules.now)) }
 {
     if some_leads(rules) {
@@ -84,7 +84,7 @@ fn finished<'s>(
     dfa: Dfa,
 ) -> Result<Graph<'s>, BuildError>
     requires total { IsTotal (dfa_of dfa) }
-    requires few { length (dfa_of dfa).matches ≤ 65536 }
+    requires few { length (dfa_of dfa).matches ≤ MAX_STATES }
     requires late { ReadsOneByteLate (rules_of leaves.items) (dfa_of dfa) }
     requires faultless { AreFaults (rules_of leaves.items) [] }
     ensures graph { IfOk result (IsGraphOf leaves.entry.items config.utf8_mode) }

@@ -11,9 +11,12 @@ use logos_hir::leaf::LeafId;
 use std::alloc::{AllocError, Global};
 use std::ops::RangeInclusive;
 
+/// The characters below this one are ASCII.
+const ASCII: u32 = 128;
+
 /// Appends a character of a label.
 fn push_character(text: &mut String, character: char) -> Result<(), AllocError>
-    requires { character < 128 }
+    requires { character < ASCII }
     ensures { OnOk result (string_bytes text.new
         ≡ string_bytes text.old ++ label_character character) }
 {

@@ -85,7 +85,7 @@ fn add_range(
     Ok(())
 }
 
-/// Returns the end of the run of equal entries that begins at a byte.
+/// Returns the end of the equal entries that begin at a byte.
 fn run_end(row: &Row, from: usize) -> usize
     requires { from < 256 }
     ensures after { from < result }
@@ -102,7 +102,7 @@ fn run_end(row: &Row, from: usize) -> usize
     256
 }
 
-/// Adds the bytes of a run, if they lead to a state.
+/// Adds the bytes of a range, if they lead to a state.
 fn add_run(
     alloc: Global,
     edges: &mut Vec<Edge>,

@@ -9,6 +9,10 @@ use logos_code::code::Code;
 use logos_code::code::signs::Sign;
 use logos_hir::leaf::LeafId;
 
+/// In UTF-8 the bytes from the first of these on, and below the second, continue a character.
+const CONTINUES: u8 = 128;
+const LEADS: u8 = 192;
+
 /// Where a try stands as it enters a state.
 #[derive(Clone, Copy)]
 pub(super) struct Stand {
@@ -164,7 +168,7 @@ fn boundary_from(input: &[u8], from: usize) -> usize
 
 /// Returns whether the byte continues a character.
 fn is_continuation(byte: u8) -> bool
-    ensures { IsTrue result ↔ (128 ≤ byte) × (byte < 192) }
+    ensures { IsTrue result ↔ (CONTINUES ≤ byte) × (byte < LEADS) }
 {
     matches!(byte, 0x80..=0xBF)
 }

@@ -9,7 +9,7 @@ use super::fast_loop::stop;
 use logos_code::code::Code;
 use logos_code::code::last_marks::LastMark;
 use logos_code::code::rows::{
-    ASKS, ASKS_AFTER, CLOSES, HALTS, LATE, LEAVES, SHUTS, STAYS, STUCK, UNSAID,
+    ASKS, ASKS_AFTER, CLOSES, HALTS, LATE, LEAVES, SHUTS, STAYS, STUCK, UNSAID, WIDTH,
 };
 use logos_hir::leaf::LeafId;
 
@@ -70,8 +70,8 @@ fn attempt_slowly(code: &Code, input: &[u8], start: usize) -> Outcome
 fn end_of(code: &Code, input: &[u8], start: usize, last: (u32, usize, usize, usize)) -> Outcome
     requires sound { IsSound code.now }
     requires start { start ≤ length input.now }
-    requires reaches { Reaches code.now input.now start (last.3 / 272) last.0 last.1 last.2 }
-    requires ends { 536870912 ≤ last.0 }
+    requires reaches { Reaches code.now input.now start (last.3 / WIDTH) last.0 last.1 last.2 }
+    requires ends { LEAVES ≤ last.0 }
     ensures { IsOutcome code.now input.now start result }
 {
     let (entry, stop, before, place) = last;
@@ -107,8 +107,8 @@ fn end_of(code: &Code, input: &[u8], start: usize, last: (u32, usize, usize, usi
 fn stuck(code: &Code, input: &[u8], start: usize, last: (u32, usize, usize, usize)) -> Outcome
     requires sound { IsSound code.now }
     requires start { start ≤ length input.now }
-    requires reaches { Reaches code.now input.now start (last.3 / 272) last.0 last.1 last.2 }
-    requires nowhere { (2147483648 ≤ last.0) × (last.0 < 2415919104) }
+    requires reaches { Reaches code.now input.now start (last.3 / WIDTH) last.0 last.1 last.2 }
+    requires nowhere { (STUCK ≤ last.0) × (last.0 < UNSAID) }
     requires inside { last.1 < length input.now }
     ensures { IsOutcome code.now input.now start result }
 {
@@ -124,8 +124,8 @@ fn stuck(code: &Code, input: &[u8], start: usize, last: (u32, usize, usize, usiz
 /// the one that has the entry, from the entry without its kind.
 #[inline(always)]
 fn halted(entry: u32) -> (LeafId, usize)
-    ensures leaf { result.0.0 ≡ entry % 134217728 }
-    ensures late { result.1 ≡ entry / 134217728 }
+    ensures leaf { result.0.0 ≡ entry % LATE }
+    ensures late { result.1 ≡ entry / LATE }
 {
     (LeafId((entry % LATE) as usize), (entry / LATE) as usize)
 }
@@ -136,10 +136,10 @@ fn halted(entry: u32) -> (LeafId, usize)
 fn walk(code: &Code, input: &[u8], start: usize, first: u32) -> (u32, usize, usize, usize)
     requires sound { IsSound code.now }
     requires start { start < length input.now }
-    requires leads { first < 268435456 }
+    requires leads { first < STAYS }
     requires reaches { Reaches code.now input.now start code.now.root first start 0 }
-    ensures reaches { Reaches code.now input.now start (result.3 / 272) result.0 result.1 result.2 }
-    ensures ends { 536870912 ≤ result.0 }
+    ensures reaches { Reaches code.now input.now start (result.3 / WIDTH) result.0 result.1 result.2 }
+    ensures ends { LEAVES ≤ result.0 }
 {
     let mut place = first as usize;
     let mut at = start + 1;
@@ -172,10 +172,10 @@ fn look_far(code: &Code, input: &[u8], place: usize, at: usize, entry: u32) -> (
     requires sound { IsSound code.now }
     requires place { IsPlace code.now place }
     requires at { at < length input.now }
-    requires stays { (268435456 ≤ entry) × (entry < 536870912) }
-    requires entry { IsEntry code.now (state_at code.now (place / 272))
+    requires stays { (STAYS ≤ entry) × (entry < LEAVES) }
+    requires entry { IsEntry code.now (state_at code.now (place / WIDTH))
         (slice_index_or input.now at 0) entry }
-    ensures { LooksAhead code.now input.now (place / 272) at result.0 result.1 }
+    ensures { LooksAhead code.now input.now (place / WIDTH) at result.0 result.1 }
 {
     let stop = stop(code, (entry - STAYS) as usize, input, at + 1);
     if stop >= input.len() {

@@ -77,8 +77,8 @@ fn tree_at(starts: &[usize], from: usize, place: usize) -> usize
     low
 }
 
-/// Returns the number of the first tree from `from` on that is entered or has a mark, or the number
-/// of trees if there is none.
+/// Returns the number of the first tree from `from` on that is entered or has a place, or the
+/// number of trees if there is none.
 pub fn next_tree(starts: &[usize], marks: &[usize], entered: bool, from: usize) -> usize
     requires rising { IsRising marks.now }
     requires within { from < length starts.now }

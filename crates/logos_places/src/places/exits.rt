@@ -54,7 +54,7 @@ pub(crate) fn exits(node: &Node, marks: &[usize], spot: Spot, at: Context) -> bo
     }
 }
 
-/// Returns whether a literal can be left: whether its last place is marked.
+/// Returns whether a literal can be left: whether its last place is in the set.
 fn exits_literal(text: &[u8], marks: &[usize], spot: Spot) -> bool
     requires fits { spot.base + length text.now < 2 ^ 64 }
     requires rising { IsRising marks.now }

@@ -47,7 +47,7 @@ pub fn step_tree(
     Ok(TreeStep { places, left })
 }
 
-/// Returns the marks from `low` on and below `high`.
+/// Returns the places from `low` on and below `high`.
 ///
 /// # Errors
 ///

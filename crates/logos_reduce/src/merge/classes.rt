@@ -61,7 +61,7 @@ fn class_row(row: &Row, of: &Vec<usize>) -> Row
     ensures { (k : ℕ) → target_by result k
         ≡ option_map (slice_index of.now.items) (target_by row.now k) }
 {
-    let mut made = [0; 257];
+    let mut made = [0; WIDTH];
     for k in 0..WIDTH {
         made[k] = match entry_before(row, &made, k) {
             Some(entry) => entry,

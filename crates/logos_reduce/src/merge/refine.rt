@@ -91,7 +91,7 @@ fn sources_of(
 /// Returns whether a state leads into the block by the symbol.
 fn leads_into(table: &Table, blocks: &Vec<usize>, s: usize, b: usize, k: usize) -> bool
     requires len { vec_len blocks.now ≡ size table.now }
-    requires k_in { k < 257 }
+    requires k_in { k < WIDTH }
     ensures { IsTrue result ↔ ((s < size table.now)
         × (target_block table.now (slice_index blocks.now.items) s k ≡ Some b)) }
 {
@@ -116,7 +116,7 @@ fn hits_of(
     k: usize,
 ) -> Result<Vec<usize>, AllocError>
     requires len { vec_len blocks.now ≡ size table.now }
-    requires k_in { k < 257 }
+    requires k_in { k < WIDTH }
     ensures hits { IfOk result (λ v.
         AreHits (size table.now) (target_block table.now (slice_index blocks.now.items))
         by.now.sources.items v.items by.now.block k) }
@@ -138,7 +138,7 @@ fn split_by_symbol(
     by: &Splitter,
     k: usize,
 ) -> Result<Refinement, AllocError>
-    requires k_in { k < 257 }
+    requires k_in { k < WIDTH }
     requires len { vec_len parts.filing.blocks ≡ size table.now }
     requires block_in { by.now.block < vec_len parts.cuts.splits }
     requires sources { AreSources (size table.now)
@@ -317,7 +317,7 @@ fn look_at(
 ) -> Result<Refinement, AllocError>
     requires len { vec_len parts.filing.blocks ≡ size table.now }
     requires from_len { vec_len edges.now.from ≡ size table.now }
-    requires from { ArePredecessors (size table.now) 257 (to table.now) edges.now.from.items }
+    requires from { ArePredecessors (size table.now) WIDTH (to table.now) edges.now.from.items }
     requires sound { IsSound table.now parts.cuts.splits.items
         (slice_index parts.filing.blocks.items) }
     ensures len { IfOk result (λ w. vec_len w.filing.blocks ≡ size table.now) }
@@ -355,7 +355,7 @@ fn look_at_all(
 ) -> Result<Refinement, AllocError>
     requires len { vec_len parts.filing.blocks ≡ size table.now }
     requires from_len { vec_len edges.now.from ≡ size table.now }
-    requires from { ArePredecessors (size table.now) 257 (to table.now) edges.now.from.items }
+    requires from { ArePredecessors (size table.now) WIDTH (to table.now) edges.now.from.items }
     requires sound { IsSound table.now parts.cuts.splits.items
         (slice_index parts.filing.blocks.items) }
     ensures len { IfOk result (λ w. vec_len w.filing.blocks ≡ size table.now) }
