@@ -8,7 +8,7 @@ pub mod Settle
 pub mod Order
 pub mod Prune
 pub mod Lists
-pub mod Words
+pub mod SymbolWords
 pub mod Merge
 pub mod Number
 pub mod Reduction

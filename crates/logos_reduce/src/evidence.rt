@@ -3,7 +3,7 @@ ghost use Rattle.std.specs.Prelude.{◌≡◌, ◌≢◌, ◌⊎◌, ◌↔◌, 
 ghost use Rattle.logos_reduce.specs.Table.{size, to};
 ghost use Rattle.logos_reduce.specs.History.{GivesEvidence};
 ghost use Rattle.logos_reduce.specs.Evidence.{mark_with_end, mark_after, Distinguishes, IsEvidence};
-ghost use Rattle.logos_reduce.specs.Words.{state_after};
+ghost use Rattle.logos_reduce.specs.SymbolWords.{state_after};
 ghost use Rattle.logos_reduce.specs.inside.Evidence.{ArePartedAt};
 
 use crate::reduction::Reduction;
