@@ -1,8 +1,7 @@
 //! Inputs that together pass all edges of a graph.
 
 ghost use Rattle.std.specs.Prelude.{◌≡◌, IfOk, map, take};
-ghost use Rattle.std.specs.List.{flat_map};
-ghost use Rattle.logos_answers.specs.Words.{Gains, ShowsInputs, input_line};
+ghost use Rattle.logos_answers.specs.Words.{flat_map, Gains, ShowsInputs, input_line};
 
 use crate::quoting::push_literal;
 use logos_evidence::covering_inputs;

@@ -1,17 +1,8 @@
 //! Bytes that no pattern distinguishes.
 
 ghost use Rattle.std.specs.Prelude.{◌≡◌, ◌≢◌, ◌∷◌, ◌++◌, ◌<◌, ℕ, [], IsTrue, IsFalse, IfOk, OnOk, false, length, slice_index_or, if◌then◌else◌};
-ghost use Rattle.logos_automaton.specs.inside.Alike.{IsAlike, MarksFor, AreStartsOf, AreClassStarts, AreKindBytes, AreFirstBytes};
-ghost use Rattle.logos_automaton.specs.inside.Prepared.{IsPrepared, cores_of};
-ghost use Rattle.logos_hir.specs.ByteRanges.{is_in};
-ghost use Rattle.logos_hir.specs.Hir.{pairs};
+ghost use Rattle.logos_automaton.specs.Views.{is_in, pairs, byte_in, kind_of_byte, IsRising, Has, core_of, spelled, reader_of, IsAlike, MarksFor, AreStartsOf, AreClassStarts, AreKindBytes, AreFirstBytes, IsPrepared, cores_of};
 ghost use Rattle.logos_places.specs.Core as core;
-ghost use Rattle.logos_places.specs.Core.{byte_in};
-ghost use Rattle.logos_places.specs.Kinds.{kind_of_byte};
-ghost use Rattle.logos_places.specs.Marks.{IsRising, Has};
-ghost use Rattle.logos_places.specs.Node.{core_of};
-ghost use Rattle.logos_places.specs.Repeat.{spelled};
-ghost use Rattle.logos_places.specs.Table.{reader_of};
 
 use crate::trees::Trees;
 use logos_hir::hir::Range;

@@ -1,14 +1,7 @@
 //! The steps of trees, which are made once for each state of a tree.
 
 ghost use Rattle.std.specs.Prelude.{◌≡◌, ◌∷◌, ◌++◌, ◌+◌, ◌<◌, ◌≤◌, ◌↔◌, List, ℕ, [], false, IfOk, IsTrue, OnOk, length, slice_index, slice_index_or, if◌then◌else◌};
-ghost use Rattle.logos_automaton.specs.Keys.{state_of};
-ghost use Rattle.logos_automaton.specs.declared.trees.Trees.{Trees};
-ghost use Rattle.logos_automaton.specs.inside.Alike.{AreKindBytes};
-ghost use Rattle.logos_automaton.specs.inside.Prepared.{IsPrepared, IsCacheOf};
-ghost use Rattle.logos_automaton.specs.inside.Steps.{AreAlmostCached, AreCached, AreLive, HasSteps, IsTreeState, Keeps, state_after, step_of, tree_view};
-ghost use Rattle.logos_places.specs.declared.node.Node.{Node};
-ghost use Rattle.logos_places.specs.Kinds.{kind_of_byte};
-ghost use Rattle.logos_places.specs.Marks.{Has, IsRising};
+ghost use Rattle.logos_automaton.specs.Views.{Node, kind_of_byte, Has, IsRising, state_of, Trees, AreKindBytes, IsPrepared, IsCacheOf, AreAlmostCached, AreCached, AreLive, HasSteps, IsTreeState, Keeps, state_after, step_of, tree_view};
 
 use crate::alike::add_bytes;
 use crate::key::{Key, next_kind};

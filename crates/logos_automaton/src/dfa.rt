@@ -1,9 +1,8 @@
 //! The automaton of rules, which lists each match one byte late.
 
 ghost use Rattle.std.specs.Prelude.{◌≡◌, ◌<◌, length, vec_len};
+ghost use Rattle.logos_automaton.specs.Words.{AreReachable, AreByteRows, LeadWithin, EndWithin};
 ghost use Rattle.logos_automaton.specs.Keys.{automaton_of};
-ghost use Rattle.logos_automaton.specs.Reach.{AreReachable};
-ghost use Rattle.logos_automaton.specs.Targets.{AreByteRows, LeadWithin, EndWithin};
 
 pub mod build;
 pub mod parts;

@@ -1,13 +1,7 @@
 //! The faults of a list of rules.
 
 ghost use Rattle.std.specs.Prelude.{◌≡◌, ℕ, ◌≤◌, ◌⊎◌, ◌↔◌, IfOk, OnOk, List, map, Contains, vec_len};
-ghost use Rattle.logos_automaton.specs.DfaView.{dfa_of};
-ghost use Rattle.logos_automaton.specs.Errors.{fault_of, numbers};
-ghost use Rattle.logos_automaton.specs.Faults.{AreFaults, ArePassable, AreAmbiguous, Ascends, empty_match, disambiguation, AllStart};
-ghost use Rattle.logos_automaton.specs.Munch.{priority_of};
-ghost use Rattle.logos_automaton.specs.inside.TopSets.{highest_of, with_priority, top_of, IsTopSet, IsTopIn, AreTopSets};
-ghost use Rattle.logos_automaton.specs.View.{rules_of};
-ghost use Rattle.logos_automaton.specs.Automaton.{IsTotal, ReadsOneByteLate};
+ghost use Rattle.logos_automaton.specs.Views.{AreFaults, ArePassable, AreAmbiguous, Ascends, empty_match, disambiguation, AllStart, priority_of, highest_of, with_priority, top_of, IsTopSet, IsTopIn, AreTopSets, IsTotal, ReadsOneByteLate, dfa_of, fault_of, numbers, rules_of};
 
 use crate::dfa::Dfa;
 use crate::dfa::parts::{leaves_at, state_count};

@@ -1,10 +1,8 @@
 //! The keys of states, by which a state is found while the automaton is built.
 
 ghost use Rattle.std.specs.Prelude.{◌≡◌, ◌<◌, ◌≤◌, ◌+◌, Bool, List, IfOk, OnOk, length};
-ghost use Rattle.logos_places.specs.Core.{Core};
+ghost use Rattle.logos_automaton.specs.Views.{Core, IsRising, IsPrepared, cores_of};
 ghost use Rattle.logos_automaton.specs.Keys as keys;
-ghost use Rattle.logos_places.specs.Marks.{IsRising};
-ghost use Rattle.logos_automaton.specs.inside.Prepared.{IsPrepared, cores_of};
 
 use crate::trees::Trees;
 use indexmap::IndexSet;

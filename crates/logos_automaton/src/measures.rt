@@ -1,12 +1,9 @@
 //! Measures of trees. None of them allocates memory.
 
 ghost use Rattle.std.specs.Prelude.{◌≡◌, ℕ, ◌+◌, ◌*◌, ◌^◌, ◌≤◌, ◌↔◌, IsTrue, length, max, map};
-ghost use Rattle.logos_hir.specs.Hir.{class_tree, tree_of};
+ghost use Rattle.logos_automaton.specs.Words.{class_tree, tree_of, trees, IsWithinLimit, size, sizes};
 ghost use Rattle.logos_hir.specs.Passable as tree;
-ghost use Rattle.logos_hir.specs.Tree.{trees};
-ghost use Rattle.logos_automaton.specs.Measures.{IsWithinLimit};
 ghost use Rattle.logos_places.specs.Places as places;
-ghost use Rattle.logos_places.specs.Size.{size, sizes};
 
 use logos_hir::hir::{Class, Hir};
 

@@ -1,10 +1,7 @@
 //! The trees of rules, prepared for the automaton.
 
 ghost use Rattle.std.specs.Prelude.{◌^◌, ◌≤◌, IfOk, map};
-ghost use Rattle.logos_places.specs.Node.{core_of, AreMeasured};
-ghost use Rattle.logos_automaton.specs.Rules.{AreRuleCores};
-ghost use Rattle.logos_automaton.specs.Measures.{size_of};
-ghost use Rattle.logos_automaton.specs.View.{rules_of};
+ghost use Rattle.logos_automaton.specs.Views.{core_of, AreMeasured, AreRuleCores, size_of, rules_of};
 
 use crate::rule::RuleView;
 use logos_places::node::Node;

@@ -1,11 +1,7 @@
 //! The targets of states, while the automaton is built.
 
 ghost use Rattle.std.specs.Prelude.{Bool, List, ℕ, ◌≡◌, ◌^◌, ◌<◌, ◌≤◌, ◌+◌, IfOk, IfSome, IsFalse, OnOk, length, slice_index};
-ghost use Rattle.logos_automaton.specs.inside.Alike.{AreKindBytes};
-ghost use Rattle.logos_automaton.specs.inside.Prepared.{IsCacheOf, IsPrepared, cores_of};
-ghost use Rattle.logos_automaton.specs.inside.Steps.{Foresees, IsNotStart, state_after};
-ghost use Rattle.logos_automaton.specs.Keys.{AreRising, AreReached, AreFirstIn, Extends, Grows, IsAt, LeadsTo, EndsIn, IsRow};
-ghost use Rattle.logos_places.specs.Core.{Core};
+ghost use Rattle.logos_automaton.specs.Views.{Core, AreKindBytes, IsCacheOf, IsPrepared, cores_of, Foresees, IsNotStart, state_after, AreRising, AreReached, AreFirstIn, Extends, Grows, IsAt, LeadsTo, EndsIn, IsRow};
 
 use crate::alike::first_bytes;
 use crate::cache::{LiveTree, StateSteps, StepCache};

@@ -1,10 +1,7 @@
 //! Sets of bytes, and the comparisons that test for them.
 
-ghost use Rattle.std.specs.Prelude.{◌≡◌, ℕ, ◌<◌, ◌≤◌, ◌↔◌, ◌||◌, not, IsTrue, IfOk, OnOk};
-ghost use Rattle.std.specs.Prelude.{OnErr, false, [], ◌∷◌, length, map, drop, slice_index_or};
-ghost use Rattle.logos_hir.specs.ByteRanges.{is_in};
-ghost use Rattle.logos_byte_class.specs.Bytes.{bounds, ranges_of, has_byte, AreSeparated, comparison_of};
-ghost use Rattle.logos_byte_class.specs.Bytes.{compares, some_compares, joined, operations};
+ghost use Rattle.std.specs.Prelude.{◌≡◌, ℕ, ◌<◌, ◌≤◌, ◌↔◌, ◌||◌, not, IsTrue, IfOk, OnOk, OnErr, false, [], ◌∷◌, length, map, drop, slice_index_or};
+ghost use Rattle.logos_byte_class.specs.Views.{is_in, bounds, ranges_of, has_byte, AreSeparated, comparison_of, compares, some_compares, joined, operations};
 
 use logos_token::error::Memory;
 use std::alloc::{AllocError, Global};

@@ -1,9 +1,7 @@
 //! How bytes and sets of bytes print.
 
 ghost use Rattle.std.specs.Prelude.{◌≡◌, ◌<◌, ◌≤◌, ◌↔◌, IsTrue, IsFalse, IfSome, Some, codes, map};
-ghost use Rattle.logos_byte_class.specs.Bytes.{bounds, ranges_of};
-ghost use Rattle.logos_byte_class.specs.ClassText.{letter_of, lower_digit, byte_text};
-ghost use Rattle.logos_byte_class.specs.ClassText.{range_text, next_ranges_text, class_text};
+ghost use Rattle.logos_byte_class.specs.Views.{letter_of, lower_digit, byte_text, range_text, next_ranges_text, class_text, bounds, ranges_of};
 
 use crate::byte_class::ByteClass;
 use std::fmt;

@@ -1,16 +1,7 @@
 //! A file with the derive of its lexers expanded.
 
 ghost use Rattle.std.specs.Prelude.{◌≡◌, ◌≤◌, ◌++◌, All, IfErr, IfOk, IsTrue, OnOk, length, map, string_bytes};
-ghost use Rattle.logos_codegen.specs.Source.{IsRefused};
-ghost use Rattle.logos_rust_file.specs.Replacing.{AreInOrder, IsFoundCut, found_span, part_span};
-ghost use Rattle.logos_rust_file.specs.Files.{AreEnumsOf};
-ghost use Rattle.logos_report.specs.Pages.{Shows, StandInOrder};
-ghost use Rattle.logos_rust_file.specs.Handed.{Refuses};
-ghost use Rattle.logos_cli.specs.Expanding.{IsExpanded, IsExpansion, IsFileOf};
-ghost use Rattle.logos_cli.specs.Expanding.{IsShown, IsUnreadable, config_of};
-ghost use Rattle.logos_cli.specs.Gathering.{AreRefused, EndsWithLines, FailsFor, GathersAll, ShowsRefused, refused_texts};
-ghost use Rattle.logos_cli.specs.inside.Steps.{AddsRefusal, GathersOne};
-ghost use Rattle.logos_cli.specs.inside.Steps.{IsExpansionBy};
+ghost use Rattle.logos_cli.specs.Views.{IsRefused, AreInOrder, IsFoundCut, found_span, part_span, AreEnumsOf, Shows, StandInOrder, Refuses, IsExpanded, IsExpansion, IsFileOf, IsShown, IsUnreadable, config_of, AreRefused, EndsWithLines, FailsFor, GathersAll, ShowsRefused, refused_texts, AddsRefusal, GathersOne, IsExpansionBy};
 
 use crate::head::with_head;
 use crate::options::Shape;

@@ -1,8 +1,7 @@
 //! The first line of a file with the derive of its lexers expanded.
 
 ghost use Rattle.std.specs.Prelude.{◌≡◌, ◌++◌, IfOk, OnOk, string_bytes};
-ghost use Rattle.logos_layout.specs.Inner.{IsWithoutInner};
-ghost use Rattle.logos_cli.specs.Heads.{IsFileWith, IsHead, code_name, head_text, is_plain, is_printable, line_text, shape_name, shown_name};
+ghost use Rattle.logos_cli.specs.Views.{IsWithoutInner, IsFileWith, IsHead, code_name, head_text, is_plain, is_printable, line_text, shape_name, shown_name};
 
 use crate::options::Shape;
 use logos_layout::without_inner;

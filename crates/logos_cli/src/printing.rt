@@ -2,10 +2,7 @@
 //! implementation.
 
 ghost use Rattle.std.specs.Prelude.{◌≡◌, ◌++◌, true, IfOk, OnOk, string_bytes};
-ghost use Rattle.logos_token.specs.Views.{tokens_of};
-ghost use Rattle.logos_layout.specs.Layout.{IsLaidOut};
-ghost use Rattle.logos_cli.specs.Expanding.{IsGuard, IsGuarded, are_blanks, guard_text, import_under, lexer_under, under};
-ghost use Rattle.logos_cli.specs.inside.Steps.{IsPrintedWith};
+ghost use Rattle.logos_cli.specs.Views.{tokens_of, IsLaidOut, IsGuard, IsGuarded, are_blanks, guard_text, import_under, lexer_under, under, IsPrintedWith};
 
 use crate::expanding::lexer_text;
 use crate::options::Shape;

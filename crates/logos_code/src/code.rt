@@ -1,8 +1,7 @@
 //! Code values: what a lexer does in each state.
 
 ghost use Rattle.std.specs.Prelude.{◌≡◌, ◌*◌, ◌<◌, ◌/◌, length, option_map, option_copied, IfSome};
-ghost use Rattle.logos_code.specs.Words.{passes_test};
-ghost use Rattle.logos_code.specs.Views.{IsSound, NamesTest, entry_of, state_at, asks_for, skips_over, code_of, IsValid, target, IsLastMark, IsMask, IsEntry, IsFirst, IsLastEntry, IsPlace, shape_named, mark_by};
+ghost use Rattle.logos_code.specs.Views.{passes_test, IsSound, NamesTest, entry_of, state_at, asks_for, skips_over, code_of, IsValid, target, IsLastMark, IsMask, IsEntry, IsFirst, IsLastEntry, IsPlace, shape_named, mark_by};
 
 pub mod last_marks;
 pub(crate) mod making;
@@ -155,8 +154,7 @@ pub struct Code<'s> {
 
 impl<'s> Model for Code<'s> {
     ghost use Rattle.std.specs.Prelude.{[]};
-    ghost use Rattle.logos_code.specs.Words.{codes, named};
-    ghost use Rattle.logos_code.specs.Views.{CodeValue};
+    ghost use Rattle.logos_code.specs.Views.{codes, named, CodeValue};
     ghost use Rattle.logos_type.specs.contracts.type_expr.Part as p;
 
     ghost Value = { CodeValue };

@@ -1,8 +1,7 @@
 //! From a source text to the code of its lexer.
 
 ghost use Rattle.std.specs.Prelude.{◌≡◌, ◌<◌, ◌↔◌, ◌∷◌, ◌++◌, Bool, List, [], length, map, flat_map, option_map, IfOk, IfErr, IsErrAnd, OnOk, IsTrue, string_bytes, option_copied};
-ghost use Rattle.logos_codegen.specs.Words.{Rule, fault_of, ident_slice, callback_view, parser_view, kind_value, utf8_mode, IsGraphOf, rules_of, KeepsGiven, IsLexer, HasItsType, analysis_view, too_long, Refuses, IsMemory, StandInOrder, texts_of, named_leaf, reported_as, IsGiven, KeepsEnum, error_callback, variant_at, RunsAreCut, IsAccepted, IsRefused, IsWithinSizes, IsWithinLimits, IsLimit, ReportsGraph, IsFaultless, AreGraphFaults, IsGraphMade, AreTakenOut};
-ghost use Rattle.logos_codegen.specs.Views.{BeginsImplementation, IsFrontOf};
+ghost use Rattle.logos_codegen.specs.Views.{Rule, fault_of, ident_slice, callback_view, parser_view, kind_value, utf8_mode, IsGraphOf, rules_of, KeepsGiven, IsLexer, HasItsType, analysis_view, too_long, Refuses, IsMemory, StandInOrder, texts_of, named_leaf, reported_as, IsGiven, KeepsEnum, error_callback, variant_at, RunsAreCut, IsAccepted, IsRefused, IsWithinSizes, IsWithinLimits, IsLimit, ReportsGraph, IsFaultless, AreGraphFaults, IsGraphMade, AreTakenOut, BeginsImplementation, IsFrontOf};
 
 use crate::around::around_texts;
 use crate::reporting::report_fault;

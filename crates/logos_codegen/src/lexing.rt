@@ -1,8 +1,7 @@
 //! Lexing of an input by a source.
 
 ghost use Rattle.std.specs.Prelude.{◌≡◌, List, Bool, map, length, true, IfOk, IfErr, IsTrue};
-ghost use Rattle.logos_codegen.specs.Words.{All, IsUtf8, Rule, CodeValue, IsCut, IsLexer, Items, answers_of, item_of, AreInOrder, Parts, IsLeftOut, Runs, IsAccepted, IsWithinLimits};
-ghost use Rattle.logos_codegen.specs.Views.{IsUnlexed, IsJust, IsNoRefusal};
+ghost use Rattle.logos_codegen.specs.Views.{All, IsUtf8, Rule, CodeValue, IsCut, IsLexer, Items, answers_of, item_of, AreInOrder, Parts, IsLeftOut, Runs, IsAccepted, IsWithinLimits, IsUnlexed, IsJust, IsNoRefusal, Memory as OutOfMemory, NotUtf8 as NoUtf8, IsThatRefusal};
 
 use crate::generation::generate;
 use logos_generator::code::Code;
@@ -26,9 +25,6 @@ pub enum LexSourceError {
 }
 
 impl From<AllocError> for LexSourceError {
-    ghost use Rattle.std.specs.Prelude.{◌≡◌};
-    ghost use Rattle.logos_codegen.specs.Views.{Memory as OutOfMemory};
-
     ghost from_gives = { λ _ e. e ≡ OutOfMemory };
 
     fn from(_error: AllocError) -> LexSourceError {
@@ -37,9 +33,6 @@ impl From<AllocError> for LexSourceError {
 }
 
 impl<T: Drop> From<AllocFailed<T>> for LexSourceError {
-    ghost use Rattle.std.specs.Prelude.{◌≡◌};
-    ghost use Rattle.logos_codegen.specs.Views.{Memory as OutOfMemory};
-
     ghost from_gives = { λ _ e. e ≡ OutOfMemory };
 
     fn from(_error: AllocFailed<T>) -> LexSourceError {
@@ -48,9 +41,6 @@ impl<T: Drop> From<AllocFailed<T>> for LexSourceError {
 }
 
 impl From<NotUtf8> for LexSourceError {
-    ghost use Rattle.std.specs.Prelude.{◌≡◌};
-    ghost use Rattle.logos_codegen.specs.Views.{NotUtf8 as NoUtf8};
-
     ghost from_gives = { λ error e. e ≡ NoUtf8 error.valid_up_to };
 
     fn from(error: NotUtf8) -> LexSourceError {
@@ -61,8 +51,6 @@ impl From<NotUtf8> for LexSourceError {
 }
 
 impl From<Refusal> for LexSourceError {
-    ghost use Rattle.logos_codegen.specs.Views.{IsThatRefusal};
-
     ghost from_gives = { IsThatRefusal };
 
     fn from(error: Refusal) -> LexSourceError {

@@ -1,10 +1,7 @@
 //! The path of the file that the chart of an enum is written to.
 
 ghost use Rattle.std.specs.Prelude.{◌≡◌, IfErr, IfOk, option_copied, string_bytes};
-ghost use Rattle.std.specs.Path.{with_separator};
-ghost use Rattle.logos_commands.specs.Charts.{destination, extension, file_at, file_in};
-ghost use Rattle.logos_commands.specs.Charts.{file_name, refusal_by};
-ghost use Rattle.logos_commands.specs.inside.Destinations.{FailsAt};
+ghost use Rattle.logos_commands.specs.Views.{with_separator, destination, extension, file_at, file_in, file_name, refusal_by, FailsAt};
 
 use crate::failure::{ExportRefusal, Failure};
 use std::alloc::{AllocError, Global};

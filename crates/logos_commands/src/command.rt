@@ -1,8 +1,7 @@
 //! Commands, read from the words of the command line.
 
 ghost use Rattle.std.specs.Prelude.{◌≡◌, bytes_eq, map, option_map, string_bytes};
-ghost use Rattle.logos_commands.specs.Commands.{asked, chart_in, command_asked, export_in, items_in, shape_in};
-ghost use Rattle.logos_commands.specs.Commands.{shape_named, strip_in, text_in};
+ghost use Rattle.logos_commands.specs.Commands.{asked, chart_in, command_asked, export_in, items_in, shape_in, shape_named, strip_in, text_in};
 
 use crate::lexing::LexRequest;
 use logos_codegen::generator::Config;

@@ -1,7 +1,7 @@
 //! Failures of commands, their statuses and their messages.
 
 ghost use Rattle.std.specs.Prelude.{◌≡◌};
-ghost use Rattle.logos_commands.specs.Commands.{status_of};
+ghost use Rattle.logos_commands.specs.Views.{status_of, Memory as OutOfMemory, refused_by};
 
 use logos_codegen::Refusal;
 use logos_codegen::error::{Errors, Memory};
@@ -43,9 +43,6 @@ pub(super) enum ExportRefusal {
 }
 
 impl From<AllocError> for Failure<'_> {
-    ghost use Rattle.std.specs.Prelude.{◌≡◌};
-    ghost use Rattle.logos_commands.specs.declared.failure.Failure.TheVariants.{Memory as OutOfMemory};
-
     ghost from_gives = { λ _ failure. failure ≡ OutOfMemory };
 
     fn from(_error: AllocError) -> Self {
@@ -54,9 +51,6 @@ impl From<AllocError> for Failure<'_> {
 }
 
 impl From<Memory> for Failure<'_> {
-    ghost use Rattle.std.specs.Prelude.{◌≡◌};
-    ghost use Rattle.logos_commands.specs.declared.failure.Failure.TheVariants.{Memory as OutOfMemory};
-
     ghost from_gives = { λ _ failure. failure ≡ OutOfMemory };
 
     fn from(_error: Memory) -> Self {
@@ -65,9 +59,6 @@ impl From<Memory> for Failure<'_> {
 }
 
 impl From<Refusal> for Failure<'_> {
-    ghost use Rattle.std.specs.Prelude.{◌≡◌};
-    ghost use Rattle.logos_commands.specs.Commands.{refused_by};
-
     ghost from_gives = { λ refusal failure. failure ≡ refused_by refusal };
 
     fn from(refusal: Refusal) -> Self {

@@ -1,15 +1,7 @@
 //! The command `lex`: a line for each item of an input, written in blocks while the input is lexed.
 
-ghost use Rattle.std.specs.Prelude.{◌≡◌, ◌++◌, ◌+◌, ◌<◌, ◌≤◌, ℕ, List, [], IfErr, OnOk, IsTrue, IsUtf8};
-ghost use Rattle.std.specs.Prelude.{vec_len, vec_capacity};
-ghost use Rattle.std.specs.Io.KnownBytes.{Appends, Keeps};
-ghost use Rattle.logos_code.specs.declared.action.Action.{Action as Answer};
-ghost use Rattle.logos_machine.specs.LexerValue.{answers_of, item_of};
-ghost use Rattle.logos_commands.specs.Commands.{status_of};
-ghost use Rattle.logos_commands.specs.Lines.{WritesLines, emits, line_of};
-ghost use Rattle.logos_commands.specs.declared.failure.Failure.TheVariants.{Output};
-ghost use Rattle.logos_host.specs.Writers.{AppendsFront};
-ghost use Rattle.logos_commands.specs.Runs.{IsTornBy, PrintsItems, PrintsItemsOf, RefusesInput, RefusesItems};
+ghost use Rattle.std.specs.Prelude.{◌≡◌, ◌++◌, ◌+◌, ◌<◌, ◌≤◌, ℕ, List, [], IfErr, OnOk, IsTrue, IsUtf8, vec_len, vec_capacity};
+ghost use Rattle.logos_commands.specs.Views.{Appends, Keeps, Action as Answer, answers_of, item_of, WritesLines, emits, line_of, AppendsFront, status_of, Output, IsTornBy, PrintsItems, PrintsItemsOf, RefusesInput, RefusesItems};
 
 use crate::failure::Failure;
 use crate::lines::{LONGEST, write_line};

@@ -1,8 +1,7 @@
 //! The lines of items.
 
 ghost use Rattle.std.specs.Prelude.{◌≡◌, ◌+◌, ◌≤◌, ◌++◌, length, drop};
-ghost use Rattle.logos_machine.specs.LexerValue.{item_of};
-ghost use Rattle.logos_commands.specs.Lines.{line_of, span_line};
+ghost use Rattle.logos_commands.specs.Words.{item_of, line_of, span_line};
 
 use itoa::write_digits;
 use logos_codegen::machine::Item;

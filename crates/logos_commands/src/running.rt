@@ -1,13 +1,7 @@
 //! Running commands: from words to a status.
 
-ghost use Rattle.std.specs.Prelude.{◌≡◌, ◌≤◌, ◌⊎◌, ◌↔◌, None, map, string_bytes};
-ghost use Rattle.std.specs.Prelude.{IfErr, IfSome, OnOk};
-ghost use Rattle.std.specs.Io.KnownBytes.{Appends, Keeps};
-ghost use Rattle.logos_commands.specs.Commands.{asked, command_asked, status_of};
-ghost use Rattle.logos_commands.specs.inside.Destinations.{effect_of};
-ghost use Rattle.logos_commands.specs.Runs.{Carries, HasEffect, IsDone, IsDenied, IsLeft, IsPartOf};
-ghost use Rattle.logos_commands.specs.Runs.{ReadsSource, RefusesLexer, RefusesStripping};
-ghost use Rattle.logos_commands.specs.declared.failure.Failure.{Failure as Why};
+ghost use Rattle.std.specs.Prelude.{◌≡◌, ◌≤◌, ◌⊎◌, ◌↔◌, None, map, string_bytes, IfErr, IfSome, OnOk};
+ghost use Rattle.logos_commands.specs.Views.{Appends, Keeps, asked, command_asked, status_of, effect_of, Carries, HasEffect, IsDone, IsDenied, IsLeft, IsPartOf, ReadsSource, RefusesLexer, RefusesStripping, Failure as Why};
 
 use crate::command::{Command, command_of};
 use crate::failure::{Failure, report};

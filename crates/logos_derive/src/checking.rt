@@ -2,8 +2,7 @@
 //! back. So nothing has to be believed of how the placeholders came into it.
 
 ghost use Rattle.std.specs.Prelude.{◌≡◌, ◌<◌, ◌+◌, IfSome, IsTrue, length, string_bytes};
-ghost use Rattle.logos_derive.specs.Words.{IsCharBoundary, StandsAt};
-ghost use Rattle.logos_derive.specs.Views.{IsPutBack, GoesOn};
+ghost use Rattle.logos_derive.specs.Views.{IsCharBoundary, StandsAt, IsPutBack, GoesOn};
 
 use crate::parts::after_part;
 use crate::piece::Piece;

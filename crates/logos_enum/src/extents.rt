@@ -2,8 +2,7 @@
 //! their types are read.
 
 ghost use Rattle.std.specs.Prelude.{◌≡◌, ◌+◌, ◌<◌, ◌≤◌, MatchOption};
-ghost use Rattle.logos_enum.specs.Words.{TokenList, also, punctuation, count_of, append, IsRestOf, tokens_of};
-ghost use Rattle.logos_enum.specs.Views.{ends, begins_arrow, depth_after, is_end, after_from, after_extent, after_generics, IsStep};
+ghost use Rattle.logos_enum.specs.Views.{TokenList, also, punctuation, count_of, append, IsRestOf, tokens_of, ends, begins_arrow, depth_after, is_end, after_from, after_extent, after_generics, IsStep};
 
 use crate::tokens::{after_mark, split};
 use logos_token::token::{Punct, Spacing, TokenTree, Tokens};

@@ -5,7 +5,7 @@ use Rattle.std.proofs.lemmas.Bool.{cases_lt}
 use Rattle.std.proofs.lemmas.List.Elements.{All-cons, All-nil}
 use Rattle.logos_hir.specs.Text.{IsBytes}
 use Rattle.logos_graph.specs.Graph.{GraphState, type_after, Distinguishes}
-use Rattle.logos_reduce.specs.Words.{state_after, WordDistinguishes}
+use Rattle.logos_reduce.specs.SymbolWords.{state_after, WordDistinguishes}
 use Rattle.logos_reduce.specs.Table.{size, to, mark, type_of}
 use Rattle.logos_graph.specs.ReduceShown.{Shows}
 use Rattle.logos_reduce.specs.declared.table.Mark.{Mark}

@@ -1,6 +1,7 @@
 //! Graphs of a lexer.
 
 ghost use Rattle.std.specs.Prelude.{◌≡◌};
+ghost use Rattle.logos_graph.specs.StateEquality.{same_state, same_state_laws};
 
 mod evidence;
 mod making;
@@ -61,8 +62,6 @@ pub struct StateData {
 
 /// States are equal whatever leads to them.
 impl PartialEq for StateData {
-    ghost use Rattle.logos_graph.specs.StateEquality.{same_state, same_state_laws};
-
     ghost eq = { same_state };
 
     ghost laws = { same_state_laws };

@@ -1,8 +1,7 @@
 //! Sets closed under a change of case. `logos_syntax` calls it where letters match in either case.
 
 ghost use Rattle.std.specs.Prelude.{◌≡◌, ℕ, ◌+◌, ◌<◌, ◌≤◌, ◌^◌, ◌||◌, length, IfOk, OnOk};
-ghost use Rattle.logos_hir.specs.Words.{IsNonDecreasingBy, fold_pairs, in_range, in_ranges, fold_case, fold_ascii, Adds, in_values, in_image, shift};
-ghost use Rattle.logos_hir.specs.Views.{pairs, set_of};
+ghost use Rattle.logos_hir.specs.Views.{IsNonDecreasingBy, fold_pairs, in_range, in_ranges, fold_case, fold_ascii, Adds, in_values, in_image, shift, pairs, set_of};
 
 use crate::hir::Range;
 use crate::sets::RangeSet;

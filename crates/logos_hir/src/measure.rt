@@ -2,8 +2,7 @@
 //! read; leaves get their default priority from them.
 
 ghost use Rattle.std.specs.Prelude.{◌≡◌, ℕ, ◌+◌, ◌*◌, min, nat_lt, length, map};
-ghost use Rattle.logos_hir.specs.Words.{list_all, chars, is_utf8, pointwise};
-ghost use Rattle.logos_hir.specs.Views.{trees, pairs, tree_of, class_tree, value, sum_of_values, least_value, text_size, fitted, is_same, is_text, all_text, is_all, is_dot, has_greedy_dot, some_greedy_dot};
+ghost use Rattle.logos_hir.specs.Views.{list_all, chars, is_utf8, pointwise, trees, pairs, tree_of, class_tree, value, sum_of_values, least_value, text_size, fitted, is_same, is_text, all_text, is_all, is_dot, has_greedy_dot, some_greedy_dot};
 
 use crate::hir::{Class, Hir, Range};
 use crate::sets::LAST_CHAR;

@@ -139,8 +139,7 @@ fn chars_of(alloc: Global, ranges: &[Range]) -> Result<Vec<Range>, AllocError>
 
 impl RangeSet {
     ghost use Rattle.std.specs.Prelude.{◌≡◌, ℕ, ◌≤◌, true, IfOk, MatchBool};
-    ghost use Rattle.logos_hir.specs.Words.{scalar, Set, members, union, intersection, difference, symmetric_difference, complement, in_range};
-    ghost use Rattle.logos_hir.specs.Views.{pairs, sole_member, set_of};
+    ghost use Rattle.logos_hir.specs.Views.{scalar, Set, members, union, intersection, difference, symmetric_difference, complement, in_range, pairs, sole_member, set_of};
 
     /// Returns the characters in the ranges. These may come in any order, overlap, and hold numbers
     /// that are no characters; a range whose first number is above its last is empty.

@@ -1,7 +1,7 @@
 //! The ways in which a program fails.
 
 ghost use Rattle.std.specs.Prelude.{◌≡◌};
-ghost use Rattle.logos_host.specs.Failures.{status_of};
+ghost use Rattle.logos_host.specs.Views.{status_of, Memory as OutOfMemory};
 
 use crate::files::FileError;
 use crate::reason::Reason;
@@ -50,9 +50,6 @@ pub enum Failure<'w> {
 }
 
 impl From<AllocError> for Failure<'_> {
-    ghost use Rattle.std.specs.Prelude.{◌≡◌};
-    ghost use Rattle.logos_host.specs.declared.failure.Failure.TheVariants.{Memory as OutOfMemory};
-
     ghost from_gives = { λ _ failure. failure ≡ OutOfMemory };
 
     fn from(_error: AllocError) -> Self {
@@ -61,9 +58,6 @@ impl From<AllocError> for Failure<'_> {
 }
 
 impl<T: Drop> From<AllocFailed<T>> for Failure<'_> {
-    ghost use Rattle.std.specs.Prelude.{◌≡◌};
-    ghost use Rattle.logos_host.specs.declared.failure.Failure.TheVariants.{Memory as OutOfMemory};
-
     ghost from_gives = { λ _ failure. failure ≡ OutOfMemory };
 
     fn from(_error: AllocFailed<T>) -> Self {
@@ -72,9 +66,6 @@ impl<T: Drop> From<AllocFailed<T>> for Failure<'_> {
 }
 
 impl From<Memory> for Failure<'_> {
-    ghost use Rattle.std.specs.Prelude.{◌≡◌};
-    ghost use Rattle.logos_host.specs.declared.failure.Failure.TheVariants.{Memory as OutOfMemory};
-
     ghost from_gives = { λ _ failure. failure ≡ OutOfMemory };
 
     fn from(_error: Memory) -> Self {
@@ -83,9 +74,6 @@ impl From<Memory> for Failure<'_> {
 }
 
 impl Failure<'_> {
-    ghost use Rattle.std.specs.Prelude.{◌≡◌};
-    ghost use Rattle.logos_host.specs.Failures.{status_of};
-
     /// Returns the exit status: 1 if something is refused, 2 if the words are no command or name
     /// the input as the output, 3 if a file or memory fails.
     pub fn status(&self) -> u8

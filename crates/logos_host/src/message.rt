@@ -1,9 +1,7 @@
 //! The messages of failures.
 
 ghost use Rattle.std.specs.Prelude.{◌≡◌, ◌++◌, ◌↔◌, ◌⊎◌, OnOk, codes, decimal};
-ghost use Rattle.std.specs.Io.KnownBytes.{Appends};
-ghost use Rattle.logos_host.specs.Failures.{status_of};
-ghost use Rattle.logos_host.specs.Messages.{hint_line, message_of, misuse_line};
+ghost use Rattle.logos_host.specs.Views.{Appends, status_of, hint_line, message_of, misuse_line};
 
 use crate::failure::Failure;
 use std::io;

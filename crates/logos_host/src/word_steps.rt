@@ -1,10 +1,7 @@
 //! The words of a command line, one after another.
 
 ghost use Rattle.std.specs.Prelude.{◌≡◌, IfErr, IfOk, None, Some, option_map};
-ghost use Rattle.logos_host.specs.Failures.{status_of};
-ghost use Rattle.logos_host.specs.Options.{option_named};
-ghost use Rattle.logos_host.specs.WordSteps.{begins_option, split_at_equals, step, step_value};
-ghost use Rattle.logos_host.specs.WordSteps.{with_assigned, with_option, with_written};
+ghost use Rattle.logos_host.specs.Views.{status_of, option_named, begins_option, split_at_equals, step, step_value, with_assigned, with_option, with_written};
 
 use crate::failure::Failure;
 use crate::options::OptionName;

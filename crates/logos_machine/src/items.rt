@@ -1,8 +1,7 @@
 //! All items of an input at once.
 
 ghost use Rattle.std.specs.Prelude.{map, IfOk};
-ghost use Rattle.logos_machine.specs.Words.{Runs};
-ghost use Rattle.logos_machine.specs.Views.{answers_of, item_of};
+ghost use Rattle.logos_machine.specs.Views.{Runs, answers_of, item_of};
 
 use crate::machine::{Action, Item, Lexer};
 use logos_hir::leaf::LeafId;

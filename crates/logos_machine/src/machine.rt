@@ -1,8 +1,7 @@
 //! Lexers: runs of a code value on an input.
 
 ghost use Rattle.std.specs.Prelude.{◌≡◌, ◌<◌, ◌≤◌, length, option_map, slice_range, MatchBool, MatchOption, IfOk, IfErr, IsTrue, IsUtf8, drop, None};
-ghost use Rattle.logos_machine.specs.Words.{IsValidUpTo, asks_for, token, error};
-ghost use Rattle.logos_machine.specs.Views.{answers_of, begun, item_of, Gives, Ends, Keeps, MatchGives, Takes};
+ghost use Rattle.logos_machine.specs.Views.{IsValidUpTo, asks_for, token, error, answers_of, begun, item_of, Gives, Ends, Keeps, MatchGives, Takes};
 
 mod attempt;
 mod fast_loop;
@@ -55,8 +54,7 @@ pub struct Lexer<'c, 's, 'i, C> {
 
 impl<'c, 's, 'i, C> Model for Lexer<'c, 's, 'i, C> {
     ghost use Rattle.std.specs.Prelude.{◌≤◌, [], length};
-    ghost use Rattle.logos_machine.specs.Words.{codes, named};
-    ghost use Rattle.logos_machine.specs.Views.{LexerValue};
+    ghost use Rattle.logos_machine.specs.Views.{codes, named, LexerValue};
     ghost use Rattle.logos_type.specs.contracts.type_expr.Part as p;
 
     ghost Value = { LexerValue C };

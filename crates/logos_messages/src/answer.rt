@@ -1,9 +1,7 @@
 //! The lines of an answer that are no faults: its version, and its pieces.
 
 ghost use Rattle.std.specs.Prelude.{◌≡◌, ◌++◌, ℕ, List, IfOk, OnErr, OnOk, decimal, string_bytes};
-ghost use Rattle.std.specs.List.{flat_map};
-ghost use Rattle.logos_messages.specs.Answers.{named_piece_tokens, piece_tokens, pieces_tokens, version_tokens};
-ghost use Rattle.logos_messages.specs.Lines.{Gains, IsLine};
+ghost use Rattle.logos_messages.specs.Views.{flat_map, Gains, IsLine, named_piece_tokens, piece_tokens, pieces_tokens, version_tokens};
 
 use crate::line::Line;
 use logos_token::error::Memory;

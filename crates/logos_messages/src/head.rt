@@ -1,10 +1,7 @@
 //! What the line of a fault begins with.
 
 ghost use Rattle.std.specs.Prelude.{◌≡◌, ◌++◌, [], ◌∷◌, codes};
-ghost use Rattle.logos_token.specs.FaultNames.{name_of};
-ghost use Rattle.logos_token.specs.FaultView.{fault_of};
-ghost use Rattle.logos_messages.specs.Lines.{Gains};
-ghost use Rattle.logos_messages.specs.Tokens.{code_tokens, error_tokens, head_tokens};
+ghost use Rattle.logos_messages.specs.Words.{name_of, fault_of, Gains, code_tokens, error_tokens, head_tokens};
 
 use crate::line::Line;
 use logos_report::{first_line, is_error};

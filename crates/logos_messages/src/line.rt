@@ -1,9 +1,7 @@
 //! A line of JSON that grows.
 
 ghost use Rattle.std.specs.Prelude.{◌≡◌, ◌∷◌, [], true, IfOk, decimal, option_map};
-ghost use Rattle.json.specs.Token.{begin_array, begin_object, boolean, end_array, end_object, key, null, number, string};
-ghost use Rattle.logos_messages.specs.Lines.{Finishes, Gains};
-ghost use Rattle.logos_messages.specs.Tokens.{bool_member, maybe_member, null_member, number_member, text_member};
+ghost use Rattle.logos_messages.specs.Words.{begin_array, begin_object, boolean, end_array, end_object, key, null, number, string, Finishes, Gains, bool_member, maybe_member, null_member, number_member, text_member};
 
 use json::Writer;
 use std::alloc::AllocError;

@@ -1,10 +1,7 @@
 //! Lines of a file, and the columns of a span in them.
 
 ghost use Rattle.std.specs.Prelude.{◌≡◌, [], ◌∷◌};
-ghost use Rattle.logos_report.specs.Places.{IsShownLine};
-ghost use Rattle.logos_messages.specs.Lines.{Gains};
-ghost use Rattle.logos_messages.specs.Growing.{GivesLineList, GivesLines};
-ghost use Rattle.logos_messages.specs.Tokens.{marked_tokens};
+ghost use Rattle.logos_messages.specs.Words.{IsShownLine, Gains, GivesLineList, GivesLines, marked_tokens};
 
 use crate::line::Line;
 use logos_lines::Position;

@@ -1,12 +1,7 @@
 //! The faults of a source, one line for each.
 
-ghost use Rattle.std.specs.Prelude.{◌≡◌, ◌++◌, List, ℕ, false, IfOk, IfSome, OnErr, OnOk, string_bytes};
-ghost use Rattle.std.specs.Prelude.{option_map};
-ghost use Rattle.logos_token.specs.FaultView.{fault_of, faults_of};
-ghost use Rattle.logos_report.specs.Faults.{fault_texts};
-ghost use Rattle.logos_report.specs.Pages.{StandInOrder};
-ghost use Rattle.logos_messages.specs.Growing.{GivesMessage, GivesSpanList};
-ghost use Rattle.logos_messages.specs.Messages.{AreMessages, IsMessage};
+ghost use Rattle.std.specs.Prelude.{◌≡◌, ◌++◌, List, ℕ, false, IfOk, IfSome, OnErr, OnOk, string_bytes, option_map};
+ghost use Rattle.logos_messages.specs.Words.{fault_of, faults_of, fault_texts, StandInOrder, GivesMessage, GivesSpanList, AreMessages, IsMessage};
 
 use crate::head::push_head;
 use crate::line::Line;

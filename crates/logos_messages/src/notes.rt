@@ -1,9 +1,7 @@
 //! The notes and the help of a fault.
 
 ghost use Rattle.std.specs.Prelude.{◌≡◌, [], ◌∷◌};
-ghost use Rattle.logos_messages.specs.Lines.{Gains};
-ghost use Rattle.logos_messages.specs.Growing.{GivesNoteList, GivesNotes};
-ghost use Rattle.logos_messages.specs.Tokens.{list_member, note_tokens, nothing_tokens};
+ghost use Rattle.logos_messages.specs.Words.{Gains, GivesNoteList, GivesNotes, list_member, note_tokens, nothing_tokens};
 
 use crate::line::Line;
 use crate::messages::Shown;

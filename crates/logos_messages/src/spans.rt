@@ -1,9 +1,7 @@
 //! The spans of a fault.
 
 ghost use Rattle.std.specs.Prelude.{◌≡◌, [], ◌∷◌, List, Some, None, codes, option_map};
-ghost use Rattle.logos_messages.specs.Lines.{Gains};
-ghost use Rattle.logos_messages.specs.Growing.{GivesOther, GivesSpan};
-ghost use Rattle.logos_messages.specs.Tokens.{bytes_tokens, label_tokens, positions_tokens};
+ghost use Rattle.logos_messages.specs.Words.{Gains, GivesOther, GivesSpan, bytes_tokens, label_tokens, positions_tokens};
 
 use crate::line::Line;
 use crate::marked::{Reach, push_lines};

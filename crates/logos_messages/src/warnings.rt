@@ -1,11 +1,8 @@
 //! The warnings of a part of a file, one line for each.
 
 ghost use Rattle.std.specs.Prelude.{◌≡◌, ◌++◌, ℕ, List, false, IfOk, IfSome, OnErr, OnOk, option_map, string_bytes};
-ghost use Rattle.logos_report.specs.Pages.{StandInOrder};
-ghost use Rattle.logos_report.specs.Warnings.{shown_of, warning_texts};
-ghost use Rattle.logos_messages.specs.Growing.{GivesNoteList, GivesNotes};
-ghost use Rattle.logos_messages.specs.Lines.{Gains};
-ghost use Rattle.logos_messages.specs.Warnings.{AreWarnings, GivesSpans, GivesWarning, IsWarning, head_tokens};
+ghost use Rattle.logos_messages.specs.Words.{StandInOrder, shown_of, warning_texts, GivesNoteList, GivesNotes, Gains, AreWarnings, GivesSpans, GivesWarning, IsWarning};
+ghost use Rattle.logos_messages.specs.Warnings.{head_tokens};
 
 use crate::line::Line;
 use crate::messages::{has_long_line, text_of};

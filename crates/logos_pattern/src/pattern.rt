@@ -2,8 +2,7 @@
 //! `logos_subpattern` one for each subpattern.
 
 ghost use Rattle.std.specs.Prelude.{◌≡◌, ◌≤◌, ◌++◌, ℕ, chars, IfOk, IfErr, IsTrue, Some};
-ghost use Rattle.logos_pattern.specs.Words.{tree_of, literal_tree, value, fitted, is_text, has_greedy_dot, IsTooDeep, IsSpelled, IsFound, Refuses, first_flags};
-ghost use Rattle.logos_pattern.specs.Views.{pattern_tree, source_of, is_token, pattern_text, token_of, held_bytes, literal_value};
+ghost use Rattle.logos_pattern.specs.Views.{tree_of, literal_tree, value, fitted, is_text, has_greedy_dot, IsTooDeep, IsSpelled, IsFound, Refuses, first_flags, pattern_tree, source_of, is_token, pattern_text, token_of, held_bytes, literal_value};
 ghost use Rattle.logos_pattern_tokens.specs.declared.error.PatternError.TheVariants as errors;
 
 pub mod error;

@@ -1,14 +1,9 @@
 //! Preparation of a pattern's tree: the tree that the automaton steps on.
 
 ghost use Rattle.std.specs.Prelude.{◌≡◌, ℕ, ◌+◌, ◌^◌, ◌<◌, ◌≤◌, IsTrue, IfOk, Bool, true, length, map, vec_len};
-ghost use Rattle.logos_hir.specs.Tree.{trees, literal, repetition};
-ghost use Rattle.logos_hir.specs.Hir.{class_tree, tree_of};
+ghost use Rattle.logos_places.specs.Views.{trees, literal, repetition, class_tree, tree_of, IsCoreOf, pair_up, of_none, IsPair, IsJoined, AreCoresOf, width_of, sizes, core_of, is_measured, AreMeasured};
+ghost use Rattle.logos_places.specs.Size.{size};
 ghost use Rattle.logos_places.specs.Core as core;
-ghost use Rattle.logos_places.specs.IsCore.{IsCoreOf};
-ghost use Rattle.logos_places.specs.Node.{core_of, is_measured, AreMeasured};
-ghost use Rattle.logos_places.specs.inside.Joined.{pair_up, of_none, IsPair, IsJoined, AreCoresOf};
-ghost use Rattle.logos_places.specs.Run.{width_of};
-ghost use Rattle.logos_places.specs.Size.{size, sizes};
 
 pub(crate) mod classes;
 

@@ -1,8 +1,7 @@
 //! The object of an item.
 
 ghost use Rattle.std.specs.Prelude.{◌≡◌, ◌∷◌, []};
-ghost use Rattle.logos_records.specs.Words.{Gains, Puts, object};
-ghost use Rattle.logos_records.specs.Items.{item_members, kind_members, place_members};
+ghost use Rattle.logos_records.specs.Views.{Gains, Puts, object, item_members, kind_members, place_members};
 
 use logos_json::JsonLines;
 use logos_lines::Position;

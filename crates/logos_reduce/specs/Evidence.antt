@@ -2,7 +2,7 @@
 use Rattle.std.specs.Prelude.{◌≢◌, ◌<◌, ℕ, List, Option, Some, option_map, option_and_then, length, Bool, if◌then◌else◌}
 use Rattle.std.specs.List.{All}
 use Rattle.logos_reduce.specs.Table.{size, to, mark}
-use Rattle.logos_reduce.specs.Words.{state_after}
+use Rattle.logos_reduce.specs.SymbolWords.{state_after}
 use Rattle.logos_reduce.specs.declared.table.Mark.{Mark}
 use Rattle.logos_reduce.specs.declared.table.Table.{Table}
 

@@ -5,7 +5,7 @@ use Rattle.logos_reduce.specs.Number.{IsNumbered}
 use Rattle.logos_reduce.specs.Prune.{IsOfUse, IsPrunedTable}
 use Rattle.logos_reduce.specs.Settle.{IsSettled}
 use Rattle.logos_reduce.specs.Table.{size, to, mark}
-use Rattle.logos_reduce.specs.Words.{WordDistinguishes}
+use Rattle.logos_reduce.specs.SymbolWords.{WordDistinguishes}
 use Rattle.logos_reduce.specs.declared.reduction.Reduction.{Reduction}
 use Rattle.logos_reduce.specs.declared.table.Table.{Table}
 

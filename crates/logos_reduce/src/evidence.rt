@@ -1,11 +1,7 @@
 //! Distinguishes two states of a reduced table by bytes.
 
 ghost use Rattle.std.specs.Prelude.{◌≡◌, ◌≢◌, ◌⊎◌, ◌↔◌, ◌<◌, ℕ, IsTrue, IfOk, IfSome, MatchOption, Some, None};
-ghost use Rattle.logos_reduce.specs.Table.{size, to};
-ghost use Rattle.logos_reduce.specs.History.{GivesEvidence};
-ghost use Rattle.logos_reduce.specs.Evidence.{mark_with_end, mark_after, Distinguishes, IsEvidence};
-ghost use Rattle.logos_reduce.specs.Words.{state_after};
-ghost use Rattle.logos_reduce.specs.inside.Evidence.{ArePartedAt};
+ghost use Rattle.logos_reduce.specs.Views.{size, to, GivesEvidence, mark_with_end, mark_after, Distinguishes, IsEvidence, state_after, ArePartedAt};
 
 use crate::reduction::Reduction;
 use crate::rows::{END, WIDTH};

@@ -1,9 +1,7 @@
 //! A list of states for each state or block.
 
 ghost use Rattle.std.specs.Prelude.{true, ◌≡◌, ◌≢◌, ℕ, ◌+◌, ◌-◌, ◌<◌, ◌≤◌, ◌⊎◌, Some, OnOk, IfOk, IsTrue, IsFalse, length, slice_get, vec_len, slice_index};
-ghost use Rattle.logos_reduce.specs.Lists.{has, has_in, Rises, AreRising, ArePredecessors};
-ghost use Rattle.logos_reduce.specs.Table.{size, to};
-ghost use Rattle.logos_reduce.specs.Rows.{target_by};
+ghost use Rattle.logos_reduce.specs.Views.{has, has_in, Rises, AreRising, ArePredecessors, target_by, size, to};
 
 use crate::rows::{Row, WIDTH, changed_target};
 use crate::table::Table;

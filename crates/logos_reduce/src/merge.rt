@@ -1,10 +1,7 @@
 //! Merges states that no word distinguishes.
 
 ghost use Rattle.std.specs.Prelude.{◌≡◌, ◌≢◌, ℕ, ◌+◌, ◌<◌, ◌≤◌, Some, IfOk, MatchOption, length, vec_len, slice_index, option_map};
-ghost use Rattle.logos_reduce.specs.Merge.{target_block, IsSound, AreLeaders, IsMerged};
-ghost use Rattle.logos_reduce.specs.inside.Merge.{IsFiner, IsExtension, IsLanding};
-ghost use Rattle.logos_reduce.specs.Table.{size, to};
-ghost use Rattle.logos_reduce.specs.Rows.{target_by};
+ghost use Rattle.logos_reduce.specs.Views.{target_by, target_block, IsSound, AreLeaders, IsMerged, IsFiner, IsExtension, IsLanding, size, to};
 
 pub mod blocks;
 mod classes;

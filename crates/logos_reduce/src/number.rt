@@ -1,13 +1,7 @@
 //! Numbers states by first visit.
 
 ghost use Rattle.std.specs.Prelude.{◌≡◌, ℕ, ◌+◌, ◌-◌, ◌<◌, ◌≤◌, ◌++◌, ◌∷◌, ◌⊎◌, ◌^◌, [], Some, OnOk, IfOk, length, vec_len, slice_index, option_map, option_and_then};
-ghost use Rattle.logos_reduce.specs.Merge.{target_block, AreLeaders};
-ghost use Rattle.logos_reduce.specs.Table.{size, to, mark, mark_in};
-ghost use Rattle.logos_reduce.specs.Number.{IsInTurn, AreUsed, IsNumbered};
-ghost use Rattle.logos_reduce.specs.Order.{IsMet};
-ghost use Rattle.logos_reduce.specs.inside.Order.{Grows};
-ghost use Rattle.logos_reduce.specs.Rows.{target_by, target_in, target_of};
-ghost use Rattle.logos_reduce.specs.RowsView.{rows_of};
+ghost use Rattle.logos_reduce.specs.Views.{IsMet, Grows, target_by, target_in, target_of, target_block, AreLeaders, size, to, mark, mark_in, IsInTurn, AreUsed, IsNumbered, rows_of};
 
 use crate::merge::Partition;
 use crate::merge::refine::block_of;

@@ -1,8 +1,7 @@
 //! States in the order in which they are met.
 
 ghost use Rattle.std.specs.Prelude.{true, ◌≡◌, ℕ, ◌+◌, ◌<◌, ◌++◌, ◌∷◌, ◌⊎◌, [], OnOk, IfOk, length, vec_len, slice_index};
-ghost use Rattle.logos_reduce.specs.Order.{IsOrder, IsMet};
-ghost use Rattle.logos_reduce.specs.inside.Order.{Grows};
+ghost use Rattle.logos_reduce.specs.Words.{IsOrder, IsMet, Grows};
 
 use std::alloc::{AllocError, Global};
 

@@ -1,15 +1,7 @@
 //! Leaves out the edges to states that have no mark and lead to none.
 
 ghost use Rattle.std.specs.Prelude.{true, ◌≡◌, ℕ, ◌+◌, ◌<◌, ◌≤◌, ◌↔◌, ◌⊎◌, Some, OnOk, IfOk, IsTrue, IsSome, length, vec_len, slice_index};
-ghost use Rattle.logos_reduce.specs.Lists.{has};
-ghost use Rattle.logos_reduce.specs.Table.{size, to, mark, type_of};
-ghost use Rattle.logos_reduce.specs.inside.Prune.{IsSeed, AreUseful, met_target};
-ghost use Rattle.logos_reduce.specs.Prune.{IsPrunedTable};
-ghost use Rattle.logos_reduce.specs.Order.{IsMet};
-ghost use Rattle.logos_reduce.specs.inside.Order.{Grows};
-ghost use Rattle.logos_reduce.specs.Edges.{IsMarked};
-ghost use Rattle.logos_reduce.specs.Rows.{target_by, target_of, target_in};
-ghost use Rattle.logos_reduce.specs.RowsView.{rows_of};
+ghost use Rattle.logos_reduce.specs.Views.{has, IsMet, Grows, IsMarked, target_by, target_of, target_in, size, to, mark, type_of, IsSeed, AreUseful, met_target, IsPrunedTable, rows_of};
 
 use crate::lists::predecessors;
 use crate::order::Order;

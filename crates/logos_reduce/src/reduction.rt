@@ -1,10 +1,7 @@
 //! Reduces a table.
 
 ghost use Rattle.std.specs.Prelude.{◌<◌, IfOk};
-ghost use Rattle.logos_reduce.specs.Raw.{IsRaw};
-ghost use Rattle.logos_reduce.specs.Reduction.{IsReductionOf, IsLeast, IsInOrder, IsSpareless};
-ghost use Rattle.logos_reduce.specs.Table.{size};
-ghost use Rattle.logos_reduce.specs.History.{GivesEvidence};
+ghost use Rattle.logos_reduce.specs.Views.{IsRaw, IsReductionOf, IsLeast, IsInOrder, IsSpareless, size, GivesEvidence};
 
 use crate::merge::blocks::{Blocks, Split};
 use crate::merge::{Partition, merge};

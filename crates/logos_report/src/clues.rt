@@ -1,9 +1,7 @@
 //! What is known of faults of a graph beyond what they say. Who builds the graph finds it.
 
 ghost use Rattle.std.specs.Prelude.{◌≡◌, [], MatchOption, false, nat_lt};
-ghost use Rattle.logos_token.specs.FaultView.{fault_of};
-ghost use Rattle.logos_report.specs.Codes.{is_ambiguity};
-ghost use Rattle.logos_report.specs.Turns.{follows, sizes_of, stepped, turn_after, turn_value};
+ghost use Rattle.logos_report.specs.Views.{fault_of, is_ambiguity, follows, sizes_of, stepped, turn_after, turn_value};
 
 use logos_token::error::{FaultCode, SpannedError};
 use logos_token::token::Span;

@@ -1,16 +1,7 @@
 //! The faults of a file.
 
 ghost use Rattle.std.specs.Prelude.{◌≡◌, ◌++◌, ◌==◌, ◌∷◌, [], codes, if◌then◌else◌};
-ghost use Rattle.std.specs.List.{count_by};
-ghost use Rattle.logos_token.specs.FaultNames.{name_of};
-ghost use Rattle.logos_token.specs.FaultView.{fault_of, faults_of};
-ghost use Rattle.logos_report.specs.Codes.{is_error};
-ghost use Rattle.logos_report.specs.Faults.{code_text, count_text, counted_texts, fault_texts, faults_texts, texts_after};
-ghost use Rattle.logos_report.specs.Faults.{first_line, has_name, head_line, rest_line, rest_text, seen_of, summary_line};
-ghost use Rattle.logos_report.specs.Turns.{begins_error, errors_after, first_turn, sizes_of, turn_value};
-ghost use Rattle.logos_report.specs.Pages.{Gains, Shows, painted};
-ghost use Rattle.logos_report.specs.Places.{place_line};
-ghost use Rattle.logos_report.specs.Shown.{shown_text};
+ghost use Rattle.logos_report.specs.Views.{count_by, name_of, fault_of, faults_of, is_error, shown_text, code_text, count_text, counted_texts, fault_texts, faults_texts, texts_after, first_line, has_name, head_line, rest_line, rest_text, seen_of, summary_line, begins_error, errors_after, first_turn, sizes_of, turn_value, Gains, Shows, painted, place_line};
 
 use crate::clues::{Clues, Turn, first_turn};
 use crate::frame::{Marks, push_frame_with, push_offset};

@@ -1,9 +1,7 @@
 //! A span of a file: its lines, and carets under it.
 
 ghost use Rattle.std.specs.Prelude.{◌≡◌, ◌∷◌, [], decimal, length};
-ghost use Rattle.logos_report.specs.Pages.{Gains, Shows};
-ghost use Rattle.logos_report.specs.Places.{arrow_line, place_line, shown_place, shown_position};
-ghost use Rattle.logos_report.specs.Shown.{shown_text};
+ghost use Rattle.logos_report.specs.Views.{shown_text, Gains, Shows, arrow_line, place_line, shown_place, shown_position};
 
 use crate::page::{Page, Style};
 use crate::source::{Part, Source};

@@ -1,9 +1,7 @@
 //! A text that grows.
 
-ghost use Rattle.std.specs.Prelude.{◌≡◌, ◌↔◌, [], true, IfOk, IsOk, IsTrue};
-ghost use Rattle.std.specs.Prelude.{decimal, encode_utf8, string_bytes};
-ghost use Rattle.logos_report.specs.Pages.{Gains, begun, ended, painted, style_text, times};
-ghost use Rattle.logos_report.specs.Shown.{shown_char, shown_text};
+ghost use Rattle.std.specs.Prelude.{◌≡◌, ◌↔◌, [], true, IfOk, IsOk, IsTrue, decimal, encode_utf8, string_bytes};
+ghost use Rattle.logos_report.specs.Views.{shown_char, shown_text, Gains, begun, ended, painted, style_text, times};
 
 use crate::shown::stand_in;
 use std::alloc::{AllocError, Global};

@@ -2,11 +2,7 @@
 //! at what stands before their first byte.
 
 ghost use Rattle.std.specs.Prelude.{◌∷◌, [], nat_lt, if◌then◌else◌};
-ghost use Rattle.logos_token.specs.FaultView.{fault_of};
-ghost use Rattle.logos_report.specs.Faults.{fault_texts, listed_texts};
-ghost use Rattle.logos_report.specs.Pages.{Shows};
-ghost use Rattle.logos_report.specs.Places.{place_line};
-ghost use Rattle.logos_report.specs.Turns.{turn_value};
+ghost use Rattle.logos_report.specs.Views.{fault_of, fault_texts, listed_texts, Shows, place_line, turn_value};
 
 use crate::clues::{Meeting, Member, Start, Turn};
 use crate::faults::{push_fault, push_head, push_marked};

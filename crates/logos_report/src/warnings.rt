@@ -1,10 +1,7 @@
 //! Warnings: probable mistakes that are not faults.
 
 ghost use Rattle.std.specs.Prelude.{◌≡◌, ◌++◌, ◌∷◌, [], codes, string_bytes};
-ghost use Rattle.logos_report.specs.Pages.{Gains, Shows, painted};
-ghost use Rattle.logos_report.specs.Places.{place_line};
-ghost use Rattle.logos_report.specs.Shown.{shown_text};
-ghost use Rattle.logos_report.specs.Warnings.{all_texts, shown_of, warning_head, warning_texts, warnings_texts};
+ghost use Rattle.logos_report.specs.Views.{shown_text, Gains, Shows, painted, place_line, all_texts, shown_of, warning_head, warning_texts, warnings_texts};
 
 use crate::frame::{push_frame, push_place};
 use crate::notes::push_note;

@@ -1,8 +1,7 @@
 //! The enums of a file. `logos_cli` and `logos_show` call `enums_in` once for each file.
 
 ghost use Rattle.std.specs.Prelude.{◌≡◌, ◌↔◌, ◌∷◌, [], All, IfOk, IfErr, IsTrue, OnOk, length, map};
-ghost use Rattle.logos_rust_file.specs.Words.{Fault, tokens_of, EndsReading, Refuses};
-ghost use Rattle.logos_rust_file.specs.Views.{AreEnumsOf, Describes, Finds, IsEnum, AreInOrder, IsFoundCut, found_span, AddsItem, AddsRun};
+ghost use Rattle.logos_rust_file.specs.Views.{Fault, tokens_of, EndsReading, Refuses, AreEnumsOf, Describes, Finds, IsEnum, AreInOrder, IsFoundCut, found_span, AddsItem, AddsRun};
 
 use crate::derives::derives;
 use crate::fronts::{Kind, kind_of};

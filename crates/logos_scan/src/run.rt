@@ -1,8 +1,7 @@
 //! Tries of an input, one after the other, by the entries of a chunk.
 
 ghost use Rattle.std.specs.Prelude.{◌≡◌, ◌+◌, ◌<◌, ◌≤◌, length, MatchOption};
-ghost use Rattle.logos_scan.specs.Words.{IsBytes, IsPlace, StandsIn, answers_of, item_of};
-ghost use Rattle.logos_scan.specs.Views.{EndsItems, GivesItem, IsFlagged, IsHeld, IsLoaded, IsOver, IsReading, IsReady, IsRun, IsTaken};
+ghost use Rattle.logos_scan.specs.Views.{IsBytes, IsPlace, StandsIn, answers_of, item_of, EndsItems, GivesItem, IsFlagged, IsHeld, IsLoaded, IsOver, IsReading, IsReady, IsRun, IsTaken};
 
 use crate::attempt::{Found, attempt_with_marks};
 use crate::items::{error, matched_item, token};

@@ -1,12 +1,9 @@
 //! The search for inputs that together take all steps of a machine.
 
 ghost use Rattle.std.specs.Prelude.{◌≡◌, ◌<◌, ◌∷◌, ◌++◌, [], true, IfOk, OnOk, Contains, Some, length, map, slice_get};
-ghost use Rattle.logos_search.specs.Covering.{AreCovering, end_at};
+ghost use Rattle.logos_search.specs.Views.{AreCovering, end_at, stand_goal, Step as Taken, Stand as At};
 ghost use Rattle.logos_search.specs.inside.Covers as covers;
-ghost use Rattle.logos_search.specs.inside.Stands.{stand_goal};
 ghost use Rattle.logos_search.specs.inside.Visits as walks;
-ghost use Rattle.logos_search.specs.declared.steps.Step.{Step as Taken};
-ghost use Rattle.logos_search.specs.declared.visits.Stand.{Stand as At};
 
 use crate::order::byte_at;
 use crate::point::{Machine, Point};

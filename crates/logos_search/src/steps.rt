@@ -1,8 +1,7 @@
 //! The steps that a machine takes on its way over an input.
 
 ghost use Rattle.std.specs.Prelude.{◌≡◌, ◌⊎◌, false, IfOk, OnOk, Contains};
-ghost use Rattle.logos_search.specs.inside.Covers.{Adds};
-ghost use Rattle.logos_search.specs.declared.steps.Step.{Step as Taken};
+ghost use Rattle.logos_search.specs.Views.{Adds, Step as Taken};
 
 use crate::point::{Machine, Point};
 use indexmap::IndexSet;

@@ -1,8 +1,7 @@
 //! The points that were met, breadth first, and how each was met first.
 
 ghost use Rattle.std.specs.Prelude.{◌≡◌, ◌+◌, ◌<◌, ◌∷◌, [], ℕ, IfOk, OnOk, Option, Some, length, slice_get};
-ghost use Rattle.logos_search.specs.Rests.{more};
-ghost use Rattle.logos_search.specs.declared.visits.Stand.{Stand as At};
+ghost use Rattle.logos_search.specs.Views.{more, Stand as At};
 ghost use Rattle.logos_search.specs.inside.Stands as stands;
 ghost use Rattle.logos_search.specs.inside.Visits as walks;
 

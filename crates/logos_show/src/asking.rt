@@ -1,10 +1,7 @@
 //! Answers to what is asked of lexers.
 
 ghost use Rattle.std.specs.Prelude.{◌≡◌, [], IfErr, IfOk, OnOk};
-ghost use Rattle.logos_answers.specs.Words.{AllStart, Gains, IsBytes, IsGraphOf, rules_of};
-ghost use Rattle.logos_show.specs.Answers.{GraphValue, IsCompared, IsJudged, PrintsInputRecords, PrintsInputs};
-ghost use Rattle.logos_show.specs.Answers.{PrintsMatchRecords, PrintsMatches, place_line};
-ghost use Rattle.logos_show.specs.Orders.{IsNoMisuse};
+ghost use Rattle.logos_show.specs.Views.{AllStart, Gains, IsBytes, IsGraphOf, rules_of, IsNoMisuse, GraphValue, IsCompared, IsJudged, PrintsInputRecords, PrintsInputs, PrintsMatchRecords, PrintsMatches, place_line};
 
 use crate::reading::print_bytes;
 use logos_answers::{

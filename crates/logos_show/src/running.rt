@@ -1,8 +1,7 @@
 //! From words to a status.
 
 ghost use Rattle.std.specs.Prelude.{◌≡◌, ◌≤◌, ◌↔◌, None, IfErr, map, string_bytes};
-ghost use Rattle.logos_host.specs.Failures.{status_of};
-ghost use Rattle.logos_show.specs.Orders.{IsNoMisuse, asked};
+ghost use Rattle.logos_show.specs.Words.{status_of, IsNoMisuse, asked};
 
 use crate::asking::{
     Input, Spot, Standing, write_input_records, write_inputs, write_match_records, write_matches,

@@ -1,8 +1,7 @@
 //! The items of standard input, a line each, written as they are found.
 
 ghost use Rattle.std.specs.Prelude.{◌<◌, IfErr};
-ghost use Rattle.logos_show.specs.Orders.{IsNoMisuse};
-ghost use Rattle.logos_stream.specs.Views.{KeepsCode, unread_length};
+ghost use Rattle.logos_show.specs.Words.{IsNoMisuse, KeepsCode, unread_length};
 
 use crate::items::{
     ERROR, Lines, Totals, head_at, milliseconds, no_lines, now, push_totals, write_if_full,

@@ -1,8 +1,7 @@
 //! Prints a whole code.
 
 ghost use Rattle.std.specs.Prelude.{IfOk, OnOk, length, string_bytes};
-ghost use Rattle.logos_text.specs.Words.{printed_type, type_tree, code_of, BeginsWith, IsFront, leaf_names_text, opening_text, Adds, AddsLast, Grows, StandInOrder, texts_in, texts_of};
-ghost use Rattle.logos_text.specs.Views.{around_value};
+ghost use Rattle.logos_text.specs.Views.{printed_type, type_tree, code_of, BeginsWith, IsFront, leaf_names_text, opening_text, Adds, AddsLast, Grows, StandInOrder, texts_in, texts_of, around_value};
 
 use crate::errors::push_make_error;
 use crate::implementation::{Around, push_front};

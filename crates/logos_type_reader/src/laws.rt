@@ -2,8 +2,7 @@
 //! proved law.
 
 ghost use Rattle.std.specs.Prelude.{◌≡◌, ◌<◌, ◌≤◌, ◌⊎◌, ℕ, Bool, true};
-ghost use Rattle.logos_type_reader.specs.Words.{TokenList, IsRestOf, count_of, Tree, depth};
-ghost use Rattle.logos_type_reader.specs.Views.{Fault, too_deep, IsType, NoType, Ending, Written, may_follow, FaultPlace, IsAt, SameSign, IsTypeExpr, NoTypeExpr};
+ghost use Rattle.logos_type_reader.specs.Views.{TokenList, IsRestOf, count_of, Tree, depth, Fault, too_deep, IsType, NoType, Ending, Written, may_follow, FaultPlace, IsAt, SameSign, IsTypeExpr, NoTypeExpr};
 
 /// A run begins with at most one type, which leaves one rest. It has at most one fault, and none if
 /// it begins with a type.

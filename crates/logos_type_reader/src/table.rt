@@ -1,8 +1,7 @@
 //! The grammar of types, spot by spot: what can come next.
 
 ghost use Rattle.std.specs.Prelude.{IsTrue};
-ghost use Rattle.logos_type_reader.specs.Words.{tokens_of};
-ghost use Rattle.logos_type_reader.specs.Views.{next_at, outside_of, spot_of, IsStep, IsAction, is_in_bounds};
+ghost use Rattle.logos_type_reader.specs.Views.{tokens_of, next_at, outside_of, spot_of, IsStep, IsAction, is_in_bounds};
 
 mod acting;
 mod bounds;

@@ -1,8 +1,7 @@
 //! Four blocks of a chunk at once.
 
 ghost use Rattle.std.specs.Prelude.{◌≡◌, ◌<◌, ◌≤◌, ◌+◌, length};
-ghost use Rattle.logos_walk.specs.Words.{IsClosed, IsPlace, IsSameBeside, Walked};
-ghost use Rattle.logos_walk.specs.Views.{ArePlaces, AreWalked, HoldsStretch};
+ghost use Rattle.logos_walk.specs.Views.{IsClosed, IsPlace, IsSameBeside, Walked, ArePlaces, AreWalked, HoldsStretch};
 
 use crate::guess::guess;
 use crate::repair::{Stretch, repair};

@@ -1,8 +1,7 @@
 //! Steps again over bytes where a walk began in another row.
 
 ghost use Rattle.std.specs.Prelude.{◌≡◌, ◌<◌, ◌≤◌, length};
-ghost use Rattle.logos_walk.specs.Words.{IsClosed, IsPlace, IsSameBeside, Walked};
-ghost use Rattle.logos_walk.specs.Views.{HoldsStretch, IsRepaired};
+ghost use Rattle.logos_walk.specs.Views.{IsClosed, IsPlace, IsSameBeside, Walked, HoldsStretch, IsRepaired};
 
 use crate::walk::{PLACE, step};
 

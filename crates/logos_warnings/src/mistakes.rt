@@ -1,8 +1,7 @@
 //! Probable mistakes in an enum that are not faults.
 
 ghost use Rattle.std.specs.Prelude.{◌≡◌, IfOk, None, OnOk, Some, [], map};
-ghost use Rattle.logos_warnings.specs.Words.{attribute_value, enum_value, variant_value, tokens_of};
-ghost use Rattle.logos_warnings.specs.Views.{mistake_value, is_conditional, is_useless, name_of, AreMistakes, AreOfLexer, AttributeAdds, LacksPatterns, RunAdds, VariantAdds, VariantsAdd, NamesAdd, ForgetsDerive};
+ghost use Rattle.logos_warnings.specs.Views.{attribute_value, enum_value, variant_value, tokens_of, mistake_value, is_conditional, is_useless, name_of, AreMistakes, AreOfLexer, AttributeAdds, LacksPatterns, RunAdds, VariantAdds, VariantsAdd, NamesAdd, ForgetsDerive};
 
 use crate::attributes::{Site, has_helper, has_helpers, has_patterns, is_qualified, name_of};
 use crate::helper::{Helper, intended_helper};

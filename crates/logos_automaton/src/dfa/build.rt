@@ -2,17 +2,7 @@
 //! targets.
 
 ghost use Rattle.std.specs.Prelude.{◌≡◌, ◌^◌, ◌<◌, ◌≤◌, ◌+◌, [], Bool, List, IfOk, IfErr, OnOk, length, map, vec_len};
-ghost use Rattle.logos_automaton.specs.inside.Prepared.{IsCacheOf, IsPrepared, cores_of};
-ghost use Rattle.logos_automaton.specs.Building.{IsUnderway, FailsOn, FailsFor};
-ghost use Rattle.logos_places.specs.Core.{Core};
-ghost use Rattle.logos_automaton.specs.DfaView.{dfa_of};
-ghost use Rattle.logos_automaton.specs.Keys.{AreDistinct, AreReached, IsBuilt};
-ghost use Rattle.logos_places.specs.Node.{core_of, AreMeasured};
-ghost use Rattle.logos_places.specs.Run.{width_of};
-ghost use Rattle.logos_automaton.specs.Measures.{size_of};
-ghost use Rattle.logos_automaton.specs.Faults.{AllStart};
-ghost use Rattle.logos_automaton.specs.Automaton.{IsTotal, ReadsOneByteLate};
-ghost use Rattle.logos_automaton.specs.View.{rules_of};
+ghost use Rattle.logos_automaton.specs.Views.{Core, core_of, AreMeasured, width_of, size_of, AllStart, IsTotal, ReadsOneByteLate, IsCacheOf, IsPrepared, cores_of, IsUnderway, FailsOn, FailsFor, dfa_of, AreDistinct, AreReached, IsBuilt, rules_of};
 
 use super::Dfa;
 use crate::alike::{class_starts, kind_bytes};

@@ -1,6 +1,6 @@
 //! Walks of an automaton, from state to state.
 
-ghost use Rattle.std.specs.Prelude.{◌≤◌};
+ghost use Rattle.std.specs.Prelude.{◌≤◌, ◌≡◌};
 
 use super::Dfa;
 use super::parts::leaves_at;
@@ -34,8 +34,6 @@ pub struct States {
 }
 
 impl StateId {
-    ghost use Rattle.std.specs.Prelude.{◌≡◌};
-
     /// Returns the number of the state. The start has the number 0.
     pub fn index(self) -> usize
         ensures { result ≡ self.0 }
@@ -46,11 +44,7 @@ impl StateId {
 
 impl Dfa {
     ghost use Rattle.std.specs.Prelude.{◌≡◌, ◌<◌, ◌↔◌, ℕ, IsTrue, Some, Contains, length, slice_get};
-    ghost use Rattle.std.specs.List.{All, range_with_len};
-    ghost use Rattle.logos_automaton.specs.DfaView.{dfa_of};
-    ghost use Rattle.logos_automaton.specs.Automaton.{dfa_next};
-    ghost use Rattle.logos_automaton.specs.Reach.{IsReachable};
-    ghost use Rattle.logos_automaton.specs.Walks.{matches_left, children_left, states_left};
+    ghost use Rattle.logos_automaton.specs.Views.{All, range_with_len, dfa_next, IsReachable, dfa_of, matches_left, children_left, states_left};
 
     /// Returns the state before the first byte.
     pub fn start(&self) -> StateId
@@ -130,8 +124,7 @@ impl Dfa {
 impl Iterator for Matches<'_> {
     type Item = LeafId;
 
-    ghost use Rattle.std.specs.Iterator.{YieldsFirstBy, item_count};
-    ghost use Rattle.logos_automaton.specs.Walks.{matches_left};
+    ghost use Rattle.logos_automaton.specs.Views.{YieldsFirstBy, item_count, matches_left};
 
     ghost next_gives = { YieldsFirstBy (λ leaf. leaf.0) matches_left };
 
@@ -147,8 +140,7 @@ impl Iterator for Matches<'_> {
 impl Iterator for Children<'_> {
     type Item = StateId;
 
-    ghost use Rattle.std.specs.Iterator.{YieldsFirstBy, item_count};
-    ghost use Rattle.logos_automaton.specs.Walks.{children_left};
+    ghost use Rattle.logos_automaton.specs.Views.{YieldsFirstBy, item_count, children_left};
 
     ghost next_gives = { YieldsFirstBy (λ state. state.0) children_left };
 
@@ -168,8 +160,7 @@ impl Iterator for Children<'_> {
 impl Iterator for States {
     type Item = StateId;
 
-    ghost use Rattle.std.specs.Iterator.{YieldsFirstBy, item_count};
-    ghost use Rattle.logos_automaton.specs.Walks.{states_left};
+    ghost use Rattle.logos_automaton.specs.Views.{YieldsFirstBy, item_count, states_left};
 
     ghost next_gives = { YieldsFirstBy (λ state. state.0) states_left };
 

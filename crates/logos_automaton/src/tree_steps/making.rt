@@ -1,9 +1,7 @@
 //! Making the steps of one tree by each byte.
 
 ghost use Rattle.std.specs.Prelude.{◌≡◌, ◌+◌, ◌-◌, ◌<◌, ◌≤◌, ℕ, false, IsTrue, IfOk, IfSome, OnOk, length, vec_len, slice_get, slice_index, slice_index_or};
-ghost use Rattle.logos_automaton.specs.inside.Alike.{AreChangesOf, AreFirstOf};
-ghost use Rattle.logos_automaton.specs.inside.Prepared.{IsPrepared};
-ghost use Rattle.logos_automaton.specs.inside.Steps.{tree_view, view_of, viewed, AreStepsFrom, IsTreeState, MakesFrom};
+ghost use Rattle.logos_automaton.specs.Views.{AreChangesOf, AreFirstOf, IsPrepared, tree_view, view_of, viewed, AreStepsFrom, IsTreeState, MakesFrom};
 
 use crate::alike::{add_bytes, note};
 use crate::tree_steps::{TreeState, TreeSteps};

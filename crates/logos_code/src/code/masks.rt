@@ -1,9 +1,7 @@
 //! Masks: the tests of fast loops, for sixteen bytes at once.
 
 ghost use Rattle.std.specs.Prelude.{◌≡◌, ◌+◌, ◌*◌, ◌<◌, ◌≤◌, ◌^◌, ◌==◌, ℕ, if◌then◌else◌, IfOk};
-ghost use Rattle.std.specs.Int.{bit_at};
-ghost use Rattle.logos_code.specs.Words.{passes_test};
-ghost use Rattle.logos_code.specs.Views.{code_of, IsMask, AreMasks, NamesTest};
+ghost use Rattle.logos_code.specs.Views.{bit_at, passes_test, code_of, IsMask, AreMasks, NamesTest};
 
 use super::CodeParts;
 use std::alloc::{AllocError, Global};

@@ -1,8 +1,7 @@
 //! Makes the nodes of a code one by one.
 
 ghost use Rattle.std.specs.Prelude.{◌≡◌, ◌≤◌, ◌<◌, OnOk, OnErr, IfOk, length};
-ghost use Rattle.logos_generator.specs.Words.{ranges_of, graph_state_of, state_number, code_leaf_value, leaf_value, left_out, bit_tables_of, IsCodable};
-ghost use Rattle.logos_generator.specs.Views.{Continues, MakesFork, MakesLoop, MakesLoopOver};
+ghost use Rattle.logos_generator.specs.Views.{ranges_of, graph_state_of, state_number, code_leaf_value, leaf_value, left_out, bit_tables_of, IsCodable, Continues, MakesFork, MakesLoop, MakesLoopOver};
 
 use super::Generator;
 use super::fork::{impl_fork, maybe_impl_fast_loop};

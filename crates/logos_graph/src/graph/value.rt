@@ -1,8 +1,7 @@
 //! Graphs, and the calls on them.
 
 ghost use Rattle.std.specs.Prelude.{◌≡◌, ◌≢◌, ℕ, ◌-◌, ◌<◌, ◌↔◌, [], IsTrue, IfOk, Some, length, map, slice_get, string_bytes};
-ghost use Rattle.logos_graph.specs.Words.{range_with_len, dfa_of, fault_of, IsFit, IsFinished, mermaid_of, Shows, GivesEvidence};
-ghost use Rattle.logos_graph.specs.Views.{AreBackward, graph_state_of, state_number, states_left};
+ghost use Rattle.logos_graph.specs.Views.{range_with_len, dfa_of, fault_of, IsFit, IsFinished, mermaid_of, Shows, GivesEvidence, YieldsFirstBy, item_count, AreBackward, graph_state_of, state_number, states_left};
 
 use super::mermaid::chart;
 use super::printing::Listing;
@@ -216,9 +215,6 @@ impl fmt::Display for Graph<'_> {
 
 impl Iterator for States {
     type Item = State;
-
-    ghost use Rattle.logos_graph.specs.Words.{YieldsFirstBy, item_count};
-    ghost use Rattle.logos_graph.specs.Views.{state_number, states_left};
 
     ghost next_gives = { YieldsFirstBy state_number states_left };
 

@@ -2,8 +2,7 @@
 //! them.
 
 ghost use Rattle.std.specs.Prelude.{◌≡◌, ◌≤◌, ◌++◌, ◌∷◌, [], map, length, take, drop, Option, option_map, is_some, ◌&&◌, true, false, IfOk, OnOk};
-ghost use Rattle.logos_hir.specs.Words.{chars};
-ghost use Rattle.logos_hir.specs.Views.{pairs, tree_of, class_tree, sole_char, char_ranges_of, byte_ranges_of, all_ranges, branches_of, bytes_or, chars_or, choice_of, alternation_of, IsSimplest, IsAdded, IsFlatAlone, fits_of};
+ghost use Rattle.logos_hir.specs.Views.{chars, pairs, tree_of, class_tree, sole_char, char_ranges_of, byte_ranges_of, all_ranges, branches_of, bytes_or, chars_or, choice_of, alternation_of, IsSimplest, IsAdded, IsFlatAlone, fits_of};
 
 use super::{byte_class, char_class};
 use crate::hir::{Class, Hir, Range};

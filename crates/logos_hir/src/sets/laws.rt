@@ -1,8 +1,7 @@
 //! Laws of sets of characters. No code calls these functions: the contract of each is a proved law.
 
 ghost use Rattle.std.specs.Prelude.{◌≡◌, ℕ, Bool};
-ghost use Rattle.logos_hir.specs.Words.{AreCanonical, in_range, intersection, members, only_chars, char_ranges, byte_ranges};
-ghost use Rattle.logos_hir.specs.Views.{pairs, set_of};
+ghost use Rattle.logos_hir.specs.Views.{AreCanonical, in_range, intersection, members, only_chars, char_ranges, byte_ranges, pairs, set_of};
 
 use super::{LAST_BYTE, RangeSet};
 

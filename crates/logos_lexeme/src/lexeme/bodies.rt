@@ -2,8 +2,7 @@
 //! here once they are found, and `logos_token` reads the values of literals with it.
 
 ghost use Rattle.std.specs.Prelude.{◌≡◌, ℕ, ◌+◌, ◌^◌, ◌<◌, ◌≤◌, ◌↔◌, ◌==◌, ◌||◌, Bool, true, List, IsTrue, IsFalse, length, slice_index, slice_range, MatchOption};
-ghost use Rattle.logos_lexeme.specs.Words.{digit_value, IsFirst, Steps};
-ghost use Rattle.logos_lexeme.specs.Views.{Ends, is_simple, simple_value, is_hex, hex_value, greatest_of, digits_between, is_blank, BreaksLine, IsEscape, IsHexEscape, IsUnicodeEscape, IsAllowed, StandsFor, IsPiece, IsCharacterPiece, IsSound, bytes_of, ReadsByte, IsPlain};
+ghost use Rattle.logos_lexeme.specs.Views.{digit_value, IsFirst, Steps, Ends, is_simple, simple_value, is_hex, hex_value, greatest_of, digits_between, is_blank, BreaksLine, IsEscape, IsHexEscape, IsUnicodeEscape, IsAllowed, StandsFor, IsPiece, IsCharacterPiece, IsSound, bytes_of, ReadsByte, IsPlain};
 
 use crate::lexeme::characters::byte_at;
 use crate::lexeme::ends::prefix_of;

@@ -1,8 +1,7 @@
 //! The slow way of a try: state by state, with a note of the last mark passed.
 
 ghost use Rattle.std.specs.Prelude.{◌≡◌, ◌+◌, ◌-◌, ◌<◌, ◌≤◌, ℕ, max, length, slice_get, drop, option_map, IfSome, IsTrue, IsCharBoundary, ◌^◌, ◌↔◌};
-ghost use Rattle.logos_machine.specs.Words.{state_at, mark_by, Does, Tries, EndsError, target, looped, marked, IsStand, StaysWithin};
-ghost use Rattle.logos_machine.specs.Views.{context_of, stand_of, turn_of, found_of};
+ghost use Rattle.logos_machine.specs.Views.{state_at, mark_by, Does, Tries, EndsError, target, looped, marked, IsStand, StaysWithin, context_of, stand_of, turn_of, found_of};
 
 use super::fast_loop::stop;
 use logos_code::code::Code;

@@ -1,8 +1,7 @@
 //! Fast loops: where the bytes end that pass a test.
 
 ghost use Rattle.std.specs.Prelude.{◌≡◌, ◌+◌, ◌/◌, ◌%◌, ◌<◌, ◌≤◌, length, map, not, slice_index};
-ghost use Rattle.logos_machine.specs.Words.{mask_l, passes_test, NamesTest};
-ghost use Rattle.logos_machine.specs.Views.{StopsAt};
+ghost use Rattle.logos_machine.specs.Views.{mask_l, passes_test, NamesTest, StopsAt};
 
 use logos_code::code::Code;
 use std::simd::prelude::*;

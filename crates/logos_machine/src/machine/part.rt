@@ -1,8 +1,7 @@
 //! Lexing of a part of an input, whose rest is not known.
 
 ghost use Rattle.std.specs.Prelude.{◌≡◌, ◌+◌, ◌<◌, ◌≤◌, length, false, MatchOption};
-ghost use Rattle.logos_machine.specs.Words.{IsStand};
-ghost use Rattle.logos_machine.specs.Views.{answers_of, stand_of, DoesWithin, EndsHere, EndsOpen, GivesWithin, IsSettled, KeepsGiven, Moves, Waits};
+ghost use Rattle.logos_machine.specs.Views.{IsStand, answers_of, stand_of, DoesWithin, EndsHere, EndsOpen, GivesWithin, IsSettled, KeepsGiven, Moves, Waits};
 
 use super::attempt::{Stand, error_end, marked, stop_of};
 use super::{Action, Item, Lexer, error, matched_item};

@@ -1,8 +1,7 @@
 //! The fast way of a try: a look at an entry for each byte.
 
 ghost use Rattle.std.specs.Prelude.{◌≡◌, ◌<◌, ◌≤◌, ◌/◌, ◌%◌, length, slice_index_or};
-ghost use Rattle.logos_machine.specs.Words.{state_at, IsSound, IsEntry, IsPlace};
-ghost use Rattle.logos_machine.specs.Views.{Reaches, LooksAhead, IsOutcome};
+ghost use Rattle.logos_machine.specs.Views.{state_at, IsSound, IsEntry, IsPlace, Reaches, LooksAhead, IsOutcome};
 
 use super::attempt::{Found, attempt_with_marks, error_end};
 use super::fast_loop::stop;

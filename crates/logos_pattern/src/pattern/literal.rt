@@ -1,7 +1,7 @@
 //! The literals of patterns, with their values.
 
-ghost use Rattle.std.specs.Prelude.{◌≡◌, ◌<◌, ◌++◌, OnOk, string_bytes};
-ghost use Rattle.logos_pattern.specs.Words.{flat_map, chars, is_metacharacter, escaped_character, upper_digit, escaped_byte, escaped_bytes};
+ghost use Rattle.std.specs.Prelude.{◌≡◌, ◌<◌, ◌++◌, OnOk, string_bytes, IfOk, IfSome, option_map};
+ghost use Rattle.logos_pattern.specs.Views.{flat_map, chars, is_metacharacter, escaped_character, upper_digit, escaped_byte, escaped_bytes, IsValue, token_of, held_value, is_unicode, held_bytes, escaped};
 
 use logos_token::error::Memory;
 use logos_token::token;
@@ -104,10 +104,6 @@ fn push_bytes(text: &mut String, literal: bool, value: &[u8]) -> Result<(), Allo
 }
 
 impl<'s> Literal<'s> {
-    ghost use Rattle.std.specs.Prelude.{◌≡◌, IfOk, IfSome, option_map, string_bytes};
-    ghost use Rattle.logos_pattern.specs.Words.{IsValue};
-    ghost use Rattle.logos_pattern.specs.Views.{token_of, held_value, is_unicode, held_bytes, escaped};
-
     /// Reads the value of a token that is a string or a byte string. Returns `None` for any other
     /// literal. Does not look at the token's suffix.
     ///

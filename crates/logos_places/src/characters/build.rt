@@ -1,12 +1,8 @@
 //! Building the table that reads a character of a class.
 
 ghost use Rattle.std.specs.Prelude.{zero, min, ◌≡◌, ℕ, ◌+◌, ◌-◌, ◌*◌, ◌/◌, ◌%◌, ◌^◌, ◌<◌, ◌≤◌, ◌||◌, OnOk, IfOk, IfSome, Bool, Some, None, slice_index_or, length, vec_len};
-ghost use Rattle.std.specs.Option.{MatchOption};
-ghost use Rattle.logos_places.specs.inside.Characters.{size, lead, after_byte};
-ghost use Rattle.logos_places.specs.inside.Ranges.{in_ranges, AreParts, from_floor};
+ghost use Rattle.logos_places.specs.Views.{MatchOption, size, lead, after_byte, is_char_in, IsReaderOf, pairs, in_ranges, AreParts, from_floor};
 ghost use Rattle.logos_places.specs.Table as table;
-ghost use Rattle.logos_places.specs.inside.Reader.{is_char_in, IsReaderOf};
-ghost use Rattle.logos_hir.specs.Hir.{pairs};
 
 use crate::characters::ranges::{CharRange, Window, clip, scalars};
 use crate::characters::reader::Table;

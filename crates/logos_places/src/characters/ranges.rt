@@ -1,11 +1,7 @@
 //! Ranges of characters.
 
 ghost use Rattle.std.specs.Prelude.{◌&&◌, nat_le, ◌≡◌, ℕ, ◌+◌, ◌^◌, ◌<◌, ◌≤◌, ◌||◌, OnOk, IfOk};
-ghost use lib.Utf8.{scalar};
-ghost use Rattle.logos_hir.specs.Hir.{pairs};
-ghost use Rattle.logos_hir.specs.ByteRanges.{is_in};
-ghost use Rattle.logos_places.specs.inside.Reader.{is_char_in};
-ghost use Rattle.logos_places.specs.inside.Ranges.{in_range, in_ranges, from_floor, ClipsTo, AreParts};
+ghost use Rattle.logos_places.specs.Views.{scalar, pairs, is_in, is_char_in, in_range, in_ranges, from_floor, ClipsTo, AreParts};
 
 use logos_hir::hir::Range;
 use std::alloc::{AllocError, Global};

@@ -1,11 +1,7 @@
 //! Steps on several trees, whose places stand one after another.
 
 ghost use Rattle.std.specs.Prelude.{◌≡◌, ◌∷◌, ◌++◌, ◌^◌, ◌<◌, ◌≤◌, ◌+◌, ◌-◌, ℕ, [], IsTrue, IsFalse, IfOk, OnOk, length, map, slice_index, if◌then◌else◌};
-ghost use Rattle.logos_places.specs.Kinds.{test_at};
-ghost use Rattle.logos_places.specs.Marks.{IsRising, Has, HasBetween};
-ghost use Rattle.logos_places.specs.Node.{core_of, AreMeasured};
-ghost use Rattle.logos_places.specs.Run.{width_of};
-ghost use Rattle.logos_places.specs.Several.{ReadBy, LeftBy, AreStarts};
+ghost use Rattle.logos_places.specs.Views.{IsRising, Has, HasBetween, width_of, test_at, core_of, AreMeasured, ReadBy, LeftBy, AreStarts};
 
 use crate::node::{Node, Spot, width};
 use crate::places::exits::exits;

@@ -1,17 +1,8 @@
 //! Steps from the places that read one byte to those that read the next byte.
 
 ghost use Rattle.std.specs.Prelude.{max, ◌≡◌, ℕ, ◌+◌, ◌*◌, ◌^◌, ◌<◌, ◌≤◌, ◌⊎◌, IsTrue, IfOk, OnOk, IfSome, ◌↔◌, Bool, false, Option, length};
+ghost use Rattle.logos_places.specs.Views.{Core, IsRising, IsSet, Has, spelled, in_front, up_to, at_least, repeated, count_of, IsOrdered, Stepped, Owes, is_in, pairs, Look, test_at, core_of, is_measured, reader_of};
 ghost use Rattle.logos_places.specs.Core as core;
-ghost use Rattle.logos_places.specs.Core.{Core};
-ghost use Rattle.logos_places.specs.Kinds.{test_at};
-ghost use Rattle.logos_places.specs.Marks.{IsRising, IsSet, Has};
-ghost use Rattle.logos_places.specs.Node.{core_of, is_measured};
-ghost use Rattle.logos_places.specs.Repeat.{spelled, in_front, up_to, at_least, repeated, count_of, IsOrdered};
-ghost use Rattle.logos_places.specs.inside.Stepped.{Stepped, Owes};
-ghost use Rattle.logos_places.specs.Table.{reader_of};
-ghost use Rattle.logos_hir.specs.ByteRanges.{is_in};
-ghost use Rattle.logos_hir.specs.Hir.{pairs};
-ghost use Rattle.logos_hir.specs.declared.hir.Look.{Look};
 
 use crate::characters::reader::Table;
 use crate::node::{Copies, Node, Spot, width};

@@ -1,11 +1,8 @@
 //! Steps on one tree of several, whose places stand one after another.
 
 ghost use Rattle.std.specs.Prelude.{◌≡◌, ◌^◌, ◌<◌, ◌≤◌, ◌↔◌, ◌+◌, ℕ, IsTrue, IfOk};
+ghost use Rattle.logos_places.specs.Views.{Has, IsRising, test_at, core_of, is_measured, IsStepOf};
 ghost use Rattle.logos_places.specs.Core as core;
-ghost use Rattle.logos_places.specs.Kinds.{test_at};
-ghost use Rattle.logos_places.specs.Marks.{Has, IsRising};
-ghost use Rattle.logos_places.specs.Node.{core_of, is_measured};
-ghost use Rattle.logos_places.specs.Several.{IsStepOf};
 
 use crate::node::{Node, Spot};
 use crate::places::set::first_from;

@@ -1,11 +1,7 @@
 //! Classes of bytes as ranges, two of them joined to one.
 
 ghost use Rattle.std.specs.Prelude.{◌≡◌, ◌+◌, ◌<◌, ◌≤◌, ◌||◌, ℕ, IsTrue, IfOk, IfSome, OnOk, length, max, min, slice_get};
-ghost use Rattle.logos_hir.specs.ByteRanges.{is_in};
-ghost use Rattle.logos_hir.specs.Hir.{pairs};
-ghost use Rattle.logos_places.specs.Core.{byte_in};
-ghost use Rattle.logos_places.specs.Node.{core_of};
-ghost use Rattle.logos_places.specs.inside.Joined.{AreNear, IsEither, is_within};
+ghost use Rattle.logos_places.specs.Views.{is_in, pairs, byte_in, AreNear, IsEither, is_within, core_of};
 
 use crate::node::Node;
 use logos_hir::hir::Range;

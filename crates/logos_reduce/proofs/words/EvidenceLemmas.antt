@@ -9,7 +9,7 @@ use Rattle.logos_reduce.specs.Merge.{target_block, ArePartedBy, split_at}
 use Rattle.logos_reduce.specs.Table.{size, to, mark}
 use Rattle.logos_reduce.specs.History.{HistoryOf, GivesEvidence}
 use Rattle.logos_reduce.specs.Evidence.{mark_with_end, mark_after, IsEvidence}
-use Rattle.logos_reduce.specs.Words.{state_after, WordDistinguishes}
+use Rattle.logos_reduce.specs.SymbolWords.{state_after, WordDistinguishes}
 use Rattle.logos_reduce.specs.inside.Count.{count_blocks}
 use Rattle.logos_reduce.specs.inside.Evidence.{ArePartedAt}
 use Rattle.logos_reduce.specs.declared.reduction.Reduction.{Reduction}

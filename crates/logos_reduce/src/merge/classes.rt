@@ -1,11 +1,7 @@
 //! Puts states with one mark and one row into one class, so that blocks are split by classes.
 
 ghost use Rattle.std.specs.Prelude.{◌≡◌, ℕ, ◌+◌, ◌<◌, ◌≤◌, ◌^◌, Some, IfOk, length, vec_len, slice_index, option_map};
-ghost use Rattle.logos_reduce.specs.Merge.{target_block};
-ghost use Rattle.logos_reduce.specs.Rows.{target_by, target_in, target_of};
-ghost use Rattle.logos_reduce.specs.RowsView.{rows_of};
-ghost use Rattle.logos_reduce.specs.Table.{size, mark, mark_in};
-ghost use Rattle.logos_reduce.specs.inside.Classes.{AreClasses, IsClassTable};
+ghost use Rattle.logos_reduce.specs.Views.{target_by, target_in, target_of, target_block, rows_of, size, mark, mark_in, AreClasses, IsClassTable};
 ghost use Rattle.logos_reduce.specs.inside.Classes as inside;
 
 use crate::merge::blocks::{leaders_of, tagged};

@@ -1,12 +1,7 @@
 //! Splits blocks by the blocks that their states lead to.
 
 ghost use Rattle.std.specs.Prelude.{true, ◌≡◌, ◌≢◌, ℕ, ◌+◌, ◌-◌, ◌*◌, ◌<◌, ◌≤◌, ◌↔◌, Some, OnSome, OnOk, IfOk, IsTrue, length, vec_len, slice_index, option_map};
-ghost use Rattle.logos_reduce.specs.Merge.{target_block, IsSound};
-ghost use Rattle.logos_reduce.specs.inside.Merge.{IsFiner};
-ghost use Rattle.logos_reduce.specs.Lists.{has, has_in, ArePredecessors};
-ghost use Rattle.logos_reduce.specs.inside.Lists.{AreFiled, AreSources, AreHits};
-ghost use Rattle.logos_reduce.specs.Table.{size, to};
-ghost use Rattle.logos_reduce.specs.Rows.{target_by};
+ghost use Rattle.logos_reduce.specs.Views.{has, has_in, ArePredecessors, AreFiled, AreSources, AreHits, target_by, target_block, IsSound, IsFiner, size, to};
 
 use crate::lists::{add, empty_lists, file, predecessors};
 use crate::merge::blocks::Blocks;

@@ -1,9 +1,8 @@
 //! Cuts blocks into the states that are hit and those that are not.
 
 ghost use Rattle.std.specs.Prelude.{true, ◌≡◌, ◌≢◌, ℕ, ◌+◌, ◌-◌, ◌*◌, ◌<◌, ◌≤◌, OnOk, IfOk, length, vec_len, slice_index};
+ghost use Rattle.logos_reduce.specs.Words.{has_in, AreFiled, landing, HaveMoved};
 ghost use Rattle.logos_reduce.specs.inside.Merge.{AreTwins, Continues};
-ghost use Rattle.logos_reduce.specs.Lists.{has_in};
-ghost use Rattle.logos_reduce.specs.inside.Lists.{AreFiled, landing, HaveMoved};
 
 use crate::lists::file;
 use crate::merge::blocks::Split;

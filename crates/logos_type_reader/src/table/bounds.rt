@@ -1,8 +1,7 @@
 //! Bounds, and the lifetimes in `for<..>`.
 
 ghost use Rattle.std.specs.Prelude.{◌≡◌};
-ghost use Rattle.logos_type_reader.specs.Words.{rest_of, tokens_of};
-ghost use Rattle.logos_type_reader.specs.Views.{after_bound, bound_lifetime_move, trait_move, question_move, bound_move, bound_end_move, further_move, enclosed_end_move, after_for, for_move, for_lifetime_move, for_list_move, for_end_move, path_move, OfBound, outside_of, spot_of, IsAction};
+ghost use Rattle.logos_type_reader.specs.Views.{rest_of, tokens_of, after_bound, bound_lifetime_move, trait_move, question_move, bound_move, bound_end_move, further_move, enclosed_end_move, after_for, for_move, for_lifetime_move, for_list_move, for_end_move, path_move, OfBound, outside_of, spot_of, IsAction};
 
 use crate::table::paths::path_step;
 use crate::table::place::{Action, Binder, BoundKind, Lead, Look, Next, PathKind, Place, Spot};

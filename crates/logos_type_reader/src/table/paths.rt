@@ -1,8 +1,7 @@
 //! Paths, and their arguments.
 
 ghost use Rattle.std.specs.Prelude.{◌≡◌};
-ghost use Rattle.logos_type_reader.specs.Words.{rest_of, tokens_of};
-ghost use Rattle.logos_type_reader.specs.Views.{argued, name_end, segments_move, named_move, macro_move, output_move, inputs_move, input_end_move, colons_move, lifetime_move, argument_word, arguments_move, braced_move, equals_move, constrained_move, argument_end_move, path_move, outside_of, spot_of, first_text, IsAction};
+ghost use Rattle.logos_type_reader.specs.Views.{rest_of, tokens_of, argued, name_end, segments_move, named_move, macro_move, output_move, inputs_move, input_end_move, colons_move, lifetime_move, argument_word, arguments_move, braced_move, equals_move, constrained_move, argument_end_move, path_move, outside_of, spot_of, first_text, IsAction};
 
 use crate::table::place::{Action, Lead, Look, Next, PathKind, Place, Spot};
 use crate::table::tokens::{
