@@ -1,4 +1,5 @@
-//! Bytes that no pattern distinguishes.
+//! Bytes that no pattern distinguishes. The rows of states and the steps of trees ask it which
+//! bytes to try; each other byte does what the byte before it does.
 
 ghost use Rattle.std.specs.Prelude.{◌≡◌, ◌≢◌, ◌∷◌, ◌++◌, ◌<◌, ℕ, [], IsTrue, IsFalse, IfOk, OnOk, false, length, slice_index_or, if◌then◌else◌};
 ghost use Rattle.logos_automaton.specs.Views.{is_in, pairs, byte_in, kind_of_byte, IsRising, Has, core_of, spelled, reader_of, IsAlike, MarksFor, AreStartsOf, AreClassStarts, AreKindBytes, AreFirstBytes, IsPrepared, cores_of};

@@ -1,4 +1,5 @@
-//! The steps of trees, which are made once for each state of a tree.
+//! The steps of trees, which are made once for each state of a tree. `row` takes the steps from
+//! here while it fills the row of a state.
 
 ghost use Rattle.std.specs.Prelude.{◌≡◌, ◌∷◌, ◌++◌, ◌+◌, ◌<◌, ◌≤◌, ◌↔◌, List, ℕ, [], false, IfOk, IsTrue, OnOk, length, slice_index, slice_index_or, if◌then◌else◌};
 ghost use Rattle.logos_automaton.specs.Views.{Node, kind_of_byte, Has, IsRising, state_of, Trees, AreKindBytes, IsPrepared, IsCacheOf, AreAlmostCached, AreCached, AreLive, HasSteps, IsTreeState, Keeps, state_after, step_of, tree_view};

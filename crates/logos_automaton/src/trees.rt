@@ -1,4 +1,4 @@
-//! The input of the building of states.
+//! The input of the building of states. `dfa::build` puts it together before its loop.
 
 use crate::alike::ClassStarts;
 use logos_places::node::Node;

@@ -1,4 +1,4 @@
-//! Making the steps of one tree by each byte.
+//! Making the steps of one tree by each byte. `cache` calls it once for each state of a tree.
 
 ghost use Rattle.std.specs.Prelude.{◌≡◌, ◌+◌, ◌-◌, ◌<◌, ◌≤◌, ℕ, false, IsTrue, IfOk, IfSome, OnOk, length, vec_len, slice_get, slice_index, slice_index_or};
 ghost use Rattle.logos_automaton.specs.Views.{AreChangesOf, AreFirstOf, IsPrepared, tree_view, view_of, viewed, AreStepsFrom, IsTreeState, MakesFrom};

@@ -1,4 +1,4 @@
-//! Makes the states of a graph from its table.
+//! Makes the states of a graph from its table. `value` calls it once for each graph without faults.
 
 ghost use Rattle.std.specs.Prelude.{◌≡◌, ◌≢◌, ℕ, ◌<◌, ◌≤◌, ◌++◌, ◌∷◌, [], IsTrue, IsFalse, IfOk, OnOk, length, map, option_map, slice_index};
 ghost use Rattle.logos_graph.specs.Views.{All, bounds, AreNeat, IsFit, IsFinished, IsRising, IsFirstFrom, Shows, size, to, mark, type_of, target_by, HaveBackward, edge_of, graph_state_of, leaf_number, state_number, state_type_of, targets, with_range, with_run, AreEdgesOf, IsStateOf};

@@ -1,4 +1,5 @@
-//! Whether a tree can be left.
+//! Whether a tree can be left. Steps ask it of each part that the next part follows, and `all` of
+//! each tree.
 
 ghost use Rattle.std.specs.Prelude.{max, ◌≡◌, ℕ, ◌+◌, ◌*◌, ◌-◌, ◌^◌, ◌<◌, ◌⊎◌, ◌↔◌, IsTrue, Bool, List, length};
 ghost use Rattle.logos_places.specs.Views.{Core, Exits, IsRising, Has, spelled, in_front, up_to, at_least, repeated, count_of, IsOrdered, Look, test_at, core_of, is_measured};

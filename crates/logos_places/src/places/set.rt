@@ -1,4 +1,4 @@
-//! Sets of places, as ascending lists.
+//! Sets of places, as ascending lists. Steps look up places in them, and add places to them.
 
 ghost use Rattle.std.specs.Prelude.{◌⊎◌, OnOk, ◌^◌, ◌≡◌, ℕ, ◌+◌, ◌*◌, ◌<◌, ◌≤◌, ◌↔◌, IsTrue, IsFalse, length};
 ghost use Rattle.logos_places.specs.Marks.{IsRising, Has, HasBetween, IsFirstFrom};
