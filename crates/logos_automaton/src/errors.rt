@@ -13,7 +13,8 @@ pub enum GraphError {
     NoUniversalStart,
     /// The leaf's pattern can match nothing.
     EmptyMatch(LeafId),
-    /// These leaves have the highest priority among all that match some text. There are two or more, in ascending order.
+    /// These leaves have the highest priority among all that match some text. There are two or
+    /// more, in ascending order.
     Disambiguation(Vec<LeafId>),
 }
 

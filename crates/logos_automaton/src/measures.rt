@@ -1,4 +1,5 @@
 //! Measures of trees. None of them allocates memory.
+
 ghost use Rattle.std.specs.Prelude.{◌≡◌, ℕ, ◌+◌, ◌*◌, ◌^◌, ◌≤◌, ◌↔◌, IsTrue, length, max, map};
 ghost use Rattle.logos_automaton.specs.Words.{class_tree, tree_of, trees, IsWithinLimit, size, sizes};
 ghost use Rattle.logos_hir.specs.Passable as tree;
@@ -65,7 +66,8 @@ pub fn leads(hir: &Hir) -> bool
     }
 }
 
-/// Returns whether one of the trees can meet a look before its first byte, and all trees before it can be passed.
+/// Returns whether one of the trees can meet a look before its first byte, and all trees before it
+/// can be passed.
 #[cycle(leads)]
 fn leads_in_order(parts: &[Hir]) -> bool
     ensures { result ≡ tree.leads_in_order (trees (map tree_of parts.now)) }

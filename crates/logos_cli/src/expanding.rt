@@ -163,8 +163,8 @@ fn expanded_file(
     with_head(alloc, source.path(), shape, &bytes)
 }
 
-/// Returns the replacements of these enums of a file, and the faults of those that are refused. Adds
-/// their warnings.
+/// Returns the replacements of these enums of a file, and the faults of those that are refused.
+/// Adds their warnings.
 fn gather(
     text: &str,
     site: Site<'_, '_>,
@@ -231,7 +231,7 @@ fn clues_of(text: &str, offset: usize, warned: &mut Vec<Warning>) -> Result<Clue
     Ok(clues)
 }
 
-/// Pushes the faults of what begins at an offset of the file, with what is known of them.
+/// Appends the faults of what begins at an offset of the file, with what is known of them.
 fn push_refusal(
     refused: &mut Vec<Refused>,
     offset: usize,
@@ -375,8 +375,8 @@ fn fault_lines(
 }
 
 /// Returns the text of all faults of a file, in order, with their number, after its warnings. For
-/// each, a line with the name of its code and the first line of its message, and one with its place
-/// in the file stand in it.
+/// each, a line with the name of its code and the first line of its message, and one with its
+/// position in the file stand in it.
 fn refusal_text(
     source: &Source<'_>,
     showing: Showing,
@@ -393,7 +393,7 @@ fn refusal_text(
     page.finish()
 }
 
-/// Pushes all these faults. Returns how many of them are errors.
+/// Appends all these faults. Returns how many of them are errors.
 fn push_refused(page: &mut Page, source: &Source<'_>, refused: &[Refused]) -> usize
     ensures { Shows (refused_texts page.old.is_colored source.now refused.now) page.old page.new }
 {

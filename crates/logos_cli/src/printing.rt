@@ -1,4 +1,4 @@
-//! What stands in the place of an enum: the enum without what belongs to the derive, and the
+//! What stands in place of an enum: the enum without what belongs to the derive, and the
 //! implementation.
 
 ghost use Rattle.std.specs.Prelude.{◌≡◌, ◌++◌, true, IfOk, OnOk, string_bytes};
@@ -94,7 +94,7 @@ fn guard_of(alloc: Global, written: &str, site: Site<'_, '_>) -> Result<String, 
     Ok(guard)
 }
 
-/// Pushes the line that keeps rustfmt from an enum, and the blanks before the enum.
+/// Appends the line that keeps rustfmt from an enum, and the blanks before the enum.
 fn push_guard(text: &mut String, margin: &str) -> Result<(), Memory>
     ensures { OnOk result (string_bytes text.new
         ≡ string_bytes text.old ++ (guard_text ++ margin.now)) }
@@ -211,7 +211,7 @@ fn under(alloc: Global, by_name: bool, left: Tokens<'_, '_>, lexer: &str) -> Res
     Ok(text)
 }
 
-/// Pushes the import of `Logos`, if it is wanted, under the conditions of an enum.
+/// Appends the import of `Logos`, if it is wanted, under the conditions of an enum.
 fn push_import(
     alloc: Global,
     text: &mut String,
@@ -229,7 +229,7 @@ fn push_import(
     Ok(())
 }
 
-/// Pushes the text of a lexer with its attributes, under the conditions of an enum.
+/// Appends the text of a lexer with its attributes, under the conditions of an enum.
 fn push_lexer(
     alloc: Global,
     text: &mut String,

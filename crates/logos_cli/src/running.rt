@@ -84,8 +84,9 @@ pub(crate) fn run<F: ComparableFiles, O: Write, E: Write + IsTerminal>(
     ensures done { result.status ≡ 0 → IfSome (asked (map string_bytes words.now))
         (λ order. IsDone F.read_gives F.write_makes F.compare_finds order files.old files.new
         (O.contents out.old) (O.contents out.new)) }
-    // A refusal stands: a lexer of the file has faults, or a file that is only compared is not the result. The
-    // text that says so is what standard error got last, and nothing was printed or written.
+    // A refusal stands: a lexer of the file has faults, or a file that is only compared is not the
+    // result. The text that says so is what standard error got last, and nothing was printed or
+    // written.
     ensures denied { result.status ≡ 1 → IfSome (asked (map string_bytes words.now))
         (λ order. (shown : List ℕ) × IsDenied F.read_gives F.write_makes F.compare_finds order
         files.old files.new shown × (IsTrue result.is_written → (front : List ℕ)

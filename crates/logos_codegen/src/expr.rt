@@ -132,7 +132,8 @@ impl Language {
     /// Makes the tokenizer.
     ///
     /// # Errors
-    /// Returns `Memory` when memory runs out. `Refused` never comes.
+    ///
+    /// Returns `Memory` if memory runs out. `Refused` never comes.
     pub fn new(alloc: Global) -> Result<Language, ExprError>
         ensures ok { IfOk result IsLanguage }
         // It is refused only if the enum is refused, and no input is at fault.
@@ -150,6 +151,7 @@ impl Language {
     /// Returns the tokens of a text, in order, without the blanks between them.
     ///
     /// # Errors
+    ///
     /// Returns `Bad` with the span of the first error where no token begins: the span
     /// reaches over the longest beginning of a token, or over one character. Returns `Memory` when
     /// memory runs out.

@@ -116,7 +116,8 @@ fn strip_of(words: &[String]) -> Option<Command<'_>>
     }
 }
 
-/// Returns the shape that the last words of a command ask for. Without such words it is one loop with a state.
+/// Returns the shape that the last words of a command ask for. Without such words it is one loop
+/// with a state.
 fn shape_of(words: &[String]) -> Option<Config>
     ensures { result ≡ shape_in (map string_bytes words.now) }
 {

@@ -20,7 +20,8 @@ pub(super) enum Failure<'w> {
     Output,
     /// The source has these faults.
     Refused(Errors),
-    /// The input is not UTF-8. `valid_up_to` is the length in bytes of its longest beginning that is.
+    /// The input is not UTF-8. `valid_up_to` is the length in bytes of its longest beginning that
+    /// is.
     NotUtf8 { valid_up_to: usize },
     /// Two states of the graph find the same matches. A graph never has such states.
     Alike { s: usize, t: usize },
@@ -68,7 +69,8 @@ impl From<Refusal> for Failure<'_> {
     }
 }
 
-/// Writes the failure's message, flushes the writer, and returns the failure's status. Errors of the writer are ignored.
+/// Writes the failure's message, flushes the writer, and returns the failure's status. Errors of
+/// the writer are ignored.
 pub(super) fn report<E: Write>(failure: &Failure<'_>, err: &mut E) -> u8
     ensures { result ≡ status_of failure.now }
 {

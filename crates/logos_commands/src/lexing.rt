@@ -18,7 +18,8 @@ use std::io::Write;
 /// The length in bytes from which a block is written.
 const BLOCK: usize = 65_536;
 
-/// What the command `lex` is given: the paths of the source and of the input, and the shape of the lexer's code.
+/// What the command `lex` is given: the paths of the source and of the input, and the shape of the
+/// lexer's code.
 #[derive(Clone, Copy)]
 pub(super) struct LexRequest<'w> {
     pub(super) source: &'w str,
@@ -102,8 +103,8 @@ fn lex_by_code<O: Write>(
     }
 }
 
-/// Writes a line for each further item of a lexer whose callback answers `Emit` alone, and flushes the
-/// writer.
+/// Writes a line for each further item of a lexer whose callback answers `Emit` alone, and flushes
+/// the writer.
 fn write_items<C: Fn(LeafId, &[u8]) -> Action, O: Write>(
     alloc: Global,
     lexer: &mut Lexer<'_, '_, '_, C>,
@@ -120,8 +121,8 @@ fn write_items<C: Fn(LeafId, &[u8]) -> Action, O: Write>(
     write_lines(lexer, &mut block, out)
 }
 
-/// Writes a line for each further item of a lexer, collected in a block, and flushes the writer. Only
-/// writing can fail.
+/// Writes a line for each further item of a lexer, collected in a block, and flushes the writer.
+/// Only writing can fail.
 fn write_lines<C: Fn(LeafId, &[u8]) -> Action, O: Write>(
     lexer: &mut Lexer<'_, '_, '_, C>,
     block: &mut Vec<u8>,
@@ -166,7 +167,7 @@ fn write_rest<O: Write>(block: &[u8], out: &mut O) -> Result<(), Failure<'static
     }
 }
 
-/// Adds the line of an item to a block that has room for it.
+/// Appends the line of an item to a block that has room for it.
 #[inline(always)]
 fn push_line(block: &mut Vec<u8>, item: Item<'_>)
     requires { vec_len block.old + LONGEST ≤ vec_capacity block.old }

@@ -77,7 +77,7 @@ fn stay(text: &str, lexeme: &str, end: usize, progress: Progress) -> Option<Prog
     })
 }
 
-/// Puts a piece back in the place of a placeholder that ends at `end`.
+/// Puts a piece back in place of a placeholder that ends at `end`.
 fn put_back(text: &str, piece: &Piece, end: usize, progress: Progress) -> Option<Progress>
     ensures { IfSome result (λ next. (next.shown ≡ end) × (next.count ≡ progress.count + 1)
         × StandsAt text.now progress.text (string_bytes piece.now.text) next.text) }

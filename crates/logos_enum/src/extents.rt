@@ -7,6 +7,9 @@ ghost use Rattle.logos_enum.specs.Views.{TokenList, also, punctuation, count_of,
 use crate::tokens::{after_mark, split};
 use logos_token::token::{Punct, Spacing, TokenTree, Tokens};
 
+/// The most angle brackets that can be open.
+const MOST: usize = usize::MAX;
+
 /// The things that have an extent.
 #[derive(Clone, Copy)]
 pub(crate) enum End {
@@ -58,7 +61,7 @@ fn is_end(end: End, angles: Angles, character: char) -> bool
 
 /// Returns how many angle brackets are open after a character.
 fn depth_after(angles: Angles, character: char) -> usize
-    requires { angles.depth < 18446744073709551615 }
+    requires { angles.depth < MOST }
     ensures value { result ≡ depth_after angles.arrow angles.depth character }
     ensures bound { result ≤ angles.depth + 1 }
 {
@@ -78,7 +81,7 @@ fn skip_token<'t, 's>(
     angles: Angles,
     tokens: Tokens<'t, 's>,
 ) -> Option<(Angles, Tokens<'t, 's>)>
-    requires { angles.depth + count_of (tokens_of tokens) < 18446744073709551616 }
+    requires { angles.depth + count_of (tokens_of tokens) ≤ MOST }
     ensures { MatchOption result
         (after_from end angles.arrow angles.depth (tokens_of tokens.entry)
         ≡ tokens_of tokens.entry)

@@ -55,7 +55,8 @@ pub struct StateData {
     pub normal: Vec<(ByteClass, State)>,
     /// Where the end of the input leads.
     pub eoi: Option<State>,
-    /// The states from which a byte or the end leads here, ascending and each once. No equality looks at them.
+    /// The states from which a byte or the end leads here, ascending and each once. No equality
+    /// looks at them.
     pub backward: Vec<State>,
 }
 

@@ -7,6 +7,9 @@ ghost use Rattle.logos_hir.specs.Views.{list_all, chars, is_utf8, pointwise, tre
 use crate::hir::{Class, Hir, Range};
 use crate::sets::LAST_CHAR;
 
+/// The characters below this one are ASCII.
+const ASCII: u32 = 128;
+
 /// Returns the number of characters of a text.
 fn char_count(text: &str) -> usize
     ensures { result ≡ length (chars text.now) }
@@ -129,10 +132,10 @@ fn are_utf8(bytes: &[u8]) -> bool
 
 /// Returns whether all numbers in the ranges are ASCII.
 fn are_ascii(ranges: &[Range]) -> bool
-    ensures { result ≡ list_all (λ r. nat_lt r.1 128) (pairs ranges.now) }
+    ensures { result ≡ list_all (λ r. nat_lt r.1 ASCII) (pairs ranges.now) }
 {
     for range in ranges {
-        if range.last >= 128 {
+        if range.last >= ASCII {
             return false;
         }
     }

@@ -18,7 +18,8 @@ pub enum Failure<'w> {
         what: &'static str,
         word: &'w str,
     },
-    /// A word is no option of the program. The option that may be meant stands with it, if there is one.
+    /// A word is no option of the program. The option that may be meant stands with it, if there is
+    /// one.
     UnknownOption {
         word: &'w str,
         nearest: &'static str,
@@ -73,8 +74,8 @@ impl From<Memory> for Failure<'_> {
 }
 
 impl Failure<'_> {
-    /// Returns the exit status: 1 if something is refused, 2 if the words are no command or name the
-    /// input as the output, 3 if a file or memory fails.
+    /// Returns the exit status: 1 if something is refused, 2 if the words are no command or name
+    /// the input as the output, 3 if a file or memory fails.
     pub fn status(&self) -> u8
         ensures { result ≡ status_of self.now }
     {

@@ -7,8 +7,8 @@ use crate::failure::Failure;
 use std::io;
 use std::io::{ErrorKind, Write};
 
-/// Writes the message of a failure, and flushes the writer. Words that are no command are followed by
-/// `usage`.
+/// Writes the message of a failure, and flushes the writer. Words that are no command are followed
+/// by `usage`.
 ///
 /// # Errors
 ///
@@ -100,8 +100,8 @@ fn write_hint<E: Write>(nearest: &str, err: &mut E) -> io::Result<()>
     writeln!(err, "help: is `{nearest}` meant?")
 }
 
-/// Writes why the words of a command line cannot be read, and returns the exit status: 3 if memory ran
-/// out, and else 2, since a word is not UTF-8.
+/// Writes why the words of a command line cannot be read, and returns the exit status: 3 if memory
+/// ran out, and else 2, since a word is not UTF-8.
 pub fn refuse_words<E: Write>(why: ErrorKind, usage: &str, err: &mut E) -> u8
     ensures memory { (result ≡ 3) ↔ (why ≡ ErrorKind.OutOfMemory) }
     ensures known { (result ≡ 2) ⊎ (result ≡ 3) }

@@ -37,8 +37,8 @@ pub struct Step<'w> {
 ///
 /// # Errors
 ///
-/// Returns `UnknownOption` for a word that begins with `-` and is no option, and `Misuse` if an option
-/// that has no value gets one.
+/// Returns `UnknownOption` for a word that begins with `-` and is no option, and `Misuse` if an
+/// option that has no value gets one.
 pub fn next_step<'w>(progress: Progress, word: &'w str) -> Result<Step<'w>, Failure<'w>>
     ensures step { IfOk result (λ next. step progress word.now ≡ Some (step_value next)) }
     ensures misuse { IfErr result (λ failure.

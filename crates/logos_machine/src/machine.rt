@@ -25,7 +25,8 @@ pub enum Item<'i> {
         span: Span,
         slice: &'i [u8],
     },
-    /// Bytes that no leaf matches, if `leaf` is `None`, or a match that the callback of its leaf refused.
+    /// Bytes that no leaf matches, if `leaf` is `None`, or a match that the callback of its leaf
+    /// refused.
     Error {
         leaf: Option<LeafId>,
         span: Span,
@@ -73,7 +74,8 @@ impl<'c, 's, 'i, C> Model for Lexer<'c, 's, 'i, C> {
 }
 
 impl<'c, 's, 'i, C: Fn(LeafId, &[u8]) -> Action> Lexer<'c, 's, 'i, C> {
-    /// Makes a lexer at the start of a text. It calls the callback for each match of a leaf that has one.
+    /// Makes a lexer at the start of a text. It calls the callback for each match of a leaf that
+    /// has one.
     pub fn new_str(code: &'c Code<'s>, input: &'i str, callback: C) -> Lexer<'c, 's, 'i, C>
         requires { C.IsAlwaysCallable callback }
         ensures { result ≡ begun code.now input.now callback }
@@ -84,6 +86,7 @@ impl<'c, 's, 'i, C: Fn(LeafId, &[u8]) -> Action> Lexer<'c, 's, 'i, C> {
     /// Makes a lexer at the start of some bytes.
     ///
     /// # Errors
+    ///
     /// Returns `NotUtf8` if the code is in UTF-8 mode and the bytes are not UTF-8.
     pub fn new_bytes(
         code: &'c Code<'s>,
@@ -174,7 +177,8 @@ impl<'c, 's, 'i, C: Fn(LeafId, &[u8]) -> Action> Lexer<'c, 's, 'i, C> {
         self.steps = steps;
     }
 
-    /// Returns the span of the last item: 0..0 before the first, and the empty span at the end of the input after `None`.
+    /// Returns the span of the last item: 0..0 before the first, and the empty span at the end of
+    /// the input after `None`.
     pub fn span(&self) -> Span
         ensures { result ≡ record { from = self.now.from; to = self.now.to } }
     {
@@ -209,6 +213,7 @@ impl<'c, 's, 'i, C: Fn(LeafId, &[u8]) -> Action> Lexer<'c, 's, 'i, C> {
 /// Checks that the bytes are UTF-8.
 ///
 /// # Errors
+///
 /// Returns the length of the longest beginning that is UTF-8.
 fn check_utf8(input: &[u8]) -> Result<(), NotUtf8>
     ensures accepted { IfOk result (λ _. IsUtf8 input.now) }

@@ -21,6 +21,9 @@ use logos_token::error::Memory;
 use std::alloc::{AllocError, Global};
 use std::fmt;
 
+/// How deep groups, brackets and operators may nest in a pattern.
+pub const MAX_NESTING: usize = 250;
+
 /// A pattern: its tree, and the literal that it was read from.
 #[derive(Drop)]
 pub struct Pattern<'s> {
@@ -59,7 +62,7 @@ impl<'s> Pattern<'s> {
         ensures deep { IfErr result (λ e. e ≡ errors.LimitPatternNesting →
             IsTooDeep (first_flags unicode ignore_case) (chars regex.now)) }
         // A text that has a tree within the limit is read.
-        ensures complete { (depth : ℕ) → depth ≤ 250 →
+        ensures complete { (depth : ℕ) → depth ≤ MAX_NESTING →
             IsSpelled (first_flags unicode ignore_case) (chars regex.now) depth →
             IfErr result (λ e. e ≡ errors.Memory) }
         ensures same { IfOk result (λ p. (p.is_literal ≡ is_literal) ×

@@ -1,4 +1,5 @@
 //! Trees, prepared for the automaton.
+
 ghost use Rattle.std.specs.Prelude.{◌≡◌, ◌+◌, ◌*◌, ◌^◌, ◌<◌, IsTrue};
 ghost use Rattle.logos_places.specs.Views.{count_of, core_of, is_measured};
 ghost use Rattle.logos_places.specs.Core as core;

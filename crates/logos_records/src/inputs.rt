@@ -36,7 +36,7 @@ pub fn input_records(
     Ok(InputRecords { bytes, count })
 }
 
-/// Pushes an object for each of the first inputs of those that together pass all edges of a graph,
+/// Appends an object for each of the first inputs of those that together pass all edges of a graph,
 /// at most `most` objects, and returns how many inputs there are in all.
 fn push_input_records(
     alloc: Global,
@@ -52,7 +52,7 @@ fn push_input_records(
     Ok(inputs.len())
 }
 
-/// Pushes an object for each of these inputs.
+/// Appends an object for each of these inputs.
 fn push_each(lines: &mut JsonLines, inputs: &[Vec<u8>])
     ensures { Puts (flat_map input_lines (map (λ input. input.items) inputs.now)) lines.old lines.new }
 {
@@ -61,7 +61,7 @@ fn push_each(lines: &mut JsonLines, inputs: &[Vec<u8>])
     }
 }
 
-/// Pushes the object of an input.
+/// Appends the object of an input.
 fn push_input_record(lines: &mut JsonLines, input: &[u8])
     ensures { Puts (input_lines input.now) lines.old lines.new }
 {

@@ -5,16 +5,17 @@ use Rattle.logos_reduce.specs.declared.table.Mark.{Mark}
 use Rattle.logos_reduce.specs.declared.table.Table.{Table}
 
 module _ (table : Table) where
-  -- the state to which a word of symbols leads
+  -- The state to which a word of symbols leads.
   abbrev pub state_after : Option ℕ → List ℕ → Option ℕ
   state_after None word = None
   state_after (Some s) [] = Some s
   state_after (Some s) (k ∷ word) = state_after (to table s k) word
 
-  -- the mark of that state
+  -- The mark of that state.
   abbrev pub outcome : ℕ → List ℕ → Option Mark
   outcome s word = option_map (mark table) (state_after (Some s) word)
 
-  -- the word leads from the two states to different marks, or can be followed from just one of them
+  -- The word leads from the two states to different marks, or can be followed from exactly one of
+  -- them.
   abbrev pub WordDistinguishes : ℕ → ℕ → List ℕ → Type 0
   WordDistinguishes s t word = outcome s word ≢ outcome t word

@@ -115,8 +115,8 @@ impl<'c> Turn<'c> {
         }
     }
 
-    /// Returns the member of a set of ambiguous leaves that a fault which comes next is, if something
-    /// is known of the set.
+    /// Returns the member of a set of ambiguous leaves that a fault which comes next is, if
+    /// something is known of the set.
     pub fn member(self, fault: &SpannedError) -> Option<Member<'c>>
         ensures { MatchOption result (follows (turn_value self.entry) (fault_of fault.now) ≡ false)
             (λ member. follows (turn_value self.entry) (fault_of fault.now)

@@ -1,4 +1,4 @@
-//! Files whose places are shown.
+//! Files whose positions are shown.
 
 ghost use Rattle.std.specs.Prelude.{◌≡◌, IfOk};
 ghost use Rattle.logos_report.specs.Views.{place_at, IsShownLine, in_file};

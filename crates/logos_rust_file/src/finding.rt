@@ -60,7 +60,7 @@ fn enums_of(alloc: Global, tokens: Tokens<'_, '_>) -> Result<Vec<FoundEnum>, Mem
     Ok(found)
 }
 
-/// Pushes the enums of all these items.
+/// Appends the enums of all these items.
 #[cycle(find)]
 fn add_all(alloc: Global, run: Tokens<'_, '_>, found: &mut Vec<FoundEnum>) -> Result<(), Memory>
     ensures { OnOk result (AddsRun (tokens_of run.entry) found.old.items found.new.items) }
@@ -72,7 +72,7 @@ fn add_all(alloc: Global, run: Tokens<'_, '_>, found: &mut Vec<FoundEnum>) -> Re
     Ok(())
 }
 
-/// Pushes the enums of the first item. Returns what follows it, or `None` if there is no item.
+/// Appends the enums of the first item. Returns what follows it, or `None` if there is no item.
 #[cycle(find)]
 fn add_first<'t, 's>(
     alloc: Global,

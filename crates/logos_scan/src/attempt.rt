@@ -181,7 +181,7 @@ fn is_continuation(byte: u8) -> bool
     matches!(byte, 0x80..=0xBF)
 }
 
-/// Returns what is found from a place on, and how many states were entered, by a try that notes the
+/// Returns what is found from a point on, and how many states were entered, by a try that notes the
 /// marks passed.
 #[cold]
 #[inline(never)]

@@ -41,7 +41,7 @@ struct Reading {
 ///
 /// # Errors
 ///
-/// Returns `AllocError` when memory runs out.
+/// Returns `AllocError` if memory runs out.
 fn explore<M: Machine>(
     alloc: Global,
     machine: &M,
@@ -72,7 +72,7 @@ fn explore<M: Machine>(
 ///
 /// # Errors
 ///
-/// Returns `AllocError` when memory runs out.
+/// Returns `AllocError` if memory runs out.
 fn way_by(
     alloc: Global,
     visits: &Visits,
@@ -94,7 +94,7 @@ fn way_by(
 ///
 /// # Errors
 ///
-/// Returns `AllocError` when memory runs out.
+/// Returns `AllocError` if memory runs out.
 fn add_input<M: Machine>(
     machine: &M,
     start: Point,
@@ -115,7 +115,7 @@ fn add_input<M: Machine>(
 ///
 /// # Errors
 ///
-/// Returns `AllocError` when memory runs out.
+/// Returns `AllocError` if memory runs out.
 fn cover_byte<M: Machine>(
     machine: &M,
     explored: &Explored,
@@ -159,7 +159,7 @@ fn cover_byte<M: Machine>(
 ///
 /// # Errors
 ///
-/// Returns `AllocError` when memory runs out.
+/// Returns `AllocError` if memory runs out.
 fn cover_end<M: Machine>(
     machine: &M,
     explored: &Explored,
@@ -202,7 +202,7 @@ fn cover_end<M: Machine>(
 ///
 /// # Errors
 ///
-/// Returns `AllocError` when memory runs out.
+/// Returns `AllocError` if memory runs out.
 fn cover_stand<M: Machine>(
     machine: &M,
     explored: &Explored,
@@ -235,12 +235,12 @@ fn cover_stand<M: Machine>(
 /// any input: from a point to another by a byte, and the end of an input at a point that is looked
 /// for. Each input takes a step that none before it takes.
 ///
-/// Where `utf8` is set, inputs are UTF-8, and else any bytes. Each point that is met is stored, with
-/// what leads to it, and each step.
+/// Where `utf8` is set, inputs are UTF-8, and else any bytes. Each point that is met is stored,
+/// with what leads to it, and each step.
 ///
 /// # Errors
 ///
-/// Returns `AllocError` when memory runs out.
+/// Returns `AllocError` if memory runs out.
 pub fn covering<M: Machine>(
     alloc: Global,
     machine: &M,

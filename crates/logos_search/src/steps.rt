@@ -21,7 +21,7 @@ pub(crate) struct Step {
 ///
 /// # Errors
 ///
-/// Returns `AllocError` when memory runs out.
+/// Returns `AllocError` if memory runs out.
 pub(crate) fn add_step(steps: &mut IndexSet<Step>, step: Step) -> Result<bool, AllocError>
     ensures has { OnOk result (Contains steps.new.keys step) }
     ensures only { OnOk result ((other : Taken) → Contains steps.new.keys other →
@@ -38,7 +38,7 @@ pub(crate) fn add_step(steps: &mut IndexSet<Step>, step: Step) -> Result<bool, A
 ///
 /// # Errors
 ///
-/// Returns `AllocError` when memory runs out.
+/// Returns `AllocError` if memory runs out.
 pub(crate) fn add_steps<M: Machine>(
     machine: &M,
     start: Point,

@@ -262,7 +262,7 @@ impl<'s> TypeParams<'s> {
     /// Gives the type that `value` spells to the declared parameter `name`. Reports a value that is
     /// not a type, as `TypeSyntax` or `LimitTypeNesting`, and a name that is not declared, as
     /// `NotTypeParameter`; nothing is given then. Reports a second type as `TypeTwice`, with the
-    /// place of the first one; the second one is given then.
+    /// span of the first one; the second one is given then.
     ///
     /// # Errors
     ///

@@ -67,8 +67,8 @@ pub fn read_is_written()
         × Written levels plus run tree rest ending × (may_follow ending rest ≡ true) }
 {}
 
-/// A fault has a place in its run, unless types nest too deep. Each run with the same tokens in
-/// front of this place and the same sign at it has the fault, too, so none of them begins with a
+/// A fault has a spot in its run, unless types nest too deep. Each run with the same tokens in
+/// front of this spot and the same sign at it has the fault, too, so none of them begins with a
 /// written type.
 pub fn fault_place()
     ensures place { (levels : ℕ) (plus : Bool) (run : TokenList) (fault : Fault) →

@@ -190,7 +190,7 @@ fn move_past_still<'t, 's>(
     }
 }
 
-/// Reads a type, adds it, and goes on at a place after it.
+/// Reads a type, adds it, and goes on at a spot after it.
 #[cycle(types)]
 fn move_past_type<'t, 's>(
     alloc: Global,
@@ -210,7 +210,7 @@ fn move_past_type<'t, 's>(
     }
 }
 
-/// Reads a type, adds it as a part that is never replaced, and goes on at a place after it.
+/// Reads a type, adds it as a part that is never replaced, and goes on at a spot after it.
 #[cycle(types)]
 fn move_past_still_type<'t, 's>(
     alloc: Global,
@@ -229,7 +229,7 @@ fn move_past_still_type<'t, 's>(
     }
 }
 
-/// Adds the first token of a path or of bounds and then their parts, and goes on at a place after
+/// Adds the first token of a path or of bounds and then their parts, and goes on at a spot after
 /// them.
 #[cycle(types)]
 fn move_past_nest<'t, 's>(

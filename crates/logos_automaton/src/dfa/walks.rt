@@ -1,8 +1,10 @@
 //! Walks of an automaton, from state to state.
+
 ghost use Rattle.std.specs.Prelude.{◌≤◌, ◌≡◌};
 
 use super::Dfa;
 use super::parts::leaves_at;
+use crate::row::SYMBOLS;
 use logos_hir::leaf::LeafId;
 
 /// A state of an automaton, by its number.
@@ -15,7 +17,8 @@ pub struct Matches<'d> {
     leaves: &'d [usize],
 }
 
-/// The targets of a state: by each byte from 0 to 255, and then by the end. Equal targets come more than once.
+/// The targets of a state: by each byte from 0 to 255, and then by the end. Equal targets come more
+/// than once.
 #[derive(Clone, Copy)]
 pub struct Children<'d> {
     row: &'d [u16],
@@ -86,10 +89,11 @@ impl Dfa {
         }
     }
 
-    /// Returns the targets of a state: by each byte from 0 to 255, and then by the end. The automaton must have the state.
+    /// Returns the targets of a state: by each byte from 0 to 255, and then by the end. The
+    /// automaton must have the state.
     pub fn iter_children(&self, state: StateId) -> Children<'_>
         requires { state.0 < length (dfa_of self.now).matches }
-        ensures count { length (children_left result) ≡ 257 }
+        ensures count { length (children_left result) ≡ SYMBOLS }
         ensures by_byte { (byte : ℕ) → byte < 256 → slice_get (children_left result) byte ≡
             dfa_next (dfa_of self.now) (Some state.0) byte }
         ensures at_end { slice_get (children_left result) 256 ≡
@@ -103,7 +107,8 @@ impl Dfa {
         }
     }
 
-    /// Returns the start and all states that are reached from it in any number of steps, ascending: all states of the automaton.
+    /// Returns the start and all states that are reached from it in any number of steps, ascending:
+    /// all states of the automaton.
     pub fn get_states(&self) -> States
         ensures all { states_left result ≡ range_with_len 0 (length (dfa_of self.now).matches) }
         ensures reached { (s : ℕ) → Contains (states_left result) s ↔

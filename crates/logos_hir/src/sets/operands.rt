@@ -115,7 +115,7 @@ impl Effect {
     }
 }
 
-/// Adds an effect after those of so many operands. As a counter carries, it is put together with
+/// Appends an effect after those of so many operands. As a counter carries, it is put together with
 /// the last one for each binary digit 1 at the number's end.
 fn push_effect(effects: &mut Vec<Effect>, count: usize, effect: Effect) -> Result<(), AllocError>
     ensures { (before : Set) → OnOk result (effects_on effects.new.items before ≡

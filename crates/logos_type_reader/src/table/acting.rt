@@ -148,7 +148,7 @@ pub(super) fn act<'t, 's>(
     }
 }
 
-/// Returns the group with which a type begins, and the place inside it.
+/// Returns the group with which a type begins, and the spot inside it.
 fn open_type<'t, 's>(place: Place, run: Tokens<'t, 's>) -> Result<Opening<'t, 's>, Stop>
     ensures { IsFirst result (opens_type place (tokens_of run.entry)) }
 {

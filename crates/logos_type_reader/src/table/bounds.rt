@@ -8,7 +8,7 @@ use crate::table::place::{Action, Binder, BoundKind, Lead, Look, Next, PathKind,
 use crate::table::tokens::{begins_bound, begins_word, look, mismatch, mismatch_after};
 use logos_token::token::Delimiter;
 
-/// Returns the place after a bound.
+/// Returns the spot after a bound.
 fn after_bound(kind: BoundKind) -> Place
     ensures { result ≡ after_bound kind }
 {
@@ -106,7 +106,7 @@ pub(super) fn enclosed_end_step(plus: bool, at: &Spot<'_, '_>) -> Next
     }
 }
 
-/// Returns the place after `for<..>`.
+/// Returns the spot after `for<..>`.
 fn after_for(binder: Binder) -> Place
     ensures { result ≡ after_for binder }
 {

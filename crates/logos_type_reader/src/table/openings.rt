@@ -31,7 +31,7 @@ fn reference_lifetime(run: Tokens<'_, '_>) -> First
     }
 }
 
-/// Returns the place after the word with which a type begins.
+/// Returns the spot after the word with which a type begins.
 fn word_place(plus: bool, text: &str) -> Place
     ensures { result ≡ word_place plus text.now }
 {

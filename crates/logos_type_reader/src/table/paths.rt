@@ -210,7 +210,7 @@ pub(super) fn argument_end_step(kind: PathKind, at: &Spot<'_, '_>) -> Next
     }
 }
 
-/// Returns the step where a path begins. `next` is the place after it.
+/// Returns the step where a path begins. `next` is the spot after it.
 pub(super) fn path_step(kind: PathKind, next: Place, at: &Spot<'_, '_>) -> Next
     ensures { IsAction result (spot_of at.now) (path_move kind next (tokens_of at.now.run)) }
 {

@@ -9,7 +9,7 @@ use crate::token::views::{Group, TokenStream, TokenTree};
 use crate::token::{Delimiter, Span};
 use std::alloc::Global;
 
-/// Adds a tree: its entry, and after it the entries inside it.
+/// Appends a tree: its entry, and after it the entries inside it.
 fn push_tree<'s>(entries: &mut Vec<Entry<'s>>, tree: TokenTree<'_, 's>) -> Result<(), Memory>
     ensures { OnOk result (map value_of entries.new.items ≡
         map value_of entries.old.items ++ flat_token (tree_of tree.entry)) }
