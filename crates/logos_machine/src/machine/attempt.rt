@@ -12,6 +12,7 @@ use logos_hir::leaf::LeafId;
 
 /// In UTF-8 the bytes from the first of these on, and below the second, continue a character.
 const CONTINUES: u8 = 128;
+
 const LEADS: u8 = 192;
 
 /// Where a try stands as it enters a state.
