@@ -7,7 +7,7 @@ ghost use Rattle.logos_places.specs.Core as core;
 
 use crate::trees::Trees;
 use logos_hir::hir::Range;
-use logos_places::characters::reader::Table;
+use logos_places::characters::reader::CharacterTable;
 use logos_places::node::Node;
 use logos_places::places::all::next_tree;
 use logos_places::places::look::kind_of;
@@ -25,7 +25,7 @@ fn differ(row: Option<usize>, other: Option<usize>) -> bool
 }
 
 /// Returns whether a class of characters can distinguish the bytes.
-fn table_distinguishes(table: &Table, one: u8, other: u8) -> bool
+fn table_distinguishes(table: &CharacterTable, one: u8, other: u8) -> bool
     ensures { IsFalse result → IsAlike (core.character (reader_of table.now)) one other }
 {
     if differ(table.first(one), table.first(other)) {
@@ -77,7 +77,7 @@ fn mark_literal(text: &[u8], marked: &mut [bool; 256])
 }
 
 /// Sets the flags of the bytes that a class of characters distinguishes from the byte before.
-fn mark_table(table: &Table, marked: &mut [bool; 256])
+fn mark_table(table: &CharacterTable, marked: &mut [bool; 256])
     ensures { MarksFor (core.character (reader_of table.now)) marked.old marked.new }
 {
     for byte in 1..256usize {

@@ -12,11 +12,11 @@ mod states;
 mod value;
 
 pub use evidence::Telling;
-pub use logos_automaton::dfa::{Children, Dfa, Matches, StateId, States as DfaStates};
+pub use logos_automaton::dfa::{Children, Dfa, DfaStates, Matches, StateId};
 pub use logos_automaton::errors::{BuildError, GraphError};
 pub use logos_byte_class::byte_class::{ByteClass, Comparisons};
 use logos_hir::leaf::LeafId;
-pub use value::{Graph, States};
+pub use value::{DfaStates, Graph};
 
 /// The options of a graph.
 #[derive(Clone, Copy, Debug, PartialEq, Eq)]

@@ -8,7 +8,7 @@ const MAX_LINE: usize = 100;
 
 /// What stands before a word.
 #[derive(Clone, Copy)]
-pub(crate) enum Lead {
+pub(crate) enum WordLead {
     /// A blank, or a line end where the line would be too long, and then so many levels.
     Blank { depth: usize },
     /// A line end and so many levels, perhaps with an empty line before them.
@@ -19,7 +19,7 @@ pub(crate) enum Lead {
 
 /// Lines that are filled word by word. A word is lexemes without a blank between them.
 #[derive(Drop)]
-pub(crate) struct Lines {
+pub(crate) struct WordLines {
     /// The lines so far, without the last word.
     text: String,
     /// How many blanks stand before each line.
@@ -27,25 +27,25 @@ pub(crate) struct Lines {
     /// How many bytes the last line has.
     column: usize,
     /// What stands before the last word.
-    lead: Lead,
+    lead: WordLead,
     /// The last word.
     word: String,
 }
 
-impl Lines {
+impl WordLines {
     /// Returns no lines. Before each one so many blanks will stand, and before the first one too.
-    pub(crate) fn new(alloc: Global, margin: usize) -> Lines {
-        Lines {
+    pub(crate) fn new(alloc: Global, margin: usize) -> WordLines {
+        WordLines {
             text: String::new(alloc),
             margin,
             column: 0,
-            lead: Lead::Nothing,
+            lead: WordLead::Nothing,
             word: String::new(alloc),
         }
     }
 
     /// Begins a word.
-    pub(crate) fn begin(&mut self, lead: Lead) -> Result<(), Memory> {
+    pub(crate) fn begin(&mut self, lead: WordLead) -> Result<(), Memory> {
         self.put_word()?;
         self.lead = lead;
         Ok(())
@@ -81,10 +81,10 @@ impl Lines {
     /// Puts what stands before the word.
     fn put_lead(&mut self) -> Result<(), Memory> {
         match self.lead {
-            Lead::Nothing => self.put_margin(),
-            Lead::Blank { depth: _ } if self.has_room() => self.put_blank(),
-            Lead::Blank { depth } => self.put_line(depth),
-            Lead::Line { depth, is_apart } => {
+            WordLead::Nothing => self.put_margin(),
+            WordLead::Blank { depth: _ } if self.has_room() => self.put_blank(),
+            WordLead::Blank { depth } => self.put_line(depth),
+            WordLead::Line { depth, is_apart } => {
                 self.put_empty_line(is_apart)?;
                 self.put_line(depth)
             }

@@ -1,7 +1,7 @@
 //! The search for inputs that together take all steps of a machine.
 
 ghost use Rattle.std.specs.Prelude.{◌≡◌, ◌<◌, ◌∷◌, ◌++◌, [], true, IfOk, OnOk, Contains, Some, length, map, slice_get};
-ghost use Rattle.logos_search.specs.Views.{AreCovering, end_at, stand_goal, Step as Taken, Stand as At};
+ghost use Rattle.logos_search.specs.Views.{AreCovering, end_at, stand_goal, InputStep as Taken, Stand as At};
 ghost use Rattle.logos_search.specs.inside.Covers as covers;
 ghost use Rattle.logos_search.specs.inside.Visits as walks;
 
@@ -9,7 +9,7 @@ use crate::order::byte_at;
 use crate::point::{Machine, Point};
 use crate::rest::{Rest, push_rest};
 use crate::search::is_goal;
-use crate::steps::{Step, add_step, add_steps};
+use crate::steps::{InputStep, add_step, add_steps};
 use crate::visits::{Visits, advance, first_stand, first_visits, meet_all, stand_of, way_to};
 use indexmap::IndexSet;
 use std::alloc::{AllocError, Global};
@@ -26,13 +26,13 @@ struct Explored {
 /// Inputs, and the steps that they take.
 #[derive(Drop)]
 struct Cover {
-    steps: IndexSet<Step>,
+    steps: IndexSet<InputStep>,
     inputs: Vec<Vec<u8>>,
 }
 
 /// A byte that is read at the stand with a number.
 #[derive(Clone, Copy)]
-struct Reading {
+struct StandByte {
     number: usize,
     byte: u8,
 }
@@ -76,7 +76,7 @@ fn explore<M: Machine>(
 fn way_by(
     alloc: Global,
     visits: &Visits,
-    reading: Reading,
+    reading: StandByte,
     rest: Rest,
 ) -> Result<Vec<u8>, AllocError>
     requires there { reading.number < length visits.now.ways.items }
@@ -120,7 +120,7 @@ fn cover_byte<M: Machine>(
     machine: &M,
     explored: &Explored,
     cover: &mut Cover,
-    reading: Reading,
+    reading: StandByte,
 ) -> Result<(), AllocError>
     requires there { reading.number < length explored.now.visits.stands.keys }
     requires byte { reading.byte < 256 }
@@ -141,7 +141,7 @@ fn cover_byte<M: Machine>(
     let Some(next) = advance(machine, explored.utf8, at, reading.byte) else {
         return Ok(());
     };
-    let step = Step {
+    let step = InputStep {
         from: at.point,
         to: next.point,
         ends: false,
@@ -184,7 +184,7 @@ fn cover_end<M: Machine>(
     if !is_goal(machine, at) {
         return Ok(());
     }
-    let step = Step {
+    let step = InputStep {
         from: at.point,
         to: at.point,
         ends: true,
@@ -225,7 +225,7 @@ fn cover_stand<M: Machine>(
 {
     for place in 0..256usize {
         let byte = byte_at(place as u8);
-        cover_byte(machine, explored, cover, Reading { number, byte })?;
+        cover_byte(machine, explored, cover, StandByte { number, byte })?;
     }
     cover_end(machine, explored, cover, number)?;
     Ok(())

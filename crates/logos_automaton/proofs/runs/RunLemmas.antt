@@ -10,7 +10,7 @@ use Rattle.logos_places.specs.Marks.{Has, IsSet}
 use Rattle.logos_automaton.specs.Munch.{Rule, RuleMatches}
 use Rattle.logos_automaton.specs.Rules.{AreRuleCores, AreFree}
 use Rattle.logos_places.specs.Run.{Marked, width_of, StepsIn, ExitsIn, MarkedIn}
-use Rattle.logos_places.specs.declared.places.look.Kind.TheVariants as kind
+use Rattle.logos_places.specs.declared.places.look.ByteKind.TheVariants as kind
 use Rattle.logos_places.proofs.steps.LookLemmas.{test_of_context}
 use Rattle.logos_places.proofs.steps.PlaceLemmas.{Exits-map, Steps-map}
 use Rattle.logos_places.proofs.trees.ReadLemmas.{Marked-exits}

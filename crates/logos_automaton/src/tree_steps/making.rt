@@ -7,7 +7,7 @@ use crate::alike::{add_bytes, note};
 use crate::tree_steps::{TreeState, TreeSteps};
 use crate::trees::Trees;
 use logos_places::places::look::Context;
-use logos_places::places::step::Reading;
+use logos_places::places::step::ReadByte;
 use logos_places::places::tree::{TreeStep, step_tree};
 use std::alloc::{AllocError, Global};
 
@@ -70,7 +70,7 @@ fn step_by(trees: &Trees<'_>, state: &TreeState, byte: u8) -> Result<TreeStep, A
         before: state.kind,
         after: Some(byte),
     };
-    let by = Reading {
+    let by = ReadByte {
         byte,
         marks: &state.places,
         at,

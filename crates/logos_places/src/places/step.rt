@@ -5,8 +5,8 @@ ghost use Rattle.std.specs.Prelude.{max, ◌≡◌, ℕ, ◌+◌, ◌*◌, ◌^�
 ghost use Rattle.logos_places.specs.Views.{Core, IsRising, IsSet, Has, spelled, in_front, up_to, at_least, repeated, count_of, IsOrdered, Stepped, Owes, is_in, pairs, Look, test_at, core_of, is_measured, reader_of};
 ghost use Rattle.logos_places.specs.Core as core;
 
-use crate::characters::reader::Table;
-use crate::node::{Copies, Node, Spot, width};
+use crate::characters::reader::CharacterTable;
+use crate::node::{Copies, Node, TreeSpot, width};
 use crate::places::exits::exits;
 use crate::places::look::{Context, holds};
 use crate::places::set::{any_mark, first_from, has_mark, insert_mark, next_copy};
@@ -15,7 +15,7 @@ use std::alloc::AllocError;
 
 /// A byte that a step reads, and what was read before it.
 #[derive(Clone, Copy)]
-pub struct Reading<'m> {
+pub struct ReadByte<'m> {
     /// The byte.
     pub byte: u8,
     /// The places that read the byte before, ascending.
@@ -45,8 +45,8 @@ pub fn has_byte(ranges: &[Range], byte: u8) -> bool
 /// Returns `AllocError` if memory runs out.
 fn step_byte(
     fits: bool,
-    by: Reading<'_>,
-    spot: Spot,
+    by: ReadByte<'_>,
+    spot: TreeSpot,
     next: &mut Vec<usize>,
 ) -> Result<bool, AllocError>
     requires rising { IsRising by.marks.now }
@@ -73,8 +73,8 @@ fn step_byte(
 /// Returns `AllocError` if memory runs out.
 fn step_bytes(
     ranges: &[Range],
-    by: Reading<'_>,
-    spot: Spot,
+    by: ReadByte<'_>,
+    spot: TreeSpot,
     next: &mut Vec<usize>,
 ) -> Result<bool, AllocError>
     requires rising { IsRising by.marks.now }
@@ -94,8 +94,8 @@ fn step_bytes(
 /// Returns `AllocError` if memory runs out.
 fn step_literal(
     text: &[u8],
-    by: Reading<'_>,
-    spot: Spot,
+    by: ReadByte<'_>,
+    spot: TreeSpot,
     next: &mut Vec<usize>,
 ) -> Result<bool, AllocError>
     requires fits { spot.base + length text.now < 2 ^ 64 }
@@ -114,7 +114,7 @@ fn step_literal(
     let mut done = next_copy(by.marks, bytes, 0, spot.entered);
     let mut left = spot.entered;
     while done < text.len() {
-        let place = Spot {
+        let place = TreeSpot {
             base: spot.base + done,
             entered: left,
         };
@@ -156,9 +156,9 @@ fn insert_row(
 ///
 /// Returns `AllocError` if memory runs out.
 fn step_characters(
-    table: &Table,
-    by: Reading<'_>,
-    spot: Spot,
+    table: &CharacterTable,
+    by: ReadByte<'_>,
+    spot: TreeSpot,
     next: &mut Vec<usize>,
 ) -> Result<bool, AllocError>
     requires fits { spot.base + table.now.rows < 2 ^ 64 }
@@ -199,8 +199,8 @@ fn step_characters(
 #[cycle(step)]
 pub(crate) fn step(
     node: &Node,
-    by: Reading<'_>,
-    spot: Spot,
+    by: ReadByte<'_>,
+    spot: TreeSpot,
     next: &mut Vec<usize>,
 ) -> Result<bool, AllocError>
     requires fits { spot.base + core.width (core_of node.now) < 2 ^ 64 }
@@ -254,7 +254,7 @@ fn step_repeat(
     body: &Node,
     copies: Copies,
     most: Option<usize>,
-    by: Reading<'_>,
+    by: ReadByte<'_>,
     next: &mut Vec<usize>,
 ) -> Result<bool, AllocError>
     requires fits { copies.base + copies.each * count_of copies.count most < 2 ^ 64 }
@@ -289,7 +289,7 @@ fn step_repeat(
 fn step_at_least(
     body: &Node,
     copies: Copies,
-    by: Reading<'_>,
+    by: ReadByte<'_>,
     next: &mut Vec<usize>,
 ) -> Result<bool, AllocError>
     requires fits { copies.base + copies.each * max copies.count 1 < 2 ^ 64 }
@@ -302,7 +302,7 @@ fn step_at_least(
         next.old.items next.new.items copies.base copies.entered left) }
 {
     if copies.count == 0 {
-        let spot = Spot {
+        let spot = TreeSpot {
             base: copies.base,
             entered: copies.entered,
         };
@@ -326,7 +326,7 @@ fn step_at_least(
 fn step_copies(
     body: &Node,
     copies: Copies,
-    by: Reading<'_>,
+    by: ReadByte<'_>,
     next: &mut Vec<usize>,
 ) -> Result<bool, AllocError>
     requires fits { copies.base + copies.each * copies.count < 2 ^ 64 }
@@ -357,7 +357,7 @@ fn step_copies(
 fn step_up_to(
     body: &Node,
     copies: Copies,
-    by: Reading<'_>,
+    by: ReadByte<'_>,
     next: &mut Vec<usize>,
 ) -> Result<bool, AllocError>
     requires fits { copies.base + copies.each * copies.count < 2 ^ 64 }
@@ -388,8 +388,8 @@ fn step_up_to(
 #[cycle(step)]
 fn step_plus(
     body: &Node,
-    by: Reading<'_>,
-    spot: Spot,
+    by: ReadByte<'_>,
+    spot: TreeSpot,
     next: &mut Vec<usize>,
 ) -> Result<bool, AllocError>
     requires fits { spot.base + core.width (core_of body.now) < 2 ^ 64 }
@@ -401,7 +401,7 @@ fn step_plus(
         next.old.items next.new.items spot.base spot.entered left) }
 {
     let left = exits(body, by.marks, spot, by.at);
-    let again = Spot {
+    let again = TreeSpot {
         base: spot.base,
         entered: spot.entered | left,
     };

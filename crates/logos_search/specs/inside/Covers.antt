@@ -8,7 +8,7 @@ use Rattle.logos_search.specs.inside.Stands.{stand_at, stand_next, stand_goal}
 use Rattle.logos_search.specs.inside.Visits.{IsTree, IsClosed, IsWayTo}
 use Rattle.logos_search.specs.declared.point.Point.{Point}
 use Rattle.logos_search.specs.declared.rest.Rest.{Rest}
-use Rattle.logos_search.specs.declared.steps.Step.{Step}
+use Rattle.logos_search.specs.declared.steps.InputStep.{InputStep}
 use Rattle.logos_search.specs.declared.visits.Stand.{Stand}
 use Rattle.logos_search.specs.declared.visits.Visit.{Visit}
 
@@ -26,21 +26,21 @@ pub record IsWayBy (stands : List Stand) (ways : List Visit) (number byte : ℕ)
       IsWayTo next stands ways number to front
 
 -- An input was added, with the steps that it takes.
-pub record Adds (next : Point → ℕ → Option Point) (start : Point) (steps : List Step) (input : List ℕ) (more : List Step) : Type 0 where
-  pub only : (step : Step) → Contains more step → Contains steps step ⊎ Takes next start input step
-  pub grows : (step : Step) → Contains steps step → Contains more step
-  pub all : (step : Step) → Takes next start input step → Contains more step
+pub record Adds (next : Point → ℕ → Option Point) (start : Point) (steps : List InputStep) (input : List ℕ) (more : List InputStep) : Type 0 where
+  pub only : (step : InputStep) → Contains more step → Contains steps step ⊎ Takes next start input step
+  pub grows : (step : InputStep) → Contains steps step → Contains more step
+  pub all : (step : InputStep) → Takes next start input step → Contains more step
 
 -- Inputs that take each of the steps.
-pub record IsCover (next : Point → ℕ → Option Point) (utf8 : Bool) (start : Point) (steps : List Step) (inputs : List (List ℕ)) : Type 0 where
+pub record IsCover (next : Point → ℕ → Option Point) (utf8 : Bool) (start : Point) (steps : List InputStep) (inputs : List (List ℕ)) : Type 0 where
   pub are_inputs : (input : List ℕ) → Contains inputs input → IsInput utf8 input
-  pub taken : (step : Step) → Contains steps step → OneTakes next start inputs step
+  pub taken : (step : InputStep) → Contains steps step → OneTakes next start inputs step
 
 -- The step that a byte makes from a stand is covered, if it leads on.
-abbrev pub IsCoveredBy : (Point → ℕ → Option Point) → Bool → List Step → Stand → ℕ → Type 0
+abbrev pub IsCoveredBy : (Point → ℕ → Option Point) → Bool → List InputStep → Stand → ℕ → Type 0
 IsCoveredBy next utf8 steps at b = (to : Stand) → stand_next next utf8 at b ≡ Some to → Contains steps (step_to at.point to.point)
 
 -- All steps from a stand are covered, and its end if it is looked for.
-pub record AreCoveredAt (next : Point → ℕ → Option Point) (is_goal : Point → Bool) (utf8 : Bool) (steps : List Step) (at : Stand) : Type 0 where
+pub record AreCoveredAt (next : Point → ℕ → Option Point) (is_goal : Point → Bool) (utf8 : Bool) (steps : List InputStep) (at : Stand) : Type 0 where
   pub bytes : (b : ℕ) → b < 256 → IsCoveredBy next utf8 steps at b
   pub end : stand_goal is_goal at ≡ true → Contains steps (end_at at.point)
