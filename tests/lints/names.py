@@ -1,0 +1,67 @@
+#!/usr/bin/env python3
+"""Looks for types that have one name and stand in several crates.
+
+  names.py          prints the names that stand in several crates, and why they do
+  names.py --where  prints where each of them is declared, too
+
+A type is a `struct`, an `enum` or a `trait` in `src` of a crate. Its name stands in one crate, but
+for those that are listed here with the crates that have them and the reason why they stay. A name
+that is listed has to stand in each of its crates, so the list only gets shorter. Each name counts
+as one. The last line is `names: N passed, M failed`."""
+import collections
+import glob
+import os
+import re
+import sys
+
+ROOT = os.path.dirname(os.path.dirname(os.path.dirname(os.path.realpath(__file__))))
+# With fewer names that pass, sources were lost, or are no longer read.
+LEAST = 300
+TYPE = re.compile(r"^ *(?:pub(?:\([a-z ]+\))? )?(?:struct|enum|trait) ([A-Z]\w*)", re.M)
+# Each name that stands in several crates: these, and why it stays.
+STAYS = {
+}
+
+
+def declared():
+    """Returns for each name of a type the crates that declare it, and where they do."""
+    found = collections.defaultdict(lambda: collections.defaultdict(list))
+    for path in sorted(glob.glob(f"{ROOT}/crates/*/src/**/*.rt", recursive=True)):
+        crate = os.path.relpath(path, f"{ROOT}/crates").split("/")[0]
+        with open(path, encoding="utf-8") as it:
+            text = it.read()
+        for name in TYPE.finditer(text):
+            line = text.count("\n", 0, name.start(1)) + 1
+            found[name[1]][crate].append(f"{os.path.relpath(path, ROOT)}:{line}")
+    return found
+
+
+def fault(name, crates):
+    """Returns what is wrong with a name that stands in these crates, or None."""
+    stays = STAYS[name][0].split() if name in STAYS else []
+    if len(crates) > 1 and set(crates) - {f"logos_{it}" for it in stays}:
+        return f"{name} stands in {', '.join(sorted(crates))}"
+    gone = [it for it in stays if f"logos_{it}" not in crates]
+    return f"{name} is not in logos_{gone[0]}, and leaves the list" if gone else None
+
+
+def main():
+    where = sys.argv[1:] == ["--where"]
+    if sys.argv[1:] and not where:
+        sys.exit(__doc__)
+    found = declared()
+    several = {name: crates for name, crates in sorted(found.items()) if len(crates) > 1}
+    for name, crates in several.items():
+        print(f"{name:12} {len(crates)}  {STAYS[name][1] if name in STAYS else 'no reason'}")
+        if where:
+            print("".join(f"    {place}\n" for places in crates.values() for place in places), end="")
+    print(f"{len(found)} names of types, {len(several)} in several crates")
+    failed = [it for it in (fault(name, found.get(name, {})) for name in sorted({*found, *STAYS})) if it]
+    passed = len({*found, *STAYS}) - len(failed)
+    for line in failed:
+        print(f"names: {line}")
+    print(f"names: {passed} passed, {len(failed)} failed")
+    sys.exit(1 if failed or passed < LEAST else 0)
+
+
+main()
