@@ -8,7 +8,7 @@ use crate::bracket::stack::{BracketValue, MAX_NESTING};
 use crate::translate::{atom_fits, atom_tree, one_of};
 use logos_hir::hir::Hir;
 use logos_hir::simplify;
-use logos_pattern_tokens::error::{Kind, ReadError};
+use logos_pattern_tokens::error::{Kind, SyntaxError};
 use logos_pattern_tokens::token::{Atom, Change, Flags, Opening, Operator, Token};
 use std::alloc::{AllocError, Global};
 use std::mem;
@@ -182,18 +182,18 @@ impl OpenedGroup {
     /// # Errors
     ///
     /// Returns `NothingToRepeat` if there is no such part, `LimitPatternNesting`, and `Memory`.
-    fn repeat(&mut self, alloc: Global, op: Operator, left: usize) -> Result<(), ReadError>
+    fn repeat(&mut self, alloc: Global, op: Operator, left: usize) -> Result<(), SyntaxError>
         ensures { Repeats result (repeat (group_view self.old) op (group_view self.old).last)
             (group_view self.new) }
     {
         let Some(part) = self.last.take() else {
-            return Err(ReadError::Syntax {
+            return Err(SyntaxError::Syntax {
                 kind: Kind::NothingToRepeat,
                 left,
             });
         };
         if part.depth >= MAX_NESTING {
-            return Err(ReadError::LimitPatternNesting);
+            return Err(SyntaxError::LimitPatternNesting);
         }
         let depth = part.depth + 1;
         let left = part.left;
@@ -254,12 +254,12 @@ impl Groups {
     ///
     /// Returns `UnicodeWordBoundary` or `NotInBytes` if the flags do not allow the atom, and
     /// `Memory`.
-    fn atom(&mut self, alloc: Global, atom: Atom, left: usize) -> Result<(), ReadError>
+    fn atom(&mut self, alloc: Global, atom: Atom, left: usize) -> Result<(), SyntaxError>
         ensures { Steps (state_view self.old) (token_atom atom) result (state_view self.new) }
     {
         let flags = self.top.flags;
         if !atom_fits(flags, atom) {
-            return Err(ReadError::Syntax {
+            return Err(SyntaxError::Syntax {
                 kind: unfit_kind(atom),
                 left,
             });
@@ -294,12 +294,12 @@ impl Groups {
     /// # Errors
     ///
     /// Returns `LimitPatternNesting`, and `Memory`.
-    fn open(&mut self, alloc: Global, opening: Opening<'_>, left: usize) -> Result<(), ReadError>
+    fn open(&mut self, alloc: Global, opening: Opening<'_>, left: usize) -> Result<(), SyntaxError>
         ensures { Steps (state_view self.old) (opens (opening_view opening.entry)) result
             (state_view self.new) }
     {
         if self.below.len() >= MAX_NESTING {
-            return Err(ReadError::LimitPatternNesting);
+            return Err(SyntaxError::LimitPatternNesting);
         }
         let flags = inner_flags(opening, self.top.flags);
         let level = self.below.len() + 1;
@@ -314,11 +314,11 @@ impl Groups {
     /// # Errors
     ///
     /// Returns `Unopened` if no group is open, and `Memory`.
-    fn close(&mut self, alloc: Global, left: usize) -> Result<(), ReadError>
+    fn close(&mut self, alloc: Global, left: usize) -> Result<(), SyntaxError>
         ensures { Steps (state_view self.old) closes result (state_view self.new) }
     {
         let Some(outside) = self.below.pop() else {
-            return Err(ReadError::Syntax {
+            return Err(SyntaxError::Syntax {
                 kind: Kind::Unopened,
                 left,
             });
@@ -332,7 +332,7 @@ impl Groups {
     }
 
     /// Sets flags in the innermost group.
-    fn setting(&mut self, change: Change) -> Result<(), ReadError>
+    fn setting(&mut self, change: Change) -> Result<(), SyntaxError>
         ensures { Steps (state_view self.old) (sets change) result (state_view self.new) }
     {
         let flags = flags_after(change, self.top.flags);
@@ -344,7 +344,7 @@ impl Groups {
     /// # Errors
     ///
     /// Those of `OpenedGroup::repeat`.
-    fn repeat(&mut self, alloc: Global, op: Operator, left: usize) -> Result<(), ReadError>
+    fn repeat(&mut self, alloc: Global, op: Operator, left: usize) -> Result<(), SyntaxError>
         ensures { Steps (state_view self.old) (repeats op) result (state_view self.new) }
     {
         self.top.repeat(alloc, op, left)
@@ -361,7 +361,7 @@ impl Groups {
         alloc: Global,
         token: Token<'_>,
         left: usize,
-    ) -> Result<(), ReadError>
+    ) -> Result<(), SyntaxError>
         ensures { Steps (state_view self.old) (token_view token.entry) result
             (state_view self.new) }
     {
@@ -380,11 +380,11 @@ impl Groups {
     /// # Errors
     ///
     /// Returns `Unclosed` if a group is still open, and `Memory`.
-    pub(crate) fn finish(self, alloc: Global) -> Result<Hir, ReadError>
+    pub(crate) fn finish(self, alloc: Global) -> Result<Hir, SyntaxError>
         ensures { Ends result (state_view self) }
     {
         if !self.below.is_empty() {
-            return Err(ReadError::Syntax {
+            return Err(SyntaxError::Syntax {
                 kind: Kind::Unclosed,
                 left: self.top.left,
             });

@@ -8,7 +8,7 @@ use logos_hir::hir::Range;
 use logos_hir::sets::RangeSet;
 use logos_hir::sets::operands::{OperandRuns, SetOperator, combination};
 use logos_pattern_tokens::bracket::token::{BracketItem, BracketToken, Lead};
-use logos_pattern_tokens::error::{Kind, ReadError};
+use logos_pattern_tokens::error::{Kind, SyntaxError};
 use logos_pattern_tokens::token::Flags;
 use std::alloc::{AllocError, Global};
 use std::mem;
@@ -158,12 +158,12 @@ impl Frames {
         base: usize,
         item: BracketItem,
         left: usize,
-    ) -> Result<(), ReadError>
+    ) -> Result<(), SyntaxError>
         ensures { BracketSteps flags base (frames_view self.old) (BracketToken.Item item) result
             (frames_view self.new) }
     {
         if !item_fits(flags, item) {
-            return Err(ReadError::Syntax {
+            return Err(SyntaxError::Syntax {
                 kind: Kind::NotInBytes,
                 left,
             });
@@ -183,14 +183,14 @@ impl Frames {
         flags: Flags,
         base: usize,
         opening: BracketOpening,
-    ) -> Result<(), ReadError>
+    ) -> Result<(), SyntaxError>
         requires { base ≤ pattern_nesting }
         ensures { BracketSteps flags base (frames_view self.old)
             (BracketToken.Open opening.negated opening.lead) result (frames_view self.new) }
     {
         let level = base + self.below.len() + 2;
         if level > MAX_NESTING {
-            return Err(ReadError::LimitPatternNesting);
+            return Err(SyntaxError::LimitPatternNesting);
         }
         let inside = BracketFrame::new(alloc, opening, level)?;
         let outside = mem::replace(&mut self.top, inside);
@@ -209,7 +209,7 @@ impl Frames {
         flags: Flags,
         base: usize,
         op: SetOperator,
-    ) -> Result<(), ReadError>
+    ) -> Result<(), SyntaxError>
         ensures { BracketSteps flags base (frames_view self.old) (BracketToken.Operator op) result
             (frames_view self.new) }
     {
@@ -232,12 +232,12 @@ impl Frames {
         flags: Flags,
         base: usize,
         left: usize,
-    ) -> Result<(), ReadError>
+    ) -> Result<(), SyntaxError>
         ensures { BracketSteps flags base (frames_view self.old) BracketToken.Close result
             (frames_view self.new) }
     {
         let Some(outside) = self.below.pop() else {
-            return Err(ReadError::Syntax {
+            return Err(SyntaxError::Syntax {
                 kind: Kind::Unopened,
                 left,
             });
@@ -262,7 +262,7 @@ impl Frames {
         base: usize,
         token: BracketToken,
         left: usize,
-    ) -> Result<(), ReadError>
+    ) -> Result<(), SyntaxError>
         requires { base ≤ pattern_nesting }
         ensures { BracketSteps flags base (frames_view self.old) token result
             (frames_view self.new) }
