@@ -1,7 +1,7 @@
 //! The search for inputs that together take all steps of a machine.
 
 ghost use Rattle.std.specs.Prelude.{◌≡◌, ◌<◌, ◌∷◌, ◌++◌, [], true, IfOk, OnOk, Contains, Some, length, map, slice_get};
-ghost use Rattle.logos_search.specs.Views.{AreCovering, end_at, stand_goal, InputStep as Taken, Stand as At};
+ghost use Rattle.logos_search.specs.Views.{AreCovering, end_at, stand_goal, Stand as At};
 ghost use Rattle.logos_search.specs.inside.Covers as covers;
 ghost use Rattle.logos_search.specs.inside.Visits as walks;
 
@@ -48,8 +48,7 @@ fn explore<M: Machine>(
     utf8: bool,
     start: Point,
 ) -> Result<Explored, AllocError>
-    ensures explored { IfOk result (λ made. covers.IsExplored (M.leads machine.now) made.utf8
-        made.start made.visits.stands.keys made.visits.ways.items) }
+    ensures explored { IfOk result (λ made. covers.HasExplored (M.leads machine.now) made) }
     ensures mode { IfOk result (λ made. made.utf8 ≡ utf8) }
     ensures start { IfOk result (λ made. made.start ≡ start) }
 {
@@ -124,14 +123,11 @@ fn cover_byte<M: Machine>(
 ) -> Result<(), AllocError>
     requires there { reading.number < length explored.now.visits.stands.keys }
     requires byte { reading.byte < 256 }
-    requires explored { covers.IsExplored (M.leads machine.now) explored.now.utf8
-        explored.now.start explored.now.visits.stands.keys explored.now.visits.ways.items }
-    requires cover { covers.IsCover (M.leads machine.now) explored.now.utf8 explored.now.start
-        cover.old.steps.keys (map (λ v. v.items) cover.old.inputs.items) }
-    ensures cover { OnOk result (covers.IsCover (M.leads machine.now) explored.now.utf8
-        explored.now.start cover.new.steps.keys (map (λ v. v.items) cover.new.inputs.items)) }
-    ensures grows { OnOk result ((step : Taken) → Contains cover.old.steps.keys step →
-        Contains cover.new.steps.keys step) }
+    requires explored { covers.HasExplored (M.leads machine.now) explored.now }
+    requires cover { covers.CoversSteps (M.leads machine.now) explored.now cover.old }
+    ensures cover { OnOk result (
+        covers.CoversSteps (M.leads machine.now) explored.now cover.new) }
+    ensures grows { OnOk result (covers.HasStepsOf cover.old cover.new) }
     ensures covered { OnOk result ((at : At) →
         slice_get explored.now.visits.stands.keys reading.number ≡ Some at →
         covers.IsCoveredBy (M.leads machine.now) explored.now.utf8 cover.new.steps.keys at
@@ -167,14 +163,11 @@ fn cover_end<M: Machine>(
     number: usize,
 ) -> Result<(), AllocError>
     requires there { number < length explored.now.visits.stands.keys }
-    requires explored { covers.IsExplored (M.leads machine.now) explored.now.utf8
-        explored.now.start explored.now.visits.stands.keys explored.now.visits.ways.items }
-    requires cover { covers.IsCover (M.leads machine.now) explored.now.utf8 explored.now.start
-        cover.old.steps.keys (map (λ v. v.items) cover.old.inputs.items) }
-    ensures cover { OnOk result (covers.IsCover (M.leads machine.now) explored.now.utf8
-        explored.now.start cover.new.steps.keys (map (λ v. v.items) cover.new.inputs.items)) }
-    ensures grows { OnOk result ((step : Taken) → Contains cover.old.steps.keys step →
-        Contains cover.new.steps.keys step) }
+    requires explored { covers.HasExplored (M.leads machine.now) explored.now }
+    requires cover { covers.CoversSteps (M.leads machine.now) explored.now cover.old }
+    ensures cover { OnOk result (
+        covers.CoversSteps (M.leads machine.now) explored.now cover.new) }
+    ensures grows { OnOk result (covers.HasStepsOf cover.old cover.new) }
     ensures covered { OnOk result ((at : At) →
         slice_get explored.now.visits.stands.keys number ≡ Some at →
         stand_goal (M.goal machine.now) at ≡ true →
@@ -210,14 +203,11 @@ fn cover_stand<M: Machine>(
     number: usize,
 ) -> Result<(), AllocError>
     requires there { number < length explored.now.visits.stands.keys }
-    requires explored { covers.IsExplored (M.leads machine.now) explored.now.utf8
-        explored.now.start explored.now.visits.stands.keys explored.now.visits.ways.items }
-    requires cover { covers.IsCover (M.leads machine.now) explored.now.utf8 explored.now.start
-        cover.old.steps.keys (map (λ v. v.items) cover.old.inputs.items) }
-    ensures cover { OnOk result (covers.IsCover (M.leads machine.now) explored.now.utf8
-        explored.now.start cover.new.steps.keys (map (λ v. v.items) cover.new.inputs.items)) }
-    ensures grows { OnOk result ((step : Taken) → Contains cover.old.steps.keys step →
-        Contains cover.new.steps.keys step) }
+    requires explored { covers.HasExplored (M.leads machine.now) explored.now }
+    requires cover { covers.CoversSteps (M.leads machine.now) explored.now cover.old }
+    ensures cover { OnOk result (
+        covers.CoversSteps (M.leads machine.now) explored.now cover.new) }
+    ensures grows { OnOk result (covers.HasStepsOf cover.old cover.new) }
     ensures covered { OnOk result ((at : At) →
         slice_get explored.now.visits.stands.keys number ≡ Some at →
         covers.AreCoveredAt (M.leads machine.now) (M.goal machine.now) explored.now.utf8

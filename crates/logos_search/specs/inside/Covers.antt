@@ -1,11 +1,13 @@
 -- The search for covering inputs: all stands were met, and for some the steps from them are
 -- covered.
-use Rattle.std.specs.Prelude.{◌≡◌, ◌⊎◌, ℕ, ◌<◌, Bool, true, List, ◌∷◌, ◌++◌, length, Option, Some, Contains, slice_get}
+use Rattle.std.specs.Prelude.{◌≡◌, ◌⊎◌, ℕ, ◌<◌, Bool, true, List, ◌∷◌, ◌++◌, length, map, Option, Some, Contains, slice_get}
 use Rattle.logos_search.specs.Covering.{Takes, OneTakes, step_to, end_at}
 use Rattle.logos_search.specs.Machines.{IsInput}
 use Rattle.logos_search.specs.Rests.{more, completion}
 use Rattle.logos_search.specs.inside.Stands.{stand_at, stand_next, stand_goal}
 use Rattle.logos_search.specs.inside.Visits.{IsTree, IsClosed, IsWayTo}
+use Rattle.logos_search.specs.declared.cover.Cover.{Cover}
+use Rattle.logos_search.specs.declared.cover.Explored.{Explored}
 use Rattle.logos_search.specs.declared.point.Point.{Point}
 use Rattle.logos_search.specs.declared.rest.Rest.{Rest}
 use Rattle.logos_search.specs.declared.steps.InputStep.{InputStep}
@@ -17,6 +19,11 @@ pub record IsExplored (next : Point → ℕ → Option Point) (utf8 : Bool) (sta
   pub first : slice_get stands 0 ≡ Some (stand_at start (more 0))
   pub tree : IsTree (stand_next next utf8) stands ways
   pub closed : IsClosed (stand_next next utf8) stands ways (length stands)
+
+-- A search has met these stands.
+abbrev pub HasExplored : (Point → ℕ → Option Point) → Explored → Type 0
+HasExplored next explored =
+    IsExplored next explored.utf8 explored.start explored.visits.stands.keys explored.visits.ways.items
 
 -- The bytes lead to a stand, and then by one more byte into a character that they complete.
 pub record IsWayBy (stands : List Stand) (ways : List Visit) (number byte : ℕ) (rest : Rest) (bytes : List ℕ) : Type 0 where
@@ -35,6 +42,15 @@ pub record Adds (next : Point → ℕ → Option Point) (start : Point) (steps :
 pub record IsCover (next : Point → ℕ → Option Point) (utf8 : Bool) (start : Point) (steps : List InputStep) (inputs : List (List ℕ)) : Type 0 where
   pub are_inputs : (input : List ℕ) → Contains inputs input → IsInput utf8 input
   pub taken : (step : InputStep) → Contains steps step → OneTakes next start inputs step
+
+-- The inputs of a cover take each of its steps.
+abbrev pub CoversSteps : (Point → ℕ → Option Point) → Explored → Cover → Type 0
+CoversSteps next explored cover =
+    IsCover next explored.utf8 explored.start cover.steps.keys (map (λ v. v.items) cover.inputs.items)
+
+-- A cover has all steps of another one.
+abbrev pub HasStepsOf : Cover → Cover → Type 0
+HasStepsOf old new = (step : InputStep) → Contains old.steps.keys step → Contains new.steps.keys step
 
 -- The step that a byte makes from a stand is covered, if it leads on.
 abbrev pub IsCoveredBy : (Point → ℕ → Option Point) → Bool → List InputStep → Stand → ℕ → Type 0
