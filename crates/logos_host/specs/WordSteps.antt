@@ -3,7 +3,7 @@ use Rattle.std.specs.Prelude.{ℕ, ◌==◌, List, [], ◌∷◌, Bool, true, fa
 use Rattle.std.specs.List.{after_first, before_first, position_or_len}
 use Rattle.logos_host.specs.declared.options.OptionName.{OptionName}
 use Rattle.logos_host.specs.declared.word_steps.Progress.{Progress}
-use Rattle.logos_host.specs.declared.word_steps.WordStep.{WordStep}
+use Rattle.logos_host.specs.declared.word_steps.Step.{Step}
 use Rattle.logos_host.specs.declared.word_steps.Use.{Use}
 use Rattle.logos_host.specs.declared.word_steps.Use.TheVariants as uses
 use Rattle.logos_host.specs.Options.{option_named, takes_value}
@@ -76,5 +76,5 @@ use_value (uses.Path word) = path word.now
 use_value (uses.Flag option) = flag option
 use_value (uses.Value option word) = value option word.now
 
-abbrev pub step_value : WordStep → StepValue
+abbrev pub step_value : Step → StepValue
 step_value next = record { progress = next.progress; found = option_map use_value next.found }

@@ -33,5 +33,5 @@ pub use reading::read_text;
 pub use reason::Reason;
 pub use source_disk::SourceDisk;
 pub use system::Disk;
-pub use word_steps::{Progress, Use, WordStep, next_step};
+pub use word_steps::{Progress, Step, Use, next_step};
 pub use writing::{write_block, write_full, write_through};

@@ -28,7 +28,7 @@ pub struct Progress {
 
 /// What one more word gives.
 #[derive(Clone, Copy)]
-pub struct WordStep<'w> {
+pub struct Step<'w> {
     pub progress: Progress,
     pub found: Option<Use<'w>>,
 }
@@ -39,7 +39,7 @@ pub struct WordStep<'w> {
 ///
 /// Returns `UnknownOption` for a word that begins with `-` and is no option, and `Misuse` if an
 /// option that has no value gets one.
-pub fn next_step<'w>(progress: Progress, word: &'w str) -> Result<WordStep<'w>, Failure<'w>>
+pub fn next_step<'w>(progress: Progress, word: &'w str) -> Result<Step<'w>, Failure<'w>>
     ensures step { IfOk result (λ next. step progress word.now ≡ Some (step_value next)) }
     ensures misuse { IfErr result (λ failure.
         (step progress word.now ≡ None) × (status_of failure ≡ 2)) }
@@ -58,17 +58,17 @@ pub fn next_step<'w>(progress: Progress, word: &'w str) -> Result<WordStep<'w>, 
 }
 
 /// Returns a step that gives something.
-fn found<'w>(progress: Progress, one: Use<'w>) -> WordStep<'w>
+fn found<'w>(progress: Progress, one: Use<'w>) -> Step<'w>
     ensures { result ≡ record { progress = progress; found = Some one.entry } }
 {
-    WordStep {
+    Step {
         progress,
         found: Some(one),
     }
 }
 
 /// Reads a word that is not the value of an option and stands in front of `--`, or is that.
-fn step_written<'w>(progress: Progress, word: &'w str) -> Result<WordStep<'w>, Failure<'w>>
+fn step_written<'w>(progress: Progress, word: &'w str) -> Result<Step<'w>, Failure<'w>>
     ensures step { IfOk result (λ next.
         with_written progress word.now ≡ Some (step_value next)) }
     ensures misuse { IfErr result (λ failure.
@@ -79,7 +79,7 @@ fn step_written<'w>(progress: Progress, word: &'w str) -> Result<WordStep<'w>, F
             pending: None,
             is_over: true,
         };
-        return Ok(WordStep {
+        return Ok(Step {
             progress,
             found: None,
         });
@@ -88,7 +88,7 @@ fn step_written<'w>(progress: Progress, word: &'w str) -> Result<WordStep<'w>, F
 }
 
 /// Reads a word that may be an option.
-fn step_option<'w>(progress: Progress, word: &'w str) -> Result<WordStep<'w>, Failure<'w>>
+fn step_option<'w>(progress: Progress, word: &'w str) -> Result<Step<'w>, Failure<'w>>
     ensures step { IfOk result (λ next. with_option progress (option_named word.now) word.now
         ≡ Some (step_value next)) }
     ensures misuse { IfErr result (λ failure.
@@ -96,7 +96,7 @@ fn step_option<'w>(progress: Progress, word: &'w str) -> Result<WordStep<'w>, Fa
         × (status_of failure ≡ 2)) }
 {
     match OptionName::by_word(word) {
-        Some(option) if option.takes_value() => Ok(WordStep {
+        Some(option) if option.takes_value() => Ok(Step {
             progress: Progress {
                 pending: Some(option),
                 is_over: false,
@@ -110,7 +110,7 @@ fn step_option<'w>(progress: Progress, word: &'w str) -> Result<WordStep<'w>, Fa
 }
 
 /// Reads a word that begins with `-` and is no option: an option with its value after `=`.
-fn step_assigned<'w>(progress: Progress, word: &'w str) -> Result<WordStep<'w>, Failure<'w>>
+fn step_assigned<'w>(progress: Progress, word: &'w str) -> Result<Step<'w>, Failure<'w>>
     ensures step { IfOk result (λ next.
         with_assigned progress word.now ≡ Some (step_value next)) }
     ensures misuse { IfErr result (λ failure.
