@@ -1,13 +1,13 @@
 #!/usr/bin/env python3
 """Looks for types that have one name and stand in several crates.
 
-  names.py          prints the names that stand in several crates, and why they do
-  names.py --where  prints where each of them is declared, too
+  type_names.py          prints the names that stand in several crates, and why they do
+  type_names.py --where  prints where each of them is declared, too
 
 A type is a `struct`, an `enum` or a `trait` in `src` of a crate. Its name stands in one crate, but
 for those that are listed here with the crates that have them and the reason why they stay. A name
 that is listed has to stand in each of its crates, so the list only gets shorter. Each name counts
-as one. The last line is `names: N passed, M failed`."""
+as one. The last line is `type_names: N passed, M failed`."""
 import collections
 import glob
 import os
@@ -59,8 +59,8 @@ def main():
     failed = [it for it in (fault(name, found.get(name, {})) for name in sorted({*found, *STAYS})) if it]
     passed = len({*found, *STAYS}) - len(failed)
     for line in failed:
-        print(f"names: {line}")
-    print(f"names: {passed} passed, {len(failed)} failed")
+        print(f"type_names: {line}")
+    print(f"type_names: {passed} passed, {len(failed)} failed")
     sys.exit(1 if failed or passed < LEAST else 0)
 
 
