@@ -18,7 +18,7 @@ TOP = pathlib.Path(__file__).resolve().parents[1]
 # Each part: the file that is changed, and what is put in the place of which text, which stands in the file. With no text the new one is added.
 PARTS = {
     "borrows": ("tests/borrows/group_returned.edit", "borrow-e0515", "borrow-e0505"),
-    "definitions": ("docs/DEFINITIONS.md", "`IsAccepted`", "`IsAcceptable`"),
+    "definitions": ("docs/DEFINITIONS.md", "`LexemeRuns`", "`LexemeRun`"),
     "words": ("docs/GLOSSARY.md", "`tests/wrong_bodies/run.sh` |", "`tests/wrong_body/run.sh` |"),
     "parameters": ("tests/lints/parameters.py", "MOST = 6", "MOST = 5"),
     "lengths": ("tests/lints/lengths.py", "OF_A_FUNCTION = 40", "OF_A_FUNCTION = 20"),

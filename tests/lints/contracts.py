@@ -15,7 +15,7 @@ import sys
 TOP = pathlib.Path(__file__).resolve().parents[2]
 CRATES = TOP / "crates"
 # With fewer that pass, rows were lost, or are no longer read.
-LEAST = 150
+LEAST = 270
 FUNCTION = re.compile(r"^( *)(?:pub(?:\([^)]*\))? )?(?:const )?fn (\w+)", re.M)
 CLAUSE = re.compile(r"\b(?:ensures|ghost ensures) (\w+)? ?\{")
 

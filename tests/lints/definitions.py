@@ -23,7 +23,7 @@ TOP = pathlib.Path(__file__).resolve().parents[2]
 CRATES = TOP / "crates"
 PAGE = "docs/DEFINITIONS.md"
 # With fewer that pass, lines were lost, or are no longer read.
-LEAST = 5000
+LEAST = 6000
 WORD = re.compile(r"[A-Za-z_][\w-]*")
 PATH = re.compile(r"[a-z_]+(/[A-Za-z_]+)+(\.\w+)?")
 NAME = re.compile(r"[A-Za-z_][A-Za-z0-9_]*(::[A-Za-z_][A-Za-z0-9_]*)*!?")
