@@ -70,7 +70,7 @@ def rows(folder):
 # For each part what can be taken away: how that is called, and the change.
 TAKEN = {
     "borrows": {"all edits": every(removed("tests/borrows/*.edit"), without("tests/borrows/run.sh", r'^of_(tokens|enums|pieces)=".*?"', 'of_tokens="" of_enums="" of_pieces=""'))},
-    "definitions": {"all rows but those of the first table": without("docs/DEFINITIONS.md", r"(?<=\n)## .*\Z")},
+    "definitions": {"all lists": without("docs/DEFINITIONS.md", r"(?<=\n)## .*\Z")},
     "words": {"the sources of all crates": removed("crates/*"), "the rows of the glossary": without("docs/GLOSSARY.md", r"^\| (?!Word|Not used|---)[^|]+\| [^|]+ \| [^|]+ \|\n")},
     "parameters": {"the sources of half of the crates": removed("crates/logos_[a-l]*")},
     "lengths": {"the sources of half of the crates": removed("crates/logos_[a-l]*")},
@@ -78,7 +78,7 @@ TAKEN = {
     "crates_page": {"all crates": every(without("crates.txt", r"^logos_.*?\n"), without("crates/README.md", r"^\*\*`.*\Z"))},
     "sources": {"a crate": removed("crates/logos_cycles")},
     "proofs": {"all wrong bodies": removed("crates/*/must-fail/*.edit"), "one wrong body": removed("crates/logos_reduce/must-fail/end_edge_dropped.edit"), "one crate": without("crates.txt", r"^logos_cycles:[^\n]*\n")},
-    "contracts": {"most tables": without("docs/PROOFS.md", r"^## Tokens.*?(?=^## Only tested)")},
+    "contracts": {"most lists": without("docs/PROOFS.md", r"^## Tokens.*?(?=^## Only tested)")},
     "rattle_examples": {"all examples but the first": without("tests/rattle_examples.sh", r"^(query|log) data[^\n]*\n")},
     "memory_tools": {"all runs": without("tests/memory/run.py", r"\(cli, CLI\), \(show, SHOW\)", "()"), "the runs of logos_show": without("tests/memory/run.py", r", \(show, SHOW\)", ",")},
     "evidence": {"the sets of words": without("tests/evidence/main.py", r", \*WORDS\[::8\]", "")},
