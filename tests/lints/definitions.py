@@ -3,18 +3,22 @@
 
   definitions.py
 
-A line of a list under the heading of a crate gives files of its `specs`, and what they define. Looked up are
+A line of a list under the heading of a crate gives files of its `specs`, and what they define.
+Looked up are
 
 - each file: it is there, and stands on the page once;
-- each definition that a clause of a public function cites: its file stands on the page, and it has a comment, above
-  itself, above the type that it belongs to, or above the block of lines in which it is declared;
+- each definition that a clause of a public function cites: its file stands on the page, and it has
+  a comment, above itself, above the type that it belongs to, or above the block of lines in which
+  it is declared;
 - each definition that one of these needs, directly or by others: its file stands on the page;
 - each file that the reading order of a claim names: it stands on the page under its crate;
-- each code of a fault: the page has it, and the definition of its fault is declared in the file of its line;
+- each code of a fault: the page has it, and the definition of its fault is declared in the file of
+  its line;
 - each other name in backticks: it is a path, or its words stand somewhere in the crates.
 
-A public function is a `pub fn` of a module that is public or that another public one hands names on from; all
-functions of a program's crate count. The last line is `definitions: N passed, M failed`."""
+A public function is a `pub fn` of a module that is public or that another public one hands names on
+from; all functions of a program's crate count. The last line is
+`definitions: N passed, M failed`."""
 import pathlib
 import re
 import sys
@@ -95,7 +99,8 @@ class Definitions:
         return self.files.setdefault(path, None) or self.files.update({path: Specs(path)}) or self.files[path]
 
     def origin(self, path, name):
-        """The file that declares a name of a file, and its name there; `None` for one of a library or a declared type."""
+        """The file that declares a name of a file, and its name there; `None` for one of a library
+        or a declared type."""
         file = self.of(path)
         if name in file.declared:
             return path, name
@@ -135,7 +140,8 @@ class Definitions:
 
 
 def public_files(crate):
-    """The source files of a crate's public modules, and of those that names are handed on from; all of a program."""
+    """The source files of a crate's public modules, and of those that names are handed on from; all
+    of a program."""
     if not (crate / "src/lib.rt").is_file():
         return sorted((crate / "src").rglob("*.rt"))
     found, todo = [], [(crate / "src/lib.rt", crate / "src")]

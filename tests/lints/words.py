@@ -1,18 +1,23 @@
 #!/usr/bin/env python3
-"""Looks for words that this repository does not use, for the form of comments, and for the homes of words.
+"""Looks for words that this repository does not use, for the form of comments, and for the homes of
+words.
 
   words.py           fails where such a word stands in a crate or on a page that is clean
   words.py --all     prints each place, and how many are left in each crate and on each page
 
-Read are the comments and the names in `src` and `specs` of each crate and of tests/calls, the names of these files, the pages in `docs`, and the README. Text
-between quotes is left out, and so are blocks of code on pages. `docs/GLOSSARY.md` has the words that are not used, with what stands in their place;
-each of them has its patterns here. Each word of that page has a home, which must be there.
+Read are the comments and the names in `src` and `specs` of each crate and of tests/calls, the names
+of these files, the pages in `docs`, and the README. Text between quotes is left out, and so are
+blocks of code on pages. `docs/GLOSSARY.md` has the words that are not used, with what stands in
+their place; each of them has its patterns here. Each word of that page has a home, which must be
+there.
 
-Comments have a form, too: at most 100 columns; a blank line after `# Errors`, and after the first comment of a file in `src`; "if memory runs out" where
-memory can; and in `specs` a capital letter first.
+Comments have a form, too: at most 100 columns; a blank line after `# Errors`, and after the first
+comment of a file in `src`; "if memory runs out" where memory can; and in `specs` a capital letter
+first.
 
-The crates and pages in `NOT_YET` are not clean yet, and those in `FORM_NOT_YET` have not this form yet; both are only counted. Each other crate and page
-counts as one for its words, each other crate as one for its form, and each home as one. The last line is `words: N passed, M failed`."""
+The crates and pages in `NOT_YET` are not clean yet, and those in `FORM_NOT_YET` have not this form
+yet; both are only counted. Each other crate and page counts as one for its words, each other crate
+as one for its form, and each home as one. The last line is `words: N passed, M failed`."""
 import collections
 import os
 import re
@@ -33,13 +38,9 @@ logos_places logos_reduce logos_search logos_tables logos_text logos_cli logos_c
 logos_show logos_program tests/calls
 """.split()
 COLUMNS = 100
-# The crates and pages where a word is used, or is not replaced yet.
+# The crates where a word has its home. On pages it is used, too.
 USED_IN = {
-    "place, outside of graphs": """
-logos_automaton logos_byte_class logos_code logos_codegen logos_generator logos_graph logos_inspect logos_machine logos_places logos_warnings logos_reduce logos_tables logos_text
-logos_cli logos_commands logos_disk logos_host logos_report logos_show logos_program logos_type_reader tests/calls
-logos_derive logos_expansion logos_layout logos_messages logos_pieces logos_placeholder logos_spelling logos_written logos_search logos_walk logos_fold logos_scan
-""".split()
+    "place, outside of graphs": "logos_places logos_automaton logos_graph logos_generator".split()
 }
 # Each entry of the glossary's last table: the words in a name, and the pattern in a sentence.
 UNUSED = {
@@ -54,7 +55,7 @@ UNUSED = {
         r"|\blists? (?:its|their|the|a|an|no|one|all|each) faults?\b|\bfaults (?:that )?(?:\w+ )?(?:lists?|listed)\b",
     ),
     "just, for exactly": ([], r"\bjust\b"),
-    "place, outside of graphs": ([], r"(?<!\bin )\b(?:a|one|each|this|that|any|no|its|their|second|same) places?\b|\bplaces\b"),
+    "place, outside of graphs": ([], r"(?<=.)(?<!\bin )(?<!\bin its )(?<!\bin their )(?<!\btakes the )(?<!\btook the )\bplaces?\b"),
     "what is no": ([], r"\bwhat (?:is|are) no\b"),
     "reached, work, as names of types": ([], r"(?!)"),
 }

@@ -1,16 +1,8 @@
 //! Bytes that no pattern distinguishes.
+
 ghost use Rattle.std.specs.Prelude.{◌≡◌, ◌≢◌, ◌∷◌, ◌++◌, ◌<◌, ℕ, [], IsTrue, IsFalse, IfOk, OnOk, false, length, slice_index_or, if◌then◌else◌};
-ghost use Rattle.logos_automaton.specs.inside.Alike.{IsAlike, MarksFor, AreStartsOf, AreClassStarts, AreKindBytes, AreFirstBytes};
-ghost use Rattle.logos_automaton.specs.inside.Prepared.{IsPrepared, cores_of};
-ghost use Rattle.logos_hir.specs.ByteRanges.{is_in};
-ghost use Rattle.logos_hir.specs.Hir.{pairs};
+ghost use Rattle.logos_automaton.specs.Views.{is_in, pairs, byte_in, kind_of_byte, IsRising, Has, core_of, spelled, reader_of, IsAlike, MarksFor, AreStartsOf, AreClassStarts, AreKindBytes, AreFirstBytes, IsPrepared, cores_of};
 ghost use Rattle.logos_places.specs.Core as core;
-ghost use Rattle.logos_places.specs.Core.{byte_in};
-ghost use Rattle.logos_places.specs.Kinds.{kind_of_byte};
-ghost use Rattle.logos_places.specs.Marks.{IsRising, Has};
-ghost use Rattle.logos_places.specs.Node.{core_of};
-ghost use Rattle.logos_places.specs.Repeat.{spelled};
-ghost use Rattle.logos_places.specs.Table.{reader_of};
 
 use crate::trees::Trees;
 use logos_hir::hir::Range;
@@ -115,7 +107,8 @@ fn mark_starts(node: &Node, marked: &mut [bool; 256])
     }
 }
 
-/// The bytes that a tree distinguishes from the byte before: the first bytes of its classes of bytes, but for byte 0.
+/// The bytes that a tree distinguishes from the byte before: the first bytes of its classes of
+/// bytes, but for byte 0.
 #[derive(Drop)]
 pub struct ClassStarts {
     /// The bytes, ascending.
@@ -126,7 +119,7 @@ pub struct ClassStarts {
 ///
 /// # Errors
 ///
-/// Returns `AllocError` when memory runs out.
+/// Returns `AllocError` if memory runs out.
 pub fn note(bytes: &mut Vec<u8>, byte: u8, is_one: bool) -> Result<(), AllocError>
     ensures { OnOk result (bytes.new.items ≡
         (if is_one then bytes.old.items ++ byte ∷ [] else bytes.old.items)) }
@@ -141,7 +134,7 @@ pub fn note(bytes: &mut Vec<u8>, byte: u8, is_one: bool) -> Result<(), AllocErro
 ///
 /// # Errors
 ///
-/// Returns `AllocError` when memory runs out.
+/// Returns `AllocError` if memory runs out.
 fn class_starts_of(alloc: Global, node: &Node) -> Result<ClassStarts, AllocError>
     ensures { IfOk result (λ starts. AreStartsOf (core_of node.now) starts.bytes.items 256) }
 {
@@ -158,7 +151,7 @@ fn class_starts_of(alloc: Global, node: &Node) -> Result<ClassStarts, AllocError
 ///
 /// # Errors
 ///
-/// Returns `AllocError` when memory runs out.
+/// Returns `AllocError` if memory runs out.
 pub fn class_starts(alloc: Global, nodes: &[Node]) -> Result<Vec<ClassStarts>, AllocError>
     ensures { IfOk result (λ lists. AreClassStarts nodes.now lists.items (length nodes.now)) }
 {
@@ -199,7 +192,8 @@ pub fn add_bytes(bytes: &[u8], first: &mut [bool; 256])
     }
 }
 
-/// Marks the bytes that looks, or the trees that are entered or have a mark, can distinguish from the byte before.
+/// Marks the bytes that looks, or the trees that are entered or have a mark, can distinguish from
+/// the byte before.
 pub fn first_bytes(trees: &Trees<'_>, marks: &[usize], entered: bool) -> [bool; 256]
     requires prepared { IsPrepared trees.now }
     requires rising { IsRising marks.now }

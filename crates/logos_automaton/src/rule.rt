@@ -1,4 +1,5 @@
 //! The parts of a leaf that an automaton needs.
+
 ghost use Rattle.std.specs.Prelude.{◌≡◌};
 ghost use Rattle.logos_automaton.specs.Faults as faults;
 ghost use Rattle.logos_automaton.specs.Rules as inner;

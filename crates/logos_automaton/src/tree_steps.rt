@@ -1,4 +1,5 @@
 //! The steps of one tree by each byte.
+
 ghost use Rattle.logos_automaton.specs.inside.Alike.{AreChangesOf};
 
 pub mod making;

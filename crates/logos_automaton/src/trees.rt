@@ -1,4 +1,5 @@
 //! The input of the building of states.
+
 use crate::alike::ClassStarts;
 use logos_places::node::Node;
 use std::alloc::Global;

@@ -2,12 +2,7 @@
 //! implementation to standard output, and writes messages to standard error.
 
 ghost use Rattle.std.specs.Prelude.{◌≡◌, ◌≢◌, ◌⊎◌, ◌≤◌, ◌++◌, ℕ, List, IfOk, IsTrue, string_bytes};
-ghost use Rattle.std.specs.Io.KnownBytes.{Appends, Keeps};
-ghost use Rattle.logos_token.specs.Faults.{Fault};
-ghost use Rattle.logos_codegen.specs.Source.{IsRefused};
-ghost use Rattle.logos_derive.specs.declared.answering.Answer.{Answer as AnswerValue};
-ghost use Rattle.logos_cli.specs.Deriving.{IsDerived, ShowsErrors, standard_input};
-ghost use Rattle.logos_cli.specs.Runs.{IsAnswered, IsDeniedAnswer};
+ghost use Rattle.logos_cli.specs.Views.{Appends, Keeps, Fault, IsRefused, Answer as AnswerValue, IsDerived, ShowsErrors, standard_input, IsAnswered, IsDeniedAnswer};
 
 use crate::implementation::{answer_lines, derived, refusal_lines};
 use crate::options::{DeriveOrder, STANDARD_INPUT};

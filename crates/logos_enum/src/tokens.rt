@@ -1,8 +1,7 @@
 //! Takes single tokens from the front of a run.
 
 ghost use Rattle.std.specs.Prelude.{◌≡◌, ◌<◌, ◌≤◌, true, false, List, Ok, Err, MatchOption, MatchResult};
-ghost use Rattle.logos_enum.specs.Words.{Span, Spacing, none, also, punctuation, count_of, rest_of, tokens_of, tree_of, first_span, greater, begins_with, is_none, is_outer};
-ghost use Rattle.logos_enum.specs.Views.{Grammar, after_item, name_in, ident_slice};
+ghost use Rattle.logos_enum.specs.Views.{Span, Spacing, none, also, punctuation, count_of, rest_of, tokens_of, tree_of, first_span, greater, begins_with, is_none, is_outer, Grammar, after_item, name_in, ident_slice};
 
 use crate::error::{Mismatch, ReadError};
 use logos_token::token::{Ident, Span, TokenTree, Tokens};

@@ -1,4 +1,5 @@
 //! Leaves as rules of an automaton.
+
 ghost use Rattle.std.specs.Prelude.{◌≡◌, ◌^◌, ◌≤◌, ◌↔◌, IsTrue, IfOk};
 ghost use Rattle.logos_graph.specs.Words.{size_of, rule_of, rules_of};
 ghost use Rattle.logos_automaton.specs.View as views;

@@ -2,8 +2,7 @@
 //! `[:name:]` and `\d` here.
 
 ghost use Rattle.std.specs.Prelude.{◌≡◌, ℕ, Bool, IfOk, bytes_eq};
-ghost use Rattle.logos_hir.specs.Words.{only_chars, in_ranges, HasExactly, in_set};
-ghost use Rattle.logos_hir.specs.Views.{pairs, set_of, ascii_set, ascii_named, perl_set, property_named, property_normalized};
+ghost use Rattle.logos_hir.specs.Views.{only_chars, in_ranges, HasExactly, in_set, pairs, set_of, ascii_set, ascii_named, perl_set, property_named, property_normalized};
 
 use crate::hir::Range;
 use crate::sets::RangeSet;

@@ -5,3 +5,4 @@ pub use Rattle.logos_lexeme.specs.Lexemes.{IsNext, IsStuck}
 pub use Rattle.logos_lexeme.specs.LiteralBodies.{BreaksLine, IsAllowed, IsCharacterPiece, IsEscape, IsHexEscape, IsPiece, IsSound, IsUnicodeEscape, StandsFor, bytes_of, digits_between, greatest_of, hex_value, is_blank, is_hex, is_simple, simple_value}
 pub use Rattle.logos_lexeme.specs.inside.CommentReads.{IsOnward}
 pub use Rattle.logos_lexeme.specs.inside.LiteralReads.{IsPlain, ReadsByte}
+pub use Rattle.logos_lexeme.specs.Words.{digit_value, is_ascii_digit, IsCharBoundary, character, is_continuing, is_mark, is_space, is_start, past, IsFirst, Passes, Run, Steps}

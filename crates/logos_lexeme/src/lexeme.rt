@@ -6,8 +6,7 @@
 //! `logos_token` asks `lexeme_at` at each offset at which a lexeme or a gap begins.
 
 ghost use Rattle.std.specs.Prelude.{◌<◌, length, IfOk, IfErr};
-ghost use Rattle.logos_lexeme.specs.Words.{IsCharBoundary};
-ghost use Rattle.logos_lexeme.specs.Views.{IsNext, IsStuck};
+ghost use Rattle.logos_lexeme.specs.Views.{IsCharBoundary, IsNext, IsStuck};
 
 pub mod bodies;
 pub mod characters;

@@ -1,4 +1,5 @@
 //! Prints the function that makes errors.
+
 ghost use Rattle.std.specs.Prelude.{OnOk, string_bytes};
 ghost use Rattle.logos_text.specs.Words.{Grows};
 

@@ -1,4 +1,5 @@
 //! The names that all parts of a text use.
+
 ghost use Rattle.std.specs.Prelude.{◌≡◌};
 
 use logos_code::code::{CodeParts, Config};

@@ -1,4 +1,5 @@
 //! The parts of an automaton, by the number of a state.
+
 ghost use Rattle.std.specs.Prelude.{◌≡◌, ◌<◌, Some, length, slice_get};
 ghost use Rattle.logos_automaton.specs.DfaView.{dfa_of};
 

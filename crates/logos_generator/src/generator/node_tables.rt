@@ -1,4 +1,5 @@
 //! The tables that the nodes of a code share.
+
 ghost use Rattle.std.specs.Prelude.{◌≡◌, []};
 
 use indexmap::IndexSet;
@@ -14,8 +15,8 @@ pub(super) struct NodeTables {
 }
 
 impl NodeTables {
-    /// Returns tables without a test and without a jump table. They take their memory from `alloc` when they grow; this call takes
-    /// none.
+    /// Returns tables without a test and without a jump table. They take their memory from `alloc`
+    /// when they grow; this call takes none.
     pub(super) fn new(alloc: Global) -> NodeTables
         ensures tests { result.tests.keys ≡ [] }
         ensures jumps { result.jumps.keys ≡ [] }

@@ -2,8 +2,7 @@
 //! opening is known.
 
 ghost use Rattle.std.specs.Prelude.{◌≡◌, ◌≢◌, ℕ, ◌+◌, ◌-◌, ◌<◌, ◌≤◌, ◌↔◌, length, slice_index, MatchOption, IsTrue};
-ghost use Rattle.logos_lexeme.specs.Words.{IsCharBoundary, past, is_space, is_continuing, Run, IsFirst, Passes};
-ghost use Rattle.logos_lexeme.specs.Views.{opening_at, prefix_of, IsLineEnd, Closes, IsName, IsSuffix, has_base, GoesOn, ReachesQuote, IsRawEnd, IsQuoted, IsRaw, Ends, IsOnward};
+ghost use Rattle.logos_lexeme.specs.Views.{IsCharBoundary, past, is_space, is_continuing, Run, IsFirst, Passes, opening_at, prefix_of, IsLineEnd, Closes, IsName, IsSuffix, has_base, GoesOn, ReachesQuote, IsRawEnd, IsQuoted, IsRaw, Ends, IsOnward};
 
 use crate::lexeme::characters::{byte_at, char_at, is_continuing, is_space, past};
 use crate::lexeme::openings::{Content, Opening, name_at};

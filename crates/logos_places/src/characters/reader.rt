@@ -1,8 +1,9 @@
 //! A table that reads a character of a class, byte by byte.
+
 ghost use Rattle.std.specs.Prelude.{◌<◌, ◌^◌};
 
-/// A class of characters as an automaton over the bytes of UTF-8. At row 0 a whole character is read; at each other row a
-/// character is begun.
+/// A class of characters as an automaton over the bytes of UTF-8. At row 0 a whole character is
+/// read; at each other row a character is begun.
 #[derive(Drop)]
 pub struct Table {
     /// The number of rows.

@@ -1,12 +1,8 @@
 //! Whether a tree can be left.
+
 ghost use Rattle.std.specs.Prelude.{max, ◌≡◌, ℕ, ◌+◌, ◌*◌, ◌-◌, ◌^◌, ◌<◌, ◌⊎◌, ◌↔◌, IsTrue, Bool, List, length};
+ghost use Rattle.logos_places.specs.Views.{Core, Exits, IsRising, Has, spelled, in_front, up_to, at_least, repeated, count_of, IsOrdered, Look, test_at, core_of, is_measured};
 ghost use Rattle.logos_places.specs.Core as core;
-ghost use Rattle.logos_places.specs.Core.{Core, Exits};
-ghost use Rattle.logos_places.specs.Kinds.{test_at};
-ghost use Rattle.logos_places.specs.Marks.{IsRising, Has};
-ghost use Rattle.logos_places.specs.Node.{core_of, is_measured};
-ghost use Rattle.logos_places.specs.Repeat.{spelled, in_front, up_to, at_least, repeated, count_of, IsOrdered};
-ghost use Rattle.logos_hir.specs.declared.hir.Look.{Look};
 
 use crate::node::{Copies, Node, Spot, width};
 use crate::places::look::{Context, holds};
@@ -66,7 +62,8 @@ fn exits_literal(text: &[u8], marks: &[usize], spot: Spot) -> bool
     has_mark(marks, spot.base + text.len() - 1)
 }
 
-/// Returns whether a repetition can be left: at least these copies of its body, and at most `most` if there is such a bound.
+/// Returns whether a repetition can be left: at least these copies of its body, and at most `most`
+/// if there is such a bound.
 #[cycle(exits)]
 fn exits_repeat(
     body: &Node,

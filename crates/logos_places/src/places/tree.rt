@@ -1,10 +1,8 @@
 //! Steps on one tree of several, whose places stand one after another.
+
 ghost use Rattle.std.specs.Prelude.{◌≡◌, ◌^◌, ◌<◌, ◌≤◌, ◌↔◌, ◌+◌, ℕ, IsTrue, IfOk};
+ghost use Rattle.logos_places.specs.Views.{Has, IsRising, test_at, core_of, is_measured, IsStepOf};
 ghost use Rattle.logos_places.specs.Core as core;
-ghost use Rattle.logos_places.specs.Kinds.{test_at};
-ghost use Rattle.logos_places.specs.Marks.{Has, IsRising};
-ghost use Rattle.logos_places.specs.Node.{core_of, is_measured};
-ghost use Rattle.logos_places.specs.Several.{IsStepOf};
 
 use crate::node::{Node, Spot};
 use crate::places::set::first_from;
@@ -24,7 +22,7 @@ pub struct TreeStep {
 ///
 /// # Errors
 ///
-/// Returns `AllocError` when memory runs out.
+/// Returns `AllocError` if memory runs out.
 pub fn step_tree(
     alloc: Global,
     node: &Node,
@@ -50,7 +48,7 @@ pub fn step_tree(
 ///
 /// # Errors
 ///
-/// Returns `AllocError` when memory runs out.
+/// Returns `AllocError` if memory runs out.
 pub fn marks_between(
     alloc: Global,
     marks: &[usize],

@@ -122,7 +122,7 @@ fn plain_ends(flags: Flags, item: Item) -> Option<(u32, u32)>
     }
 }
 
-/// Pushes the ranges of an item's set.
+/// Appends the ranges of an item's set.
 pub(crate) fn push_item(
     alloc: Global,
     ranges: &mut Vec<Range>,
@@ -138,7 +138,7 @@ pub(crate) fn push_item(
     }
 }
 
-/// Pushes a range.
+/// Appends a range.
 fn push_range(ranges: &mut Vec<Range>, first: u32, last: u32) -> Result<(), AllocError>
     ensures { OnOk result (members (pairs ranges.new.items) ≡
         union (members (pairs ranges.old.items)) (members ((first, last) ∷ []))) }
@@ -147,7 +147,7 @@ fn push_range(ranges: &mut Vec<Range>, first: u32, last: u32) -> Result<(), Allo
     Ok(())
 }
 
-/// Pushes the ranges of a set.
+/// Appends the ranges of a set.
 pub(crate) fn push_set(ranges: &mut Vec<Range>, set: &RangeSet) -> Result<(), AllocError>
     ensures { OnOk result (members (pairs ranges.new.items) ≡
         union (members (pairs ranges.old.items)) (set_of set.now)) }

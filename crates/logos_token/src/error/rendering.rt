@@ -1,9 +1,8 @@
 //! Renders faults as Rust text that reports them when it is compiled. `logos_codegen` prints it in
 //! place of a lexer where a source has faults.
 
-ghost use Rattle.std.specs.Prelude.{◌≡◌, ◌++◌, OnOk, string_bytes};
-ghost use Rattle.logos_token.specs.Words.{flat_map};
-ghost use Rattle.logos_token.specs.ViewWords.{faults_of, fault_of, rendered_fault};
+ghost use Rattle.std.specs.Prelude.{◌≡◌, ◌++◌, OnOk, string_bytes, IfOk, option_map};
+ghost use Rattle.logos_token.specs.ViewWords.{flat_map, faults_of, fault_of, rendered_fault, rendered};
 
 use crate::error::{Errors, Memory, SpannedError};
 use crate::util::push_escaped;
@@ -32,9 +31,6 @@ fn push_faults(text: &mut String, faults: &[SpannedError]) -> Result<(), Memory>
 }
 
 impl Errors {
-    ghost use Rattle.std.specs.Prelude.{◌≡◌, IfOk, option_map, string_bytes};
-    ghost use Rattle.logos_token.specs.ViewWords.{rendered};
-
     /// Returns a function that does not compile and whose compiler errors are the messages of the
     /// faults. `None` if there is no fault.
     ///
