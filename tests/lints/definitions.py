@@ -155,7 +155,8 @@ def public_files(crate):
 
 
 def items(text):
-    """Yields the headings, paragraphs and lines of lists of a page, each with its first line and as one line."""
+    """Yields the headings, paragraphs and lines of lists of a page, each with its first line and as
+    one line."""
     number, part = 0, []
     for at, line in enumerate([*text.split("\n"), ""], 1):
         if part and (not line.strip() or line.startswith(("- ", "#"))):
@@ -214,7 +215,8 @@ class Page:
             self.codes.setdefault(code, []).append((number, names[1], re.findall(r"`(\w+)`", given) or [small]))
 
     def add_order(self, number, text):
-        """Adds the files of a reading order; a name of a crate stands in front of those of its `specs`."""
+        """Adds the files of a reading order; a name of a crate stands in front of those of its
+        `specs`."""
         crate = None
         for name in re.findall(r"`([^`]*)`", text):
             if (CRATES / name).is_dir() and not FILE.fullmatch(name):

@@ -5,10 +5,11 @@
 
 A line of prose has at most 100 columns; rows of tables, blocks of code and lines of one long word
 are left out. `LINES` and `WORDS` say how long a page may be, and `ALL_WORDS` how long all are
-together: words are what stands between blanks, the bars of tables and blocks of code included. Each
-path of a crate in backticks has to be there, each page and heading to which a link leads, and each
-function of the walk in `docs/MAP.md` in its file, once on that page. Each page counts as one, and
-so does each path, link and function. The last line is `pages: N passed, M failed`."""
+together but the page that is made and those of wrong bodies: words are what stands between blanks,
+the bars of tables and blocks of code included. Each path of a crate in backticks has to be there,
+each page and heading to which a link leads, and each function of the walk in `docs/MAP.md` in its
+file, once on that page. Each page counts as one, and so does each path, link and function. The last
+line is `pages: N passed, M failed`."""
 import os
 import re
 import subprocess
@@ -18,7 +19,7 @@ ROOT = os.path.dirname(os.path.dirname(os.path.dirname(os.path.realpath(__file__
 WIDTH = 100
 # With fewer that pass, pages or rows were lost, or are no longer read.
 LEAST = 200
-# The most lines of a page, the most words of one, and of all but the one that is made.
+# The most lines of a page, the most words of one, and of all to be read.
 LINES = {"README.md": 110, "docs/MAP.md": 200}
 WORDS = {"docs/GUIDE.md": 4000}
 ALL_WORDS = 40000
@@ -31,7 +32,7 @@ def pages():
     """Returns the pages of the repository."""
     listed = subprocess.run(["git", "ls-files", "--cached", "--others", "--exclude-standard", "*.md"], cwd=ROOT, stdout=subprocess.PIPE,
                             text=True, check=True)
-    return [path for path in listed.stdout.split("\n") if path and os.path.exists(f"{ROOT}/{path}") and "/must-fail/" not in path]
+    return [path for path in listed.stdout.split("\n") if path and os.path.exists(f"{ROOT}/{path}")]
 
 
 def prose(text):
@@ -76,8 +77,8 @@ def headings(text):
 
 
 def link_faults(path, text):
-    """Yields, for each link of a page to another one or to a heading, the fault if nothing is there,
-    and else None."""
+    """Yields, for each link of a page to another one or to a heading, the fault if nothing is
+    there, and else None."""
     for name, heading in re.findall(r"\]\(([^)#:\s]*)(?:#([^)\s]*))?\)", text):
         place = os.path.normpath(f"{ROOT}/{os.path.dirname(path)}/{name}") if name else f"{ROOT}/{path}"
         is_there = os.path.exists(place)
@@ -111,7 +112,7 @@ def main():
         found = [*width_faults(path, text), *length_faults(path, text)]
         passed += not found
         faults += found
-        words += len(text.split()) if path != MADE else 0
+        words += 0 if path == MADE or "/must-fail/" in path else len(text.split())
         for fault in [*path_faults(path, text), *link_faults(path, text)]:
             passed += fault is None
             faults += [fault] if fault else []
@@ -120,7 +121,7 @@ def main():
                 passed += fault is None
                 faults += [fault] if fault else []
     if words > ALL_WORDS:
-        faults.append(f"all pages but {MADE}: {words} words, at most {ALL_WORDS}")
+        faults.append(f"all pages: {words} words, at most {ALL_WORDS}")
     for fault in faults:
         print(f"pages: {fault}")
     print(f"pages: {words} words")
