@@ -168,7 +168,7 @@ def items(text):
 
 
 class Page:
-    """What is looked up on the page: its files, its reading orders, its codes and its other names."""
+    """What is looked up on the page: its files, its reading orders, its codes, its other names."""
 
     def __init__(self):
         self.passed, self.failed = 0, 0
