@@ -79,7 +79,8 @@ def rows(text):
 
 
 def items(text):
-    """Yields the headings, paragraphs and items of lists of a page, each with its first line and as one line."""
+    """Yields the headings, paragraphs and items of lists of a page, each with its first line and as
+    one line."""
     number, part = 0, []
     for at, line in enumerate([*text.split("\n"), ""], 1):
         if part and (not line.strip() or re.match(r" *- |#", line)):

@@ -124,7 +124,8 @@ class Definitions:
         return found
 
     def cited(self, text, every):
-        """Yields each definition that the contract of a function of a text cites, and the function."""
+        """Yields each definition that the contract of a function of a text cites, and the
+        function."""
         names, aliases = {}, {}
         for crate, module, listed, alias in GHOST_USE.findall(text):
             if "declared" not in module:
