@@ -3,8 +3,8 @@
 
   contracts.py
 
-Each item of the lists up to the heading `Only tested` ends with `By` and functions, as `generate` or
-`Parser::parse_generic`, and after a colon clauses of the function before it. A function has to
+Each item of the lists up to the heading `Only tested` ends with `By` and functions, as `generate`
+or `Parser::parse_generic`, and after a colon clauses of the function before it. A function has to
 stand in the crates with which the item or the one around it begins, or anywhere where it names
 none, and have a clause that promises something; a clause has to be one of its own. A type or a
 module counts as found where it has such a function, and a trait's word where some `impl` of it has
