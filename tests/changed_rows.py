@@ -28,7 +28,7 @@ PARTS = {
     "lengths": ("tests/lints/lengths.py", "OF_A_FUNCTION = 40", "OF_A_FUNCTION = 20"),
     "contracts": ("docs/PROOFS.md", "By `lexeme_at`", "By `lexeme_of`"),
     "pages": ("tests/lints/pages.py", '"README.md": 110', '"README.md": 20'),
-    "crates_page": ("crates.txt", "logos_host:\n", ""),
+    "crates_page": ("crates.txt", "logos_lines:\n", ""),
     "sources": ("tests/lints/sources.py", "crates\\.txt", "crates\\.text"),
     "rattle_examples": ("examples/config/data/expected", None, "?"),
     "memory_tools": ("tests/memory/run.py", "status == 3", "status == 4"),
