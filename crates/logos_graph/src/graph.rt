@@ -16,7 +16,7 @@ pub use logos_automaton::dfa::{Children, Dfa, DfaStates, Matches, StateId};
 pub use logos_automaton::errors::{BuildError, GraphError};
 pub use logos_byte_class::byte_class::{ByteClass, Comparisons};
 use logos_hir::leaf::LeafId;
-pub use value::{DfaStates, Graph};
+pub use value::{Graph, States};
 
 /// The options of a graph.
 #[derive(Clone, Copy, Debug, PartialEq, Eq)]
