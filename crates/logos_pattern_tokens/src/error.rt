@@ -2,7 +2,7 @@
 
 ghost use Rattle.std.specs.Prelude.{◌≡◌};
 ghost use Rattle.logos_pattern_tokens.specs.declared.error.Fault.TheVariants as faults;
-ghost use Rattle.logos_pattern_tokens.specs.declared.error.SyntaxError.TheVariants as stops;
+ghost use Rattle.logos_pattern_tokens.specs.declared.error.Stop.TheVariants as stops;
 ghost use Rattle.logos_pattern_tokens.specs.declared.error.PatternError.TheVariants as errors;
 
 use std::alloc::{AllocError, AllocFailed};
@@ -68,7 +68,7 @@ pub enum Fault {
 
 /// Why reading stopped. `left` is the number of characters from the fault to the end of the text.
 #[derive(Drop)]
-pub enum SyntaxError {
+pub enum Stop {
     Syntax { kind: Kind, left: usize },
     LimitPatternNesting,
     Memory,
@@ -82,19 +82,19 @@ impl From<AllocError> for Fault {
     }
 }
 
-impl From<AllocError> for SyntaxError {
+impl From<AllocError> for Stop {
     ghost from_gives = { λ _ e. e ≡ stops.Memory };
 
-    fn from(_e: AllocError) -> SyntaxError {
-        SyntaxError::Memory
+    fn from(_e: AllocError) -> Stop {
+        Stop::Memory
     }
 }
 
-impl<T: Drop> From<AllocFailed<T>> for SyntaxError {
+impl<T: Drop> From<AllocFailed<T>> for Stop {
     ghost from_gives = { λ _ e. e ≡ stops.Memory };
 
-    fn from(_e: AllocFailed<T>) -> SyntaxError {
-        SyntaxError::Memory
+    fn from(_e: AllocFailed<T>) -> Stop {
+        Stop::Memory
     }
 }
 

@@ -68,7 +68,7 @@ pub enum Atom {
 
 /// How a group opens.
 #[derive(Clone, Copy)]
-pub enum GroupOpening<'t> {
+pub enum Opening<'t> {
     /// `(`
     Capture,
     /// `(?P<name>` or `(?<name>`
@@ -82,7 +82,7 @@ pub enum GroupOpening<'t> {
 pub enum Token<'t> {
     Atom(Atom),
     Bar,
-    Open(GroupOpening<'t>),
+    Open(Opening<'t>),
     Close,
     /// `(?flags)`
     Setting(Change),

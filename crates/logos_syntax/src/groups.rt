@@ -8,8 +8,8 @@ use crate::bracket::stack::{BracketValue, MAX_NESTING};
 use crate::translate::{atom_fits, atom_tree, one_of};
 use logos_hir::hir::Hir;
 use logos_hir::simplify;
-use logos_pattern_tokens::error::{Kind, SyntaxError};
-use logos_pattern_tokens::token::{Atom, Change, Flags, GroupOpening, Operator, Token};
+use logos_pattern_tokens::error::{Kind, Stop};
+use logos_pattern_tokens::token::{Atom, Change, Flags, Opening, Operator, Token};
 use std::alloc::{AllocError, Global};
 use std::mem;
 
@@ -71,22 +71,22 @@ fn flags_after(change: Change, flags: Flags) -> Flags
 }
 
 /// Returns the flags at the start of a group's inside.
-fn inner_flags(opening: GroupOpening<'_>, flags: Flags) -> Flags
+fn inner_flags(opening: Opening<'_>, flags: Flags) -> Flags
     ensures { result ≡ inner_flags (opening_view opening.entry) flags }
 {
     match opening {
-        GroupOpening::Capture | GroupOpening::Named(_) => flags,
-        GroupOpening::Plain(change) => flags_after(change, flags),
+        Opening::Capture | Opening::Named(_) => flags,
+        Opening::Plain(change) => flags_after(change, flags),
     }
 }
 
 /// Returns whether a group that opens so is a capture.
-fn captures(opening: GroupOpening<'_>) -> bool
+fn captures(opening: Opening<'_>) -> bool
     ensures { result ≡ captures (opening_view opening.entry) }
 {
     match opening {
-        GroupOpening::Capture | GroupOpening::Named(_) => true,
-        GroupOpening::Plain(_) => false,
+        Opening::Capture | Opening::Named(_) => true,
+        Opening::Plain(_) => false,
     }
 }
 
@@ -182,18 +182,18 @@ impl OpenedGroup {
     /// # Errors
     ///
     /// Returns `NothingToRepeat` if there is no such part, `LimitPatternNesting`, and `Memory`.
-    fn repeat(&mut self, alloc: Global, op: Operator, left: usize) -> Result<(), SyntaxError>
+    fn repeat(&mut self, alloc: Global, op: Operator, left: usize) -> Result<(), Stop>
         ensures { Repeats result (repeat (group_view self.old) op (group_view self.old).last)
             (group_view self.new) }
     {
         let Some(part) = self.last.take() else {
-            return Err(SyntaxError::Syntax {
+            return Err(Stop::Syntax {
                 kind: Kind::NothingToRepeat,
                 left,
             });
         };
         if part.depth >= MAX_NESTING {
-            return Err(SyntaxError::LimitPatternNesting);
+            return Err(Stop::LimitPatternNesting);
         }
         let depth = part.depth + 1;
         let left = part.left;
@@ -254,12 +254,12 @@ impl Groups {
     ///
     /// Returns `UnicodeWordBoundary` or `NotInBytes` if the flags do not allow the atom, and
     /// `Memory`.
-    fn atom(&mut self, alloc: Global, atom: Atom, left: usize) -> Result<(), SyntaxError>
+    fn atom(&mut self, alloc: Global, atom: Atom, left: usize) -> Result<(), Stop>
         ensures { Steps (state_view self.old) (token_atom atom) result (state_view self.new) }
     {
         let flags = self.top.flags;
         if !atom_fits(flags, atom) {
-            return Err(SyntaxError::Syntax {
+            return Err(Stop::Syntax {
                 kind: unfit_kind(atom),
                 left,
             });
@@ -294,17 +294,12 @@ impl Groups {
     /// # Errors
     ///
     /// Returns `LimitPatternNesting`, and `Memory`.
-    fn open(
-        &mut self,
-        alloc: Global,
-        opening: GroupOpening<'_>,
-        left: usize,
-    ) -> Result<(), SyntaxError>
+    fn open(&mut self, alloc: Global, opening: Opening<'_>, left: usize) -> Result<(), Stop>
         ensures { Steps (state_view self.old) (opens (opening_view opening.entry)) result
             (state_view self.new) }
     {
         if self.below.len() >= MAX_NESTING {
-            return Err(SyntaxError::LimitPatternNesting);
+            return Err(Stop::LimitPatternNesting);
         }
         let flags = inner_flags(opening, self.top.flags);
         let level = self.below.len() + 1;
@@ -319,11 +314,11 @@ impl Groups {
     /// # Errors
     ///
     /// Returns `Unopened` if no group is open, and `Memory`.
-    fn close(&mut self, alloc: Global, left: usize) -> Result<(), SyntaxError>
+    fn close(&mut self, alloc: Global, left: usize) -> Result<(), Stop>
         ensures { Steps (state_view self.old) closes result (state_view self.new) }
     {
         let Some(outside) = self.below.pop() else {
-            return Err(SyntaxError::Syntax {
+            return Err(Stop::Syntax {
                 kind: Kind::Unopened,
                 left,
             });
@@ -337,7 +332,7 @@ impl Groups {
     }
 
     /// Sets flags in the innermost group.
-    fn setting(&mut self, change: Change) -> Result<(), SyntaxError>
+    fn setting(&mut self, change: Change) -> Result<(), Stop>
         ensures { Steps (state_view self.old) (sets change) result (state_view self.new) }
     {
         let flags = flags_after(change, self.top.flags);
@@ -349,7 +344,7 @@ impl Groups {
     /// # Errors
     ///
     /// Those of `OpenedGroup::repeat`.
-    fn repeat(&mut self, alloc: Global, op: Operator, left: usize) -> Result<(), SyntaxError>
+    fn repeat(&mut self, alloc: Global, op: Operator, left: usize) -> Result<(), Stop>
         ensures { Steps (state_view self.old) (repeats op) result (state_view self.new) }
     {
         self.top.repeat(alloc, op, left)
@@ -361,12 +356,7 @@ impl Groups {
     /// # Errors
     ///
     /// Returns the fault of the token here, `LimitPatternNesting`, or `Memory`.
-    pub(crate) fn step(
-        &mut self,
-        alloc: Global,
-        token: Token<'_>,
-        left: usize,
-    ) -> Result<(), SyntaxError>
+    pub(crate) fn step(&mut self, alloc: Global, token: Token<'_>, left: usize) -> Result<(), Stop>
         ensures { Steps (state_view self.old) (token_view token.entry) result
             (state_view self.new) }
     {
@@ -385,11 +375,11 @@ impl Groups {
     /// # Errors
     ///
     /// Returns `Unclosed` if a group is still open, and `Memory`.
-    pub(crate) fn finish(self, alloc: Global) -> Result<Hir, SyntaxError>
+    pub(crate) fn finish(self, alloc: Global) -> Result<Hir, Stop>
         ensures { Ends result (state_view self) }
     {
         if !self.below.is_empty() {
-            return Err(SyntaxError::Syntax {
+            return Err(Stop::Syntax {
                 kind: Kind::Unclosed,
                 left: self.top.left,
             });

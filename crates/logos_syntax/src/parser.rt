@@ -7,7 +7,7 @@ use crate::bracket::parser::{read_bracket, stop_for};
 use crate::groups::Groups;
 use crate::names::GroupNames;
 use logos_hir::hir::Hir;
-use logos_pattern_tokens::error::{Fault, Kind, PatternError, SyntaxError};
+use logos_pattern_tokens::error::{Fault, Kind, PatternError, Stop};
 use logos_pattern_tokens::reader::token_at;
 use logos_pattern_tokens::token::Flags;
 use std::alloc::{AllocError, Global};
@@ -32,11 +32,11 @@ impl PatternParser {
     }
 
     /// Returns the stop for a fault of the token at the front of the text.
-    fn stop(&self, fault: Fault, text: &[char]) -> SyntaxError
+    fn stop(&self, fault: Fault, text: &[char]) -> Stop
         ensures { IsStopOf fault result }
     {
         match (fault, text) {
-            (Fault::Syntax(kind), ['(', ..]) => SyntaxError::Syntax {
+            (Fault::Syntax(kind), ['(', ..]) => Stop::Syntax {
                 kind: group_kind(kind, text),
                 left: text.len(),
             },
@@ -48,16 +48,16 @@ impl PatternParser {
     /// Returns the stop for a fault of counts, which is at the start of the part that they would
     /// repeat. A brace that is not closed is a fault at the brace, and so are counts with nothing
     /// to repeat.
-    fn count_stop(&self, kind: Kind, left: usize) -> SyntaxError
+    fn count_stop(&self, kind: Kind, left: usize) -> Stop
         ensures { IsStopOf (Fault.Syntax kind) result }
     {
         match (kind, self.groups.repeated()) {
-            (_, None) => SyntaxError::Syntax {
+            (_, None) => Stop::Syntax {
                 kind: Kind::NothingToRepeat,
                 left,
             },
-            (Kind::Unclosed, _) => SyntaxError::Syntax { kind, left },
-            (_, Some(left)) => SyntaxError::Syntax { kind, left },
+            (Kind::Unclosed, _) => Stop::Syntax { kind, left },
+            (_, Some(left)) => Stop::Syntax { kind, left },
         }
     }
 
@@ -66,7 +66,7 @@ impl PatternParser {
     /// # Errors
     ///
     /// Returns the first fault of the bracket, `LimitPatternNesting`, or `Memory`.
-    fn bracket<'t>(&mut self, alloc: Global, inside: &'t [char]) -> Result<&'t [char], SyntaxError>
+    fn bracket<'t>(&mut self, alloc: Global, inside: &'t [char]) -> Result<&'t [char], Stop>
         ensures { (seen : List Text) → HasNames self.old.names seen →
             ReadsToken (state_view self.old.groups) seen (91 ∷ inside.now) result
             (state_view self.new.groups) self.new.names }
@@ -86,7 +86,7 @@ impl PatternParser {
     /// # Errors
     ///
     /// Returns the fault of the token, `LimitPatternNesting`, or `Memory`.
-    fn simple<'t>(&mut self, alloc: Global, text: &'t [char]) -> Result<&'t [char], SyntaxError>
+    fn simple<'t>(&mut self, alloc: Global, text: &'t [char]) -> Result<&'t [char], Stop>
         ensures { (seen : List Text) → HasNames self.old.names seen →
             ReadsSimple (state_view self.old.groups) seen text.now result
             (state_view self.new.groups) self.new.names }
@@ -96,7 +96,7 @@ impl PatternParser {
             Err(fault) => return Err(self.stop(fault, text)),
         };
         if !self.names.admit(alloc, token)? {
-            return Err(SyntaxError::Syntax {
+            return Err(Stop::Syntax {
                 kind: Kind::GroupSyntax,
                 left: text.len(),
             });
@@ -112,7 +112,7 @@ impl PatternParser {
     /// # Errors
     ///
     /// Returns its first fault, `LimitPatternNesting`, or `Memory`.
-    fn token<'t>(&mut self, alloc: Global, text: &'t [char]) -> Result<&'t [char], SyntaxError>
+    fn token<'t>(&mut self, alloc: Global, text: &'t [char]) -> Result<&'t [char], Stop>
         ensures { (seen : List Text) → HasNames self.old.names seen →
             ReadsToken (state_view self.old.groups) seen text.now result
             (state_view self.new.groups) self.new.names }
@@ -140,7 +140,7 @@ fn group_kind(kind: Kind, text: &[char]) -> Kind {
 /// # Errors
 ///
 /// Returns the first fault from the left, `LimitPatternNesting`, or `Memory`.
-fn run(alloc: Global, flags: Flags, text: &[char]) -> Result<Hir, SyntaxError>
+fn run(alloc: Global, flags: Flags, text: &[char]) -> Result<Hir, Stop>
     ensures found { IfOk result (λ hir. IsFound flags text.now (tree_of hir)) }
     ensures stopped { IfErr result (StopsText flags text.now) }
     ensures deep { IfErr result (IfDeepText flags text.now) }
@@ -177,16 +177,16 @@ fn syntax_at(text: &[char], kind: Kind, left: usize) -> PatternError
 }
 
 /// Returns the error for a stop.
-fn error_at(text: &[char], stop: SyntaxError) -> PatternError
+fn error_at(text: &[char], stop: Stop) -> PatternError
     ensures refused { (flags : FlagsValue) (t : Text) → StopsText flags t stop →
         Refuses flags t result }
     ensures deep { (flags : FlagsValue) (t : Text) → IfDeepText flags t stop →
         result ≡ PatternError.LimitPatternNesting → IsTooDeep flags t }
 {
     match stop {
-        SyntaxError::Syntax { kind, left } => syntax_at(text, kind, left),
-        SyntaxError::LimitPatternNesting => PatternError::LimitPatternNesting,
-        SyntaxError::Memory => PatternError::Memory,
+        Stop::Syntax { kind, left } => syntax_at(text, kind, left),
+        Stop::LimitPatternNesting => PatternError::LimitPatternNesting,
+        Stop::Memory => PatternError::Memory,
     }
 }
 

@@ -2,8 +2,8 @@
 use Rattle.std.proofs.Common.{◌≡◌, ℕ, ◌+◌, ◌<◌, ◌≤◌, Bool, true, [], ◌∷◌, length, Some, None, Result, Ok, Err, eqb, refl, sym, ap, subst, ◌∙◌, arith}
 use Rattle.logos_pattern_tokens.specs.declared.error.Fault.{Fault}
 use Rattle.logos_pattern_tokens.specs.declared.error.Fault.TheVariants as faults
-use Rattle.logos_pattern_tokens.specs.declared.error.SyntaxError.{SyntaxError}
-use Rattle.logos_pattern_tokens.specs.declared.error.SyntaxError.TheVariants as stops
+use Rattle.logos_pattern_tokens.specs.declared.error.Stop.{Stop}
+use Rattle.logos_pattern_tokens.specs.declared.error.Stop.TheVariants as stops
 use Rattle.logos_pattern_tokens.specs.declared.token.Flags.{Flags}
 use Rattle.logos_pattern_tokens.specs.declared.bracket.token.Lead.{Lead}
 use Rattle.logos_pattern_tokens.specs.declared.bracket.token.BracketToken.{BracketToken}
@@ -35,7 +35,7 @@ module _ (flags : Flags) (base : ℕ) (negated : Bool) (lead : Lead) (text here 
   pub unclosed : here ≡ [] → Refuted (λ b. BracketFits flags b → ⊥) negated lead text
   unclosed e = no_token_here (ap bracket_token_at e ∙ nothing_there)
 
-  pub faulted : (fault : Fault) (stop : SyntaxError) → Gives {X = BracketToken × Text} (λ x. x) (Err fault) (bracket_token_at here) → IsStopOf fault stop → Refuted (Denies flags base stop) negated lead text
+  pub faulted : (fault : Fault) (stop : Stop) → Gives {X = BracketToken × Text} (λ x. x) (Err fault) (bracket_token_at here) → IsStopOf fault stop → Refuted (Denies flags base stop) negated lead text
   faulted (faults.Syntax kind) (stops.Syntax other left) none is = no_token_here none
   faulted (faults.Syntax kind) stops.LimitPatternNesting none is = absurd is
   faulted (faults.Syntax kind) stops.Memory none is = absurd is
@@ -58,7 +58,7 @@ module _ (flags : Flags) (base : ℕ) (negated : Bool) (lead : Lead) (text here 
   deep_step (Operator op) after e none = absurd none
   deep_step Close after e none = absurd none
 
-  pub stopped : (token : BracketToken) (after : Text) (stop : SyntaxError) (new : Frames) → bracket_token_at here ≡ Some (token, after) → (token ≡ Close → s.below ≡ [] → ⊥) → BracketSteps flags base s token (Err stop) new → Refuted (Denies flags base stop) negated lead text
+  pub stopped : (token : BracketToken) (after : Text) (stop : Stop) (new : Frames) → bracket_token_at here ≡ Some (token, after) → (token ≡ Close → s.below ≡ [] → ⊥) → BracketSteps flags base s token (Err stop) new → Refuted (Denies flags base stop) negated lead text
   stopped token after (stops.Syntax kind left) new e inner h = no_step token after e inner h
   stopped token after stops.LimitPatternNesting new e inner h = deep_step token after e h
   stopped token after stops.Memory new e inner h = λ inside rest k. tt
@@ -68,7 +68,7 @@ empty_text [] e = refl
 empty_text (c ∷ t) e = let h = eqb-true (length (c ∷ t)) 0 (sym e) in absurd (omega arith)
 
 -- the inside behind an opening is a bracket
-whole_bracket : (flags : Flags) (base : ℕ) (text : Text) (n : Bool) (d : Lead) (rest : Text) (r : Result (BracketValue × Bor Text) SyntaxError) → Opens n d text rest → ReadsInside flags base n d rest r → ReadsBracket flags base text r
+whole_bracket : (flags : Flags) (base : ℕ) (text : Text) (n : Bool) (d : Lead) (rest : Text) (r : Result (BracketValue × Bor Text) Stop) → Opens n d text rest → ReadsInside flags base n d rest r → ReadsBracket flags base text r
 whole_bracket flags base text n d rest (Ok x) o h = record {
   written = bracket n d h.inside;
   encloses = (rest, o, h.cut);
@@ -79,12 +79,12 @@ whole_bracket flags base text n d rest (Ok x) o h = record {
 }
 whole_bracket flags base text n d rest (Err e) o h = (refuted (Denies flags base e) n d text rest o h.0, is_deep e h.1)
   where
-    is_deep : (e : SyntaxError) → IfDeepInside flags base e rest → IfDeepBracket flags base e text
+    is_deep : (e : Stop) → IfDeepInside flags base e rest → IfDeepBracket flags base e text
     is_deep (stops.Syntax kind left) i = tt
     is_deep stops.LimitPatternNesting i = (i.0, record { negated = n; lead = d; following = rest; opens = o; inside = i.1 }, i.2)
     is_deep stops.Memory i = tt
 
-pub bracket_at : (flags : Flags) (base : ℕ) (text : Text) (n : Bool) (d : Lead) (rest : Text) (r : Result (BracketValue × Bor Text) SyntaxError) → n ≡ (open_at text).0 → d ≡ (open_at text).1 → rest ≡ (open_at text).2 → ReadsInside flags base n d rest r → ReadsBracket flags base text r
+pub bracket_at : (flags : Flags) (base : ℕ) (text : Text) (n : Bool) (d : Lead) (rest : Text) (r : Result (BracketValue × Bor Text) Stop) → n ≡ (open_at text).0 → d ≡ (open_at text).1 → rest ≡ (open_at text).2 → ReadsInside flags base n d rest r → ReadsBracket flags base text r
 bracket_at flags base text n d rest r en ed er h =
     let o : Opens n d text rest = subst (λ x. Opens x d text rest) (sym en) (subst (λ x. Opens (open_at text).0 x text rest) (sym ed) (subst (λ x. Opens (open_at text).0 (open_at text).1 text x) (sym er) (open_taken text))) in
     whole_bracket flags base text n d rest r o h

@@ -6,8 +6,8 @@ use Rattle.logos_pattern_tokens.specs.declared.bracket.token.BracketToken.{Brack
 use Rattle.logos_pattern_tokens.specs.declared.bracket.token.BracketToken.TheVariants.{Item, Open, Operator, Close}
 use Rattle.logos_pattern_tokens.specs.declared.error.Fault.{Fault}
 use Rattle.logos_pattern_tokens.specs.declared.error.Fault.TheVariants as faults
-use Rattle.logos_pattern_tokens.specs.declared.error.SyntaxError.{SyntaxError}
-use Rattle.logos_pattern_tokens.specs.declared.error.SyntaxError.TheVariants as stops
+use Rattle.logos_pattern_tokens.specs.declared.error.Stop.{Stop}
+use Rattle.logos_pattern_tokens.specs.declared.error.Stop.TheVariants as stops
 use Rattle.logos_pattern_tokens.specs.Token.{Text}
 use Rattle.logos_pattern_tokens.specs.bracket.Reader.{open_at, bracket_token_at}
 use Rattle.logos_pattern_tokens.proofs.BracketTokens.{open_taken}
@@ -48,7 +48,7 @@ module _ (flags : Flags) (base : ℕ) (negated : Bool) (lead : Lead) (text here 
       }
 
   -- what a step that stopped says of the text
-  pub deep_inside : (token : BracketToken) (after : Text) (stop : SyntaxError) (new : Frames) → bracket_token_at here ≡ Some (token, after) → BracketSteps flags base s token (Err stop) new → IfDeepInside flags base stop text
+  pub deep_inside : (token : BracketToken) (after : Text) (stop : Stop) (new : Frames) → bracket_token_at here ≡ Some (token, after) → BracketSteps flags base s token (Err stop) new → IfDeepInside flags base stop text
   deep_inside token after (stops.Syntax kind left) new e h = tt
   deep_inside token after stops.Memory new e h = tt
   deep_inside (Item i) after stops.LimitPatternNesting new e none = absurd none
@@ -59,7 +59,7 @@ module _ (flags : Flags) (base : ℕ) (negated : Bool) (lead : Lead) (text here 
       (_, opens_here n d after e, omega arith)
 
 -- a fault is no limit
-pub shallow_inside : (flags : Flags) (base : ℕ) (text : Text) (fault : Fault) (stop : SyntaxError) → IsStopOf fault stop → IfDeepInside flags base stop text
+pub shallow_inside : (flags : Flags) (base : ℕ) (text : Text) (fault : Fault) (stop : Stop) → IsStopOf fault stop → IfDeepInside flags base stop text
 shallow_inside flags base text (faults.Syntax kind) (stops.Syntax other left) h = tt
 shallow_inside flags base text (faults.Syntax kind) stops.LimitPatternNesting h = absurd h
 shallow_inside flags base text (faults.Syntax kind) stops.Memory h = tt

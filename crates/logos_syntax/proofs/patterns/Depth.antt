@@ -1,7 +1,7 @@
 -- How deep the parser is.
 use Rattle.std.proofs.Common.{◌≡◌, ◌<◌, ◌≤◌, Option, Some, None, Result, Ok, Err, refl, ap, arith, option_map}
-use Rattle.logos_pattern_tokens.specs.declared.error.SyntaxError.{SyntaxError}
-use Rattle.logos_pattern_tokens.specs.declared.error.SyntaxError.TheVariants as stops
+use Rattle.logos_pattern_tokens.specs.declared.error.Stop.{Stop}
+use Rattle.logos_pattern_tokens.specs.declared.error.Stop.TheVariants as stops
 use Rattle.logos_pattern_tokens.specs.Token.{repeats}
 use Rattle.logos_syntax.specs.inside.GroupsView.{Repeats, Steps}
 use Rattle.logos_pattern_tokens.specs.declared.token.Operator.{Operator}
@@ -15,7 +15,7 @@ repeats_deep g op (Some q) p e h =
     (_, refl, omega arith)
 
 -- the step of an operator, by what becomes of the group
-pub repeat_steps : (s : State) (op : Operator) (r : Result (Unit {0}) SyntaxError) (g : Group) → Repeats r (repeat s.top op s.top.last) g → Steps s (repeats op) r (record s { top = g })
+pub repeat_steps : (s : State) (op : Operator) (r : Result (Unit {0}) Stop) (g : Group) → Repeats r (repeat s.top op s.top.last) g → Steps s (repeats op) r (record s { top = g })
 repeat_steps s op (Ok x) g e = (tt, ap (option_map (λ h. record s { top = h })) e)
 repeat_steps s op (Err (stops.Syntax kind left)) g e = λ fit. ap (option_map (λ h. record s { top = h })) e
 repeat_steps s op (Err stops.LimitPatternNesting) g h = (tt, (record s { top = h.0 }, ap (option_map (λ k. record s { top = k })) h.1, omega (arith, h.2)))

@@ -2,8 +2,8 @@
 use Rattle.std.proofs.Common.{◌≡◌, ℕ, suc, ◌+◌, ◌<◌, max, List, [], ◌∷◌, ◌++◌, true, length, Some, Result, Ok, Err, IfErr, refl, sym, ap, subst, ◌∙◌, arith}
 use Rattle.logos_pattern_tokens.specs.declared.error.Fault.{Fault}
 use Rattle.logos_pattern_tokens.specs.declared.error.Fault.TheVariants as faults
-use Rattle.logos_pattern_tokens.specs.declared.error.SyntaxError.{SyntaxError}
-use Rattle.logos_pattern_tokens.specs.declared.error.SyntaxError.TheVariants as stops
+use Rattle.logos_pattern_tokens.specs.declared.error.Stop.{Stop}
+use Rattle.logos_pattern_tokens.specs.declared.error.Stop.TheVariants as stops
 use Rattle.logos_pattern_tokens.specs.declared.token.Flags.{Flags}
 use Rattle.logos_hir.specs.declared.hir.Hir.{Hir}
 use Rattle.logos_pattern_tokens.specs.Token.{Text, Token, opens}
@@ -104,7 +104,7 @@ deep_brackets flags text following s names r count b deep =
     (subst (λ f. BracketFront f following count) (flags_here flags text (91 ∷ following) s names r) b) (omega arith)
 
 -- what a stop at a token says of the text
-pub deep_text : (flags : Flags) (text rest : Text) (s : State) (names others : GroupNames) (stop : SyntaxError) → (r : HasRead flags text rest s names) → IfDeepToken stop s (names_after [] r.tokens) rest others → IfDeepText flags text stop
+pub deep_text : (flags : Flags) (text rest : Text) (s : State) (names others : GroupNames) (stop : Stop) → (r : HasRead flags text rest s names) → IfDeepToken stop s (names_after [] r.tokens) rest others → IfDeepText flags text stop
 deep_text flags text rest s names others (stops.Syntax kind left) r h = tt
 deep_text flags text rest s names others stops.Memory r h = tt
 deep_text flags text rest s names others stops.LimitPatternNesting r h = from rest r h
@@ -114,7 +114,7 @@ deep_text flags text rest s names others stops.LimitPatternNesting r h = from re
     from rest r (bracket_deep following count b deep) = deep_brackets flags text following s names r count b deep
 
 -- a fault is no limit
-pub shallow_token : (fault : Fault) (stop : SyntaxError) (s : State) (seen : List Text) (text : Text) (names : GroupNames) → IsStopOf fault stop → IfDeepToken stop s seen text names
+pub shallow_token : (fault : Fault) (stop : Stop) (s : State) (seen : List Text) (text : Text) (names : GroupNames) → IsStopOf fault stop → IfDeepToken stop s seen text names
 shallow_token (faults.Syntax kind) (stops.Syntax other left) s seen text names h = tt
 shallow_token (faults.Syntax kind) stops.LimitPatternNesting s seen text names h = absurd h
 shallow_token (faults.Syntax kind) stops.Memory s seen text names h = tt
@@ -123,14 +123,14 @@ shallow_token faults.Memory stops.LimitPatternNesting s seen text names h = absu
 shallow_token faults.Memory stops.Memory s seen text names h = tt
 
 -- what a bracket that stops says
-pub bracket_is_deep : (s : State) (seen : List Text) (text : Text) (names : GroupNames) (flags : Flags) (base : ℕ) (stop : SyntaxError) → flags ≡ s.top.flags → base ≡ length s.below → IfDeepBracket flags base stop text → IfDeepToken stop s seen (91 ∷ text) names
+pub bracket_is_deep : (s : State) (seen : List Text) (text : Text) (names : GroupNames) (flags : Flags) (base : ℕ) (stop : Stop) → flags ≡ s.top.flags → base ≡ length s.below → IfDeepBracket flags base stop text → IfDeepToken stop s seen (91 ∷ text) names
 bracket_is_deep s seen text names flags base (stops.Syntax kind left) set is h = tt
 bracket_is_deep s seen text names flags base stops.Memory set is h = tt
 bracket_is_deep s seen text names flags base stops.LimitPatternNesting set is h =
     bracket_deep text h.0 (subst (λ f. BracketFront f text h.0) set h.1) (let deep = h.2 in omega arith)
 
 -- what a step that stops says
-pub step_is_deep : (s u : State) (seen : List Text) (text rest : Text) (token : Token) (names : GroupNames) (stop : SyntaxError) → token_at text ≡ Some (token, rest) → Admits seen token true names → Steps s token (Err stop) u → IfDeepToken stop s seen text names
+pub step_is_deep : (s u : State) (seen : List Text) (text rest : Text) (token : Token) (names : GroupNames) (stop : Stop) → token_at text ≡ Some (token, rest) → Admits seen token true names → Steps s token (Err stop) u → IfDeepToken stop s seen text names
 step_is_deep s u seen text rest token names (stops.Syntax kind left) is new h = tt
 step_is_deep s u seen text rest token names stops.Memory is new h = tt
 step_is_deep s u seen text rest token names stops.LimitPatternNesting is new h =
@@ -144,7 +144,7 @@ step_is_deep s u seen text rest token names stops.LimitPatternNesting is new h =
     }) h.1.2
 
 -- the end is not too deep
-pub ended_is_deep : (flags : Flags) (text : Text) (s : State) (r : Result Hir SyntaxError) → Ends r s → IfErr r (IfDeepText flags text)
+pub ended_is_deep : (flags : Flags) (text : Text) (s : State) (r : Result Hir Stop) → Ends r s → IfErr r (IfDeepText flags text)
 ended_is_deep flags text s (Ok hir) h = tt
 ended_is_deep flags text s (Err (stops.Syntax kind left)) h = tt
 ended_is_deep flags text s (Err stops.LimitPatternNesting) h = absurd h

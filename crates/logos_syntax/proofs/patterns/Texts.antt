@@ -1,8 +1,8 @@
 -- A whole text: how it is cut into tokens, and what the parser's answers say of it.
 use Rattle.std.proofs.Common.{◌≡◌, ◌≢◌, ℕ, ◌+◌, ◌<◌, ◌≤◌, true, false, List, [], ◌∷◌, ◌++◌, length, Option, Some, None, Result, Ok, Err, IfOk, IfErr, refl, sym, ap, subst, ◌∙◌, arith, append-nil}
 use lib.ListN.{get_or}
-use Rattle.logos_pattern_tokens.specs.declared.error.SyntaxError.{SyntaxError}
-use Rattle.logos_pattern_tokens.specs.declared.error.SyntaxError.TheVariants as stops
+use Rattle.logos_pattern_tokens.specs.declared.error.Stop.{Stop}
+use Rattle.logos_pattern_tokens.specs.declared.error.Stop.TheVariants as stops
 use Rattle.logos_pattern_tokens.specs.declared.token.Flags.{Flags}
 use Rattle.logos_syntax.specs.declared.names.GroupNames.{GroupNames}
 use Rattle.logos_syntax.specs.declared.bracket.stack.BracketValue.{BracketValue as FoundSet}
@@ -143,7 +143,7 @@ later flags text rest s names r tree depth p =
 -- ---- refusals
 
 -- what the parser stops at says of the text
-pub stopped : (flags : Flags) (text rest : Text) (s : State) (names : GroupNames) (stop : SyntaxError) → (r : HasRead flags text rest s names) → 0 < length rest → ((t : Token) (after : Text) → Starts t rest after → StopsAt stop s (names_after [] r.tokens) t) → StopsText flags text stop
+pub stopped : (flags : Flags) (text rest : Text) (s : State) (names : GroupNames) (stop : Stop) → (r : HasRead flags text rest s names) → 0 < length rest → ((t : Token) (after : Text) → Starts t rest after → StopsAt stop s (names_after [] r.tokens) t) → StopsText flags text stop
 stopped flags text rest s names (stops.Syntax kind left) r some stop = λ depth spelled. let l = later flags text rest s names r spelled.0 depth spelled.1 in from _ l.more l.cut l.run l.differ
   where
     from : (u : State) (more : List Token) → Cuts rest more [] → Runs s more u → NamesDiffer (names_after [] r.tokens) more → ⊥
@@ -208,7 +208,7 @@ one flags text a b m n p q =
 
 -- ---- what reading a bracket says
 
-pub bracket_stops : (s : State) (seen : List Text) (text : Text) (flags : Flags) (base : ℕ) (stop : SyntaxError) → flags ≡ s.top.flags → base ≡ length s.below → ((b : Bracket) (rest : Text) → Encloses b text rest → Denies flags base stop b) → (t : Token) (rest : Text) → Starts t (91 ∷ text) rest → StopsAt stop s seen t
+pub bracket_stops : (s : State) (seen : List Text) (text : Text) (flags : Flags) (base : ℕ) (stop : Stop) → flags ≡ s.top.flags → base ≡ length s.below → ((b : Bracket) (rest : Text) → Encloses b text rest → Denies flags base stop b) → (t : Token) (rest : Text) → Starts t (91 ∷ text) rest → StopsAt stop s seen t
 bracket_stops s seen text flags base stop set is h t rest (taken u x r k) = absurd (no_simple u text r k)
 bracket_stops s seen text flags base (stops.Syntax kind left) set is h t rest (enclosed b x r k) = λ fit new. absurd (h b r k (subst (λ f. BracketFits f b) (sym set) fit))
 bracket_stops s seen text flags base stops.LimitPatternNesting set is h t rest (enclosed b x r k) = (_, refl, (let deep = h b r k in omega arith))
@@ -227,7 +227,7 @@ bracket_goes s u seen names text rest flags base f set is has b h = record {
 
 -- ---- what reading another token says
 
-pub faulted : {X : Type 0} (view : X → Taken) (s : State) (seen : List Text) (text : Text) (fault : Fault) (stop : SyntaxError) → Gives view (Err fault) (token_at text) → IsStopOf fault stop → (t : Token) (rest : Text) → Takes t text rest → StopsAt stop s seen t
+pub faulted : {X : Type 0} (view : X → Taken) (s : State) (seen : List Text) (text : Text) (fault : Fault) (stop : Stop) → Gives view (Err fault) (token_at text) → IsStopOf fault stop → (t : Token) (rest : Text) → Takes t text rest → StopsAt stop s seen t
 faulted view s seen text (faults.Syntax kind) (stops.Syntax other left) none is t rest h = let e = taken_is t text rest h in absurd cc
 faulted view s seen text (faults.Syntax kind) stops.LimitPatternNesting none is t rest h = absurd is
 faulted view s seen text (faults.Syntax kind) stops.Memory none is t rest h = absurd is
@@ -240,10 +240,10 @@ twice s seen text rest token new is known t after h fit fresh =
     let e = one_taken text t token after rest h (taken_here text rest token is) in
     absurd (known (subst (IsNew seen) e.0 fresh))
 
-pub step_stops : (s u : State) (seen : List Text) (text rest : Text) (token : Token) (stop : SyntaxError) → token_at text ≡ Some (token, rest) → Steps s token (Err stop) u → (t : Token) (after : Text) → Takes t text after → StopsAt stop s seen t
+pub step_stops : (s u : State) (seen : List Text) (text rest : Text) (token : Token) (stop : Stop) → token_at text ≡ Some (token, rest) → Steps s token (Err stop) u → (t : Token) (after : Text) → Takes t text after → StopsAt stop s seen t
 step_stops s u seen text rest token stop is h t after k = let e = one_taken text token t rest after (taken_here text rest token is) k in subst (StopsAt stop s seen) e.0 (from stop h)
   where
-    from : (stop : SyntaxError) → Steps s token (Err stop) u → StopsAt stop s seen token
+    from : (stop : Stop) → Steps s token (Err stop) u → StopsAt stop s seen token
     from (stops.Syntax kind left) h = λ fit fresh. h fit
     from stops.LimitPatternNesting h = h.1
     from stops.Memory h = tt
@@ -258,7 +258,7 @@ simple_goes s u seen text rest token names r is new h = record {
   has = new.1;
 }
 
-pub not_bracket : (s u : State) (seen : List Text) (text : Text) (r : Result (Bor Text) SyntaxError) (names : GroupNames) → ((x : Text) → text ≡ 91 ∷ x → ⊥) → ReadsSimple s seen text r u names → ReadsToken s seen text r u names
+pub not_bracket : (s u : State) (seen : List Text) (text : Text) (r : Result (Bor Text) Stop) (names : GroupNames) → ((x : Text) → text ≡ 91 ∷ x → ⊥) → ReadsSimple s seen text r u names → ReadsToken s seen text r u names
 not_bracket s u seen text (Ok rest) names other h = h
 not_bracket s u seen text (Err stop) names other h = (λ t rest k. from t text rest k other h.0, h.1)
   where
@@ -282,10 +282,10 @@ refused_as flags text depth errors.Memory small spelled h = refl
 
 -- ---- the end
 
-pub ended : (flags : Flags) (text rest : Text) (s : State) (names : GroupNames) (r : Result Hir SyntaxError) → rest ≡ [] → HasRead flags text rest s names → Ends r s → IfOk r (λ hir. IsFound flags text (tree_of hir)) × IfErr r (StopsText flags text)
+pub ended : (flags : Flags) (text rest : Text) (s : State) (names : GroupNames) (r : Result Hir Stop) → rest ≡ [] → HasRead flags text rest s names → Ends r s → IfOk r (λ hir. IsFound flags text (tree_of hir)) × IfErr r (StopsText flags text)
 ended flags text rest s names r none read h = from r h (subst (λ x. HasRead flags text x s names) none read)
   where
-    from : (r : Result Hir SyntaxError) → Ends r s → HasRead flags text [] s names → IfOk r (λ hir. IsFound flags text (tree_of hir)) × IfErr r (StopsText flags text)
+    from : (r : Result Hir Stop) → Ends r s → HasRead flags text [] s names → IfOk r (λ hir. IsFound flags text (tree_of hir)) × IfErr r (StopsText flags text)
     from (Ok hir) h read = (found flags text s names (tree_of hir) read h.0 h.1 h.2, tt)
     from (Err (stops.Syntax kind left)) h read = (tt, still_open flags text s names read h)
     from (Err stops.LimitPatternNesting) h read = absurd h

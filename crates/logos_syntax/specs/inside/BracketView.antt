@@ -1,8 +1,8 @@
 -- What the values of the bracket reader stand for, and what its functions promise.
 use Rattle.std.specs.Prelude.{◌≡◌, ℕ, ◌+◌, ◌<◌, ◌≤◌, Bool, true, false, [], ◌∷◌, ◌++◌, map, reverse, length, Some, Result, Ok, Err}
 use Rattle.std.specs.Option.{option_map}
-use Rattle.logos_pattern_tokens.specs.declared.error.SyntaxError.{SyntaxError}
-use Rattle.logos_pattern_tokens.specs.declared.error.SyntaxError.TheVariants as stops
+use Rattle.logos_pattern_tokens.specs.declared.error.Stop.{Stop}
+use Rattle.logos_pattern_tokens.specs.declared.error.Stop.TheVariants as stops
 use Rattle.logos_pattern_tokens.specs.declared.token.Flags.{Flags}
 use Rattle.logos_pattern_tokens.specs.declared.bracket.token.BracketToken.{BracketToken}
 use Rattle.logos_pattern_tokens.specs.declared.bracket.token.BracketToken.TheVariants.{Item, Open, Operator, Close}
@@ -53,7 +53,7 @@ abbrev pub MayStand : Flags → BracketToken → Type 0
 MayStand flags (Item item) = item_fits flags item ≡ true
 MayStand flags _ = Unit {0}
 
-abbrev pub BracketSteps : Flags → ℕ → Frames → BracketToken → Result (Unit {0}) SyntaxError → Frames → Type 0
+abbrev pub BracketSteps : Flags → ℕ → Frames → BracketToken → Result (Unit {0}) Stop → Frames → Type 0
 BracketSteps flags base old token (Ok _) new = MayStand flags token × (bracket_step flags base old token ≡ Some new)
 BracketSteps flags base old token (Err (stops.Syntax kind left)) new = NoStep flags old token
 BracketSteps flags base old token (Err stops.LimitPatternNesting) new = TooDeep base old token
@@ -69,23 +69,23 @@ pub record IsInside (flags : Flags) (base : ℕ) (negated : Bool) (lead : Lead) 
   pub shallow : found.depth ≤ 250
 
 -- What a stop means for a bracket.
-abbrev pub Denies : Flags → ℕ → SyntaxError → Bracket → Type 0
+abbrev pub Denies : Flags → ℕ → Stop → Bracket → Type 0
 Denies flags base (stops.Syntax kind left) b = BracketFits flags b → ⊥
 Denies flags base stops.LimitPatternNesting b = 250 < base + bracket_depth b
 Denies flags base stops.Memory b = Unit {0}
 
 -- If a reader stops at the limit, some beginning is too deep.
-abbrev pub IfDeepInside : Flags → ℕ → SyntaxError → Text → Type 0
+abbrev pub IfDeepInside : Flags → ℕ → Stop → Text → Type 0
 IfDeepInside flags base (stops.Syntax kind left) text = Unit {0}
 IfDeepInside flags base stops.LimitPatternNesting text = (count : ℕ) × InsideFront flags text count × (250 < base + count)
 IfDeepInside flags base stops.Memory text = Unit {0}
 
-abbrev pub IfDeepBracket : Flags → ℕ → SyntaxError → Text → Type 0
+abbrev pub IfDeepBracket : Flags → ℕ → Stop → Text → Type 0
 IfDeepBracket flags base (stops.Syntax kind left) text = Unit {0}
 IfDeepBracket flags base stops.LimitPatternNesting text = (count : ℕ) × BracketFront flags text count × (250 < base + count)
 IfDeepBracket flags base stops.Memory text = Unit {0}
 
-abbrev pub ReadsInside : Flags → ℕ → Bool → Lead → Text → Result (BracketValue × Bor Text) SyntaxError → Type 0
+abbrev pub ReadsInside : Flags → ℕ → Bool → Lead → Text → Result (BracketValue × Bor Text) Stop → Type 0
 ReadsInside flags base negated lead text (Ok x) = IsInside flags base negated lead text x.0 x.1.now
 ReadsInside flags base negated lead text (Err e) =
     ((inside : Operands) (rest : Text) → BracketCuts text (operands_tokens inside ++ Close ∷ []) rest → Denies flags base e (bracket negated lead inside))
@@ -100,14 +100,14 @@ pub record IsBracketValue (flags : Flags) (base : ℕ) (text : Text) (found : Br
   pub is_depth : found.depth ≡ base + bracket_depth written
   pub shallow : found.depth ≤ 250
 
-abbrev pub ReadsBracket : Flags → ℕ → Text → Result (BracketValue × Bor Text) SyntaxError → Type 0
+abbrev pub ReadsBracket : Flags → ℕ → Text → Result (BracketValue × Bor Text) Stop → Type 0
 ReadsBracket flags base text (Ok x) = IsBracketValue flags base text x.0 x.1.now
 ReadsBracket flags base text (Err e) =
     ((b : Bracket) (rest : Text) → Encloses b text rest → Denies flags base e b)
     × IfDeepBracket flags base e text
 
 -- A fault as a stop.
-abbrev pub IsStopOf : Fault → SyntaxError → Type 0
+abbrev pub IsStopOf : Fault → Stop → Type 0
 IsStopOf (faults.Syntax kind) (stops.Syntax other left) = Unit {0}
 IsStopOf (faults.Syntax kind) _ = ⊥
 IsStopOf faults.Memory (stops.Memory) = Unit {0}

@@ -1,8 +1,8 @@
 -- What the parser's values stand for, and what its functions promise.
 use Rattle.std.specs.Prelude.{◌≡◌, ◌≢◌, ◌<◌, ◌≤◌, [], map, reverse, Option, Some, None, Result, Ok, Err}
 use Rattle.std.specs.Option.{option_map}
-use Rattle.logos_pattern_tokens.specs.declared.error.SyntaxError.{SyntaxError}
-use Rattle.logos_pattern_tokens.specs.declared.error.SyntaxError.TheVariants as stops
+use Rattle.logos_pattern_tokens.specs.declared.error.Stop.{Stop}
+use Rattle.logos_pattern_tokens.specs.declared.error.Stop.TheVariants as stops
 use Rattle.logos_hir.specs.declared.hir.Hir.{Hir}
 use Rattle.logos_syntax.specs.declared.groups.GroupPart.{GroupPart as PartValue}
 use Rattle.logos_syntax.specs.declared.groups.OpenedGroup.{OpenedGroup}
@@ -30,21 +30,21 @@ abbrev pub state_view : Groups → State
 state_view m = record { top = group_view m.top; below = reverse (map group_view m.below.items) }
 
 -- What a step did, or why there is none: the flags do not allow the token, or a point is too deep.
-abbrev pub Steps : State → Token → Result (Unit {0}) SyntaxError → State → Type 0
+abbrev pub Steps : State → Token → Result (Unit {0}) Stop → State → Type 0
 Steps old token (Ok _) new = TokenFits old.top.flags token × (step old token ≡ Some new)
 Steps old token (Err (stops.Syntax kind left)) new = TokenFits old.top.flags token → step old token ≡ None
 Steps old token (Err stops.LimitPatternNesting) new =
     TokenFits old.top.flags token × ((s : State) × (step old token ≡ Some s) × (250 < deepest s))
 Steps old token (Err stops.Memory) new = Unit {0}
 
-abbrev pub Repeats : Result (Unit {0}) SyntaxError → Option Group → Group → Type 0
+abbrev pub Repeats : Result (Unit {0}) Stop → Option Group → Group → Type 0
 Repeats (Ok _) read new = read ≡ Some new
 Repeats (Err (stops.Syntax kind left)) read new = read ≡ None
 Repeats (Err stops.LimitPatternNesting) read new = (g : Group) × (read ≡ Some g) × (250 < g.inner)
 Repeats (Err stops.Memory) read new = Unit {0}
 
 -- The tree of a parser that has no group open.
-abbrev pub Ends : Result Hir SyntaxError → State → Type 0
+abbrev pub Ends : Result Hir Stop → State → Type 0
 Ends (Ok hir) s = (s.below ≡ []) × (tree_of hir ≡ whole_tree s.top) × (s.top.inner ≤ 250)
 Ends (Err (stops.Syntax kind left)) s = s.below ≢ []
 Ends (Err stops.LimitPatternNesting) s = ⊥

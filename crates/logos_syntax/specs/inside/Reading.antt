@@ -1,8 +1,8 @@
 -- What reading a whole pattern promises.
 use Rattle.std.specs.Prelude.{◌≡◌, ℕ, ◌+◌, ◌<◌, List, [], ◌∷◌, length, Some, None, Result, Ok, Err}
 use Rattle.std.specs.Borrow.{Bor}
-use Rattle.logos_pattern_tokens.specs.declared.error.SyntaxError.{SyntaxError}
-use Rattle.logos_pattern_tokens.specs.declared.error.SyntaxError.TheVariants as stops
+use Rattle.logos_pattern_tokens.specs.declared.error.Stop.{Stop}
+use Rattle.logos_pattern_tokens.specs.declared.error.Stop.TheVariants as stops
 use Rattle.logos_pattern_tokens.specs.declared.token.Flags.{Flags}
 use Rattle.logos_syntax.specs.declared.names.GroupNames.{GroupNames}
 use Rattle.logos_pattern_tokens.specs.Token.{Text, Token}
@@ -25,7 +25,7 @@ pub record GoesOn (old : State) (seen : List Text) (text : Text) (new : State) (
   pub has : HasNames names (with_name seen token)
 
 -- What a stop means for a token at the front of the text.
-abbrev pub StopsAt : SyntaxError → State → List Text → Token → Type 0
+abbrev pub StopsAt : Stop → State → List Text → Token → Type 0
 StopsAt (stops.Syntax kind left) old seen token = TokenFits old.top.flags token → IsNew seen token → step old token ≡ None
 StopsAt stops.LimitPatternNesting old seen token = (new : State) × (step old token ≡ Some new) × (250 < deepest new)
 StopsAt stops.Memory old seen token = Unit {0}
@@ -36,19 +36,19 @@ pub data IsDeepAt (old : State) (seen : List Text) (names : GroupNames) : Text �
   bracket_deep : (following : Text) (count : ℕ) → BracketFront old.top.flags following count → 250 < length old.below + count → IsDeepAt old seen names (91 ∷ following)
 
 -- A stop at the limit is at such a point.
-abbrev pub IfDeepToken : SyntaxError → State → List Text → Text → GroupNames → Type 0
+abbrev pub IfDeepToken : Stop → State → List Text → Text → GroupNames → Type 0
 IfDeepToken (stops.Syntax kind left) old seen text names = Unit {0}
 IfDeepToken stops.LimitPatternNesting old seen text names = IsDeepAt old seen names text
 IfDeepToken stops.Memory old seen text names = Unit {0}
 
-abbrev pub ReadsToken : State → List Text → Text → Result (Bor Text) SyntaxError → State → GroupNames → Type 0
+abbrev pub ReadsToken : State → List Text → Text → Result (Bor Text) Stop → State → GroupNames → Type 0
 ReadsToken old seen text (Ok rest) new names = GoesOn old seen text new names rest.now
 ReadsToken old seen text (Err stop) new names =
     ((token : Token) (rest : Text) → Starts token text rest → StopsAt stop old seen token)
     × IfDeepToken stop old seen text names
 
 -- The same for tokens that do not begin a bracket.
-abbrev pub ReadsSimple : State → List Text → Text → Result (Bor Text) SyntaxError → State → GroupNames → Type 0
+abbrev pub ReadsSimple : State → List Text → Text → Result (Bor Text) Stop → State → GroupNames → Type 0
 ReadsSimple old seen text (Ok rest) new names = GoesOn old seen text new names rest.now
 ReadsSimple old seen text (Err stop) new names =
     ((token : Token) (rest : Text) → Takes token text rest → StopsAt stop old seen token)
@@ -70,13 +70,13 @@ pub record HasRead (flags : Flags) (text rest : Text) (s : State) (names : Group
   pub has : HasNames names (names_after [] tokens)
 
 -- What a stop means for the text.
-abbrev pub StopsText : Flags → Text → SyntaxError → Type 0
+abbrev pub StopsText : Flags → Text → Stop → Type 0
 StopsText flags text (stops.Syntax kind left) = (depth : ℕ) → IsSpelled flags text depth → ⊥
 StopsText flags text stops.LimitPatternNesting = (depth : ℕ) → IsSpelled flags text depth → 250 < depth
 StopsText flags text stops.Memory = Unit {0}
 
 -- What a stop at the limit means for the text.
-abbrev pub IfDeepText : Flags → Text → SyntaxError → Type 0
+abbrev pub IfDeepText : Flags → Text → Stop → Type 0
 IfDeepText flags text (stops.Syntax kind left) = Unit {0}
 IfDeepText flags text stops.LimitPatternNesting = IsTooDeep flags text
 IfDeepText flags text stops.Memory = Unit {0}

@@ -5,7 +5,7 @@ ghost use Rattle.logos_syntax.specs.Views.{pattern_nesting, IsStopOf, ReadsInsid
 
 use crate::bracket::stack::{BracketOpening, BracketValue, Frames, MAX_NESTING};
 use logos_pattern_tokens::bracket::reader::{bracket_token_at, open_at};
-use logos_pattern_tokens::error::{Fault, Kind, SyntaxError};
+use logos_pattern_tokens::error::{Fault, Kind, Stop};
 use logos_pattern_tokens::token::Flags;
 use std::alloc::Global;
 
@@ -31,16 +31,16 @@ fn after_braces(text: &[char]) -> &[char] {
 }
 
 /// Returns the stop for a fault of the token at the front of `rest`.
-pub(crate) fn stop_for(flags: Flags, fault: Fault, rest: &[char]) -> SyntaxError
+pub(crate) fn stop_for(flags: Flags, fault: Fault, rest: &[char]) -> Stop
     ensures { IsStopOf fault result }
 {
     match fault {
-        Fault::Memory => SyntaxError::Memory,
-        Fault::Syntax(Kind::Unclosed) => SyntaxError::Syntax {
+        Fault::Memory => Stop::Memory,
+        Fault::Syntax(Kind::Unclosed) => Stop::Syntax {
             kind: Kind::Unclosed,
             left: left_at_brace(rest),
         },
-        Fault::Syntax(kind) => SyntaxError::Syntax {
+        Fault::Syntax(kind) => Stop::Syntax {
             kind: property_kind(flags, kind),
             left: rest.len(),
         },
@@ -68,7 +68,7 @@ fn read_inside(
     base: usize,
     opening: BracketOpening,
     text: &[char],
-) -> Result<(BracketValue, &[char]), SyntaxError>
+) -> Result<(BracketValue, &[char]), Stop>
     requires { base < pattern_nesting }
     ensures { ReadsInside flags base opening.negated opening.lead text.now result }
 {
@@ -87,7 +87,7 @@ fn read_inside(
         }
         rest = after;
     }
-    Err(SyntaxError::Syntax {
+    Err(Stop::Syntax {
         kind: Kind::Unclosed,
         left: frames.left(),
     })
@@ -104,12 +104,12 @@ pub(crate) fn read_bracket(
     flags: Flags,
     base: usize,
     text: &[char],
-) -> Result<(BracketValue, &[char]), SyntaxError>
+) -> Result<(BracketValue, &[char]), Stop>
     requires { base ≤ pattern_nesting }
     ensures { ReadsBracket flags base text.now result }
 {
     if base >= MAX_NESTING {
-        return Err(SyntaxError::LimitPatternNesting);
+        return Err(Stop::LimitPatternNesting);
     }
     let (negated, lead, inside) = open_at(text);
     let left = text.len().saturating_add(1);

@@ -7,8 +7,8 @@ use crate::bracket::translate::{item_fits, lead_ranges, push_item, push_set, set
 use logos_hir::hir::Range;
 use logos_hir::sets::RangeSet;
 use logos_hir::sets::operands::{OperandRuns, SetOperator, combination};
-use logos_pattern_tokens::bracket::token::{BracketItem, BracketToken, Lead};
-use logos_pattern_tokens::error::{Kind, SyntaxError};
+use logos_pattern_tokens::bracket::token::{BracketToken, Item, Lead};
+use logos_pattern_tokens::error::{Kind, Stop};
 use logos_pattern_tokens::token::Flags;
 use std::alloc::{AllocError, Global};
 use std::mem;
@@ -156,14 +156,14 @@ impl Frames {
         alloc: Global,
         flags: Flags,
         base: usize,
-        item: BracketItem,
+        item: Item,
         left: usize,
-    ) -> Result<(), SyntaxError>
+    ) -> Result<(), Stop>
         ensures { BracketSteps flags base (frames_view self.old) (BracketToken.Item item) result
             (frames_view self.new) }
     {
         if !item_fits(flags, item) {
-            return Err(SyntaxError::Syntax {
+            return Err(Stop::Syntax {
                 kind: Kind::NotInBytes,
                 left,
             });
@@ -183,14 +183,14 @@ impl Frames {
         flags: Flags,
         base: usize,
         opening: BracketOpening,
-    ) -> Result<(), SyntaxError>
+    ) -> Result<(), Stop>
         requires { base ≤ pattern_nesting }
         ensures { BracketSteps flags base (frames_view self.old)
             (BracketToken.Open opening.negated opening.lead) result (frames_view self.new) }
     {
         let level = base + self.below.len() + 2;
         if level > MAX_NESTING {
-            return Err(SyntaxError::LimitPatternNesting);
+            return Err(Stop::LimitPatternNesting);
         }
         let inside = BracketFrame::new(alloc, opening, level)?;
         let outside = mem::replace(&mut self.top, inside);
@@ -209,7 +209,7 @@ impl Frames {
         flags: Flags,
         base: usize,
         op: SetOperator,
-    ) -> Result<(), SyntaxError>
+    ) -> Result<(), Stop>
         ensures { BracketSteps flags base (frames_view self.old) (BracketToken.Operator op) result
             (frames_view self.new) }
     {
@@ -226,18 +226,12 @@ impl Frames {
     /// # Errors
     ///
     /// Returns `Unopened` if it is not, and `Memory`.
-    fn close(
-        &mut self,
-        alloc: Global,
-        flags: Flags,
-        base: usize,
-        left: usize,
-    ) -> Result<(), SyntaxError>
+    fn close(&mut self, alloc: Global, flags: Flags, base: usize, left: usize) -> Result<(), Stop>
         ensures { BracketSteps flags base (frames_view self.old) BracketToken.Close result
             (frames_view self.new) }
     {
         let Some(outside) = self.below.pop() else {
-            return Err(SyntaxError::Syntax {
+            return Err(Stop::Syntax {
                 kind: Kind::Unopened,
                 left,
             });
@@ -262,7 +256,7 @@ impl Frames {
         base: usize,
         token: BracketToken,
         left: usize,
-    ) -> Result<(), SyntaxError>
+    ) -> Result<(), Stop>
         requires { base ≤ pattern_nesting }
         ensures { BracketSteps flags base (frames_view self.old) token result
             (frames_view self.new) }
