@@ -7,8 +7,8 @@ use Rattle.logos_code.specs.Code.{CodeValue}
 use Rattle.logos_code.specs.Headline.{IsSound}
 use Rattle.logos_code.specs.Items.{Callback, Item}
 use Rattle.logos_code.specs.Runs.{Runs}
-use Rattle.logos_stream.specs.Fronts.{item_with}
-use Rattle.logos_stream.specs.Lefts.{AreLeft, GoesOn, MayRead, Steps, placed}
+use Rattle.logos_stream.specs.Fronts.{end_of, item_with}
+use Rattle.logos_stream.specs.Lefts.{AllAreOfTheWhole, AreLeft, GoesOn, MayRead, Steps, placed}
 use Rattle.logos_stream.specs.Nexts.{FinishesNext, GivesNext, WaitsNext}
 use Rattle.logos_stream.specs.Wholes.{AreFound, HasGiven}
 use Rattle.logos_stream.specs.WindowValue.{GoesPast, ReadsOn, StaysUnread, WindowValue}
@@ -28,29 +28,28 @@ not_both false f t = absurd t
 
 -- ---- what was read is all that the reader had
 
-module _ (a b c : Option (List ℕ)) (first second : List ℕ) (one : Consumes a b first) (two : Consumes b c second) where
-  none_more : (x : Option (List ℕ)) (y : Option (List ℕ)) (z : Option (List ℕ)) → Consumes x y first → Consumes y z second → IfSome x (λ bytes. first ≡ bytes) →
-      IfSome x (λ bytes. first ++ second ≡ bytes)
-  none_more None y z p q e = tt
-  none_more (Some x) None z p q e = absurd p
-  none_more (Some x) (Some y) None p q e = absurd q
-  none_more (Some x) (Some y) (Some z) p q e =
-      let n : length y ≡ 0 = omega (arith, ap length p, ap length e, length-append first y) in
-      let m : length second ≡ 0 = omega (arith, n, ap length q, length-append second z) in
-      empty second m where
-      empty : (l : List ℕ) → length l ≡ 0 → first ++ l ≡ x
-      empty [] h = append-nil first ∙ e
-      empty (b ∷ l) h = cc
+none_left : (first rest all : List ℕ) → length rest ≡ 0 → first ≡ all → first ++ rest ≡ all
+none_left first [] all h e = append-nil first ∙ e
+none_left first (b ∷ rest) all h e = absurd (omega (arith, h))
 
-  all_more : (x : Option (List ℕ)) (y : Option (List ℕ)) → Consumes x y first → IfSome y (λ bytes. second ≡ bytes) → IfSome x (λ bytes. first ++ second ≡ bytes)
-  all_more None y p e = tt
-  all_more (Some x) None p e = absurd p
-  all_more (Some x) (Some y) p e = ap (λ l. first ++ l) e ∙ sym p
+none_more : (a b c : Option (List ℕ)) (first second : List ℕ) → Consumes a b first → Consumes b c second → IfSome a (λ bytes. first ≡ bytes) → IfSome a (λ bytes. first ++ second ≡ bytes)
+none_more None b c first second p q e = tt
+none_more (Some x) None c first second p q e = absurd p
+none_more (Some x) (Some y) None first second p q e = absurd q
+none_more (Some x) (Some y) (Some z) first second p q e =
+    let n : length y ≡ 0 = omega (arith, ap length p, ap length e, length-append first y) in
+    let m : length second ≡ 0 = omega (arith, n, ap length q, length-append second z) in
+    none_left first second x m e
 
-  pub all_of_two : (is_over : Bool) → (IsTrue is_over → IfSome a (λ bytes. first ≡ bytes)) → (IsFalse is_over → IfSome b (λ bytes. second ≡ bytes)) →
-      IfSome a (λ bytes. first ++ second ≡ bytes)
-  all_of_two true h k = none_more a b c one two (h tt)
-  all_of_two false h k = all_more a b one (k tt)
+all_more : (a b : Option (List ℕ)) (first second : List ℕ) → Consumes a b first → IfSome b (λ bytes. second ≡ bytes) → IfSome a (λ bytes. first ++ second ≡ bytes)
+all_more None b first second p e = tt
+all_more (Some x) None first second p e = absurd p
+all_more (Some x) (Some y) first second p e = ap (λ l. first ++ l) e ∙ sym p
+
+all_of_two : (a b c : Option (List ℕ)) (first second : List ℕ) (is_over : Bool) → Consumes a b first → Consumes b c second → (IsTrue is_over → IfSome a (λ bytes. first ≡ bytes)) →
+    (IsFalse is_over → IfSome b (λ bytes. second ≡ bytes)) → IfSome a (λ bytes. first ++ second ≡ bytes)
+all_of_two a b c first second true p q h k = none_more a b c first second p q (h tt)
+all_of_two a b c first second false p q h k = all_more a b first second p (k tt)
 
 -- ---- streams go on
 
@@ -77,7 +76,7 @@ module _ {R : Type 0} (remaining : R → Option (List ℕ)) (code : CodeValue) (
     passed = f.passed ++ g.passed;
     bytes = sym (append_assoc (first.lexed ++ first.after) f.added g.added) ∙ ap (λ l. l ++ g.added) f.bytes ∙ append_assoc f.passed (middle.lexed ++ middle.after) g.added
         ∙ ap (λ l. f.passed ++ l) g.bytes ∙ sym (append_assoc f.passed g.passed (last.lexed ++ last.after));
-    all = λ is_not is. all_of_two (remaining first.reader) (remaining middle.reader) (remaining last.reader) f.added g.added f.consumed g.consumed middle.is_over (λ t. f.all is_not t) (λ n. g.all n is);
+    all = λ is_not is. all_of_two (remaining first.reader) (remaining middle.reader) (remaining last.reader) f.added g.added middle.is_over f.consumed g.consumed (λ t. f.all is_not t) (λ n. g.all n is);
     given = λ sound before items h.
         subst (λ (l : List ℕ). HasGiven code callback l last (items ++ (found ++ more))) (append_assoc before f.passed g.passed)
         (subst (λ (l : List Item). HasGiven code callback ((before ++ f.passed) ++ g.passed) last l) (append_assoc items found more)
@@ -101,7 +100,7 @@ module _ {R : Type 0} (remaining : R → Option (List ℕ)) (code : CodeValue) (
     }
 
   pub on_item : (old new : WindowValue R) (item : StreamItem) → GivesNext code callback old new item → On old new (item_with item new.slice ∷ [])
-  on_item old new item g = on_past old new _ g.shows.past (item_with item new.slice ∷ [])
+  on_item old new item g = on_past old new (end_of g.found) g.shows.past (item_with item new.slice ∷ [])
       (λ sound before items h. (streams_are_of_the_whole remaining callback).gives code before old new items item sound h g)
 
   pub on_wait : (old new : WindowValue R) → WaitsNext code callback old new → On old new []
@@ -183,3 +182,14 @@ module _ {R : Type 0} (remaining : R → Option (List ℕ)) (code : CodeValue) (
             subst (λ (l : List ℕ). Runs code callback l 0 (given ++ s.0)) (sym whole)
             ((streams_are_of_the_whole remaining callback).ends code (before ++ on.passed) old new (given ++ s.0) sound near (on.given sound before given h) ends);
       }
+
+-- ---- all items of a stream
+
+pub all_are_of_the_whole : {R : Type 0} (remaining : R → Option (List ℕ)) (callback : Callback) → AllAreOfTheWhole remaining callback
+all_are_of_the_whole remaining callback code reader bound items sound l = go (remaining reader) (l.all tt) where
+    go : (known : Option (List ℕ)) → IfSome known (λ bytes. l.unread ≡ bytes) →
+        IfSome known (λ bytes. length bytes < 2 ^ 64 → (found : List Item) × (items ≡ map placed found) × Runs code callback bytes 0 found)
+    go None e = tt
+    go (Some bytes) e = λ small. (l.found, l.placed_are,
+        subst (λ (b : List ℕ). Runs code callback b 0 l.found) e
+        (l.run sound [] [] ((streams_are_of_the_whole remaining callback).begins code reader bound) (subst (λ (b : List ℕ). length b < 2 ^ 64) (sym e) small)))

@@ -8,7 +8,7 @@ use Rattle.logos_code.specs.Runs.{Runs}
 use Rattle.logos_hir.specs.declared.leaf.LeafId.{LeafId}
 use Rattle.logos_stream.specs.Nexts.{FinishesNext}
 use Rattle.logos_stream.specs.Wholes.{HasGiven}
-use Rattle.logos_stream.specs.WindowValue.{ReadsOn, StaysUnread, WindowValue}
+use Rattle.logos_stream.specs.WindowValue.{ReadsOn, StaysUnread, WindowValue, nothing_read}
 use Rattle.logos_stream.specs.declared.item.StreamItem.{StreamItem}
 use Rattle.logos_stream.specs.declared.item.StreamItem.TheVariants.{Token, Error}
 
@@ -52,3 +52,9 @@ module _ {R : Type 0} (remaining : R → Option (List ℕ)) (code : CodeValue) (
     pub run : IsSound code → (before : List ℕ) (given : List Item) → HasGiven code callback before window given →
         length (before ++ ((window.lexed ++ window.after) ++ unread)) < 2 ^ 64 →
         Runs code callback (before ++ ((window.lexed ++ window.after) ++ unread)) 0 (given ++ found)
+
+-- All items of a stream that nothing was read of are those of a run on all bytes of its reader.
+abbrev pub AllAreOfTheWhole : {R : Type 0} → (R → Option (List ℕ)) → Callback → Type 0
+AllAreOfTheWhole {R} remaining callback = (code : CodeValue) (reader : R) (bound : ℕ) (items : List StreamItem) → IsSound code →
+    AreLeft remaining code callback (nothing_read code.utf8 reader bound) items →
+    IfSome (remaining reader) (λ bytes. length bytes < 2 ^ 64 → (found : List Item) × (items ≡ map placed found) × Runs code callback bytes 0 found)
