@@ -1,8 +1,7 @@
 //! All items of a stream at once.
 
 ghost use Rattle.std.specs.Prelude.{◌<◌, IfOk, OnOk};
-ghost use Rattle.logos_stream.specs.Words.{answers_of};
-ghost use Rattle.logos_stream.specs.Views.{unread_length, AreLeft, KeepsCode, MayRead, Steps};
+ghost use Rattle.logos_stream.specs.Views.{answers_of, unread_length, AreLeft, KeepsCode, MayRead, Steps};
 
 use crate::item::{StreamItem, Streamed};
 use crate::stream::Stream;
