@@ -23,8 +23,8 @@ placed_with (Error None span) slice = refl
 placed_with (Error (Some leaf) span) slice = refl
 
 not_both : {P : Type 0} (b : Bool) → IsFalse b → IsTrue b → P
-not_both true f t = absurd f
-not_both false f t = absurd t
+not_both true f t = absurd (cc)
+not_both false f t = absurd (cc)
 
 -- ---- what was read is all that the reader had
 
@@ -48,8 +48,8 @@ all_more (Some x) (Some y) first second p e = ap (λ l. first ++ l) e ∙ sym p
 
 all_of_two : (a b c : Option (List ℕ)) (first second : List ℕ) (is_over : Bool) → Consumes a b first → Consumes b c second → (IsTrue is_over → IfSome a (λ bytes. first ≡ bytes)) →
     (IsFalse is_over → IfSome b (λ bytes. second ≡ bytes)) → IfSome a (λ bytes. first ++ second ≡ bytes)
-all_of_two a b c first second true p q h k = none_more a b c first second p q (h tt)
-all_of_two a b c first second false p q h k = all_more a b first second p (k tt)
+all_of_two a b c first second true p q h k = none_more a b c first second p q (h refl)
+all_of_two a b c first second false p q h k = all_more a b first second p (k refl)
 
 -- ---- streams go on
 
@@ -145,7 +145,7 @@ module _ {R : Type 0} (remaining : R → Option (List ℕ)) (code : CodeValue) (
   pub step_read : (old middle new : WindowValue R) (items : List StreamItem) → WaitsNext code callback old middle → MayRead remaining middle new →
       Steps remaining code callback old new items items false
   step_read old middle new items w r =
-      let waits : IsFalse middle.is_last = subst IsFalse (sym (w.waits.past.is_last ∙ w.unsettled)) tt in
+      let waits : IsFalse middle.is_last = w.waits.past.is_last ∙ w.unsettled in
       ([], on_then old middle new [] [] (on_wait old middle w) (on_read middle new waits r), sym (append-nil items))
 
   abbrev pub Stepping : WindowValue R → WindowValue R → List StreamItem → Type 0
@@ -186,7 +186,7 @@ module _ {R : Type 0} (remaining : R → Option (List ℕ)) (code : CodeValue) (
 -- ---- all items of a stream
 
 pub all_are_of_the_whole : {R : Type 0} (remaining : R → Option (List ℕ)) (callback : Callback) → AllAreOfTheWhole remaining callback
-all_are_of_the_whole remaining callback code reader bound items sound l = go (remaining reader) (l.all tt) where
+all_are_of_the_whole remaining callback code reader bound items sound l = go (remaining reader) (l.all refl) where
     go : (known : Option (List ℕ)) → IfSome known (λ bytes. l.unread ≡ bytes) →
         IfSome known (λ bytes. length bytes < 2 ^ 64 → (found : List Item) × (items ≡ map placed found) × Runs code callback bytes 0 found)
     go None e = tt

@@ -1,7 +1,7 @@
 use Rattle.std.proofs.Common.{◌≡◌}
 use Rattle.logos_machine.specs.LexerValue.{answers_of}
 use Rattle.logos_stream.proofs.LeftLemmas.{Stepping}
-use Rattle.logos_stream.proofs.items.Stream.items.Given as goal
+use Rattle.logos_stream.proofs.stream.Stream.items.Given as goal
 
 -- The items so far were given by the stream, which goes on.
 abbrev pub invariant-loop : goal.invariant-loop
