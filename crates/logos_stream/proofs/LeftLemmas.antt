@@ -1,7 +1,7 @@
 -- All items that are left of a stream, from call to call.
-use Rattle.std.proofs.Common.{◌≡◌, ◌∙◌, ◌⊎◌, inl, inr, ℕ, ◌+◌, ◌<◌, ◌≤◌, ◌^◌, Bool, true, false, IsTrue, IsFalse, List, [], ◌∷◌, ◌++◌, append_assoc, append-nil, length, take, drop, map, Option, None, Some, IfSome, refl, sym, ap, subst, arith}
-use Rattle.std.specs.Io.KnownBytes.{Consumes, IsAtEnd, Keeps}
-use Rattle.std.proofs.KnownBytes.{Consumes-kept, Consumes-nil, Consumes-trans, Consumes-whole, Keeps-refl}
+use Rattle.std.proofs.Common.{◌≡◌, ◌∙◌, inl, inr, ℕ, ◌<◌, ◌^◌, Bool, true, false, IsTrue, IsFalse, List, [], ◌∷◌, ◌++◌, append_assoc, append-nil, length, drop, map, Option, None, Some, IfSome, refl, sym, ap, subst, arith}
+use Rattle.std.specs.Io.KnownBytes.{Consumes}
+use Rattle.std.proofs.KnownBytes.{Consumes-kept, Consumes-nil, Consumes-trans, Consumes-whole}
 use Rattle.std.proofs.lemmas.List.{length-append, map-append, take-append-drop, take_all}
 use Rattle.logos_code.specs.Code.{CodeValue}
 use Rattle.logos_code.specs.Headline.{IsSound}
@@ -9,9 +9,9 @@ use Rattle.logos_code.specs.Items.{Callback, Item}
 use Rattle.logos_code.specs.Runs.{Runs}
 use Rattle.logos_stream.specs.Fronts.{end_of, item_with}
 use Rattle.logos_stream.specs.Lefts.{AllAreOfTheWhole, AreLeft, GoesOn, MayRead, Steps, placed}
-use Rattle.logos_stream.specs.Nexts.{FinishesNext, GivesNext, WaitsNext}
+use Rattle.logos_stream.specs.Nexts.{GivesNext, WaitsNext}
 use Rattle.logos_stream.specs.Wholes.{AreFound, HasGiven}
-use Rattle.logos_stream.specs.WindowValue.{GoesPast, ReadsOn, StaysUnread, WindowValue}
+use Rattle.logos_stream.specs.WindowValue.{GoesPast, WindowValue}
 use Rattle.logos_stream.specs.declared.item.StreamItem.{StreamItem}
 use Rattle.logos_stream.specs.declared.item.StreamItem.TheVariants.{Token, Error}
 use Rattle.logos_stream.proofs.WholeLemmas.{streams_are_of_the_whole}
@@ -187,9 +187,12 @@ module _ {R : Type 0} (remaining : R → Option (List ℕ)) (code : CodeValue) (
 
 pub all_are_of_the_whole : {R : Type 0} (remaining : R → Option (List ℕ)) (callback : Callback) → AllAreOfTheWhole remaining callback
 all_are_of_the_whole remaining callback code reader bound items sound l = go (remaining reader) (l.all refl) where
-    go : (known : Option (List ℕ)) → IfSome known (λ bytes. l.unread ≡ bytes) →
-        IfSome known (λ bytes. length bytes < 2 ^ 64 → (found : List Item) × (items ≡ map placed found) × Runs code callback bytes 0 found)
-    go None e = tt
-    go (Some bytes) e = λ small. (l.found, l.placed_are,
-        subst (λ (b : List ℕ). Runs code callback b 0 l.found) e
-        (l.run sound [] [] ((streams_are_of_the_whole remaining callback).begins code reader bound) (subst (λ (b : List ℕ). length b < 2 ^ 64) (sym e) small)))
+  go : (known : Option (List ℕ)) → IfSome known (λ bytes. l.unread ≡ bytes) →
+      IfSome known (λ bytes. length bytes < 2 ^ 64 → (found : List Item) × (items ≡ map placed found) × Runs code callback bytes 0 found)
+  go None e = tt
+  go (Some bytes) e = λ small. (
+    l.found,
+    l.placed_are,
+    subst (λ (b : List ℕ). Runs code callback b 0 l.found) e
+        (l.run sound [] [] ((streams_are_of_the_whole remaining callback).begins code reader bound) (subst (λ (b : List ℕ). length b < 2 ^ 64) (sym e) small)),
+  )

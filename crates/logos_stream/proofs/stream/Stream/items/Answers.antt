@@ -1,4 +1,4 @@
-use Rattle.std.proofs.Common.{◌≡◌, ◌∙◌, Bool, true, false, refl, subst}
+use Rattle.std.proofs.Common.{◌∙◌, Bool, refl, subst}
 use Rattle.logos_code.specs.Code.{CodeValue}
 use Rattle.logos_machine.specs.LexerValue.{answers_of}
 use Rattle.logos_stream.specs.Lefts.{Steps}
