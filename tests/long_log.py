@@ -1,5 +1,6 @@
 #!/usr/bin/env python3
-"""Feeds the log of examples/log again and again through a pipe to its program: each count is so many times that of the log, and the memory stays.
+"""Feeds the log of examples/log again and again through a pipe to its program: each count is so
+many times that of the log, and the memory stays.
 
   python3 tests/long_log.py LOG
 """

@@ -12,10 +12,11 @@ use Rattle.logos_stream.specs.WindowValue.{ReadsOn, StaysUnread, WindowValue, no
 use Rattle.logos_stream.specs.declared.item.StreamItem.{StreamItem}
 use Rattle.logos_stream.specs.declared.item.StreamItem.TheVariants.{Token, Error}
 
+-- A leaf of this number.
 abbrev pub leaf_of : ℕ → LeafId
 leaf_of leaf = record { 0 = leaf }
 
--- An item without its bytes
+-- An item without its bytes.
 abbrev pub placed : Item → StreamItem
 placed (token leaf from to slice) = Token (leaf_of leaf) (record { from = from; to = to })
 placed (error leaf from to slice) = Error (option_map leaf_of leaf) (record { from = from; to = to })
@@ -43,10 +44,10 @@ module _ {R : Type 0} (remaining : R → Option (List ℕ)) (code : CodeValue) (
   -- These are all items that are left: with those that were given before, they are what a run of
   -- the code gives on all bytes up to the end.
   pub record AreLeft (window : WindowValue R) (items : List StreamItem) : Type 0 where
-    -- The bytes that were not read yet
+    -- The bytes that were not read yet.
     pub unread : List ℕ
     pub all : IsFalse window.is_over → IfSome (remaining window.reader) (λ bytes. unread ≡ bytes)
-    -- The items with their bytes
+    -- The items with their bytes.
     pub found : List Item
     pub placed_are : items ≡ map placed found
     pub run : IsSound code → (before : List ℕ) (given : List Item) → HasGiven code callback before window given →
