@@ -4,7 +4,7 @@ use Rattle.logos_code.specs.Code.{CodeValue}
 use Rattle.logos_code.specs.Headline.{IsLexer}
 use Rattle.logos_generator.specs.Runs.{RunsAs}
 use Rattle.logos_generator.proofs.Compose.{is_lexer_of}
-use Rattle.logos_codegen.proofs.generation.code_for.Goals as goal
+use Rattle.logos_codegen.proofs.generation.code_of.Goals as goal
 
 -- what holds of a result by three facts about it
 together : {T E : Type 0} (P Q R S : T → Type 0) (result : Result T E) → ((x : T) → P x → Q x → R x → S x) → IfOk result P → IfOk result Q → IfOk result R → IfOk result S
