@@ -1,4 +1,4 @@
-use Rattle.std.proofs.Common.{◌≡◌, map, Result, Ok, Err, IfOk}
+use Rattle.std.proofs.Common.{◌≡◌, map, Result, Ok, Err, IfOk, rules}
 use Rattle.logos_graph.specs.View.{rule_of, rules_of}
 use Rattle.logos_code.specs.Code.{CodeValue}
 use Rattle.logos_code.specs.Headline.{IsLexer}
@@ -19,4 +19,4 @@ returns-clause-lexer c =
     (rw c.new-generator.ensures at c.generate.ensures.runs) (rw c.new-generator.ensures at c.generate.ensures.mode) (rw c.new-generator.ensures at c.generate.ensures.uses)
 
 pub returns-clause-keeps : goal.returns-clause-keeps
-returns-clause-keeps c = rw c.new-generator.ensures at c.generate.ensures.keeps
+returns-clause-keeps c = search (rules, rw c.new-generator.ensures at c.generate.ensures.keeps)
