@@ -4,9 +4,11 @@ fail.
 
   emptied.py [PART ..]
 
-Cases are emptied, folders of tests removed, wrong bodies deleted, a shape left out. A part of the list that has no such change here
-fails. In place of the proofs, which take an hour, stands a toolchain that counts the crates of the copy, as `rt ci` does, and the
-verdicts on wrong bodies are those that the last run of the gate has kept. The last line is `N passed, M failed`: a change has passed if its part failed."""
+Cases are emptied, folders of tests removed, wrong bodies deleted, a shape left out. A part of the
+list that has no such change here fails. In place of the proofs, which take an hour, stands a
+toolchain that counts the crates of the copy, as `rt ci` does, and the verdicts on wrong bodies are
+those that the last run of the gate has kept. The last line is `N passed, M failed`: a change has
+passed if its part failed."""
 import os
 import pathlib
 import re

@@ -1,8 +1,9 @@
 #!/usr/bin/env python3
 """Runs the parts of tests/parts, and counts what passed.
 
-  run_parts.py proved [--anew] [PART..]   with the programs that the part `proofs` leaves in the crates
-  run_parts.py quick [PART..]             without `proofs` and `wrong_bodies`, with programs that are built unproved
+  run_parts.py proved [--anew] [PART..]   with the programs that the part `proofs` has left
+  run_parts.py quick [PART..]             without `proofs` and `wrong_bodies`, with programs that
+                                          are built unproved
 
 What is built unproved is kept in `out/quick`, and for the proved programs beside it in
 `out/installed`, since it is then built as `tools/install.sh` builds programs.
@@ -34,7 +35,8 @@ NAMES = {"logos": "logos", "logos_cli": "logos_cli", "logos_show": "logos_show",
 # Where `proofs` leaves programs.
 PROVED = {name: f"{ROOT}/crates/{crate}/out/{crate}" for name, crate in (("logos", "logos_program"), ("logos_cli", "logos_cli"), ("logos_show", "logos_show"))}
 BUILD = "programs"
-# The parts that the quick test leaves out: the proofs, and what needs the libraries that they leave.
+# The parts that the quick test leaves out: the proofs, and what needs the libraries that they
+# leave.
 OF_PROOFS = ("proofs", "wrong_bodies")
 PRINTING = threading.Lock()
 

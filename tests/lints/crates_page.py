@@ -2,7 +2,7 @@
 """Makes the page `crates/README.md` from `crates.txt` and from the first comment of each crate, or
 compares it.
 
-  crates_page.py           fails where the page is not what the crates give, or where a crate is in no room
+  crates_page.py           fails where the page is not what the crates give, or a crate has no room
   crates_page.py --write   writes the page
 
 `crates.txt` has a line `# TITLE: WHAT IT HOLDS` for each room and the crates of the room below it.

@@ -2,7 +2,7 @@
 """Counts the lines of code of each function and each file. Contracts, ghost lines, comments and
 blank lines are not code.
 
-  lengths.py           prints for each crate how many lines its longest function and its longest file have
+  lengths.py           prints for each crate the lines of its longest function and file
   lengths.py --names   prints the ten longest functions of each crate too
 
 A function has at most 40 lines, from its name to its last brace, and a file at most 400. A block of

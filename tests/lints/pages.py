@@ -27,7 +27,7 @@ def pages():
     """Returns the pages of the repository."""
     listed = subprocess.run(["git", "ls-files", "--cached", "--others", "--exclude-standard", "*.md"], cwd=ROOT, stdout=subprocess.PIPE,
                             text=True, check=True)
-    return [path for path in listed.stdout.split("\n") if path and os.path.exists(f"{ROOT}/{path}") and "/must-fail/" not in path]
+    return [path for path in listed.stdout.split("\n") if path and os.path.exists(f"{ROOT}/{path}")]
 
 
 def prose(text):

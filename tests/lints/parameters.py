@@ -1,7 +1,8 @@
 #!/usr/bin/env python3
 """Counts the functions with many parameters, `self` included.
 
-  parameters.py           prints for each crate how many functions it has, and how many of them have five parameters or more and six
+  parameters.py           prints for each crate how many functions it has, and how many of them
+                          have five parameters or more and six
   parameters.py --names   prints those functions too
 
 No function may have more than six parameters, no crate more than ten functions with five or more,

@@ -3,7 +3,8 @@
 
   run.py logos PROGRAM        runs each command of `logos` on each source of tests/memory/logos
   run.py tools CLI SHOW       runs `logos_cli` and `logos_show` on the sources of tests/memory/tools
-  run.py calls PROGRAM        has the program of calls answer the rows of tests/rows/calls, but for those of large.rows
+  run.py calls PROGRAM        has the program of calls answer the rows of tests/rows/calls, but for
+                              those of large.rows
 
 Each run of a program is made once with ample memory, and then once for each of its requests with
 just that one refused (refuse.c). Each time it must end as it did, or in want of memory: with status

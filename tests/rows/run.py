@@ -1,9 +1,11 @@
 #!/usr/bin/env python3
 """Runs rows of tests on built programs, several at once, and compares what they give.
 
-  rows.py commands PROGRAM FILE..   for each row of the files: lays its files out in a new folder, runs the program there, and
-                                    compares its status, every byte of its outputs, and every file that is there afterwards
-  rows.py calls PROGRAM FILE..      hands the rows of the files to the program of calls, which compares them itself
+  run.py commands PROGRAM FILE..   for each row of the files: lays its files out in a new folder,
+                                   runs the program there, and compares its status, every byte of
+                                   its outputs, and every file that is there afterwards
+  run.py calls PROGRAM FILE..      hands the rows of the files to the program of calls, which
+                                   compares them itself
 
 The first line of a file says how many rows it has, as `# rows: 40`. tests/README.md describes the
 rest of the notation.

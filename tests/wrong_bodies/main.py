@@ -47,7 +47,8 @@ def words_of(argv):
 
 
 def folders_of(given):
-    """The folders of the crates that are named, or of all, that have a page of bodies, those with most text first."""
+    """The folders of the crates that are named, or of all, that have a page of bodies, those with
+    most text first."""
     size = lambda folder: sum(it.stat().st_size for it in pages_in(folder, given.pages))
     folders = [it for it in (ROOT / 'crates').iterdir() if pages_in(it, given.pages)]
     lacking = [it for it in given.crates if it not in [folder.name for folder in folders]]
@@ -57,7 +58,8 @@ def folders_of(given):
 
 
 def sum_of(crate, names):
-    """The sum of all on which the verdicts on the bodies of a crate depend: its texts and those of the crates below it, its pages, the toolchain, and these scripts."""
+    """The sum of all on which the verdicts on the bodies of a crate depend: its texts and those of
+    the crates below it, its pages, the toolchain, and these scripts."""
     made = hashlib.sha256()
     folders = [ROOT / 'crates' / name / part for name in sorted(crates_below(ROOT, crate)) for part in PARTS]
     paths = [it for folder in folders for it in sorted(folder.rglob('*')) if it.is_file()]

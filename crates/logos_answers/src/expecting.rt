@@ -7,7 +7,7 @@ use crate::quoting::push_quoted;
 use logos_lines::Cursor;
 use logos_report::Page;
 
-/// What begins the line of an answer that differs from run to run.
+/// What begins the line of an answer that differs from one time to the next.
 const TIME: &[u8] = b"milliseconds: ";
 
 /// Appends whether an answer is the stored one, and returns that. If not, pushes at which line and

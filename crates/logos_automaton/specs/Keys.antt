@@ -101,7 +101,7 @@ pub record LeadsTo (ts : List Core) (looks : Bool) (ks : List Key) (i x j : ℕ)
   pub to_is : IsAt ks j to
   pub next : IsNext ts looks from x to
 
--- Each byte that the state i distinguishes from the byte before is marked.
+-- Each byte that the state i distinguishes from the byte before has its flag set.
 pub record AreFirstIn (ts : List Core) (ks : List Key) (i : ℕ) (first : List Bool) : Type 0 where
   pub state : State
   pub at : IsAt ks i state

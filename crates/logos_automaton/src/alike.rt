@@ -1,4 +1,5 @@
-//! Bytes that no pattern distinguishes.
+//! Bytes that no pattern distinguishes. The rows of states and the steps of trees ask it which
+//! bytes to try; each other byte does what the byte before it does.
 
 ghost use Rattle.std.specs.Prelude.{◌≡◌, ◌≢◌, ◌∷◌, ◌++◌, ◌<◌, ℕ, [], IsTrue, IsFalse, IfOk, OnOk, false, length, slice_index_or, if◌then◌else◌};
 ghost use Rattle.logos_automaton.specs.Views.{is_in, pairs, byte_in, kind_of_byte, IsRising, Has, core_of, spelled, reader_of, IsAlike, MarksFor, AreStartsOf, AreClassStarts, AreKindBytes, AreFirstBytes, IsPrepared, cores_of};
@@ -56,7 +57,7 @@ fn mark_range(range: Range, marked: &mut [bool; 256])
     mark(range.last as usize + 1, marked);
 }
 
-/// Marks the bytes that a class of bytes distinguishes from the byte before.
+/// Sets the flags of the bytes that a class of bytes distinguishes from the byte before.
 fn mark_ranges(ranges: &[Range], marked: &mut [bool; 256])
     ensures { MarksFor (byte_in (is_in (pairs ranges.now))) marked.old marked.new }
 {
@@ -65,7 +66,7 @@ fn mark_ranges(ranges: &[Range], marked: &mut [bool; 256])
     }
 }
 
-/// Marks the bytes that a literal distinguishes from the byte before.
+/// Sets the flags of the bytes that a literal distinguishes from the byte before.
 fn mark_literal(text: &[u8], marked: &mut [bool; 256])
     ensures { MarksFor (spelled text.now) marked.old marked.new }
 {
@@ -75,7 +76,7 @@ fn mark_literal(text: &[u8], marked: &mut [bool; 256])
     }
 }
 
-/// Marks the bytes that a class of characters distinguishes from the byte before.
+/// Sets the flags of the bytes that a class of characters distinguishes from the byte before.
 fn mark_table(table: &Table, marked: &mut [bool; 256])
     ensures { MarksFor (core.character (reader_of table.now)) marked.old marked.new }
 {
@@ -85,7 +86,7 @@ fn mark_table(table: &Table, marked: &mut [bool; 256])
     }
 }
 
-/// Marks the bytes that a tree distinguishes from the byte before.
+/// Sets the flags of the bytes that a tree distinguishes from the byte before.
 #[cycle(mark_starts)]
 fn mark_starts(node: &Node, marked: &mut [bool; 256])
     ensures { MarksFor (core_of node.now) marked.old marked.new }
@@ -171,7 +172,7 @@ fn kinds_differ(one: u8, other: u8) -> bool
     kind_of(one) != kind_of(other)
 }
 
-/// Marks the bytes that looks can distinguish from the byte before.
+/// Sets the flags of the bytes that looks can distinguish from the byte before.
 pub fn kind_bytes() -> [bool; 256]
     ensures { AreKindBytes result }
 {
@@ -182,7 +183,7 @@ pub fn kind_bytes() -> [bool; 256]
     first
 }
 
-/// Marks the bytes.
+/// Sets the flags of the bytes.
 pub fn add_bytes(bytes: &[u8], first: &mut [bool; 256])
     ensures { (byte : ℕ) → byte < 256 → slice_index_or first.new byte false ≡ false →
         (slice_index_or first.old byte false ≡ false) × ¬ (Has bytes.now byte) }
@@ -192,8 +193,8 @@ pub fn add_bytes(bytes: &[u8], first: &mut [bool; 256])
     }
 }
 
-/// Marks the bytes that looks, or the trees that are entered or have a mark, can distinguish from
-/// the byte before.
+/// Sets the flags of the bytes that looks, or the trees that are entered or have a place, can
+/// distinguish from the byte before.
 pub fn first_bytes(trees: &Trees<'_>, marks: &[usize], entered: bool) -> [bool; 256]
     requires prepared { IsPrepared trees.now }
     requires rising { IsRising marks.now }

@@ -1,4 +1,5 @@
-//! The steps of trees, which are made once for each state of a tree.
+//! The steps of trees, which are made once for each state of a tree. `row` takes the steps from
+//! here while it fills the row of a state.
 
 ghost use Rattle.std.specs.Prelude.{◌≡◌, ◌∷◌, ◌++◌, ◌+◌, ◌<◌, ◌≤◌, ◌↔◌, List, ℕ, [], false, IfOk, IsTrue, OnOk, length, slice_index, slice_index_or, if◌then◌else◌};
 ghost use Rattle.logos_automaton.specs.Views.{Node, kind_of_byte, Has, IsRising, state_of, Trees, AreKindBytes, IsPrepared, IsCacheOf, AreAlmostCached, AreCached, AreLive, HasSteps, IsTreeState, Keeps, state_after, step_of, tree_view};
@@ -208,7 +209,8 @@ fn push_if(numbers: &mut Vec<usize>, number: usize, is_one: bool) -> Result<(), 
     Ok(())
 }
 
-/// Marks the bytes that looks can distinguish from the byte before, if some tree has a look.
+/// Sets the flags of the bytes that looks can distinguish from the byte before, if some tree has a
+/// look.
 fn first_by_kind(looks: bool, kinds: &[bool; 256]) -> [bool; 256]
     requires kinds { AreKindBytes kinds.now }
     ensures { (x : ℕ) → x + 1 < 256 → slice_index_or result (x + 1) false ≡ false →
@@ -217,7 +219,7 @@ fn first_by_kind(looks: bool, kinds: &[bool; 256]) -> [bool; 256]
     if looks { *kinds } else { [false; 256] }
 }
 
-/// Marks the bytes whose step on a tree differs from that of the byte before.
+/// Sets the flags of the bytes whose step on a tree differs from that of the byte before.
 fn add_changes(steps: &[TreeSteps], live: LiveTree, first: &mut [bool; 256])
     ensures { (x : ℕ) → x + 1 < 256 → slice_index_or first.new (x + 1) false ≡ false →
         (slice_index_or first.old (x + 1) false ≡ false)
@@ -251,7 +253,7 @@ impl StateSteps<'_> {
         })
     }
 
-    /// Marks the bytes that can lead to another state than the byte before.
+    /// Sets the flags of the bytes that can lead to another state than the byte before.
     pub fn changes(self, kinds: &[bool; 256]) -> [bool; 256]
         requires kinds { AreKindBytes kinds.now }
         ensures { (x : ℕ) → x + 1 < 256 → slice_index_or result (x + 1) false ≡ false →

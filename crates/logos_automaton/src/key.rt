@@ -1,4 +1,5 @@
-//! The keys of states, by which a state is found while the automaton is built.
+//! The keys of states, by which a state is found while the automaton is built. The loop of
+//! `dfa::build` begins with the key of the start, and `row` makes that of each target.
 
 ghost use Rattle.std.specs.Prelude.{◌≡◌, ◌<◌, ◌≤◌, ◌+◌, Bool, List, IfOk, OnOk, length};
 ghost use Rattle.logos_automaton.specs.Views.{Core, IsRising, IsPrepared, cores_of};

@@ -1,4 +1,5 @@
-//! Measures of trees. None of them allocates memory.
+//! Measures of trees. None of them allocates memory. `rule` and `faults` ask whether a tree can be
+//! passed or looks, and `logos_graph` how large trees are.
 
 ghost use Rattle.std.specs.Prelude.{◌≡◌, ℕ, ◌+◌, ◌*◌, ◌^◌, ◌≤◌, ◌↔◌, IsTrue, length, max, map};
 ghost use Rattle.logos_automaton.specs.Words.{class_tree, tree_of, trees, IsWithinLimit, size, sizes};

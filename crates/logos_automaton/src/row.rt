@@ -1,4 +1,5 @@
-//! The targets of states, while the automaton is built.
+//! The targets of states, while the automaton is built. The loop of `dfa::build` asks for those of
+//! each state in turn.
 
 ghost use Rattle.std.specs.Prelude.{Bool, List, ℕ, ◌≡◌, ◌^◌, ◌<◌, ◌≤◌, ◌+◌, IfOk, IfSome, IsFalse, OnOk, length, slice_index};
 ghost use Rattle.logos_automaton.specs.Views.{Core, AreKindBytes, IsCacheOf, IsPrepared, cores_of, Foresees, IsNotStart, state_after, AreRising, AreReached, AreFirstIn, Extends, Grows, IsAt, LeadsTo, EndsIn, IsRow};
@@ -106,7 +107,7 @@ fn next_target(
     }
 }
 
-/// Marks the bytes that a state distinguishes from the byte before.
+/// Sets the flags of the bytes that a state distinguishes from the byte before.
 fn first_in(trees: &Trees<'_>, states: &IndexSet<Key>, state: usize) -> [bool; 256]
     requires prepared { IsPrepared trees.now }
     requires within { state < length states.now.keys }

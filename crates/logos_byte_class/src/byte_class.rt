@@ -113,7 +113,7 @@ impl ByteClass {
     }
 }
 
-/// Returns the first byte from `from` on whose mark is `wanted`, or 256 if there is none.
+/// Returns the first byte from `from` on whose flag is `wanted`, or 256 if there is none.
 fn first_where(table: &[bool], from: usize, wanted: bool) -> usize
     requires long { length table.now ≡ 256 }
     requires within { from ≤ 256 }
@@ -131,7 +131,7 @@ fn first_where(table: &[bool], from: usize, wanted: bool) -> usize
     256
 }
 
-/// Returns the ranges of the bytes that the table marks.
+/// Returns the ranges of the bytes whose flags are set.
 fn ranges_of_table(alloc: Global, table: &[bool]) -> Result<Vec<RangeInclusive<u8>>, AllocError>
     requires { length table.now ≡ 256 }
     ensures members { IfOk result (λ made. (b : ℕ) → b < 256 →

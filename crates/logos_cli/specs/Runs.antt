@@ -1,4 +1,4 @@
--- What a run of the program does, by what its files give. `gives` holds of files, a path, all bytes
+-- What the program does, by what its files give. `gives` holds of files, a path, all bytes
 -- that are read there, and the files after that; `makes` of files, a path, the bytes of the file
 -- there from then on, and the files after that; `finds` of files, a path, some bytes, how the file
 -- there compares with them, and the files after that.

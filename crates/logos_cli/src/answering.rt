@@ -1,4 +1,4 @@
-//! A run that answers the derive macro: it reads an enum from standard input, prints its
+//! Answers the derive macro: reads an enum from standard input, prints its
 //! implementation to standard output, and writes messages to standard error.
 
 ghost use Rattle.std.specs.Prelude.{◌≡◌, ◌≢◌, ◌⊎◌, ◌≤◌, ◌++◌, ℕ, List, IfOk, IsTrue, string_bytes};
@@ -124,7 +124,7 @@ fn lines_of(
     }
 }
 
-/// Ends a run with this status, and with these lines on standard error.
+/// Ends the program with this status, and with these lines on standard error.
 fn end_with<E: Write>(status: u8, lines: &[u8], err: &mut E) -> Ending
     ensures status { result.status ≡ status }
     ensures written { IsTrue result.is_written →

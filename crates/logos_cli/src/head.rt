@@ -11,7 +11,7 @@ use std::alloc::Global;
 /// Returns the text of a file after its first line, which says what the file was made from.
 /// Documentation and attributes of the file itself are plain comments, so another file can include
 /// it. A file
-/// whose first bytes mean something has no such line: that of `#!`, and the mark U+FEFF.
+/// whose first bytes mean something has no such line: that of `#!`, and U+FEFF.
 pub(crate) fn with_head(
     alloc: Global,
     path: &str,

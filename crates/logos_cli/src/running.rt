@@ -52,7 +52,7 @@ options:
 
 const VERSION: &str = "logos_cli 0.1.0 (for logos 0.16)\n";
 
-/// How a run ended.
+/// How the program ended.
 #[derive(Clone, Copy)]
 pub(crate) struct Ending {
     /// The exit status.
@@ -103,7 +103,7 @@ pub(crate) fn run<F: ComparableFiles, O: Write, E: Write + IsTerminal>(
     }
 }
 
-/// Ends a run that has no warnings.
+/// Ends the program where there are no warnings.
 fn ended<E: Write>(done: Result<(), Failure<'_>>, err: &mut E) -> Ending
     requires { IfErr done (λ failure. status_of failure ≡ 3) }
     ensures { (result.status ≡ 3) ⊎ (result.status ≡ 0) }
@@ -117,7 +117,7 @@ fn ended<E: Write>(done: Result<(), Failure<'_>>, err: &mut E) -> Ending
     }
 }
 
-/// Ends a run that failed: writes why.
+/// Ends the program where it failed: writes why.
 pub(crate) fn failed<E: Write>(failure: &Failure<'_>, err: &mut E) -> Ending
     ensures status { result.status ≡ status_of failure.now }
     ensures written { IsTrue result.is_written → (usage : List ℕ) × Appends (E.contents err.old)
@@ -235,7 +235,7 @@ fn deliver_and_end<F: ComparableFiles, O: Write, E: Write>(
     }
 }
 
-/// Ends a run that failed after a warning: writes why.
+/// Ends the program where it failed after a warning: writes why.
 fn failed_after<E: Write>(is_warned: bool, failure: &Failure<'_>, err: &mut E) -> Ending
     ensures status { result.status ≡ status_of failure.now }
     ensures written { IsTrue result.is_written → IsTrue is_warned × ((usage : List ℕ)

@@ -1,4 +1,4 @@
--- What a run of the program does, by what its files give.
+-- What the program does, by what its files give.
 use Rattle.std.specs.Prelude.{◌≡◌, ◌∷◌, ◌++◌, [], ℕ, List, Bool, true, Option, IsTrue}
 use Rattle.std.specs.Str.{IsUtf8, IsValidUpTo}
 use Rattle.std.specs.Io.KnownBytes.{Appends, Keeps}
@@ -132,7 +132,7 @@ abbrev pub RefusesExport : Destination → Failure → Type 0
 RefusesExport destination (NotExported why) = destination ≡ refused why
 RefusesExport destination failure = ⊥
 
--- ---- Runs: `gives` holds of files, a path, all bytes that are read there, and the files after
+-- ---- Files: `gives` holds of files, a path, all bytes that are read there, and the files after
 -- that; `makes` holds of files, a path, the bytes of the file there from then on, and the files
 -- after that
 

@@ -80,7 +80,7 @@ pub(crate) fn read_name<'t, 's>(
     }
 }
 
-/// Returns the tokens after an item of a list that reaches to the end of its group.
+/// Returns the tokens after an element of a list that reaches to the end of its group.
 pub(crate) fn skip_comma<'t, 's>(tokens: Tokens<'t, 's>) -> Result<Tokens<'t, 's>, ReadError>
     ensures { MatchResult result
         (λ rest. (after_item is_none (tokens_of tokens.entry) ≡ Ok (tt, tokens_of rest))
@@ -94,7 +94,7 @@ pub(crate) fn skip_comma<'t, 's>(tokens: Tokens<'t, 's>) -> Result<Tokens<'t, 's
     }
 }
 
-/// Returns the tokens after an item of a list that reaches to `>`.
+/// Returns the tokens after an element of a list that reaches to `>`.
 pub(crate) fn skip_comma_or_angle<'t, 's>(
     tokens: Tokens<'t, 's>,
 ) -> Result<Tokens<'t, 's>, ReadError>

@@ -10,8 +10,11 @@ use unicode::case;
 
 /// The first and the last capital letter of ASCII, and those of the small ones.
 const CAPITAL_A: u32 = 65;
+
 const CAPITAL_Z: u32 = 90;
+
 const SMALL_A: u32 = 97;
+
 const SMALL_Z: u32 = 122;
 
 /// Returns the pairs of a sorted table whose first number is in the range.

@@ -5,7 +5,7 @@ use Rattle.logos_report.specs.Pages.{StandInOrder}
 use Rattle.logos_report.specs.Faults.{fault_texts}
 use Rattle.logos_token.specs.Faults.{Fault}
 
--- A line of a file, and the columns of what is marked in it, without the last one.
+-- A line of a file, and the columns of a span in it, without the last one.
 pub record Marked : Type 0 where
   pub text : List ℕ
   pub from : ℕ

@@ -1,4 +1,4 @@
-//! Lines of a file with what is marked in them.
+//! Lines of a file, and the columns of a span in them.
 
 ghost use Rattle.std.specs.Prelude.{◌≡◌, [], ◌∷◌};
 ghost use Rattle.logos_messages.specs.Words.{IsShownLine, Gains, GivesLineList, GivesLines, marked_tokens};
@@ -75,7 +75,7 @@ fn last_column(reach: Reach, number: usize, text: &str) -> usize {
     }
 }
 
-/// Appends a line with the columns of what is marked in it.
+/// Appends a line with the columns of a span in it.
 fn push_marked(line: &mut Line, text: &str, from: usize, to: usize)
     ensures { Gains (marked_tokens (record { text = text.now; from = from; to = to })) line.old
         line.new }

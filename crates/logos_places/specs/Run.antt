@@ -3,7 +3,7 @@ use Rattle.std.specs.Prelude.{◌≡◌, ℕ, zero, suc, ◌+◌, ◌-◌, ◌<�
 use Rattle.logos_places.specs.Core.{Core, width, holds_at, Exits, Steps}
 use Rattle.logos_hir.specs.declared.hir.Look.{Look}
 
--- The places marked after m bytes, for a pattern that begins at 0.
+-- The places that read the last of m bytes, for a pattern that begins at 0.
 abbrev pub Marked : Core → List ℕ → ℕ → ℕ → Type 0
 Marked t bytes zero q = ⊥
 Marked t bytes (suc m) q =
@@ -27,7 +27,7 @@ ExitsIn [] k test M entered = ⊥
 ExitsIn (t ∷ ts) zero test M entered = Exits t test M entered
 ExitsIn (t ∷ ts) (suc k) test M entered = ExitsIn ts k test (λ q. M (width t + q)) entered
 
--- The places of all that are marked after m bytes.
+-- The places of all that read the last of m bytes.
 abbrev pub MarkedIn : List Core → List ℕ → ℕ → ℕ → Type 0
 MarkedIn [] bytes m p = ⊥
 MarkedIn (t ∷ ts) bytes m p = ((p < width t) × Marked t bytes m p) ⊎ ((width t ≤ p) × MarkedIn ts bytes m (p - width t))

@@ -1,4 +1,4 @@
-//! Trees, prepared for the automaton.
+//! Trees, prepared for the automaton. `prepare` makes them, and steps read them.
 
 ghost use Rattle.std.specs.Prelude.{◌≡◌, ◌+◌, ◌*◌, ◌^◌, ◌<◌, IsTrue};
 ghost use Rattle.logos_places.specs.Views.{count_of, core_of, is_measured};

@@ -1,4 +1,5 @@
-//! Preparation of a pattern's tree: the tree that the automaton steps on.
+//! Preparation of a pattern's tree: the tree that the automaton steps on. `logos_automaton` calls
+//! it once for each rule, before it builds states.
 
 ghost use Rattle.std.specs.Prelude.{◌≡◌, ℕ, ◌+◌, ◌^◌, ◌<◌, ◌≤◌, IsTrue, IfOk, Bool, true, length, map, vec_len};
 ghost use Rattle.logos_places.specs.Views.{trees, literal, repetition, class_tree, tree_of, IsCoreOf, pair_up, of_none, IsPair, IsJoined, AreCoresOf, width_of, sizes, core_of, is_measured, AreMeasured};

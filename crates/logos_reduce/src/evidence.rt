@@ -1,4 +1,5 @@
-//! Distinguishes two states of a reduced table by bytes.
+//! Distinguishes two states of a reduced table by bytes. `Graph` of `logos_graph` asks for it after
+//! the reduction, for two states that a caller names.
 
 ghost use Rattle.std.specs.Prelude.{◌≡◌, ◌≢◌, ◌⊎◌, ◌↔◌, ◌<◌, ℕ, IsTrue, IfOk, IfSome, MatchOption, Some, None};
 ghost use Rattle.logos_reduce.specs.Views.{size, to, GivesEvidence, mark_with_end, mark_after, Distinguishes, IsEvidence, state_after, ArePartedAt};

@@ -1,4 +1,4 @@
-//! Merges states that no word distinguishes.
+//! Merges states that no word distinguishes. It is the third step of the reduction, after pruning.
 
 ghost use Rattle.std.specs.Prelude.{◌≡◌, ◌≢◌, ℕ, ◌+◌, ◌<◌, ◌≤◌, Some, IfOk, MatchOption, length, vec_len, slice_index, option_map};
 ghost use Rattle.logos_reduce.specs.Views.{target_by, target_block, IsSound, AreLeaders, IsMerged, IsFiner, IsExtension, IsLanding, size, to};

@@ -1,4 +1,5 @@
-//! States in the order in which they are met.
+//! States in the order in which they are met. Pruning collects the states to keep in one, and
+//! numbering those that it meets.
 
 ghost use Rattle.std.specs.Prelude.{true, ◌≡◌, ℕ, ◌+◌, ◌<◌, ◌++◌, ◌∷◌, ◌⊎◌, [], OnOk, IfOk, length, vec_len, slice_index};
 ghost use Rattle.logos_reduce.specs.Words.{IsOrder, IsMet, Grows};

@@ -1,4 +1,5 @@
-//! Leaves out the edges to states that have no mark and lead to none.
+//! Leaves out the edges to states that have no mark and lead to none. It is the second step of the
+//! reduction, once marks are settled.
 
 ghost use Rattle.std.specs.Prelude.{true, ◌≡◌, ℕ, ◌+◌, ◌<◌, ◌≤◌, ◌↔◌, ◌⊎◌, Some, OnOk, IfOk, IsTrue, IsSome, length, vec_len, slice_index};
 ghost use Rattle.logos_reduce.specs.Views.{has, IsMet, Grows, IsMarked, target_by, target_of, target_in, size, to, mark, type_of, IsSeed, AreUseful, met_target, IsPrunedTable, rows_of};

@@ -1,4 +1,4 @@
-//! Reduces a table.
+//! Reduces a table. `logos_graph` calls it with the table of an automaton.
 
 ghost use Rattle.std.specs.Prelude.{◌<◌, IfOk};
 ghost use Rattle.logos_reduce.specs.Views.{IsRaw, IsReductionOf, IsLeast, IsInOrder, IsSpareless, size, GivesEvidence};

@@ -1,4 +1,5 @@
-//! A list of rows of targets, which holds equal rows once.
+//! A list of rows of targets, which holds equal rows once. The table of an automaton has one, and
+//! so has each table that the reduction makes of it.
 
 ghost use Rattle.std.specs.Prelude.{◌≡◌, ℕ, ◌-◌, ◌<◌, ◌⊎◌, ◌++◌, ◌∷◌, [], MatchOption, IfOk, IfSome, OnOk, None, Some, length, vec_len, slice_index, slice_index_or};
 ghost use Rattle.logos_reduce.specs.Rows.{AreWide, target_by, target_of};

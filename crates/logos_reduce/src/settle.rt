@@ -1,4 +1,5 @@
-//! Sets early marks, and drops the late marks that they make needless.
+//! Sets early marks, and drops the late marks that they make needless. It is the first step of the
+//! reduction.
 
 ghost use Rattle.std.specs.Prelude.{◌≡◌, ◌≢◌, ℕ, ◌+◌, ◌<◌, ◌↔◌, ◌⊎◌, None, Some, IfOk, length, vec_len, slice_index_or, if◌then◌else◌};
 ghost use Rattle.logos_reduce.specs.Views.{size, to, mark, mark_in, IsNeeded, IsSpare, IsSettled, accepted_in, IsCommonIn, AreCommonIn, AreCommon, IsSet, AreNeeded, IsMarkedBy};

@@ -1,4 +1,5 @@
-//! Tables: states with their marks, and rows of targets.
+//! Tables: states with their marks, and rows of targets. Each step of the reduction makes a table
+//! from one.
 
 ghost use Rattle.std.specs.Prelude.{◌≡◌, ℕ, ◌+◌, ◌<◌, ◌^◌, Some, length, vec_len};
 ghost use Rattle.logos_reduce.specs.Rows.{IsClosed, target_by};

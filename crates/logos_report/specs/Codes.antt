@@ -3,7 +3,7 @@ use Rattle.std.specs.Prelude.{Bool, true, false}
 use Rattle.logos_token.specs.declared.error.fault_code.FaultCode.{FaultCode}
 use Rattle.logos_token.specs.declared.error.fault_code.FaultCode.TheVariants.{Disambiguation, Previous}
 
--- Whether a fault is an error: `Previous` marks an earlier definition, which an error speaks of.
+-- Whether a fault is an error: `Previous` is an earlier definition, which an error speaks of.
 abbrev pub is_error : FaultCode → Bool
 is_error Previous = false
 is_error code = true

@@ -130,7 +130,7 @@ fn has_code(fault: &SpannedError, code: FaultCode) -> bool
     fault.code.name() == code.name()
 }
 
-/// Returns how many reports of errors these faults give. `Previous` marks an earlier
+/// Returns how many reports of errors these faults give. `Previous` is an earlier
 /// definition that an error speaks of, and a set of ambiguous leaves of which something is known
 /// has one report.
 pub fn count_errors(errors: &Errors, clues: &Clues) -> usize

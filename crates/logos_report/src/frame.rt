@@ -25,7 +25,7 @@ struct Frame<'p, 't> {
     label: &'p str,
 }
 
-/// What is marked in lines of a file.
+/// What carets show in lines of a file.
 #[derive(Clone, Copy)]
 pub(crate) struct Marks<'l> {
     /// What carets stand under.

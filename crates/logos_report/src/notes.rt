@@ -41,7 +41,7 @@ pub(crate) fn push_note(page: &mut Page, width: usize, kind: &str, text: &str)
     page.push_shown(text);
 }
 
-/// Appends the mark of a line under a fault.
+/// Appends the `=` of a line under a fault.
 fn push_note_mark(page: &mut Page, width: usize)
     ensures { Shows [] page.old page.new }
 {

@@ -100,7 +100,7 @@ pub(crate) fn run<F: Files, C: Clock + StandardInput, O: Write, E: Write + IsTer
     }
 }
 
-/// Writes why a run failed, and returns the exit status.
+/// Writes why the program failed, and returns the exit status.
 fn failed<E: Write>(failure: &Failure<'_>, err: &mut E) -> u8
     ensures { result ≡ status_of failure.now }
 {

@@ -1,4 +1,5 @@
-//! Classes of bytes: two bytes of a class do the same in each state.
+//! Classes of bytes: two bytes of a class do the same in each state. `lexer` makes them from the
+//! rows, and `runs` reads rows by them.
 
 ghost use Rattle.std.specs.Prelude.{◌≡◌, ◌+◌, ◌<◌, IfOk, IfSome, OnOk, IsTrue, slice_index};
 ghost use Rattle.logos_tables.specs.Words.{AreClasses, Classify, IsClassOf, HaveSameSteps};

@@ -1,4 +1,4 @@
-//! Prints a lexer as tables with a loop over them.
+//! Prints a lexer as tables with a loop over them. `logos_cli` calls it for the shape `tables`.
 
 ghost use Rattle.std.specs.Prelude.{ℕ, List, ◌∷◌, [], IfOk, OnOk, string_bytes};
 ghost use Rattle.logos_tables.specs.Words.{BeginsWith, IsFrontOf, HoldsTables, end_texts, marks_text, skips_text, Appends, AppendsSteps, AppendsTables};

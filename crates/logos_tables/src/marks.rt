@@ -1,4 +1,5 @@
-//! The marks of states, and which leaves are left out, as numbers.
+//! The marks of states, and which leaves are left out, as numbers. `lexer` prints them beside the
+//! steps.
 
 ghost use Rattle.std.specs.Prelude.{◌≡◌, ◌<◌, IfOk, IfSome, map, option_map};
 ghost use Rattle.logos_tables.specs.Words.{All, mark_of, use_of, mark_number, skip_number};

@@ -1,4 +1,4 @@
-//! Prints the parts of the tables.
+//! Prints the parts of the tables. `lexer` calls it for each part in turn.
 
 ghost use Rattle.std.specs.Prelude.{◌≡◌, ◌*◌, ◌++◌, ◌∷◌, [], OnOk, nat_le, string_bytes};
 ghost use Rattle.logos_tables.specs.Words.{numbered, Appends, lengths_text, run_steps_text, size_texts, step_texts, entry_type_text, most_steps, name_text, names_text};

@@ -1,4 +1,4 @@
-//! Prints what follows the tables.
+//! Prints what follows the tables. `lexer` calls it last.
 
 ghost use Rattle.std.specs.Prelude.{OnOk, string_bytes};
 ghost use Rattle.logos_tables.specs.Words.{Grows};

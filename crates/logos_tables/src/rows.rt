@@ -1,4 +1,4 @@
-//! The rows of all states, with each row once.
+//! The rows of all states, with each row once. `lexer` makes them first.
 
 ghost use Rattle.std.specs.Prelude.{◌≡◌, ℕ, ◌<◌, ◌++◌, ◌∷◌, [], IfOk, OnOk, length, vec_len, slice_index, slice_index_or};
 ghost use Rattle.logos_tables.specs.Words.{AreRows, AreWide, rows_at};

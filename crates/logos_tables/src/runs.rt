@@ -1,4 +1,4 @@
-//! Runs of equal steps.
+//! Runs of equal steps. `lexer` makes them of the rows by classes, and `parts` prints them.
 
 ghost use Rattle.std.specs.Prelude.{◌≡◌, ◌<◌, ◌++◌, ◌∷◌, [], IfOk, OnOk, IsTrue, map};
 ghost use Rattle.logos_tables.specs.Words.{flat_map, by_classes, spread};

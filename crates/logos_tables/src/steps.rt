@@ -1,4 +1,5 @@
-//! What each byte, and the end of the input, does in a state, as one number.
+//! What each byte, and the end of the input, does in a state, as one number. `rows` asks for those
+//! of each state.
 
 ghost use Rattle.std.specs.Prelude.{◌≡◌, ◌<◌, length, IfSome, IsTrue};
 ghost use Rattle.logos_tables.specs.Words.{passes_test, code_of, state_at, NamesState, NamesTest, stays, target, HasSteps, led_number, step_number};

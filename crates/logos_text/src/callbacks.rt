@@ -1,4 +1,4 @@
-//! Prints callbacks.
+//! Prints callbacks. `leaves` and `errors` call it.
 
 ghost use Rattle.std.specs.Prelude.{◌≡◌, OnOk, [], string_bytes};
 ghost use Rattle.logos_text.specs.Words.{tokens_of, tree_of, gap_after, gap_of, Grows};

@@ -1,4 +1,4 @@
-//! Prints a whole code.
+//! Prints a whole code. `logos_codegen` calls it.
 
 ghost use Rattle.std.specs.Prelude.{IfOk, OnOk, length, string_bytes};
 ghost use Rattle.logos_text.specs.Views.{printed_type, type_tree, code_of, BeginsWith, IsFront, leaf_names_text, opening_text, Adds, AddsLast, Grows, StandInOrder, texts_in, texts_of, around_value};

@@ -1,4 +1,5 @@
-//! Prints conditions.
+//! Prints conditions. `forks` calls it for each branch, and `states` for fast loops and for the end
+//! of the input.
 
 ghost use Rattle.std.specs.Prelude.{◌≡◌, ◌++◌, ◌∷◌, [], ◌==◌, ◌<◌, OnOk, map, codes, string_bytes};
 ghost use Rattle.logos_text.specs.Words.{flat_map, join_by, comparison_of, condition_of, is_quoted, end_text, exception_text, single_text, between_text, comparison_text, bit_text, test_text, transition_text, condition_text};

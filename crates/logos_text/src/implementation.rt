@@ -1,4 +1,5 @@
-//! Prints the implementation of `Logos` around the body of a lexer.
+//! Prints the implementation of `Logos` around the body of a lexer. `code` calls it before the
+//! body.
 
 ghost use Rattle.std.specs.Prelude.{◌≡◌, ◌++◌, OnOk, string_bytes};
 ghost use Rattle.logos_text.specs.Views.{head_text, opening_text, signature_text, types_text, uses_text, around_value};

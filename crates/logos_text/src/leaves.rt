@@ -1,4 +1,5 @@
-//! Prints the leaves, and what the lexer does with their matches.
+//! Prints the leaves, and what the lexer does with their matches. `code` calls it once for all
+//! leaves.
 
 ghost use Rattle.std.specs.Prelude.{◌≡◌, ◌++◌, OnOk, string_bytes};
 ghost use Rattle.logos_text.specs.Words.{leaf_name_text, leaf_names_text, Grows, numbered};

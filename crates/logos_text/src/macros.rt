@@ -1,4 +1,4 @@
-//! Prints the macros of a lexer.
+//! Prints the macros of a lexer. `code` calls it before the states.
 
 ghost use Rattle.std.specs.Prelude.{OnOk, string_bytes};
 ghost use Rattle.logos_text.specs.Words.{Grows};

@@ -1,5 +1,6 @@
 //! Building the automaton of rules: one loop over its states, from the start on, until each has its
-//! targets.
+//! targets. `Graph::new` of `logos_graph` calls it, once the size of the rules is known to be
+//! within the limit.
 
 ghost use Rattle.std.specs.Prelude.{◌≡◌, ◌^◌, ◌<◌, ◌≤◌, ◌+◌, [], Bool, List, IfOk, IfErr, OnOk, length, map, vec_len};
 ghost use Rattle.logos_automaton.specs.Views.{Core, core_of, AreMeasured, width_of, size_of, AllStart, IsTotal, ReadsOneByteLate, IsCacheOf, IsPrepared, cores_of, IsUnderway, FailsOn, FailsFor, dfa_of, AreDistinct, AreReached, IsBuilt, rules_of};

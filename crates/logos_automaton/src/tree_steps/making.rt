@@ -1,4 +1,4 @@
-//! Making the steps of one tree by each byte.
+//! Making the steps of one tree by each byte. `cache` calls it once for each state of a tree.
 
 ghost use Rattle.std.specs.Prelude.{◌≡◌, ◌+◌, ◌-◌, ◌<◌, ◌≤◌, ℕ, false, IsTrue, IfOk, IfSome, OnOk, length, vec_len, slice_get, slice_index, slice_index_or};
 ghost use Rattle.logos_automaton.specs.Views.{AreChangesOf, AreFirstOf, IsPrepared, tree_view, view_of, viewed, AreStepsFrom, IsTreeState, MakesFrom};
@@ -128,7 +128,7 @@ fn first_in(trees: &Trees<'_>, tree: usize) -> [bool; 256]
     first
 }
 
-/// Returns the index of the step by the byte before, if the byte is not marked.
+/// Returns the index of the step by the byte before, if the flag of the byte is not set.
 fn index_before(first: &[bool; 256], by_byte: &[u8; 256], byte: usize) -> Option<u8>
     requires within { byte < 256 }
     ensures { IfSome result (λ i. (1 ≤ byte) × (slice_index_or first.now byte false ≡ false)

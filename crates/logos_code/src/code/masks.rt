@@ -1,4 +1,5 @@
-//! Masks: the tests of fast loops, for sixteen bytes at once.
+//! Masks: the tests of fast loops, for sixteen bytes at once. `making` makes them, and the fast
+//! loops of lexers look them up.
 
 ghost use Rattle.std.specs.Prelude.{◌≡◌, ◌+◌, ◌*◌, ◌<◌, ◌≤◌, ◌^◌, ◌==◌, ℕ, if◌then◌else◌, IfOk};
 ghost use Rattle.logos_code.specs.Views.{bit_at, passes_test, code_of, IsMask, AreMasks, NamesTest};

@@ -1,4 +1,5 @@
-//! Signs: the marks of states, found by one look.
+//! Signs: the marks of states, found by one look. `making` makes them, and the slow way of a try
+//! reads them.
 
 ghost use Rattle.std.specs.Prelude.{◌≡◌, IfOk, map, option_map};
 ghost use Rattle.logos_code.specs.Views.{mark_of, code_of, mark_by, AreSigns};

@@ -1,4 +1,5 @@
-//! Uses: what becomes of the matches of a leaf, by one look.
+//! Uses: what becomes of the matches of a leaf, by one look. `making` makes them, and a lexer reads
+//! them at the end of a match.
 
 ghost use Rattle.std.specs.Prelude.{◌≡◌, IfOk, map};
 ghost use Rattle.logos_code.specs.Views.{use_of, use_by};

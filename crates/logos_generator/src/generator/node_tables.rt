@@ -1,4 +1,5 @@
-//! The tables that the nodes of a code share.
+//! The tables that the nodes of a code share. `fork` adds to them, and `states` puts them into the
+//! code.
 
 ghost use Rattle.std.specs.Prelude.{◌≡◌, []};
 

@@ -1,4 +1,4 @@
-//! Makes the nodes of a code one by one.
+//! Makes the nodes of a code one by one. Callers of `Generator` ask for them; `generate` does not.
 
 ghost use Rattle.std.specs.Prelude.{◌≡◌, ◌≤◌, ◌<◌, OnOk, OnErr, IfOk, length};
 ghost use Rattle.logos_generator.specs.Views.{ranges_of, graph_state_of, state_number, code_leaf_value, leaf_value, left_out, bit_tables_of, IsCodable, Continues, MakesFork, MakesLoop, MakesLoopOver};

@@ -1,4 +1,4 @@
-//! Distinguishes two states of a graph by bytes.
+//! Distinguishes two states of a graph by bytes. Callers ask for it, of graphs that are made.
 
 ghost use Rattle.std.specs.Prelude.{◌≡◌, ◌≢◌, ◌<◌, ◌↔◌, [], IsTrue, IfOk, length};
 ghost use Rattle.logos_graph.specs.Words.{Distinguishes, IsEvidence};

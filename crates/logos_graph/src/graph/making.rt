@@ -1,4 +1,4 @@
-//! Makes the graph of leaves.
+//! Makes the graph of leaves. `Graph::new` is here.
 
 ghost use Rattle.std.specs.Prelude.{◌≡◌, ◌^◌, ◌<◌, ◌≤◌, [], IfOk, IfErr, length, map};
 ghost use Rattle.logos_graph.specs.Words.{dfa_of, AreFaults, AllStart, fault_of, IsGraphOf, AreFindings, Refuses, size_of, rules_of, IsTotal, ReadsOneByteLate, Memory, LimitSize};

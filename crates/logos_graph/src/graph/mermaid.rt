@@ -1,4 +1,4 @@
-//! Draws charts of graphs in Mermaid's language.
+//! Draws charts of graphs in Mermaid's language. `Graph::get_mermaid` calls it.
 
 ghost use Rattle.std.specs.Prelude.{◌≡◌, ◌<◌, ◌++◌, IfOk, OnOk, map, option_map, codes, string_bytes};
 ghost use Rattle.logos_graph.specs.Views.{decimal, flat_map, bounds, ranges_of, byte_text, label_character, label_text, range_label, next_label, class_label, state_label, state_colour, node_name, edge_name, style_line, link_line, node_lines, edge_lines, byte_edge_lines, end_edge_lines, state_lines, mermaid_of, edge_of, graph_state_of, state_number, state_type_of};

@@ -1,4 +1,5 @@
-//! Reduces the table of an automaton, and states what that means for its graph.
+//! Reduces the table of an automaton, and states what that means for its graph. `making` calls it
+//! where leaves have no faults.
 
 ghost use Rattle.std.specs.Prelude.{◌<◌, ℕ, IfOk, Bool, List};
 ghost use Rattle.logos_graph.specs.Words.{IsRaw, size, mark, type_of, edges, GivesEvidence, NamesLeaves, IsFit, FindsTheLongest, GraphState, IsLeast, Rule, Shows, IsReduced, AllStart, MarksOneByteLate};

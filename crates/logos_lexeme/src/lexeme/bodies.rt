@@ -10,6 +10,7 @@ use crate::lexeme::openings::{Content, Opening};
 
 /// The letter of an escape of two hexadecimal digits, and that of an escape with braces.
 const LETTER_X: u8 = b'x';
+
 const LETTER_U: u8 = b'u';
 
 /// The value of one piece of a string.

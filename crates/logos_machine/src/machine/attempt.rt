@@ -1,4 +1,6 @@
-//! The slow way of a try: state by state, with a note of the last mark passed.
+//! The slow way of a try: state by state, with a note of the last mark passed. `walk` takes it
+//! where entries do not say which mark was passed last, and `part` for inputs whose rest is not
+//! known.
 
 ghost use Rattle.std.specs.Prelude.{◌≡◌, ◌+◌, ◌-◌, ◌<◌, ◌≤◌, ℕ, max, length, slice_get, drop, option_map, IfSome, IsTrue, IsCharBoundary, ◌^◌, ◌↔◌};
 ghost use Rattle.logos_machine.specs.Views.{state_at, mark_by, Does, Tries, EndsError, target, looped, marked, IsStand, StaysWithin, context_of, stand_of, turn_of, found_of};
@@ -10,6 +12,7 @@ use logos_hir::leaf::LeafId;
 
 /// In UTF-8 the bytes from the first of these on, and below the second, continue a character.
 const CONTINUES: u8 = 128;
+
 const LEADS: u8 = 192;
 
 /// Where a try stands as it enters a state.

@@ -1,4 +1,5 @@
-//! Lexing of a part of an input, whose rest is not known.
+//! Lexing of a part of an input, whose rest is not known. `logos_stream` calls it for each item,
+//! and `logos_relex` for the items of a chunk.
 
 ghost use Rattle.std.specs.Prelude.{◌≡◌, ◌+◌, ◌<◌, ◌≤◌, length, false, MatchOption};
 ghost use Rattle.logos_machine.specs.Views.{IsStand, answers_of, stand_of, DoesWithin, EndsHere, EndsOpen, GivesWithin, IsSettled, KeepsGiven, Moves, Waits};

@@ -1,4 +1,4 @@
-//! The fast way of a try: a look at an entry for each byte.
+//! The fast way of a try: a look at an entry for each byte. `Lexer::next` calls it for each try.
 
 ghost use Rattle.std.specs.Prelude.{◌≡◌, ◌<◌, ◌≤◌, ◌/◌, ◌%◌, length, slice_index_or};
 ghost use Rattle.logos_machine.specs.Views.{state_at, IsSound, IsEntry, IsPlace, Reaches, LooksAhead, IsOutcome};

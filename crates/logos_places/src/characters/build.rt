@@ -1,4 +1,5 @@
-//! Building the table that reads a character of a class.
+//! Building the table that reads a character of a class. `prepare` calls it for each class of
+//! characters.
 
 ghost use Rattle.std.specs.Prelude.{zero, min, ◌≡◌, ℕ, ◌+◌, ◌-◌, ◌*◌, ◌/◌, ◌%◌, ◌^◌, ◌<◌, ◌≤◌, ◌||◌, OnOk, IfOk, IfSome, Bool, Some, None, slice_index_or, length, vec_len};
 ghost use Rattle.logos_places.specs.Views.{MatchOption, size, lead, after_byte, is_char_in, IsReaderOf, pairs, in_ranges, AreParts, from_floor};

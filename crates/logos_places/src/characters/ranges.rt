@@ -1,4 +1,4 @@
-//! Ranges of characters.
+//! Ranges of characters. The building of a table cuts and splits them.
 
 ghost use Rattle.std.specs.Prelude.{◌&&◌, nat_le, ◌≡◌, ℕ, ◌+◌, ◌^◌, ◌<◌, ◌≤◌, ◌||◌, OnOk, IfOk};
 ghost use Rattle.logos_places.specs.Views.{scalar, pairs, is_in, is_char_in, in_range, in_ranges, from_floor, ClipsTo, AreParts};

@@ -1,4 +1,5 @@
-//! A table that reads a character of a class, byte by byte.
+//! A table that reads a character of a class, byte by byte. Steps on a class of characters look up
+//! the next place in it.
 
 ghost use Rattle.std.specs.Prelude.{◌<◌, ◌^◌};
 

@@ -1,4 +1,5 @@
-//! Steps on several trees, whose places stand one after another.
+//! Steps on several trees, whose places stand one after another. `logos_automaton` calls it for the
+//! key of each state that it meets.
 
 ghost use Rattle.std.specs.Prelude.{◌≡◌, ◌∷◌, ◌++◌, ◌^◌, ◌<◌, ◌≤◌, ◌+◌, ◌-◌, ℕ, [], IsTrue, IsFalse, IfOk, OnOk, length, map, slice_index, if◌then◌else◌};
 ghost use Rattle.logos_places.specs.Views.{IsRising, Has, HasBetween, width_of, test_at, core_of, AreMeasured, ReadBy, LeftBy, AreStarts};
@@ -73,8 +74,8 @@ fn tree_at(starts: &[usize], from: usize, place: usize) -> usize
     low
 }
 
-/// Returns the number of the first tree from `from` on that is entered or has a mark, or the number
-/// of trees if there is none.
+/// Returns the number of the first tree from `from` on that is entered or has a place, or the
+/// number of trees if there is none.
 pub fn next_tree(starts: &[usize], marks: &[usize], entered: bool, from: usize) -> usize
     requires rising { IsRising marks.now }
     requires within { from < length starts.now }

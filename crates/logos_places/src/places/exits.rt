@@ -1,4 +1,5 @@
-//! Whether a tree can be left.
+//! Whether a tree can be left. Steps ask it of each part that the next part follows, and `all` of
+//! each tree.
 
 ghost use Rattle.std.specs.Prelude.{max, ◌≡◌, ℕ, ◌+◌, ◌*◌, ◌-◌, ◌^◌, ◌<◌, ◌⊎◌, ◌↔◌, IsTrue, Bool, List, length};
 ghost use Rattle.logos_places.specs.Views.{Core, Exits, IsRising, Has, spelled, in_front, up_to, at_least, repeated, count_of, IsOrdered, Look, test_at, core_of, is_measured};
@@ -49,7 +50,7 @@ pub(crate) fn exits(node: &Node, marks: &[usize], spot: Spot, at: Context) -> bo
     }
 }
 
-/// Returns whether a literal can be left: whether its last place is marked.
+/// Returns whether a literal can be left: whether its last place is in the set.
 fn exits_literal(text: &[u8], marks: &[usize], spot: Spot) -> bool
     requires fits { spot.base + length text.now < 2 ^ 64 }
     requires rising { IsRising marks.now }

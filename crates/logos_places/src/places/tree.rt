@@ -1,4 +1,5 @@
-//! Steps on one tree of several, whose places stand one after another.
+//! Steps on one tree of several, whose places stand one after another. `logos_automaton` calls it
+//! for the steps that it stores.
 
 ghost use Rattle.std.specs.Prelude.{◌≡◌, ◌^◌, ◌<◌, ◌≤◌, ◌↔◌, ◌+◌, ℕ, IsTrue, IfOk};
 ghost use Rattle.logos_places.specs.Views.{Has, IsRising, test_at, core_of, is_measured, IsStepOf};
@@ -44,7 +45,7 @@ pub fn step_tree(
     Ok(TreeStep { places, left })
 }
 
-/// Returns the marks from `low` on and below `high`.
+/// Returns the places from `low` on and below `high`.
 ///
 /// # Errors
 ///

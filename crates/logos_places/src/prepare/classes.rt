@@ -1,4 +1,5 @@
-//! Classes of bytes as ranges, two of them joined to one.
+//! Classes of bytes as ranges, two of them joined to one. `prepare` asks for it where it puts two
+//! trees beside each other.
 
 ghost use Rattle.std.specs.Prelude.{◌≡◌, ◌+◌, ◌<◌, ◌≤◌, ◌||◌, ℕ, IsTrue, IfOk, IfSome, OnOk, length, max, min, slice_get};
 ghost use Rattle.logos_places.specs.Views.{is_in, pairs, byte_in, AreNear, IsEither, is_within, core_of};

@@ -1,4 +1,4 @@
-//! Blocks of states.
+//! Blocks of states. Merging begins with a block for each mark, and splits them.
 
 ghost use Rattle.std.specs.Prelude.{None, ◌≡◌, ◌≢◌, ℕ, ◌+◌, ◌<◌, ◌≤◌, IfOk, length, vec_len, slice_index, slice_index_or};
 ghost use Rattle.logos_reduce.specs.Merge.{AreLeaders, IsSound, split_at};

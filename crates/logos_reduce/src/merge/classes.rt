@@ -1,4 +1,5 @@
 //! Puts states with one mark and one row into one class, so that blocks are split by classes.
+//! `merge` does so first, where many states are alike.
 
 ghost use Rattle.std.specs.Prelude.{◌≡◌, ℕ, ◌+◌, ◌<◌, ◌≤◌, ◌^◌, Some, IfOk, length, vec_len, slice_index, option_map};
 ghost use Rattle.logos_reduce.specs.Views.{target_by, target_in, target_of, target_block, rows_of, size, mark, mark_in, AreClasses, IsClassTable};

@@ -1,4 +1,5 @@
-//! Splits blocks by the blocks that their states lead to.
+//! Splits blocks by the blocks that their states lead to. `merge` calls it once, with the blocks of
+//! the marks.
 
 ghost use Rattle.std.specs.Prelude.{true, ◌≡◌, ◌≢◌, ℕ, ◌+◌, ◌-◌, ◌*◌, ◌<◌, ◌≤◌, ◌↔◌, Some, OnSome, OnOk, IfOk, IsTrue, length, vec_len, slice_index, option_map};
 ghost use Rattle.logos_reduce.specs.Views.{has, has_in, ArePredecessors, AreFiled, AreSources, AreHits, target_by, target_block, IsSound, IsFiner, size, to};

@@ -1,4 +1,5 @@
-//! Cuts blocks into the states that are hit and those that are not.
+//! Cuts blocks into the states that are hit and those that are not. `refine` calls it for each
+//! block and symbol that it looks at.
 
 ghost use Rattle.std.specs.Prelude.{true, ◌≡◌, ◌≢◌, ℕ, ◌+◌, ◌-◌, ◌*◌, ◌<◌, ◌≤◌, OnOk, IfOk, length, vec_len, slice_index};
 ghost use Rattle.logos_reduce.specs.Words.{has_in, AreFiled, landing, HaveMoved};

@@ -146,11 +146,11 @@ impl Frames {
         })
     }
 
-    /// Adds an item to the innermost bracket.
+    /// Adds an element to the innermost bracket.
     ///
     /// # Errors
     ///
-    /// Returns `NotInBytes` if the flags do not allow the item, and `Memory`.
+    /// Returns `NotInBytes` if the flags do not allow the element, and `Memory`.
     fn item(
         &mut self,
         alloc: Global,

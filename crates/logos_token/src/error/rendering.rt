@@ -7,7 +7,7 @@ ghost use Rattle.logos_token.specs.ViewWords.{flat_map, faults_of, fault_of, ren
 use crate::error::{Errors, Memory, SpannedError};
 use crate::util::push_escaped;
 
-/// Appends the item that reports the message of one fault.
+/// Appends the `compile_error!` that reports the message of one fault.
 fn push_fault(text: &mut String, fault: &SpannedError) -> Result<(), Memory>
     ensures { OnOk result
         (string_bytes text.new ≡ string_bytes text.old ++ rendered_fault (fault_of fault.now)) }
@@ -18,7 +18,7 @@ fn push_fault(text: &mut String, fault: &SpannedError) -> Result<(), Memory>
     Ok(())
 }
 
-/// Appends the items of all faults in order.
+/// Appends the `compile_error!` of each fault, in order.
 fn push_faults(text: &mut String, faults: &[SpannedError]) -> Result<(), Memory>
     ensures { OnOk result
         (string_bytes text.new ≡
