@@ -9,7 +9,7 @@ ghost use Rattle.logos_places.specs.declared.node.Node.{Node};
 ghost use Rattle.logos_places.specs.Kinds.{kind_of_byte};
 ghost use Rattle.logos_places.specs.Marks.{Has, IsRising};
 
-use crate::alike::add_bytes;
+use crate::alike::{add_bytes, first_by_kind};
 use crate::key::{Key, next_kind};
 use crate::tree_steps::making::steps_of;
 use crate::tree_steps::{TreeState, TreeSteps};
@@ -210,15 +210,6 @@ fn push_if(numbers: &mut Vec<usize>, number: usize, is_one: bool) -> Result<(), 
         numbers.push(number)?;
     }
     Ok(())
-}
-
-/// Marks the bytes that looks can distinguish from the byte before, if some tree has a look.
-fn first_by_kind(looks: bool, kinds: &[bool; 256]) -> [bool; 256]
-    requires kinds { AreKindBytes kinds.now }
-    ensures { (x : ℕ) → x + 1 < 256 → slice_index_or result (x + 1) false ≡ false →
-        IsTrue looks → kind_of_byte x ≡ kind_of_byte (x + 1) }
-{
-    if looks { *kinds } else { [false; 256] }
 }
 
 /// Marks the bytes whose step on a tree differs from that of the byte before.

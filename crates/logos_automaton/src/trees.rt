@@ -1,5 +1,4 @@
 //! The input of the building of states.
-use crate::alike::ClassStarts;
 use logos_places::node::Node;
 use std::alloc::Global;
 
@@ -14,8 +13,6 @@ pub struct Trees<'n> {
     pub starts: &'n [usize],
     /// Whether some tree has a look, so that states remember the kind of the last byte.
     pub looks: bool,
-    /// The bytes that each tree distinguishes from the byte before.
-    pub class_starts: &'n [ClassStarts],
     /// Marks the bytes that looks can distinguish from the byte before.
     pub kinds: &'n [bool; 256],
 }

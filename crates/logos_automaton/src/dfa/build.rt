@@ -1,5 +1,5 @@
 //! Building the automaton of rules: one loop over its states, from the start on, until each has its targets.
-ghost use Rattle.std.specs.Prelude.{◌≡◌, ◌^◌, ◌<◌, ◌≤◌, ◌+◌, [], Bool, List, IfOk, IfErr, OnOk, length, map, vec_len};
+ghost use Rattle.std.specs.Prelude.{◌≡◌, ◌^◌, ◌<◌, ◌≤◌, ◌+◌, [], Bool, false, List, IfOk, IfErr, OnOk, length, map, vec_len};
 ghost use Rattle.logos_automaton.specs.inside.Prepared.{IsCacheOf, IsPrepared, cores_of};
 ghost use Rattle.logos_automaton.specs.Building.{IsUnderway, FailsOn, FailsFor};
 ghost use Rattle.logos_places.specs.Core.{Core};
@@ -10,10 +10,11 @@ ghost use Rattle.logos_places.specs.Run.{width_of};
 ghost use Rattle.logos_automaton.specs.Measures.{size_of};
 ghost use Rattle.logos_automaton.specs.Faults.{AllStart};
 ghost use Rattle.logos_automaton.specs.Automaton.{IsTotal, ReadsOneByteLate};
+ghost use Rattle.logos_automaton.specs.Rules.{AreFree};
 ghost use Rattle.logos_automaton.specs.View.{rules_of};
 
 use super::Dfa;
-use crate::alike::{class_starts, kind_bytes};
+use crate::alike::kind_bytes;
 use crate::cache::StepCache;
 use crate::errors::BuildError;
 use crate::key::{Key, number_of, start_key};
@@ -85,6 +86,7 @@ fn fill_next(
 fn build_nodes(alloc: Global, nodes: &[Node], looks: bool) -> Result<Dfa, BuildError>
     requires fits { width_of (map core_of nodes.now) < 2 ^ 64 }
     requires measured { AreMeasured nodes.now }
+    requires free { looks ≡ false → AreFree (map core_of nodes.now) }
     ensures built { IfOk result (λ dfa.
         IsBuilt (map core_of nodes.now) looks 0 dfa.states.keys dfa.rows.items dfa.ends.items) }
     ensures distinct { IfOk result (λ dfa. AreDistinct dfa.states.keys) }
@@ -94,14 +96,12 @@ fn build_nodes(alloc: Global, nodes: &[Node], looks: bool) -> Result<Dfa, BuildE
     ensures fails { IfErr result (FailsOn (map core_of nodes.now) looks) }
 {
     let starts = starts_of(alloc, nodes)?;
-    let class_starts = class_starts(alloc, nodes)?;
     let kinds = kind_bytes();
     let trees = Trees {
         alloc,
         nodes,
         starts: &starts,
         looks,
-        class_starts: &class_starts,
         kinds: &kinds,
     };
     let mut cache = StepCache::new(alloc);
