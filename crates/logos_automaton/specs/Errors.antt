@@ -5,10 +5,11 @@ use Rattle.logos_automaton.specs.Faults.{Fault, no_universal_start, empty_match,
 use Rattle.logos_automaton.specs.declared.errors.GraphError.{GraphError}
 use Rattle.logos_automaton.specs.declared.errors.GraphError.TheVariants.{NoUniversalStart, EmptyMatch, Disambiguation}
 
--- the numbers of leaves
+-- The numbers of leaves.
 abbrev pub numbers : List LeafId → List ℕ
 numbers = map (λ leaf. leaf.0)
 
+-- The fault that an error names.
 abbrev pub fault_of : GraphError → Fault
 fault_of NoUniversalStart = no_universal_start
 fault_of (EmptyMatch leaf) = empty_match leaf.0

@@ -1,12 +1,8 @@
-//! Bytes that no pattern distinguishes.
+//! Bytes that no pattern distinguishes. The rows of states and the steps of trees ask it which
+//! bytes to try; each other byte does what the byte before it does.
+
 ghost use Rattle.std.specs.Prelude.{◌≡◌, ◌≢◌, ◌∷◌, ◌++◌, ◌+◌, ◌<◌, ℕ, [], IsTrue, IsFalse, OnOk, false, slice_index_or, if◌then◌else◌};
-ghost use Rattle.logos_automaton.specs.inside.Alike.{Marks, OpensAlike, AreKindBytes, AreFirstBytes};
-ghost use Rattle.logos_automaton.specs.inside.Prepared.{IsPrepared, cores_of};
-ghost use Rattle.logos_hir.specs.ByteRanges.{is_in};
-ghost use Rattle.logos_hir.specs.Hir.{pairs};
-ghost use Rattle.logos_places.specs.Core.{byte_in};
-ghost use Rattle.logos_places.specs.Kinds.{kind_of_byte};
-ghost use Rattle.logos_places.specs.Marks.{IsRising, Has};
+ghost use Rattle.logos_automaton.specs.Views.{is_in, pairs, byte_in, kind_of_byte, IsRising, Has, SetsFlags, OpensAlike, AreKindBytes, AreFirstBytes, IsPrepared, cores_of};
 
 use crate::trees::Trees;
 use crate::walk::mark_tree;
@@ -16,7 +12,7 @@ use logos_places::places::look::kind_of;
 use std::alloc::{AllocError, Global};
 
 /// Marks a number, if it is a byte.
-pub fn mark(byte: usize, marked: &mut [bool; 256])
+fn mark(byte: usize, marked: &mut [bool; 256])
     ensures { (x : ℕ) → x < 256 → slice_index_or marked.new x false ≡ false →
         (slice_index_or marked.old x false ≡ false) × (x ≢ byte) }
 {
@@ -27,15 +23,16 @@ pub fn mark(byte: usize, marked: &mut [bool; 256])
 
 /// Marks the first byte of a range, and the byte after its last one.
 pub fn mark_range(range: Range, marked: &mut [bool; 256])
-    ensures { Marks (OpensAlike (byte_in (is_in ((range.first, range.last) ∷ [])))) marked.old marked.new }
+    ensures { SetsFlags (OpensAlike (byte_in (is_in ((range.first, range.last) ∷ []))))
+        marked.old marked.new }
 {
     mark(range.first as usize, marked);
     mark(range.last as usize + 1, marked);
 }
 
-/// Marks the bytes that a class of bytes distinguishes from the byte before.
+/// Sets the flags of the bytes that a class of bytes distinguishes from the byte before.
 pub fn mark_ranges(ranges: &[Range], marked: &mut [bool; 256])
-    ensures { Marks (OpensAlike (byte_in (is_in (pairs ranges.now)))) marked.old marked.new }
+    ensures { SetsFlags (OpensAlike (byte_in (is_in (pairs ranges.now)))) marked.old marked.new }
 {
     for range in ranges {
         mark_range(*range, marked);
@@ -46,7 +43,7 @@ pub fn mark_ranges(ranges: &[Range], marked: &mut [bool; 256])
 ///
 /// # Errors
 ///
-/// Returns `AllocError` when memory runs out.
+/// Returns `AllocError` if memory runs out.
 pub fn note(bytes: &mut Vec<u8>, byte: u8, is_one: bool) -> Result<(), AllocError>
     ensures { OnOk result (bytes.new.items ≡
         (if is_one then bytes.old.items ++ byte ∷ [] else bytes.old.items)) }
@@ -64,7 +61,7 @@ fn kinds_differ(one: u8, other: u8) -> bool
     kind_of(one) != kind_of(other)
 }
 
-/// Marks the bytes that looks can distinguish from the byte before.
+/// Sets the flags of the bytes that looks can distinguish from the byte before.
 pub fn kind_bytes() -> [bool; 256]
     ensures { AreKindBytes result }
 {
@@ -75,7 +72,7 @@ pub fn kind_bytes() -> [bool; 256]
     first
 }
 
-/// Marks the bytes.
+/// Sets the flags of the bytes.
 pub fn add_bytes(bytes: &[u8], first: &mut [bool; 256])
     ensures { (byte : ℕ) → byte < 256 → slice_index_or first.new byte false ≡ false →
         (slice_index_or first.old byte false ≡ false) × ¬ (Has bytes.now byte) }
@@ -85,7 +82,8 @@ pub fn add_bytes(bytes: &[u8], first: &mut [bool; 256])
     }
 }
 
-/// Marks the bytes that looks can distinguish from the byte before, if some tree has a look.
+/// Sets the flags of the bytes that looks can distinguish from the byte before, if some tree has a
+/// look.
 pub fn first_by_kind(looks: bool, kinds: &[bool; 256]) -> [bool; 256]
     requires kinds { AreKindBytes kinds.now }
     ensures { (x : ℕ) → x + 1 < 256 → slice_index_or result (x + 1) false ≡ false →
@@ -94,11 +92,13 @@ pub fn first_by_kind(looks: bool, kinds: &[bool; 256]) -> [bool; 256]
     if looks { *kinds } else { [false; 256] }
 }
 
-/// Marks the bytes that looks, or the trees that are entered or have a mark, can distinguish from the byte before.
+/// Sets the flags of the bytes that looks, or the trees that are entered or have a place, can
+/// distinguish from the byte before.
 pub fn first_bytes(trees: &Trees<'_>, marks: &[usize], entered: bool) -> [bool; 256]
     requires prepared { IsPrepared trees.now }
     requires rising { IsRising marks.now }
-    ensures { AreFirstBytes (cores_of trees.now) trees.now.looks (Has marks.now) (IsTrue entered) result }
+    ensures { AreFirstBytes (cores_of trees.now) trees.now.looks (Has marks.now)
+        (IsTrue entered) result }
 {
     let nodes = trees.nodes;
     let starts = trees.starts;

@@ -1,4 +1,5 @@
-//! The input of the building of states.
+//! The input of the building of states. `dfa::build` puts it together before its loop.
+
 use logos_places::node::Node;
 use std::alloc::Global;
 
@@ -13,6 +14,6 @@ pub struct Trees<'n> {
     pub starts: &'n [usize],
     /// Whether some tree has a look, so that states remember the kind of the last byte.
     pub looks: bool,
-    /// Marks the bytes that looks can distinguish from the byte before.
+    /// Sets the flags of the bytes that looks can distinguish from the byte before.
     pub kinds: &'n [bool; 256],
 }

@@ -1,12 +1,9 @@
-//! The bytes that a tree reads otherwise than the byte before them, found in one walk over it.
+//! The bytes that a tree reads otherwise than the byte before them, found in one walk over it from
+//! the places that read the last byte. `alike` and the steps of trees ask for them.
+
 ghost use Rattle.std.specs.Prelude.{◌≡◌, ◌<◌, ◌^◌, ◌+◌, ◌*◌, ◌==◌, ℕ, IsTrue, IsFalse, length, slice_index};
-ghost use Rattle.logos_automaton.specs.inside.Alike.{Marks, IsCopyAlike, GoesAlike, OpensAlike, MayLeave, MayPass};
+ghost use Rattle.logos_automaton.specs.Views.{byte_in, core_of, is_measured, reader_of, spelled, Has, IsRising, GoesAlike, IsCopyAlike, MayLeave, MayPass, OpensAlike, SetsFlags};
 ghost use Rattle.logos_places.specs.Core as core;
-ghost use Rattle.logos_places.specs.Core.{byte_in};
-ghost use Rattle.logos_places.specs.Marks.{Has, IsRising};
-ghost use Rattle.logos_places.specs.Node.{core_of, is_measured};
-ghost use Rattle.logos_places.specs.Repeat.{spelled};
-ghost use Rattle.logos_places.specs.Table.{reader_of};
 
 use crate::alike::{mark_range, mark_ranges};
 use logos_hir::hir::Range;
@@ -25,9 +22,10 @@ fn differ(row: Option<usize>, other: Option<usize>) -> bool
     }
 }
 
-/// Marks the bytes by which a class of characters, entered, leads elsewhere than by the byte before.
+/// Sets the flags of the bytes by which a class of characters, entered, leads elsewhere than by the
+/// byte before.
 fn mark_first(table: &Table, marked: &mut [bool; 256])
-    ensures { Marks (OpensAlike (core.character (reader_of table.now))) marked.old marked.new }
+    ensures { SetsFlags (OpensAlike (core.character (reader_of table.now))) marked.old marked.new }
 {
     for byte in 1..256usize {
         let is_other = differ(table.first((byte - 1) as u8), table.first(byte as u8));
@@ -35,10 +33,11 @@ fn mark_first(table: &Table, marked: &mut [bool; 256])
     }
 }
 
-/// Marks the bytes by which a row of a class of characters leads elsewhere than by the byte before.
+/// Sets the flags of the bytes by which a row of a class of characters leads elsewhere than by the
+/// byte before.
 fn mark_row(table: &Table, row: usize, marked: &mut [bool; 256])
     requires { row < table.now.rows }
-    ensures { Marks (λ x y. (reader_of table.now).follow row x ≡ (reader_of table.now).follow row y)
+    ensures { SetsFlags (λ x y. (reader_of table.now).follow row x ≡ (reader_of table.now).follow row y)
         marked.old marked.new }
 {
     for byte in 0x80..0xC1usize {
@@ -48,11 +47,12 @@ fn mark_row(table: &Table, row: usize, marked: &mut [bool; 256])
     }
 }
 
-/// Marks the bytes by which a class of characters, from its marked rows, leads elsewhere than by the byte before.
+/// Sets the flags of the bytes by which a class of characters, from its rows that read the last
+/// byte, leads elsewhere than by the byte before.
 fn mark_rows(table: &Table, marks: &[usize], base: usize, marked: &mut [bool; 256])
     requires rising { IsRising marks.now }
     requires fits { base + table.now.rows < 2 ^ 64 }
-    ensures { Marks (GoesAlike (core.character (reader_of table.now)) (λ q. Has marks.now (base + q)))
+    ensures { SetsFlags (GoesAlike (core.character (reader_of table.now)) (λ q. Has marks.now (base + q)))
         marked.old marked.new }
 {
     let rows = Copies {
@@ -68,17 +68,17 @@ fn mark_rows(table: &Table, marks: &[usize], base: usize, marked: &mut [bool; 25
     }
 }
 
-/// Marks a byte and the byte after it.
+/// Sets the flags of a byte and of the byte after it.
 fn mark_byte(byte: u8, marked: &mut [bool; 256])
-    ensures { Marks (OpensAlike (byte_in (λ x. x == byte))) marked.old marked.new }
+    ensures { SetsFlags (OpensAlike (byte_in (λ x. x == byte))) marked.old marked.new }
 {
     let value = byte as u32;
     mark_range(Range::new(value, value), marked);
 }
 
-/// Marks the byte of a literal at an index, if there is one, and the byte after it.
+/// Sets the flags of the byte of a literal at an index, if there is one, and of the byte after it.
 fn mark_at(text: &[u8], at: usize, marked: &mut [bool; 256])
-    ensures { Marks (λ x y. at < length text.now →
+    ensures { SetsFlags (λ x y. at < length text.now →
         (x == slice_index text.now at) ≡ (y == slice_index text.now at)) marked.old marked.new }
 {
     if let Some(byte) = text.get(at) {
@@ -86,20 +86,21 @@ fn mark_at(text: &[u8], at: usize, marked: &mut [bool; 256])
     }
 }
 
-/// Marks the bytes that a literal, entered, reads otherwise than the byte before, and returns whether it is empty.
+/// Sets the flags of the bytes that a literal, entered, reads otherwise than the byte before, and
+/// returns whether it is empty.
 fn open_literal(text: &[u8], marked: &mut [bool; 256]) -> bool
-    ensures marks { Marks (OpensAlike (spelled text.now)) marked.old marked.new }
+    ensures marks { SetsFlags (OpensAlike (spelled text.now)) marked.old marked.new }
     ensures passes { MayPass (spelled text.now) → IsTrue result }
 {
     mark_at(text, 0, marked);
     text.is_empty()
 }
 
-/// Marks the bytes that a tree, entered, reads otherwise than the byte before, and returns whether it may be passed without a
-/// byte.
+/// Sets the flags of the bytes that a tree, entered, reads otherwise than the byte before, and
+/// returns whether it may be passed without a byte.
 #[cycle(open)]
 fn open(node: &Node, marked: &mut [bool; 256]) -> bool
-    ensures marks { Marks (OpensAlike (core_of node.now)) marked.old marked.new }
+    ensures marks { SetsFlags (OpensAlike (core_of node.now)) marked.old marked.new }
     ensures passes { MayPass (core_of node.now) → IsTrue result }
 {
     match node {
@@ -132,9 +133,9 @@ fn open(node: &Node, marked: &mut [bool; 256]) -> bool
     }
 }
 
-/// Does the same as `open`, if the tree is entered.
+/// Does what `open` does, if the tree is entered.
 fn open_if(entered: bool, node: &Node, marked: &mut [bool; 256]) -> bool
-    ensures marks { Marks (λ x y. IsTrue entered → OpensAlike (core_of node.now) x y)
+    ensures marks { SetsFlags (λ x y. IsTrue entered → OpensAlike (core_of node.now) x y)
         marked.old marked.new }
     ensures passes { IsTrue entered → MayPass (core_of node.now) → IsTrue result }
 {
@@ -144,12 +145,12 @@ fn open_if(entered: bool, node: &Node, marked: &mut [bool; 256]) -> bool
     open(node, marked)
 }
 
-/// Marks the bytes that a literal, from its marks, reads otherwise than the byte before, and returns whether its last place is
-/// marked.
+/// Sets the flags of the bytes that a literal, from its places, reads otherwise than the byte
+/// before, and returns whether its last place is one of them.
 fn follow_literal(text: &[u8], marks: &[usize], base: usize, marked: &mut [bool; 256]) -> bool
     requires rising { IsRising marks.now }
     requires fits { base + length text.now < 2 ^ 64 }
-    ensures marks { Marks (GoesAlike (spelled text.now) (λ q. Has marks.now (base + q)))
+    ensures marks { SetsFlags (GoesAlike (spelled text.now) (λ q. Has marks.now (base + q)))
         marked.old marked.new }
     ensures leaves { MayLeave (spelled text.now) (λ q. Has marks.now (base + q)) → IsTrue result }
 {
@@ -170,14 +171,14 @@ fn follow_literal(text: &[u8], marks: &[usize], base: usize, marked: &mut [bool;
     has_mark(marks, base + (text.len() - 1))
 }
 
-/// Marks the bytes that a tree, not entered, from its marks reads otherwise than the byte before, and returns whether it may be
-/// left.
+/// Sets the flags of the bytes that a tree, not entered, from its places reads otherwise than the
+/// byte before, and returns whether it may be left.
 #[cycle(follow)]
 fn follow(node: &Node, marks: &[usize], base: usize, marked: &mut [bool; 256]) -> bool
     requires fits { base + core.width (core_of node.now) < 2 ^ 64 }
     requires measured { IsTrue (is_measured node.now) }
     requires rising { IsRising marks.now }
-    ensures marks { Marks (GoesAlike (core_of node.now) (λ q. Has marks.now (base + q)))
+    ensures marks { SetsFlags (GoesAlike (core_of node.now) (λ q. Has marks.now (base + q)))
         marked.old marked.new }
     ensures leaves { MayLeave (core_of node.now) (λ q. Has marks.now (base + q)) → IsTrue result }
 {
@@ -220,15 +221,16 @@ fn follow(node: &Node, marks: &[usize], base: usize, marked: &mut [bool; 256]) -
     }
 }
 
-/// Marks the bytes that copies of a body, from their marks, read otherwise than the byte before, and returns whether one of them
-/// may be left. Where one may be, the body may be entered again.
+/// Sets the flags of the bytes that copies of a body, from their places, read otherwise than the
+/// byte before, and returns whether one of them may be left. If one may be, the body may be entered
+/// again. Copies with the same places are asked once.
 #[cycle(follow)]
 fn follow_copies(body: &Node, copies: Copies, marks: &[usize], marked: &mut [bool; 256]) -> bool
     requires fits { copies.base + copies.each * copies.count < 2 ^ 64 }
     requires each { copies.each ≡ core.width (core_of body.now) }
     requires measured { IsTrue (is_measured body.now) }
     requires rising { IsRising marks.now }
-    ensures marks { Marks (λ x y. (k : ℕ) → k < copies.count → IsCopyAlike (core_of body.now)
+    ensures marks { SetsFlags (λ x y. (k : ℕ) → k < copies.count → IsCopyAlike (core_of body.now)
         (λ q. Has marks.now (copies.base + copies.each * k + q)) x y) marked.old marked.new }
     ensures leaves { (k : ℕ) → k < copies.count → MayLeave (core_of body.now)
         (λ q. Has marks.now (copies.base + copies.each * k + q)) → IsTrue result }
@@ -246,7 +248,8 @@ fn follow_copies(body: &Node, copies: Copies, marks: &[usize], marked: &mut [boo
     any
 }
 
-/// Marks the bytes that a tree, from its marks and entered or not, reads otherwise than the byte before.
+/// Sets the flags of the bytes that a tree, from its places and entered or not, reads otherwise
+/// than the byte before.
 pub fn mark_tree(
     node: &Node,
     marks: &[usize],
@@ -257,7 +260,7 @@ pub fn mark_tree(
     requires fits { base + core.width (core_of node.now) < 2 ^ 64 }
     requires measured { IsTrue (is_measured node.now) }
     requires rising { IsRising marks.now }
-    ensures { Marks (λ x y. GoesAlike (core_of node.now) (λ q. Has marks.now (base + q)) x y
+    ensures { SetsFlags (λ x y. GoesAlike (core_of node.now) (λ q. Has marks.now (base + q)) x y
         × (IsTrue entered → OpensAlike (core_of node.now) x y)) marked.old marked.new }
 {
     open_if(entered, node, marked);

@@ -10,17 +10,17 @@ use Rattle.logos_places.specs.declared.node.Node.{Node}
 use Rattle.logos_places.specs.declared.node.Node.TheOpen.{Node-F}
 use Rattle.logos_places.specs.declared.node.Node.TheFolds.{fold-Node}
 
--- the pattern written out, and whether the numbers beside it are right
+-- The pattern written out, and whether the numbers beside it are right.
 pub record Sized : Type 0 where
   pub written : Core
   pub measured : Bool
 
--- some number of copies is meant, but not just none
+-- Some number of copies is meant, but not none alone.
 abbrev pub is_ordered : ℕ → Option ℕ → Bool
 is_ordered least None = true
 is_ordered least (Some most) = nat_le least most && nat_lt 0 most
 
--- one node, with what each child stands for in its place
+-- One node, with what each child stands for in its place.
 abbrev pub node_sized : Node-F Sized → Sized
 node_sized Node-F.Void = record { written = core.void; measured = true }
 node_sized Node-F.Empty = record { written = core.empty; measured = true }
@@ -44,12 +44,15 @@ node_sized (Node-F.Repeat least most each body) = record {
 abbrev pub sized_of : Node → Sized
 sized_of = fold-Node Sized node_sized
 
+-- The written-out tree that a node stands for.
 abbrev pub core_of : Node → Core
 core_of node = (sized_of node).written
 
+-- The numbers of places stored in a node are right.
 abbrev pub is_measured : Node → Bool
 is_measured node = (sized_of node).measured
 
+-- The numbers of places stored in several nodes are right.
 abbrev pub AreMeasured : List Node → Type 0
 AreMeasured [] = Unit {0}
 AreMeasured (node ∷ nodes) = IsTrue (is_measured node) × AreMeasured nodes

@@ -3,7 +3,7 @@ use Rattle.std.proofs.Common.{◌≡◌, ℕ, zero, suc, ◌+◌, ◌-◌, ◌*�
 use Rattle.std.proofs.lemmas.Bool.Decides.{nat_tests}
 use Rattle.std.proofs.Math.Nat.{mul-le-mul_left}
 use Rattle.logos_automaton.specs.Rules.{AreFree}
-use Rattle.logos_automaton.specs.inside.Alike.{MayPass, MayLeave, OpensAlike, GoesAlike, IsCopyAlike, Marks}
+use Rattle.logos_automaton.specs.inside.Alike.{MayPass, MayLeave, OpensAlike, GoesAlike, IsCopyAlike, SetsFlags}
 use Rattle.logos_places.specs.Core.{Core, void, empty, byte_in, character, look, cat, alt, plus, width, IsFree}
 use Rattle.logos_places.specs.Repeat.{in_front, up_to, repeated, spelled, count_of, IsOrdered}
 use Rattle.logos_places.specs.Table.{reader_of}
@@ -230,7 +230,7 @@ done_first P old n h = record { done = λ x lt unmarked. (unmarked, λ k below. 
 
 -- one more part is asked, and those after it up to m hold with it
 pub done_more : (P : ℕ → ℕ → ℕ → Type 0) (Q : ℕ → ℕ → Type 0) (old mid new : List Bool) (n m : ℕ) → ((x : ℕ) → Q x (x + 1) → P n x (x + 1)) →
-    ((k x : ℕ) → n < k → k < m → P n x (x + 1) → P k x (x + 1)) → Marks Q mid new → AreDone P old mid n → AreDone P old new m
+    ((k x : ℕ) → n < k → k < m → P n x (x + 1) → P k x (x + 1)) → SetsFlags Q mid new → AreDone P old mid n → AreDone P old new m
 done_more P Q old mid new n m one rest marks h = record {
   done = λ x lt unmarked.
       let now = marks x lt unmarked in

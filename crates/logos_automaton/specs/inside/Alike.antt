@@ -8,7 +8,7 @@ use Rattle.logos_places.specs.Run.{StepsIn}
 use Rattle.logos_places.specs.declared.node.Node.{Node}
 use Rattle.logos_hir.specs.declared.hir.Look.{Look}
 
--- entered, the pattern can be passed without a byte, if looks allow it
+-- Entered, the pattern can be passed without a byte, if looks allow it.
 abbrev pub MayPass : Core → Type 0
 MayPass void = ⊥
 MayPass empty = Unit {0}
@@ -19,7 +19,7 @@ MayPass (cat a b) = MayPass a × MayPass b
 MayPass (alt a b) = MayPass a ⊎ MayPass b
 MayPass (plus a) = MayPass a
 
--- the pattern can be left from the places M, if looks allow it
+-- The pattern can be left from the places M, if looks allow it.
 abbrev pub MayLeave : Core → (ℕ → Type 0) → Type 0
 MayLeave void M = ⊥
 MayLeave empty M = ⊥
@@ -30,7 +30,7 @@ MayLeave (cat a b) M = (MayLeave a M × MayPass b) ⊎ MayLeave b (λ q. M (widt
 MayLeave (alt a b) M = MayLeave a M ⊎ MayLeave b (λ q. M (width a + q))
 MayLeave (plus a) M = MayLeave a M
 
--- entered, the pattern reads either byte alike
+-- Entered, the pattern reads either byte alike.
 abbrev pub OpensAlike : Core → ℕ → ℕ → Type 0
 OpensAlike void x y = Unit {0}
 OpensAlike empty x y = Unit {0}
@@ -41,7 +41,7 @@ OpensAlike (cat a b) x y = OpensAlike a x y × (MayPass a → OpensAlike b x y)
 OpensAlike (alt a b) x y = OpensAlike a x y × OpensAlike b x y
 OpensAlike (plus a) x y = OpensAlike a x y
 
--- not entered, but from the places M, the pattern reads either byte alike
+-- Not entered, but from the places M, the pattern reads either byte alike.
 abbrev pub GoesAlike : Core → (ℕ → Type 0) → ℕ → ℕ → Type 0
 GoesAlike void M x y = Unit {0}
 GoesAlike empty M x y = Unit {0}
@@ -52,33 +52,35 @@ GoesAlike (cat a b) M x y = GoesAlike a M x y × (MayLeave a M → OpensAlike b 
 GoesAlike (alt a b) M x y = GoesAlike a M x y × GoesAlike b (λ q. M (width a + q)) x y
 GoesAlike (plus a) M x y = GoesAlike a M x y × (MayLeave a M → OpensAlike a x y)
 
--- more bytes are marked, among them each byte that is not the same as the byte before
-abbrev pub Marks : (ℕ → ℕ → Type 0) → List Bool → List Bool → Type 0
-Marks Same old new = (byte : ℕ) → byte + 1 < 256 → slice_index_or new (byte + 1) false ≡ false →
+-- More flags are set, among them that of each byte that is not the same as the byte before.
+abbrev pub SetsFlags : (ℕ → ℕ → Type 0) → List Bool → List Bool → Type 0
+SetsFlags Same old new = (byte : ℕ) → byte + 1 < 256 → slice_index_or new (byte + 1) false ≡ false →
     (slice_index_or old (byte + 1) false ≡ false) × Same byte (byte + 1)
 
--- a body reads either byte alike from the places M, also where it is entered anew after them
+-- A body reads either byte alike from the places M, and where it is entered anew after them.
 abbrev pub IsCopyAlike : Core → (ℕ → Type 0) → ℕ → ℕ → Type 0
 IsCopyAlike a M x y = GoesAlike a M x y × (MayLeave a M → OpensAlike a x y)
 
--- from these marks the same places read either byte
+-- From these places the same ones read either byte.
 abbrev pub AreReadAlike : List Core → (ℕ → Type 0) → Type 0 → ℕ → ℕ → Type 0
 AreReadAlike ts M entered x y = (test : Look → Bool) (q : ℕ) → StepsIn ts test x M entered q ↔ StepsIn ts test y M entered q
 
--- each byte of another kind than the byte before is marked
+-- Each byte of another kind than the byte before has its flag set.
 abbrev pub AreKindBytes : List Bool → Type 0
 AreKindBytes first = (byte : ℕ) → byte + 1 < 256 → slice_index_or first (byte + 1) false ≡ false → kind_of_byte byte ≡ kind_of_byte (byte + 1)
 
--- each byte is marked that the patterns, with these marks, or looks distinguish from the byte before
+-- Each byte that the patterns, from these places, or looks distinguish from the byte before has its
+-- flag set.
 abbrev pub AreFirstBytes : List Core → Bool → (ℕ → Type 0) → Type 0 → List Bool → Type 0
 AreFirstBytes ts looks M entered first = (byte : ℕ) → byte + 1 < 256 → slice_index_or first (byte + 1) false ≡ false →
     AreReadAlike ts M entered byte (byte + 1) × (IsTrue looks → kind_of_byte byte ≡ kind_of_byte (byte + 1))
 
--- each byte whose entry differs from that of the byte before is one of these
+-- Each byte whose entry differs from that of the byte before is one of these.
 abbrev pub AreChangesOf : List ℕ → List ℕ → Type 0
 AreChangesOf by_byte changes = (x : ℕ) → x + 1 < 256 → (Has changes (x + 1) → ⊥) → slice_index by_byte x ≡ slice_index by_byte (x + 1)
 
--- each byte that is not marked is read by the tree, from these places, and by looks, as the byte before
+-- Each byte whose flag is not set is read by the tree, from these places, and by looks, as the byte
+-- before.
 abbrev pub AreFirstOf : List Node → Bool → ℕ → List ℕ → ℕ → List Bool → Type 0
 AreFirstOf nodes looks i places base first = (node : Node) → node ≡ slice_index_or nodes i node → (byte : ℕ) → byte + 1 < 256 → slice_index_or first (byte + 1) false ≡ false →
     GoesAlike (core_of node) (λ q. Has places (base + q)) byte (byte + 1) × (IsTrue looks → kind_of_byte byte ≡ kind_of_byte (byte + 1))

@@ -1,4 +1,5 @@
-//! Sets of places, as ascending lists.
+//! Sets of places, as ascending lists. Steps look up places in them, and add places to them.
+
 ghost use Rattle.std.specs.Prelude.{◌⊎◌, OnOk, ◌^◌, ◌≡◌, ℕ, ◌+◌, ◌-◌, ◌*◌, ◌<◌, ◌≤◌, ◌↔◌, IsTrue, IsFalse, length, slice_index};
 ghost use Rattle.logos_places.specs.Marks.{IsRising, IsSet, Has, HasBetween, IsFirstFrom};
 
@@ -23,7 +24,7 @@ pub fn first_from(marks: &[usize], from: usize) -> usize
     low
 }
 
-/// Returns whether the place is marked.
+/// Returns whether the place is in the set.
 pub fn has_mark(marks: &[usize], place: usize) -> bool
     requires { IsRising marks.now }
     ensures { IsTrue result ↔ Has marks.now place }
@@ -32,7 +33,7 @@ pub fn has_mark(marks: &[usize], place: usize) -> bool
     i < marks.len() && marks[i] == place
 }
 
-/// Returns whether one of the `width` places from `from` on is marked.
+/// Returns whether one of the `width` places from `from` on is in the set.
 pub fn any_mark(marks: &[usize], from: usize, width: usize) -> bool
     requires { IsRising marks.now }
     ensures { IsTrue result ↔ ((q : ℕ) × (q < width) × Has marks.now (from + q)) }
@@ -41,7 +42,8 @@ pub fn any_mark(marks: &[usize], from: usize, width: usize) -> bool
     i < marks.len() && marks[i] - from < width
 }
 
-/// Returns how many of the copies have no mark, up to the first that has one. Returns 0 if the first copy is entered.
+/// Returns how many of the copies have no place, up to the first that has one. Returns 0 if the
+/// first copy is entered.
 fn empty_copies(marks: &[usize], copies: Copies) -> usize
     requires { IsRising marks.now }
     ensures bound { result ≤ copies.count }
@@ -64,8 +66,9 @@ fn empty_copies(marks: &[usize], copies: Copies) -> usize
     ((marks[i] - copies.base) / copies.each).min(copies.count)
 }
 
-/// Returns the number of the first copy from `done` on that is entered or has a mark, or the number of copies if there is none.
-/// `entered` says whether the copy with the number `done` is entered.
+/// Returns the number of the first copy from `done` on that is entered or has a place, or the
+/// number of copies if there is none. `entered` says whether the copy with the number `done` is
+/// entered.
 pub fn next_copy(marks: &[usize], copies: Copies, done: usize, entered: bool) -> usize
     requires rising { IsRising marks.now }
     requires fits { copies.base + copies.each * copies.count < 2 ^ 64 }
@@ -88,8 +91,9 @@ pub fn next_copy(marks: &[usize], copies: Copies, done: usize, entered: bool) ->
     done + empty_copies(marks, rest)
 }
 
-/// Returns whether the copy whose marks begin at the index `at` is marked as the first one, whose marks are those from the index
-/// `from` on and below `to`. `shift` is how many places lie between the beginnings of the two.
+/// Returns whether a copy has the same places as the first one. Those of the first are from the
+/// index `from` on and below `to`, those of the other begin at the index `at`, and `shift` is how
+/// far the other stands from the first.
 fn is_marked_alike(
     marks: &[usize],
     from: usize,
@@ -125,7 +129,8 @@ fn is_marked_alike(
     copies.base + shift + copies.each <= marks[at + i]
 }
 
-/// Returns how many copies after the first one are marked as it is, up to the next that is not.
+/// Returns how many copies after the first one have the same places as it, up to the next that has
+/// not.
 pub fn alike_copies(marks: &[usize], copies: Copies) -> usize
     requires rising { IsRising marks.now }
     requires fits { copies.base + copies.each * copies.count < 2 ^ 64 }
@@ -155,7 +160,7 @@ pub fn alike_copies(marks: &[usize], copies: Copies) -> usize
 ///
 /// # Errors
 ///
-/// Returns `AllocError` when memory runs out.
+/// Returns `AllocError` if memory runs out.
 pub(crate) fn push_moved(
     places: &mut Vec<usize>,
     from: usize,
@@ -189,7 +194,7 @@ pub(crate) fn push_moved(
 ///
 /// # Errors
 ///
-/// Returns `AllocError` when memory runs out.
+/// Returns `AllocError` if memory runs out.
 pub fn insert_mark(marks: &mut Vec<usize>, place: usize) -> Result<(), AllocError>
     requires { IsRising marks.old.items }
     ensures rising { OnOk result (IsRising marks.new.items) }

@@ -1,16 +1,9 @@
-//! Steps from the places that read one byte to those that read the next byte.
+//! Steps from the places that read one byte to those that read the next byte. `all` and `tree` call
+//! it on each tree.
+
 ghost use Rattle.std.specs.Prelude.{max, ◌≡◌, ℕ, ◌+◌, ◌*◌, ◌^◌, ◌<◌, ◌≤◌, ◌⊎◌, IsTrue, IfOk, OnOk, IfSome, ◌↔◌, Bool, false, Option, List, length};
+ghost use Rattle.logos_places.specs.Views.{Core, IsRising, IsSet, Has, spelled, in_front, up_to, at_least, repeated, count_of, IsOrdered, Stepped, Owes, Repeated, is_in, pairs, Look, test_at, core_of, is_measured, reader_of};
 ghost use Rattle.logos_places.specs.Core as core;
-ghost use Rattle.logos_places.specs.Core.{Core};
-ghost use Rattle.logos_places.specs.Kinds.{test_at};
-ghost use Rattle.logos_places.specs.Marks.{IsRising, IsSet, Has};
-ghost use Rattle.logos_places.specs.Node.{core_of, is_measured};
-ghost use Rattle.logos_places.specs.Repeat.{spelled, in_front, up_to, at_least, repeated, count_of, IsOrdered};
-ghost use Rattle.logos_places.specs.inside.Stepped.{Stepped, Owes, Repeated};
-ghost use Rattle.logos_places.specs.Table.{reader_of};
-ghost use Rattle.logos_hir.specs.ByteRanges.{is_in};
-ghost use Rattle.logos_hir.specs.Hir.{pairs};
-ghost use Rattle.logos_hir.specs.declared.hir.Look.{Look};
 
 use crate::characters::reader::Table;
 use crate::node::{Copies, Node, Spot, width};
@@ -46,11 +39,12 @@ pub fn has_byte(ranges: &[Range], byte: u8) -> bool
     false
 }
 
-/// Steps on the place of a class that has one byte. `fits` says whether the class has the byte that is read.
+/// Steps on the place of a class that has one byte. `fits` says whether the class has the byte that
+/// is read.
 ///
 /// # Errors
 ///
-/// Returns `AllocError` when memory runs out.
+/// Returns `AllocError` if memory runs out.
 fn step_byte(
     fits: bool,
     by: Reading<'_>,
@@ -78,7 +72,7 @@ fn step_byte(
 ///
 /// # Errors
 ///
-/// Returns `AllocError` when memory runs out.
+/// Returns `AllocError` if memory runs out.
 fn step_bytes(
     ranges: &[Range],
     by: Reading<'_>,
@@ -99,7 +93,7 @@ fn step_bytes(
 ///
 /// # Errors
 ///
-/// Returns `AllocError` when memory runs out.
+/// Returns `AllocError` if memory runs out.
 fn step_literal(
     text: &[u8],
     by: Reading<'_>,
@@ -136,7 +130,7 @@ fn step_literal(
 ///
 /// # Errors
 ///
-/// Returns `AllocError` when memory runs out.
+/// Returns `AllocError` if memory runs out.
 fn insert_row(
     row: Option<usize>,
     rows: usize,
@@ -162,7 +156,7 @@ fn insert_row(
 ///
 /// # Errors
 ///
-/// Returns `AllocError` when memory runs out.
+/// Returns `AllocError` if memory runs out.
 fn step_characters(
     table: &Table,
     by: Reading<'_>,
@@ -198,11 +192,12 @@ fn step_characters(
     Ok(left)
 }
 
-/// Adds the places of a tree that read the byte, and returns whether the tree can be left before the byte.
+/// Adds the places of a tree that read the byte, and returns whether the tree can be left before
+/// the byte.
 ///
 /// # Errors
 ///
-/// Returns `AllocError` when memory runs out.
+/// Returns `AllocError` if memory runs out.
 #[cycle(step)]
 pub(crate) fn step(
     node: &Node,
@@ -250,11 +245,12 @@ pub(crate) fn step(
     }
 }
 
-/// Steps on a repetition: at least these copies of its body, and at most `most` if there is such a bound.
+/// Steps on a repetition: at least these copies of its body, and at most `most` if there is such a
+/// bound.
 ///
 /// # Errors
 ///
-/// Returns `AllocError` when memory runs out.
+/// Returns `AllocError` if memory runs out.
 #[cycle(step)]
 fn step_repeat(
     body: &Node,
@@ -290,7 +286,7 @@ fn step_repeat(
 ///
 /// # Errors
 ///
-/// Returns `AllocError` when memory runs out.
+/// Returns `AllocError` if memory runs out.
 #[cycle(step)]
 fn step_at_least(
     body: &Node,
@@ -323,12 +319,13 @@ fn step_at_least(
     step_plus(body, by, copies.at(fronts.count, front), next)
 }
 
-/// Steps on the copies after the first one that are marked and entered as it is, and returns how many these are. The step on the
-/// first one is made, and `left` says whether it can be left.
+/// Steps on the copies after the first one that have the same places and are entered as it is, and
+/// returns how many these are. The step on the first one is made, and `left` says whether it can be
+/// left.
 ///
 /// # Errors
 ///
-/// Returns `AllocError` when memory runs out.
+/// Returns `AllocError` if memory runs out.
 fn repeat_step(
     rest: Copies,
     left: bool,
@@ -366,7 +363,7 @@ fn repeat_step(
 ///
 /// # Errors
 ///
-/// Returns `AllocError` when memory runs out.
+/// Returns `AllocError` if memory runs out.
 #[cycle(step)]
 fn step_copies(
     body: &Node,
@@ -399,7 +396,7 @@ fn step_copies(
 ///
 /// # Errors
 ///
-/// Returns `AllocError` when memory runs out.
+/// Returns `AllocError` if memory runs out.
 #[cycle(step)]
 fn step_up_to(
     body: &Node,
@@ -433,7 +430,7 @@ fn step_up_to(
 ///
 /// # Errors
 ///
-/// Returns `AllocError` when memory runs out.
+/// Returns `AllocError` if memory runs out.
 #[cycle(step)]
 fn step_plus(
     body: &Node,
