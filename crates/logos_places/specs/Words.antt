@@ -15,4 +15,4 @@ pub use Rattle.logos_places.specs.Size.{sizes}
 pub use Rattle.logos_places.specs.inside.Characters.{after_byte, lead, size}
 pub use Rattle.logos_places.specs.inside.Joined.{AreCoresOf, AreNear, IsEither, IsJoined, IsPair, is_within, of_none, pair_up}
 pub use Rattle.logos_places.specs.inside.Reader.{IsReaderOf, is_char_in}
-pub use Rattle.logos_places.specs.inside.Stepped.{Owes, Repeated, Stepped}
+pub use Rattle.logos_places.specs.inside.Stepped.{Owes, Stepped}

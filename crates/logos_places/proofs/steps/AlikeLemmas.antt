@@ -4,7 +4,8 @@ use Rattle.std.proofs.lemmas.List.{get_or_append_left}
 use Rattle.logos_places.specs.Core.{Core, width, Steps}
 use Rattle.logos_places.specs.Marks.{IsRising, Has, IsFirstFrom, IsSet}
 use Rattle.logos_places.specs.Repeat.{in_front, up_to}
-use Rattle.logos_places.specs.inside.Stepped.{Stepped, Owes, Repeated}
+use Rattle.logos_places.specs.inside.Stepped.{Stepped, Owes}
+use Rattle.logos_places.specs.inside.Repeated.{Repeated}
 use Rattle.logos_hir.specs.declared.hir.Look.{Look}
 use Rattle.logos_places.proofs.steps.MarkLemmas.{Has-push, IsSet-push, IsSet-more}
 use Rattle.logos_places.proofs.steps.StepLemmas.{iff_trans, iff_refl, Exits-iff}

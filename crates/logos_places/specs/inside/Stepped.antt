@@ -1,5 +1,5 @@
 -- What a step over a list of places does.
-use Rattle.std.specs.Prelude.{◌≡◌, ℕ, zero, suc, ◌+◌, ◌-◌, ◌*◌, ◌≤◌, ◌⊎◌, ◌↔◌, Bool, IsTrue, List}
+use Rattle.std.specs.Prelude.{◌≡◌, ℕ, ◌+◌, ◌-◌, ◌≤◌, ◌⊎◌, ◌↔◌, Bool, IsTrue, List}
 use Rattle.logos_places.specs.Core.{Core, width, Exits, Steps}
 use Rattle.logos_places.specs.Marks.{Has, IsSet}
 use Rattle.logos_hir.specs.declared.hir.Look.{Look}
@@ -22,9 +22,3 @@ pub record Owes (whole rest : Core) (test : Look → Bool) (x : ℕ) (marks old 
   pub leaves :
       (IsTrue any ⊎ Exits rest test (λ p. Has marks (start + p)) (IsTrue left))
       ↔ Exits whole test (λ p. Has marks (base + p)) (IsTrue entered)
-
--- The steps on n copies of t, whose places begin at `start`. Each copy is entered as it is left.
-abbrev pub Repeated : Core → (Look → Bool) → ℕ → List ℕ → List ℕ → ℕ → Bool → ℕ → List ℕ → Type 0
-Repeated t test x marks old start left zero new = new ≡ old
-Repeated t test x marks old start left (suc n) new =
-    (mid : List ℕ) × Repeated t test x marks old start left n mid × Stepped t test x marks mid new (start + width t * n) left left

@@ -156,7 +156,7 @@ pub fn alike_copies(marks: &[usize], copies: Copies) -> usize
     more
 }
 
-/// Adds the places from the index `from` on and below `to` once more, each moved by `shift`.
+/// Appends the places from the index `from` on and below `to` once more, each moved by `shift`.
 ///
 /// # Errors
 ///

@@ -2,8 +2,9 @@
 //! it on each tree.
 
 ghost use Rattle.std.specs.Prelude.{max, ◌≡◌, ℕ, ◌+◌, ◌*◌, ◌^◌, ◌<◌, ◌≤◌, ◌⊎◌, IsTrue, IfOk, OnOk, IfSome, ◌↔◌, Bool, false, Option, List, length};
-ghost use Rattle.logos_places.specs.Views.{Core, IsRising, IsSet, Has, spelled, in_front, up_to, at_least, repeated, count_of, IsOrdered, Stepped, Owes, Repeated, is_in, pairs, Look, test_at, core_of, is_measured, reader_of};
+ghost use Rattle.logos_places.specs.Views.{Core, IsRising, IsSet, Has, spelled, in_front, up_to, at_least, repeated, count_of, IsOrdered, Stepped, Owes, is_in, pairs, Look, test_at, core_of, is_measured, reader_of};
 ghost use Rattle.logos_places.specs.Core as core;
+ghost use Rattle.logos_places.specs.inside.Repeated.{Repeated};
 
 use crate::characters::reader::Table;
 use crate::node::{Copies, Node, Spot, width};

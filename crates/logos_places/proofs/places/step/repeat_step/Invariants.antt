@@ -2,7 +2,8 @@ use Rattle.std.proofs.Common.{◌≡◌, ℕ, ◌+◌, ◌-◌, ◌*◌, ◌<◌
 use Rattle.logos_places.specs.Core.{Core, width}
 use Rattle.logos_places.specs.Kinds.{test_at}
 use Rattle.logos_places.specs.Marks.{IsSet}
-use Rattle.logos_places.specs.inside.Stepped.{Stepped, Repeated}
+use Rattle.logos_places.specs.inside.Stepped.{Stepped}
+use Rattle.logos_places.specs.inside.Repeated.{Repeated}
 use Rattle.logos_places.proofs.places.step.repeat_step.Given as goal
 
 abbrev pub invariant-loop-more : goal.invariant-loop-more
