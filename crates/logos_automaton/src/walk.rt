@@ -250,13 +250,7 @@ fn follow_copies(body: &Node, copies: Copies, marks: &[usize], marked: &mut [boo
 
 /// Sets the flags of the bytes that a tree, from its places and entered or not, reads otherwise
 /// than the byte before.
-pub fn mark_tree(
-    node: &Node,
-    marks: &[usize],
-    base: usize,
-    entered: bool,
-    marked: &mut [bool; 256],
-)
+pub fn mark_tree(node: &Node, marks: &[usize], base: usize, entered: bool, marked: &mut [bool; 256])
     requires fits { base + core.width (core_of node.now) < 2 ^ 64 }
     requires measured { IsTrue (is_measured node.now) }
     requires rising { IsRising marks.now }

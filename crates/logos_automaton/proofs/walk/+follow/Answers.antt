@@ -79,13 +79,12 @@ follow-returns-in-Cat-clause-marks t c = λ x lt unmarked.
     let second = rw c.deref-in-Cat-2.ensures at c.open_if-passed.ensures.marks x lt third.0 in
     let first = rw c.deref-in-Cat.ensures at c.follow-left.ensures.marks x lt second.0 in (
       first.0,
-      rw (ap core_of c.in-Cat.is ∙ core-Cat _ _ _)
-          (
-            first.1,
-            λ l. second.1 (rw c.deref-in-Cat.ensures at c.follow-left.ensures.leaves l),
-            goes_map x (x + 1) b (λ q. Has marks (base + c.width-in-Cat.result + q)) (λ q. Has marks (base + (width a + q)))
-                (λ q below has. subst (Has marks) (omega (arith, v)) has) third.1,
-          ),
+      rw (ap core_of c.in-Cat.is ∙ core-Cat _ _ _) (
+        first.1,
+        λ l. second.1 (rw c.deref-in-Cat.ensures at c.follow-left.ensures.leaves l),
+        goes_map x (x + 1) b (λ q. Has marks (base + c.width-in-Cat.result + q)) (λ q. Has marks (base + (width a + q)))
+            (λ q below has. subst (Has marks) (omega (arith, v)) has) third.1,
+      ),
     )
 
 pub follow-returns-in-Cat-clause-leaves : goal.follow-returns-in-Cat-clause-leaves
@@ -112,12 +111,11 @@ follow-returns-in-Alt-clause-marks t c = λ x lt unmarked.
     let second = rw c.deref-in-Alt-2.ensures at c.follow-other-in-Alt.ensures.marks x lt unmarked in
     let first = rw c.deref-in-Alt.ensures at c.follow-one.ensures.marks x lt second.0 in (
       first.0,
-      rw (ap core_of c.in-Alt.is ∙ core-Alt _ _ _)
-          (
-            first.1,
-            goes_map x (x + 1) b (λ q. Has marks (base + c.width-in-Alt.result + q)) (λ q. Has marks (base + (width a + q)))
-                (λ q below has. subst (Has marks) (omega (arith, v)) has) second.1,
-          ),
+      rw (ap core_of c.in-Alt.is ∙ core-Alt _ _ _) (
+        first.1,
+        goes_map x (x + 1) b (λ q. Has marks (base + c.width-in-Alt.result + q)) (λ q. Has marks (base + (width a + q)))
+            (λ q below has. subst (Has marks) (omega (arith, v)) has) second.1,
+      ),
     )
 
 pub follow-returns-in-Alt-clause-leaves : goal.follow-returns-in-Alt-clause-leaves
