@@ -1,17 +1,13 @@
 -- Bytes that a pattern does not distinguish.
-use Rattle.std.proofs.Common.{◌≡◌, ℕ, zero, suc, ◌+◌, ◌-◌, ◌<◌, ◌≤◌, ◌↔◌, ◌⊎◌, Bool, true, false, IsTrue, IsFalse, if◌then◌else◌, List, [], ◌∷◌, ◌++◌, length, length-append, map, drop, slice_index, slice_index_or, Option, Some, None, refl, sym, ap, ◌∙◌, subst, inl, inr, ⊎_elim, true≢false, arith}
-use Rattle.std.proofs.lemmas.List.{get_or_append_left}
-use Rattle.std.proofs.Math.Seq.{get_or-append_seam}
+use Rattle.std.proofs.Common.{◌≡◌, ℕ, zero, suc, ◌+◌, ◌-◌, ◌<◌, ◌≤◌, ◌↔◌, ◌⊎◌, Bool, true, false, IsTrue, List, [], ◌∷◌, length, map, drop, slice_index, slice_index_or, refl, sym, ◌∙◌, subst, inl, inr, ⊎_elim, true≢false, arith}
 use Rattle.logos_automaton.specs.inside.Alike.{MayPass, MayLeave, OpensAlike, GoesAlike, AreReadAlike}
 use Rattle.logos_places.specs.Core.{Core, void, empty, byte_in, character, look, cat, alt, plus, width, Exits, Steps}
 use Rattle.logos_places.specs.Marks.{Has}
 use Rattle.logos_places.specs.Node.{core_of}
-use Rattle.logos_places.specs.Repeat.{in_front, up_to, repeated}
 use Rattle.logos_places.specs.Run.{StepsIn}
 use Rattle.logos_places.specs.Several.{AreStarts}
 use Rattle.logos_places.specs.declared.node.Node.{Node}
 use Rattle.logos_hir.specs.declared.hir.Look.{Look}
-use Rattle.logos_places.proofs.steps.MarkLemmas.{Has-push}
 use Rattle.logos_places.proofs.steps.PlaceLemmas.{Steps-map}
 use Rattle.logos_places.proofs.steps.SeveralLemmas.{StepsIn-map, node_at, first_start, next_start, Unmarked, none_in, passed_to, next_core}
 use Rattle.logos_places.proofs.steps.SteppedLemmas.{Steps-void}

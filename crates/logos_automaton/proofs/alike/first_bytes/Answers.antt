@@ -1,6 +1,4 @@
-use Rattle.std.proofs.Common.{◌≡◌, ◌+◌, ◌<◌, ◌≤◌, ◌^◌, length, slice_index, arith}
-use Rattle.logos_places.specs.Core.{width}
-use Rattle.logos_places.specs.Node.{core_of}
+use Rattle.std.proofs.Common.{◌≡◌, ◌+◌, ◌≤◌, length, arith}
 use Rattle.logos_automaton.proofs.keys.AlikeLemmas.{suffices_first, suffices_alike, suffices_pass, suffices_last}
 use Rattle.logos_places.proofs.steps.SeveralLemmas.{next_measured, start_fits}
 use Rattle.logos_automaton.proofs.alike.first_bytes.Goals as goal

@@ -5,7 +5,7 @@ use Rattle.logos_places.specs.Marks.{Has}
 use Rattle.logos_places.specs.Node.{core_of}
 use Rattle.logos_places.specs.declared.node.Node.{the_lemmas}
 use Rattle.logos_places.proofs.trees.NodeLemmas.{core-Literal, core-Cat, core-Alt, core-Repeat, width-Literal, width-Cat, width-Alt, pair-Cat, pair-Alt, repeat-Repeat, width-Repeat}
-use Rattle.logos_automaton.specs.inside.Alike.{GoesAlike, MayLeave}
+use Rattle.logos_automaton.specs.inside.Alike.{GoesAlike}
 use Rattle.logos_automaton.proofs.keys.WalkLemmas.{alike_copy, copy_map, done_first, done_more, goes_map, goes_none, goes_repeated, leave_map, leave_none, leave_repeated, passed_copy}
 use Rattle.logos_automaton.proofs.walk.+follow.Goals as goal
 

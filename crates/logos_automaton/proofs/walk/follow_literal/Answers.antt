@@ -1,4 +1,4 @@
-use Rattle.std.proofs.Common.{◌≡◌, ℕ, ◌+◌, ◌-◌, ◌<◌, ◌≤◌, ◌==◌, length, slice_index, subst, arith, eqb-true, sym, ◌∙◌}
+use Rattle.std.proofs.Common.{◌≡◌, ◌+◌, ◌-◌, ◌<◌, ◌==◌, length, slice_index, subst, arith, eqb-true, sym, ◌∙◌}
 use Rattle.logos_places.specs.Marks.{Has}
 use Rattle.logos_automaton.proofs.keys.WalkLemmas.{done_first, done_more, goes_spelled, leave_spelled}
 use Rattle.logos_automaton.proofs.walk.follow_literal.Goals as goal

@@ -1,4 +1,4 @@
-use Rattle.std.proofs.Common.{◌≡◌, ℕ, ◌+◌, ◌≤◌, arith}
+use Rattle.std.proofs.Common.{◌≡◌, ◌+◌, arith}
 use Rattle.logos_places.specs.Marks.{Has}
 use Rattle.logos_places.specs.Table.{reader_of}
 use Rattle.logos_automaton.proofs.keys.WalkLemmas.{done_first, done_more}

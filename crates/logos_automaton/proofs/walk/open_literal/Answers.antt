@@ -1,4 +1,4 @@
-use Rattle.std.proofs.Common.{◌+◌, sym, ◌∙◌, arith}
+use Rattle.std.proofs.Common.{◌+◌, arith}
 use Rattle.std.proofs.lemmas.Bool.Decides.{nat_tests}
 use Rattle.logos_automaton.proofs.keys.WalkLemmas.{opens_spelled, pass_spelled}
 use Rattle.logos_automaton.proofs.walk.open_literal.Goals as goal

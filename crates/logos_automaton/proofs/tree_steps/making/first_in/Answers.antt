@@ -1,4 +1,4 @@
-use Rattle.std.proofs.Common.{◌≡◌, ◌+◌, ◌<◌, ◌^◌, IsTrue, slice_index, subst, sym, ◌∙◌, arith}
+use Rattle.std.proofs.Common.{◌+◌, ◌<◌, ◌^◌, IsTrue, slice_index, subst, sym, ◌∙◌, arith}
 use Rattle.logos_automaton.specs.inside.Alike.{GoesAlike}
 use Rattle.logos_places.specs.Core.{width}
 use Rattle.logos_places.specs.Marks.{Has}
