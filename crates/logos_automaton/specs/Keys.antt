@@ -102,10 +102,10 @@ pub record LeadsTo (ts : List Core) (looks : Bool) (ks : List Key) (i x j : ℕ)
   pub next : IsNext ts looks from x to
 
 -- Each byte that the state i distinguishes from the byte before has its flag set.
-pub record AreFirstIn (ts : List Core) (ks : List Key) (i : ℕ) (first : List Bool) : Type 0 where
+pub record AreFirstIn (ts : List Core) (looks : Bool) (ks : List Key) (i : ℕ) (first : List Bool) : Type 0 where
   pub state : State
   pub at : IsAt ks i state
-  pub are : AreFirstBytes ts (Has state.places) (IsTrue (is_start state.kind)) first
+  pub are : AreFirstBytes ts looks (Has state.places) (IsTrue (is_start state.kind)) first
 
 -- The end leads from the state i to the state j.
 pub record EndsIn (ts : List Core) (ks : List Key) (i j : ℕ) : Type 0 where

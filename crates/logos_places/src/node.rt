@@ -1,6 +1,6 @@
 //! Trees, prepared for the automaton. `prepare` makes them, and steps read them.
 
-ghost use Rattle.std.specs.Prelude.{◌≡◌, ◌+◌, ◌*◌, ◌^◌, ◌<◌, IsTrue};
+ghost use Rattle.std.specs.Prelude.{◌≡◌, ◌+◌, ◌*◌, ◌^◌, ◌<◌, ◌≤◌, ◌-◌, IsTrue};
 ghost use Rattle.logos_places.specs.Views.{count_of, core_of, is_measured};
 ghost use Rattle.logos_places.specs.Core as core;
 
@@ -80,7 +80,7 @@ pub fn width(node: &Node) -> usize
 
 /// Where a tree stands in a step: at which place its own begin, and whether it is entered.
 #[derive(Clone, Copy)]
-pub(crate) struct TreeSpot {
+pub struct TreeSpot {
     /// The first place of the tree.
     pub base: usize,
     /// Whether a match of the tree begins at the position of the step.
@@ -103,7 +103,7 @@ impl TreeSpot {
 
 /// Copies of the body of a repetition, one after another.
 #[derive(Clone, Copy)]
-pub(crate) struct Copies {
+pub struct Copies {
     /// The first place of the first copy.
     pub base: usize,
     /// The number of places of each copy.
@@ -127,6 +127,23 @@ impl Copies {
             each,
             count,
             entered: spot.entered,
+        }
+    }
+
+    /// Returns the copies from this number on. `entered` says whether the first one is entered.
+    pub fn from(self, number: usize, entered: bool) -> Copies
+        requires fits { self.base + self.each * number < 2 ^ 64 }
+        requires within { number ≤ self.count }
+        ensures base { result.base ≡ self.base + self.each * number }
+        ensures each { result.each ≡ self.each }
+        ensures count { result.count ≡ self.count - number }
+        ensures entered { result.entered ≡ entered }
+    {
+        Copies {
+            base: self.base + self.each * number,
+            each: self.each,
+            count: self.count - number,
+            entered,
         }
     }
 

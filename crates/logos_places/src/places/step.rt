@@ -1,15 +1,18 @@
 //! Steps from the places that read one byte to those that read the next byte. `all` and `tree` call
 //! it on each tree.
 
-ghost use Rattle.std.specs.Prelude.{max, ◌≡◌, ℕ, ◌+◌, ◌*◌, ◌^◌, ◌<◌, ◌≤◌, ◌⊎◌, IsTrue, IfOk, OnOk, IfSome, ◌↔◌, Bool, false, Option, length};
+ghost use Rattle.std.specs.Prelude.{max, ◌≡◌, ℕ, ◌+◌, ◌*◌, ◌^◌, ◌<◌, ◌≤◌, ◌⊎◌, IsTrue, IfOk, OnOk, IfSome, ◌↔◌, Bool, false, Option, List, length};
 ghost use Rattle.logos_places.specs.Views.{Core, IsRising, IsSet, Has, spelled, in_front, up_to, at_least, repeated, count_of, IsOrdered, Stepped, Owes, is_in, pairs, Look, test_at, core_of, is_measured, reader_of};
 ghost use Rattle.logos_places.specs.Core as core;
+ghost use Rattle.logos_places.specs.inside.Repeated.{Repeated};
 
 use crate::characters::reader::CharacterTable;
 use crate::node::{Copies, Node, TreeSpot, width};
 use crate::places::exits::exits;
 use crate::places::look::{Context, holds};
-use crate::places::set::{any_mark, first_from, has_mark, insert_mark, next_copy};
+use crate::places::set::{
+    alike_copies, any_mark, first_from, has_mark, insert_mark, next_copy, push_moved,
+};
 use logos_hir::hir::Range;
 use std::alloc::AllocError;
 
@@ -317,6 +320,46 @@ fn step_at_least(
     step_plus(body, by, copies.at(fronts.count, front), next)
 }
 
+/// Steps on the copies after the first one that have the same places and are entered as it is, and
+/// returns how many these are. The step on the first one is made, and `left` says whether it can be
+/// left.
+///
+/// # Errors
+///
+/// Returns `AllocError` if memory runs out.
+fn repeat_step(
+    rest: Copies,
+    left: bool,
+    by: ReadByte<'_>,
+    next: &mut Vec<usize>,
+) -> Result<usize, AllocError>
+    requires fits { rest.base + rest.each * rest.count < 2 ^ 64 }
+    requires some { 0 < rest.count }
+    requires rising { IsRising by.marks.now }
+    requires set { IsSet next.old.items (rest.base + rest.each) }
+    ensures few { IfOk result (λ more. more < rest.count) }
+    ensures same { IfOk result (λ more. 0 < more → left ≡ rest.entered) }
+    ensures repeated { IfOk result (λ more. (t : Core) → (before : List ℕ) →
+        rest.each ≡ core.width t → IsSet before rest.base →
+        Stepped t (test_at by.entry.at) by.entry.byte by.entry.marks.now
+        before next.old.items rest.base rest.entered left →
+        Repeated t (test_at by.entry.at) by.entry.byte by.entry.marks.now
+        next.old.items (rest.base + rest.each) left more next.new.items) }
+{
+    if left != rest.entered {
+        return Ok(0);
+    }
+    let count = alike_copies(by.marks, rest);
+    let from = first_from(next, rest.base);
+    let to = next.len();
+    let mut more = 0;
+    while more < count {
+        push_moved(next, from, to, rest.each * (more + 1))?;
+        more += 1;
+    }
+    Ok(count)
+}
+
 /// Steps on all of the copies, whatever comes after them.
 ///
 /// # Errors
@@ -342,8 +385,10 @@ fn step_copies(
     let mut done = next_copy(by.marks, copies, 0, copies.entered);
     let mut left = copies.entered;
     while done < copies.count {
+        let rest = copies.from(done, left);
         left = step(body, by, copies.at(done, left), next)?;
-        done = next_copy(by.marks, copies, done + 1, left);
+        let more = repeat_step(rest, left, by, next)?;
+        done = next_copy(by.marks, copies, done + 1 + more, left);
     }
     Ok(left)
 }
@@ -374,8 +419,10 @@ fn step_up_to(
     let mut any = false;
     while done < copies.count {
         any = any | left;
+        let rest = copies.from(done, left);
         left = step(body, by, copies.at(done, left), next)?;
-        done = next_copy(by.marks, copies, done + 1, left);
+        let more = repeat_step(rest, left, by, next)?;
+        done = next_copy(by.marks, copies, done + 1 + more, left);
     }
     Ok(any | left)
 }
