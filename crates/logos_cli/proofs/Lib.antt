@@ -1,6 +1,5 @@
 pub mod GatherLemmas
 pub mod RunLemmas
 pub mod ShownLemmas
-pub mod WordLemmas
 pub mod DeriveLemmas
 pub mod LineLemmas

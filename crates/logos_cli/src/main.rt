@@ -3,6 +3,7 @@
 #![tactic(auto)]
 
 mod answering;
+mod batch;
 mod difference;
 mod expanding;
 mod head;

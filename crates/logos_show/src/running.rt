@@ -16,9 +16,10 @@ use crate::streaming::lex_stream;
 use logos_causes::Showing;
 use logos_codegen::graph::Graph;
 use logos_codegen::{Generated, generate};
-use logos_host::{Failure, Files, report, with_nearest};
+use logos_host::{Failure, Files, report};
 use logos_lines::Position;
-use logos_questions::{Order, Question, Request, STANDARD_INPUT, TAKEN, request_of};
+use logos_options::{Program, STANDARD_INPUT, with_nearest};
+use logos_questions::{Order, Question, Request, request_of};
 use logos_report::{Page, Part, Source};
 use logos_rust_file::{FoundEnum, enums_in};
 use std::alloc::Global;
@@ -92,7 +93,7 @@ pub(crate) fn run<F: Files, C: Clock + StandardInput, O: Write, E: Write + IsTer
 {
     let request = match request_of(words) {
         Ok(request) => request,
-        Err(failure) => return failed(&with_nearest(failure, &TAKEN), host.err),
+        Err(failure) => return failed(&with_nearest(failure, Program::Show), host.err),
     };
     match carry_out(alloc, request, host, out) {
         Ok(Standing::Same) => 0,

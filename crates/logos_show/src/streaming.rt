@@ -17,7 +17,7 @@ use logos_codegen::leaf::LeafId;
 use logos_codegen::machine::Action;
 use logos_host::{Failure, Files, Reason, write_through};
 use logos_lines::Position;
-use logos_questions::STANDARD_INPUT;
+use logos_options::STANDARD_INPUT;
 use logos_report::Source;
 use logos_stream::{Stream, StreamItem, Streamed};
 use std::alloc::{AllocError, Global};

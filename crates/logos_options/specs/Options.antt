@@ -1,7 +1,7 @@
 -- The options of a command line.
 use Rattle.std.specs.Prelude.{ℕ, List, Bool, true, false, Option, Some, None, if◌then◌else◌, bytes_eq, codes}
-use Rattle.logos_host.specs.declared.options.OptionName.{OptionName}
-use Rattle.logos_host.specs.declared.options.OptionName.TheVariants.{At, Check, Color, Compare, DenyWarnings, Derive, Enum, Examples, Expect, Help, Inputs, Json, MessageFormat, Output, Shape, Version}
+use Rattle.logos_options.specs.declared.options.OptionName.{OptionName}
+use Rattle.logos_options.specs.declared.options.OptionName.TheVariants.{At, Check, Color, Compare, DenyWarnings, Derive, Enum, Examples, Expect, Help, Inputs, Json, MessageFormat, Output, Shape, Version}
 
 -- the options with a word of one letter
 abbrev pub letter_named : List ℕ → Option OptionName

@@ -2,12 +2,12 @@
 
 ghost use Rattle.std.specs.Prelude.{◌≡◌, IfErr, IfOk, None, Some, option_map};
 ghost use Rattle.logos_host.specs.Failures.{status_of};
-ghost use Rattle.logos_host.specs.Options.{option_named};
-ghost use Rattle.logos_host.specs.WordSteps.{begins_option, split_at_equals, step, step_value};
-ghost use Rattle.logos_host.specs.WordSteps.{with_assigned, with_option, with_written};
+ghost use Rattle.logos_options.specs.Options.{option_named};
+ghost use Rattle.logos_options.specs.WordSteps.{begins_option, split_at_equals, step, step_value};
+ghost use Rattle.logos_options.specs.WordSteps.{with_assigned, with_option, with_written};
 
-use crate::failure::Failure;
 use crate::options::OptionName;
+use logos_host::Failure;
 
 /// What a word, or two, of a command line give.
 #[derive(Clone, Copy)]

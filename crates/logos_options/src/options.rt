@@ -1,7 +1,7 @@
-//! The options of a command line. A program takes some of them.
+//! The options of command lines. A program takes some of them.
 
 ghost use Rattle.std.specs.Prelude.{◌≡◌};
-ghost use Rattle.logos_host.specs.Options.{later_named, letter_named, long_named, question_named};
+ghost use Rattle.logos_options.specs.Options.{later_named, letter_named, long_named, question_named};
 
 /// An option, by its name.
 #[derive(Clone, Copy, Debug, PartialEq, Eq)]
@@ -24,9 +24,29 @@ pub enum OptionName {
     Version,
 }
 
+/// All options.
+pub(crate) const OPTIONS: [OptionName; 16] = [
+    OptionName::At,
+    OptionName::Check,
+    OptionName::Color,
+    OptionName::Compare,
+    OptionName::DenyWarnings,
+    OptionName::Derive,
+    OptionName::Enum,
+    OptionName::Examples,
+    OptionName::Expect,
+    OptionName::Help,
+    OptionName::Inputs,
+    OptionName::Json,
+    OptionName::MessageFormat,
+    OptionName::Output,
+    OptionName::Shape,
+    OptionName::Version,
+];
+
 impl OptionName {
     ghost use Rattle.std.specs.Prelude.{◌≡◌, Some};
-    ghost use Rattle.logos_host.specs.Options.{option_named, takes_value};
+    ghost use Rattle.logos_options.specs.Options.{option_named, takes_value};
 
     /// Returns the option with this word, as `--output` or `-o`.
     pub fn by_word(word: &str) -> Option<OptionName>

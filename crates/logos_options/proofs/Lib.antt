@@ -1,1 +1,2 @@
 mod SplitLemmas
+mod WordLemmas

@@ -1,6 +1,6 @@
 use Rattle.std.proofs.Common.{arith}
-use Rattle.logos_host.proofs.SplitLemmas.{no_split, one_split}
-use Rattle.logos_host.proofs.word_steps.split_at_equals.Goals as goal
+use Rattle.logos_options.proofs.SplitLemmas.{no_split, one_split}
+use Rattle.logos_options.proofs.word_steps.split_at_equals.Goals as goal
 
 pub returns-in-Some : goal.returns-in-Some
 returns-in-Some c =

@@ -1,12 +1,12 @@
 -- The words of a command line, one after another.
 use Rattle.std.specs.Prelude.{ℕ, ◌==◌, List, [], ◌∷◌, Bool, true, false, Option, Some, None, if◌then◌else◌, option_map, bytes_eq, codes, length}
 use Rattle.std.specs.List.{after_first, before_first, position_or_len}
-use Rattle.logos_host.specs.declared.options.OptionName.{OptionName}
-use Rattle.logos_host.specs.declared.word_steps.Progress.{Progress}
-use Rattle.logos_host.specs.declared.word_steps.Step.{Step}
-use Rattle.logos_host.specs.declared.word_steps.Use.{Use}
-use Rattle.logos_host.specs.declared.word_steps.Use.TheVariants as uses
-use Rattle.logos_host.specs.Options.{option_named, takes_value}
+use Rattle.logos_options.specs.declared.options.OptionName.{OptionName}
+use Rattle.logos_options.specs.declared.word_steps.Progress.{Progress}
+use Rattle.logos_options.specs.declared.word_steps.Step.{Step}
+use Rattle.logos_options.specs.declared.word_steps.Use.{Use}
+use Rattle.logos_options.specs.declared.word_steps.Use.TheVariants as uses
+use Rattle.logos_options.specs.Options.{option_named, takes_value}
 
 -- What a word, or two, of a command line give: a path, an option, or an option with its value.
 pub data UseValue : Type 0 where

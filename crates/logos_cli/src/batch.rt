@@ -1,0 +1,149 @@
+//! Files whose results go into a folder.
+
+use crate::options::{Batch, Order};
+use crate::running::{Ending, carry_out, failed};
+use logos_host::{ComparableFiles, Failure};
+use logos_options::{misuse, paths_of};
+use logos_token::error::Memory;
+use std::alloc::Global;
+use std::cmp::max;
+use std::io::{IsTerminal, Write};
+
+/// A file to expand.
+#[derive(Drop)]
+struct Entry<'w> {
+    /// The path of the file.
+    input: &'w str,
+    /// The path of its result.
+    output: String,
+}
+
+/// Expands files, and writes each result into a folder, under the name of its file. A file that is
+/// refused, or that fails, does not keep the others from that. The status is the highest one of all
+/// files. No result takes the place of a file that is read, or of another result.
+pub(crate) fn run_batch<F: ComparableFiles, O: Write, E: Write + IsTerminal>(
+    alloc: Global,
+    batch: Batch<'_>,
+    files: &mut F,
+    out: &mut O,
+    err: &mut E,
+) -> Ending {
+    let entries = match entries_of(alloc, batch) {
+        Ok(entries) => entries,
+        Err(Memory) => return failed(&Failure::Memory, err),
+    };
+    if let Some(path) = own_output_in(&entries, files) {
+        return failed(&Failure::OwnOutput(path), err);
+    }
+    if let Some(path) = twin_in(&entries) {
+        return failed(&misuse("two inputs give the file", path), err);
+    }
+    run_each(alloc, batch.order, &entries, files, out, err)
+}
+
+/// Returns the files to expand, with the paths of their results.
+fn entries_of<'w>(alloc: Global, batch: Batch<'w>) -> Result<Vec<Entry<'w>>, Memory> {
+    let paths = paths_of(alloc, batch.words)?;
+    let mut entries = Vec::new(alloc);
+    for path in &paths {
+        entries.push(entry_of(alloc, batch.folder, *path)?)?;
+    }
+    Ok(entries)
+}
+
+/// Returns a file to expand, with the path of its result in a folder.
+fn entry_of<'w>(alloc: Global, folder: &str, input: &'w str) -> Result<Entry<'w>, Memory> {
+    let mut output = String::new(alloc);
+    output.push_str(folder)?;
+    output.push_str(file_name(input))?;
+    Ok(Entry { input, output })
+}
+
+/// Returns the name of the file at a path: what follows the last `/`.
+fn file_name(path: &str) -> &str {
+    match path.rsplit_once('/') {
+        Some((_, name)) => name,
+        None => path,
+    }
+}
+
+/// Returns the path of a result that leads to a file that is read, if there is one.
+fn own_output_in<'e, F: ComparableFiles>(entries: &'e [Entry<'_>], files: &F) -> Option<&'e str> {
+    for entry in entries {
+        if is_input(entries, entry.output.as_str(), files) {
+            return Some(entry.output.as_str());
+        }
+    }
+    None
+}
+
+/// Returns whether a path leads to a file that is read.
+fn is_input<F: ComparableFiles>(entries: &[Entry<'_>], path: &str, files: &F) -> bool {
+    for entry in entries {
+        if files.is_same_file(entry.input, path) {
+            return true;
+        }
+    }
+    false
+}
+
+/// Returns the path of two results, if there is one.
+fn twin_in<'e>(entries: &'e [Entry<'_>]) -> Option<&'e str> {
+    for number in 0..entries.len() {
+        let path = entries[number].output.as_str();
+        if is_output(&entries[number + 1..], path) {
+            return Some(path);
+        }
+    }
+    None
+}
+
+/// Returns whether a path is that of a result.
+fn is_output(entries: &[Entry<'_>], path: &str) -> bool {
+    for entry in entries {
+        if entry.output.as_str() == path {
+            return true;
+        }
+    }
+    false
+}
+
+/// Expands these files one after another, and writes their results.
+fn run_each<F: ComparableFiles, O: Write, E: Write + IsTerminal>(
+    alloc: Global,
+    order: Order<'_>,
+    entries: &[Entry<'_>],
+    files: &mut F,
+    out: &mut O,
+    err: &mut E,
+) -> Ending {
+    let mut ending = Ending {
+        status: 0,
+        is_written: true,
+    };
+    for entry in entries {
+        ending = joined(ending, carry_out(alloc, order_at(order, entry), files, out, err));
+    }
+    ending
+}
+
+/// Returns what is asked for a file.
+fn order_at<'e>(order: Order<'_>, entry: &'e Entry<'_>) -> Order<'e> {
+    Order {
+        input: entry.input,
+        output: Some(entry.output.as_str()),
+        is_check: order.is_check,
+        shape: order.shape,
+        format: order.format,
+        denies: order.denies,
+        color: order.color,
+    }
+}
+
+/// Returns how two runs ended.
+fn joined(one: Ending, other: Ending) -> Ending {
+    Ending {
+        status: max(one.status, other.status),
+        is_written: one.is_written & other.is_written,
+    }
+}
