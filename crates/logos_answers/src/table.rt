@@ -46,6 +46,17 @@ fn pattern_cell<'l>(row: LeafRow<'l>) -> &'l str {
     first_line(row.pattern)
 }
 
+/// Returns what follows the literal in the column of patterns: the options of the definition, as in its
+/// attribute.
+fn options_cell(row: LeafRow<'_>) -> &'static str {
+    match (row.options.ignores_case, row.options.allows_greedy) {
+        (false, false) => "",
+        (true, false) => ", ignore(case)",
+        (false, true) => ", allow_greedy = true",
+        (true, true) => ", ignore(case), allow_greedy = true",
+    }
+}
+
 /// Returns what stands in the column of callbacks: the first line of the callback, or `-`.
 fn callback_cell<'l>(row: LeafRow<'l>) -> &'l str {
     match row.callback {
@@ -79,9 +90,14 @@ fn widths_of(rows: &[LeafRow<'_>]) -> Widths {
 fn widened(widths: Widths, row: LeafRow<'_>) -> Widths {
     Widths {
         variant: max(widths.variant, width_of(variant_cell(row))),
-        pattern: max(widths.pattern, width_of(pattern_cell(row))),
+        pattern: max(widths.pattern, pattern_width(row)),
         callback: max(widths.callback, width_of(callback_cell(row))),
     }
+}
+
+/// Returns how many characters the pattern of a leaf is shown with, with its options.
+fn pattern_width(row: LeafRow<'_>) -> usize {
+    width_of(pattern_cell(row)).saturating_add(options_cell(row).len())
 }
 
 /// Returns how many characters a text is shown with.
@@ -114,7 +130,8 @@ fn push_row(page: &mut Page, number: usize, row: LeafRow<'_>, widths: Widths) {
     push_right(page, number, 4);
     push_cell(page, variant_cell(row), widths.variant);
     push_cell(page, if row.is_token { "token" } else { "regex" }, 5);
-    push_cell(page, pattern_cell(row), widths.pattern);
+    page.push_shown(pattern_cell(row));
+    push_cell(page, options_cell(row), widths.pattern.saturating_sub(width_of(pattern_cell(row))));
     push_right(page, row.priority, 6);
     push_cell(page, if row.is_default { "default" } else { "" }, 8);
     push_cell(page, callback_cell(row), widths.callback);

@@ -1,7 +1,7 @@
 //! Which options a program takes.
 
 ghost use Rattle.std.specs.Prelude.{◌≡◌};
-ghost use Rattle.logos_options.specs.Programs.{cli_takes, show_takes, takes};
+ghost use Rattle.logos_options.specs.Programs.{cli_takes, show_takes};
 
 use crate::options::OptionName;
 

@@ -4,11 +4,12 @@ ghost use Rattle.std.specs.Prelude.{◌<◌, IfErr};
 ghost use Rattle.logos_show.specs.Orders.{IsNoMisuse};
 ghost use Rattle.logos_stream.specs.Views.{KeepsCode, unread_length};
 
+use crate::choosing::lexer_in;
 use crate::items::{
     ERROR, Lines, Totals, head_at, milliseconds, no_lines, now, push_totals, write_if_full,
 };
 use crate::reading::{print_bytes, refused, text_at, text_of};
-use crate::running::{Host, Task, lexer_in, part_of};
+use crate::running::{Host, Task, part_of};
 use crate::showing::SHAPE;
 use logos_answers::{note_of, push_item};
 use logos_codegen::code::Code;

@@ -1,0 +1,330 @@
+//! Which enum of a file is meant by a name.
+
+ghost use Rattle.std.specs.Prelude.{IfErr};
+ghost use Rattle.logos_show.specs.Orders.{IsNoMisuse};
+
+use crate::reading::{refused, text_of};
+use crate::running::Task;
+use logos_codegen::error::Memory;
+use logos_codegen::item::{ReadError, read_enum};
+use logos_codegen::token::{Delimiter, TokenError, tokenize};
+use logos_host::Failure;
+use logos_lexeme::lexeme::{Kind, lexeme_at};
+use logos_report::{Page, Part, Source};
+use logos_rust_file::{FoundEnum, enums_in};
+use std::alloc::Global;
+
+/// The enums of a file that a name may mean.
+#[derive(Clone, Copy)]
+struct Choice {
+    /// The first one whose path is the name.
+    exact: Option<FoundEnum>,
+    /// The first one whose path ends with the name.
+    first: Option<FoundEnum>,
+    /// The first one after it with another path.
+    second: Option<FoundEnum>,
+}
+
+/// The enum that a name means.
+#[derive(Clone, Copy)]
+pub(crate) enum Chosen {
+    Nothing,
+    One(FoundEnum),
+    /// The name means these two, which stand in two modules.
+    Two(FoundEnum, FoundEnum),
+}
+
+/// The lexeme that comes first in a text, and the text behind it.
+#[derive(Clone, Copy)]
+struct Word<'t> {
+    kind: Kind,
+    text: &'t str,
+    rest: &'t str,
+}
+
+/// Returns the enum of a file whose lexer is asked for.
+pub(crate) fn lexer_in<'w>(
+    alloc: Global,
+    task: Task<'w>,
+    source: &Source<'_>,
+) -> Result<FoundEnum, Failure<'w>>
+    ensures { IfErr result IsNoMisuse }
+{
+    match found_in(alloc, task, source)? {
+        Chosen::One(one) => Ok(one),
+        Chosen::Two(one, other) => Err(several(alloc, task, source, (one, other))),
+        Chosen::Nothing => Err(no_lexer(alloc, source.path(), task.order.name)),
+    }
+}
+
+/// Returns the enums of a file that are asked for, of which there are some.
+pub(crate) fn found_in<'w>(
+    alloc: Global,
+    task: Task<'w>,
+    source: &Source<'_>,
+) -> Result<Chosen, Failure<'w>>
+    ensures { IfErr result IsNoMisuse }
+{
+    let found = match enums_in(alloc, source.text()) {
+        Ok(found) => found,
+        Err(refusal) => {
+            let whole = Part { source, offset: 0 };
+            return Err(refused(alloc, whole, task.showing, refusal));
+        }
+    };
+    match chosen(alloc, source, &found, task.order.name)? {
+        Chosen::Nothing => Err(no_lexer(alloc, source.path(), task.order.name)),
+        some => Ok(some),
+    }
+}
+
+/// Returns the refusal of a file that has no such lexer.
+fn no_lexer(alloc: Global, file: &str, name: Option<&str>) -> Failure<'static>
+    ensures { IsNoMisuse result }
+{
+    let mut page = Page::new(alloc, false);
+    page.push("error: no enum ");
+    push_name(&mut page, name);
+    page.push("in ");
+    page.push_shown(file);
+    page.push(" derives `Logos`\n");
+    match page.finish() {
+        Ok(text) => Failure::Refused(text),
+        Err(_) => Failure::Memory,
+    }
+}
+
+/// Returns the refusal of a name that two enums have, which stand in two modules.
+fn several(
+    alloc: Global,
+    task: Task<'_>,
+    source: &Source<'_>,
+    enums: (FoundEnum, FoundEnum),
+) -> Failure<'static>
+    ensures { IsNoMisuse result }
+{
+    match several_text(alloc, task, source, enums) {
+        Ok(text) => Failure::Refused(text),
+        Err(Memory) => Failure::Memory,
+    }
+}
+
+/// Returns the message about a name that two enums have.
+fn several_text(
+    alloc: Global,
+    task: Task<'_>,
+    source: &Source<'_>,
+    enums: (FoundEnum, FoundEnum),
+) -> Result<String, Memory> {
+    let one = path_of(alloc, source, enums.0)?;
+    let other = path_of(alloc, source, enums.1)?;
+    let mut page = Page::new(alloc, false);
+    page.push("error: several enums ");
+    push_name(&mut page, task.order.name);
+    page.push("in ");
+    page.push_shown(source.path());
+    page.push(" derive `Logos`: ");
+    push_name(&mut page, Some(one.as_str()));
+    page.push("and ");
+    push_name(&mut page, Some(other.as_str()));
+    page.push("\nhelp: give the path of one, as in `--enum ");
+    page.push_shown(one.as_str());
+    page.push("`\n");
+    Ok(page.finish()?)
+}
+
+/// Pushes the name of an enum, if one is given.
+fn push_name(page: &mut Page, name: Option<&str>) {
+    if let Some(name) = name {
+        page.push("`");
+        page.push_shown(name);
+        page.push("` ");
+    }
+}
+
+/// Returns the enum that derives `Logos` and that a name means: the one with this path, or the only
+/// one whose path ends with it. Without a name it is the first one.
+fn chosen(
+    alloc: Global,
+    source: &Source<'_>,
+    found: &[FoundEnum],
+    name: Option<&str>,
+) -> Result<Chosen, Memory> {
+    let mut choice = Choice {
+        exact: None,
+        first: None,
+        second: None,
+    };
+    for one in found {
+        choice = choice_with(alloc, choice, source, *one, name)?;
+    }
+    Ok(match (choice.exact, choice.first, choice.second) {
+        (Some(one), _, _) | (None, Some(one), None) => Chosen::One(one),
+        (None, Some(one), Some(other)) => Chosen::Two(one, other),
+        (None, None, _) => Chosen::Nothing,
+    })
+}
+
+/// Returns a choice with one more enum.
+fn choice_with(
+    alloc: Global,
+    choice: Choice,
+    source: &Source<'_>,
+    one: FoundEnum,
+    name: Option<&str>,
+) -> Result<Choice, Memory> {
+    if !one.derives || choice.exact.is_some() {
+        return Ok(choice);
+    }
+    let Some(name) = name else {
+        return Ok(Choice {
+            exact: Some(one),
+            ..choice
+        });
+    };
+    let path = path_of(alloc, source, one)?;
+    if path.as_str() == name {
+        return Ok(Choice {
+            exact: Some(one),
+            ..choice
+        });
+    }
+    match choice.first {
+        _ if !ends_with_name(path.as_str(), name) => Ok(choice),
+        None => Ok(Choice {
+            first: Some(one),
+            ..choice
+        }),
+        Some(first) if path_of(alloc, source, first)?.as_str() == path.as_str() => Ok(choice),
+        Some(_) => Ok(Choice {
+            second: choice.second.or(Some(one)),
+            ..choice
+        }),
+    }
+}
+
+/// Returns whether an enum has the name, if one is given: whether its path ends with it.
+pub(crate) fn has_name(
+    alloc: Global,
+    source: &Source<'_>,
+    one: FoundEnum,
+    name: Option<&str>,
+) -> Result<bool, Memory> {
+    match name {
+        Some(name) => {
+            let path = path_of(alloc, source, one)?;
+            Ok((path.as_str() == name) | ends_with_name(path.as_str(), name))
+        }
+        None => Ok(true),
+    }
+}
+
+/// Returns whether a path ends with `::` and a name.
+fn ends_with_name(path: &str, name: &str) -> bool {
+    match path.strip_suffix(name) {
+        Some(front) => front.ends_with("::"),
+        None => false,
+    }
+}
+
+/// Returns the path of an enum in its file, as `lexers::Token`: the names of the modules around it,
+/// and its own, which is empty if it is not well formed.
+fn path_of(
+    alloc: Global,
+    source: &Source<'_>,
+    one: FoundEnum,
+) -> Result<String, Memory> {
+    let mut path = String::new(alloc);
+    let before = front_of(source.text(), one.span.from);
+    for level in &levels_of(alloc, before)? {
+        push_level(&mut path, *level)?;
+    }
+    path.push_str(name_of(alloc, text_of(source, one))?)?;
+    Ok(path)
+}
+
+/// Returns the text in front of an offset.
+fn front_of(text: &str, offset: usize) -> &str {
+    match text.get(..offset) {
+        Some(front) => front,
+        None => "",
+    }
+}
+
+/// Pushes the name of a module and `::`.
+fn push_level(path: &mut String, level: &str) -> Result<(), Memory> {
+    if !level.is_empty() {
+        path.push_str(level)?;
+        path.push_str("::")?;
+    }
+    Ok(())
+}
+
+/// Returns the name of an enum, or an empty text if it is not well formed.
+fn name_of<'t>(alloc: Global, text: &'t str) -> Result<&'t str, Memory> {
+    let stream = match tokenize(alloc, text) {
+        Ok(stream) => stream,
+        Err(TokenError::Memory) => return Err(Memory),
+        Err(_) => return Ok(""),
+    };
+    match read_enum(alloc, stream.run()) {
+        Ok(item) => Ok(item.name.text),
+        Err(ReadError::Memory) => Err(Memory),
+        Err(_) => Ok(""),
+    }
+}
+
+/// Returns the modules whose braces are open at the end of a text, in order, and an empty text for each
+/// brace that is open and no module's.
+fn levels_of<'t>(alloc: Global, text: &'t str) -> Result<Vec<&'t str>, Memory> {
+    let mut levels = Vec::new(alloc);
+    let mut rest = text;
+    let mut words = ("", "");
+    for _ in 0..text.len() {
+        let Some(word) = first_word(rest) else {
+            return Ok(levels);
+        };
+        note_brace(&mut levels, words, word)?;
+        words = words_after(words, word);
+        rest = word.rest;
+    }
+    Ok(levels)
+}
+
+/// Returns the first lexeme of a text, unless the text is empty or no Rust.
+fn first_word<'t>(text: &'t str) -> Option<Word<'t>> {
+    if text.is_empty() {
+        return None;
+    }
+    let Ok((kind, to)) = lexeme_at(text, 0) else {
+        return None;
+    };
+    let (text, rest) = text.split_at_checked(to)?;
+    Some(Word { kind, text, rest })
+}
+
+/// Returns the last two words after one more; gaps and documentation are none.
+fn words_after<'t>(words: (&'t str, &'t str), word: Word<'t>) -> (&'t str, &'t str) {
+    match word.kind {
+        Kind::Gap | Kind::Doc => words,
+        _ => (words.1, word.text),
+    }
+}
+
+/// Adds the module of a brace that opens, or takes away that of one that closes.
+fn note_brace<'t>(
+    levels: &mut Vec<&'t str>,
+    words: (&'t str, &'t str),
+    word: Word<'t>,
+) -> Result<(), Memory> {
+    match word.kind {
+        Kind::Opening(Delimiter::Brace) => {
+            levels.push(if words.0 == "mod" { words.1 } else { "" })?;
+        }
+        Kind::Closing(Delimiter::Brace) => {
+            let _ = levels.pop();
+        }
+        _ => {}
+    }
+    Ok(())
+}
