@@ -210,6 +210,49 @@ wants "$status" 0 ''
 same out whole
 [ -p pipe ] || fail "a pipe was replaced"
 
+# Several files go into a folder, each whole or not at all.
+mkdir -p several/in
+for name in one two; do
+    cp source.rs "several/in/$name.rs"
+    sed "1s/ from source.rs,/ from $name.rs,/" whole > "several/$name"
+done
+printf 'fn f() {}\n' > several/in/small.rs
+gives 0 '' several/in/one.rs several/in/two.rs --output several/out/
+same several/out/one.rs several/one
+same several/out/two.rs several/two
+only several/out one.rs two.rs
+touch -d 2001-01-01 several/out/one.rs
+printf old > several/out/two.rs
+chmod 640 several/out/two.rs
+gives 0 '' several/in/one.rs several/in/two.rs --output several/out/
+same several/out/two.rs several/two
+[ "$(stat -c %Y several/out/one.rs)" = "$(date -d 2001-01-01 +%s)" ] || fail "a file with the same content was written"
+[ "$(stat -c %a several/out/two.rs)" = 640 ] || fail "the permissions have changed"
+gives 0 '' several/in/one.rs - -o several/mixed/ < source.rs
+same several/mixed/stdin whole_of_stdin
+only several/mixed one.rs stdin
+mkdir several/full
+printf old > several/full/two.rs
+status=0
+(trap '' XFSZ; ulimit -f 1; exec "$program" several/in/one.rs several/in/small.rs several/in/two.rs -o several/full/ 2> err) || status=$?
+wants "$status" 3 "error: cannot write several/full/one.rs: the file is too large
+warning: no enum in several/in/small.rs derives \`Logos\`
+error: cannot write several/full/two.rs: the file is too large"
+printf old | same several/full/two.rs -
+same several/full/small.rs several/in/small.rs
+only several/full small.rs two.rs
+
+# No result takes the place of a file that is read, whatever link leads there, and then none is written.
+mkdir several/led
+ln -s ../in/two.rs several/led/one.rs
+gives 2 'error: several/led/one.rs is the input and the output' several/in/small.rs several/in/one.rs several/in/two.rs -o several/led/
+only several/led one.rs
+same several/in/two.rs source.rs
+ln several/in/two.rs several/led/small.rs
+rm several/led/one.rs
+gives 2 'error: several/led/small.rs is the input and the output' several/in/small.rs several/in/two.rs -o several/led/
+same several/in/two.rs source.rs
+
 # Faults write nothing.
 printf old > kept.rs
 status=0

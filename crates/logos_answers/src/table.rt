@@ -46,8 +46,8 @@ fn pattern_cell<'l>(row: LeafRow<'l>) -> &'l str {
     first_line(row.pattern)
 }
 
-/// Returns what follows the literal in the column of patterns: the options of the definition, as in its
-/// attribute.
+/// Returns what follows the literal in the column of patterns: the options of the definition, as its
+/// attribute has them.
 fn options_cell(row: LeafRow<'_>) -> &'static str {
     match (row.options.ignores_case, row.options.allows_greedy) {
         (false, false) => "",

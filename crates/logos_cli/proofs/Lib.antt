@@ -1,5 +1,3 @@
-pub mod GatherLemmas
+pub mod BatchLemmas
 pub mod RunLemmas
-pub mod ShownLemmas
 pub mod DeriveLemmas
-pub mod LineLemmas

@@ -15,8 +15,8 @@ use Rattle.logos_cli.specs.declared.options.DeriveOrder.{DeriveOrder}
 use Rattle.logos_cli.specs.declared.options.Order.{Order}
 use Rattle.logos_cli.specs.declared.options.Request.{Request}
 use Rattle.logos_cli.specs.declared.options.Request.TheVariants as requests
-use Rattle.logos_cli.specs.declared.options.Shape.{Shape}
-use Rattle.logos_cli.specs.declared.options.Shape.TheVariants.{Code, Tables}
+use Rattle.logos_expand.specs.declared.shape.Shape.{Shape}
+use Rattle.logos_expand.specs.declared.shape.Shape.TheVariants.{Code, Tables}
 
 -- a file to expand: its path, the path of the file for the result, whether that is only compared, the shape of the lexers, how messages are written, whether warnings are denied, and when messages have colors
 pub record OrderValue : Type 0 where

@@ -5,8 +5,8 @@ use Rattle.std.specs.Io.KnownBytes.{Appends, Keeps}
 use Rattle.logos_host.specs.declared.comparing.Standing.{Standing}
 use Rattle.logos_host.specs.declared.comparing.Standing.TheVariants.{Same}
 use Rattle.logos_host.specs.Reading.{Reads}
-use Rattle.logos_cli.specs.Expanding.{IsExpanded}
-use Rattle.logos_cli.specs.Gathering.{IsCause}
+use Rattle.logos_expand.specs.Expanding.{IsExpanded}
+use Rattle.logos_expand.specs.Gathering.{IsCause}
 use Rattle.logos_cli.specs.Deriving.{IsDerived, ShowsErrors, standard_input}
 use Rattle.logos_cli.specs.Orders.{Asked, asks_help, asks_version, asks_expansion, asks_each, asks_derive, OrderValue}
 use Rattle.logos_cli.specs.declared.options.DeriveOrder.{DeriveOrder}
@@ -58,7 +58,7 @@ module _ {F : Type 0} (gives makes : F → List ℕ → List ℕ → F → Type 
 
   -- files are read and expanded one after another, and each result is where it was asked for
   abbrev pub AreCarriedOut : List OrderValue → F → F → Option (List ℕ) → Option (List ℕ) → Type 0
-  AreCarriedOut [] files after old new = (after ≡ files) × Keeps old new
+  AreCarriedOut [] files after old new = (after ≡ files) × (new ≡ old)
   AreCarriedOut (order ∷ rest) files after old new =
       (between : F) × (middle : Option (List ℕ)) × IsCarriedOut order files between old middle × AreCarriedOut rest between after middle new
 

@@ -1,12 +1,17 @@
 //! Files whose results go into a folder.
 
+ghost use Rattle.std.specs.Prelude.{◌≡◌, ◌≢◌, ◌⊎◌, ◌≤◌, ◌++◌, ℕ, All, Contains, IfOk, IsTrue, List, MatchOption, Some, drop, false, map, string_bytes, true};
+ghost use Rattle.std.specs.Io.KnownBytes.{Appends, Keeps};
+ghost use Rattle.logos_cli.specs.Orders.{OrderValue, asks_each, batch_value, file_name, order_into, order_value};
+ghost use Rattle.logos_cli.specs.Runs.{AreCarriedOut, AreDenied, IsApart, IsOwnOutput, has_twins, is_among};
+ghost use Rattle.logos_cli.specs.inside.Entries.{entry_order, orders_of, output_text};
+
 use crate::options::{Batch, Order};
 use crate::running::{Ending, carry_out, failed};
 use logos_host::{ComparableFiles, Failure};
 use logos_options::{misuse, paths_of};
 use logos_token::error::Memory;
 use std::alloc::Global;
-use std::cmp::max;
 use std::io::{IsTerminal, Write};
 
 /// A file to expand.
@@ -20,14 +25,30 @@ struct Entry<'w> {
 
 /// Expands files, and writes each result into a folder, under the name of its file. A file that is
 /// refused, or that fails, does not keep the others from that. The status is the highest one of all
-/// files. No result takes the place of a file that is read, or of another result.
+/// files. No result takes the place of a file that is read, or of another result: else the status is
+/// 2, and nothing is read or written.
 pub(crate) fn run_batch<F: ComparableFiles, O: Write, E: Write + IsTerminal>(
     alloc: Global,
     batch: Batch<'_>,
     files: &mut F,
     out: &mut O,
     err: &mut E,
-) -> Ending {
+) -> Ending
+    ensures own { result.status ≡ 2 →
+        IsOwnOutput F.same_finds (asks_each (batch_value batch.entry)) files.old }
+    ensures apart { result.status ≡ 0 →
+        IsApart F.same_finds (asks_each (batch_value batch.entry)) files.old }
+    ensures untouched { result.status ≡ 2 →
+        (files.new ≡ files.old) × Keeps (O.contents out.old) (O.contents out.new) }
+    ensures done { result.status ≡ 0 → AreCarriedOut F.read_gives F.write_makes F.compare_finds
+        (batch_value batch.entry) files.old files.new (O.contents out.old) (O.contents out.new) }
+    ensures denied { result.status ≡ 1 → (shown : List ℕ) × AreDenied F.read_gives F.write_makes
+        F.compare_finds (batch_value batch.entry) files.old files.new shown
+        × (IsTrue result.is_written → (front : List ℕ)
+        × Appends (E.contents err.old) (E.contents err.new) (front ++ shown)) }
+    ensures silent { result.status ≡ 1 → Keeps (O.contents out.old) (O.contents out.new) }
+    ensures known { result.status ≤ 3 }
+{
     let entries = match entries_of(alloc, batch) {
         Ok(entries) => entries,
         Err(Memory) => return failed(&Failure::Memory, err),
@@ -42,7 +63,10 @@ pub(crate) fn run_batch<F: ComparableFiles, O: Write, E: Write + IsTerminal>(
 }
 
 /// Returns the files to expand, with the paths of their results.
-fn entries_of<'w>(alloc: Global, batch: Batch<'w>) -> Result<Vec<Entry<'w>>, Memory> {
+fn entries_of<'w>(alloc: Global, batch: Batch<'w>) -> Result<Vec<Entry<'w>>, Memory>
+    ensures { IfOk result (λ entries.
+        orders_of (order_value batch.entry.order) entries.items ≡ batch_value batch.entry) }
+{
     let paths = paths_of(alloc, batch.words)?;
     let mut entries = Vec::new(alloc);
     for path in &paths {
@@ -52,7 +76,10 @@ fn entries_of<'w>(alloc: Global, batch: Batch<'w>) -> Result<Vec<Entry<'w>>, Mem
 }
 
 /// Returns a file to expand, with the path of its result in a folder.
-fn entry_of<'w>(alloc: Global, folder: &str, input: &'w str) -> Result<Entry<'w>, Memory> {
+fn entry_of<'w>(alloc: Global, folder: &str, input: &'w str) -> Result<Entry<'w>, Memory>
+    ensures { IfOk result (λ entry. (order : OrderValue) →
+        entry_order order entry ≡ order_into order folder.now input.now) }
+{
     let mut output = String::new(alloc);
     output.push_str(folder)?;
     output.push_str(file_name(input))?;
@@ -60,7 +87,9 @@ fn entry_of<'w>(alloc: Global, folder: &str, input: &'w str) -> Result<Entry<'w>
 }
 
 /// Returns the name of the file at a path: what follows the last `/`.
-fn file_name(path: &str) -> &str {
+fn file_name(path: &str) -> &str
+    ensures { result.now ≡ file_name path.now }
+{
     match path.rsplit_once('/') {
         Some((_, name)) => name,
         None => path,
@@ -68,7 +97,14 @@ fn file_name(path: &str) -> &str {
 }
 
 /// Returns the path of a result that leads to a file that is read, if there is one.
-fn own_output_in<'e, F: ComparableFiles>(entries: &'e [Entry<'_>], files: &F) -> Option<&'e str> {
+fn own_output_in<'e, F: ComparableFiles>(entries: &'e [Entry<'_>], files: &F) -> Option<&'e str>
+    ensures { MatchOption result
+        (All (λ one. All (λ other. F.same_finds files.now other.input.now (output_text one) false)
+        entries.now) entries.now)
+        (λ path. (one : Entry) × Contains entries.now one × ((other : Entry)
+        × Contains entries.now other
+        × F.same_finds files.now other.input.now (output_text one) true)) }
+{
     for entry in entries {
         if is_input(entries, entry.output.as_str(), files) {
             return Some(entry.output.as_str());
@@ -78,7 +114,12 @@ fn own_output_in<'e, F: ComparableFiles>(entries: &'e [Entry<'_>], files: &F) ->
 }
 
 /// Returns whether a path leads to a file that is read.
-fn is_input<F: ComparableFiles>(entries: &[Entry<'_>], path: &str, files: &F) -> bool {
+fn is_input<F: ComparableFiles>(entries: &[Entry<'_>], path: &str, files: &F) -> bool
+    ensures apart { result ≡ false →
+        All (λ other. F.same_finds files.now other.input.now path.now false) entries.now }
+    ensures same { result ≡ true → (other : Entry) × Contains entries.now other
+        × F.same_finds files.now other.input.now path.now true }
+{
     for entry in entries {
         if files.is_same_file(entry.input, path) {
             return true;
@@ -88,7 +129,10 @@ fn is_input<F: ComparableFiles>(entries: &[Entry<'_>], path: &str, files: &F) ->
 }
 
 /// Returns the path of two results, if there is one.
-fn twin_in<'e>(entries: &'e [Entry<'_>]) -> Option<&'e str> {
+fn twin_in<'e>(entries: &'e [Entry<'_>]) -> Option<&'e str>
+    ensures { MatchOption result (has_twins (map output_text entries.now) ≡ false)
+        (λ path. has_twins (map output_text entries.now) ≡ true) }
+{
     for number in 0..entries.len() {
         let path = entries[number].output.as_str();
         if is_output(&entries[number + 1..], path) {
@@ -99,7 +143,9 @@ fn twin_in<'e>(entries: &'e [Entry<'_>]) -> Option<&'e str> {
 }
 
 /// Returns whether a path is that of a result.
-fn is_output(entries: &[Entry<'_>], path: &str) -> bool {
+fn is_output(entries: &[Entry<'_>], path: &str) -> bool
+    ensures { result ≡ is_among path.now (map output_text entries.now) }
+{
     for entry in entries {
         if entry.output.as_str() == path {
             return true;
@@ -116,7 +162,17 @@ fn run_each<F: ComparableFiles, O: Write, E: Write + IsTerminal>(
     files: &mut F,
     out: &mut O,
     err: &mut E,
-) -> Ending {
+) -> Ending
+    ensures done { result.status ≡ 0 → AreCarriedOut F.read_gives F.write_makes F.compare_finds
+        (orders_of (order_value order.entry) entries.now) files.old files.new
+        (O.contents out.old) (O.contents out.new) }
+    ensures denied { result.status ≡ 1 → (shown : List ℕ) × AreDenied F.read_gives F.write_makes
+        F.compare_finds (orders_of (order_value order.entry) entries.now) files.old files.new shown
+        × (IsTrue result.is_written → (front : List ℕ)
+        × Appends (E.contents err.old) (E.contents err.new) (front ++ shown)) }
+    ensures silent { result.status ≡ 1 → Keeps (O.contents out.old) (O.contents out.new) }
+    ensures known { (result.status ≤ 3) × (result.status ≢ 2) }
+{
     let mut ending = Ending {
         status: 0,
         is_written: true,
@@ -128,7 +184,9 @@ fn run_each<F: ComparableFiles, O: Write, E: Write + IsTerminal>(
 }
 
 /// Returns what is asked for a file.
-fn order_at<'e>(order: Order<'_>, entry: &'e Entry<'_>) -> Order<'e> {
+fn order_at<'e>(order: Order<'_>, entry: &'e Entry<'_>) -> Order<'e>
+    ensures { order_value result ≡ entry_order (order_value order.entry) entry.now }
+{
     Order {
         input: entry.input,
         output: Some(entry.output.as_str()),
@@ -140,10 +198,21 @@ fn order_at<'e>(order: Order<'_>, entry: &'e Entry<'_>) -> Order<'e> {
     }
 }
 
-/// Returns how two runs ended.
-fn joined(one: Ending, other: Ending) -> Ending {
+/// Returns how two runs ended: with the higher status.
+fn joined(one: Ending, other: Ending) -> Ending
+    ensures status { (result.status ≡ one.status) ⊎ (result.status ≡ other.status) }
+    ensures highest { (one.status ≤ result.status) × (other.status ≤ result.status) }
+    ensures written { IsTrue result.is_written → IsTrue one.is_written × IsTrue other.is_written }
+{
+    let is_written = one.is_written & other.is_written;
+    if one.status < other.status {
+        return Ending {
+            status: other.status,
+            is_written,
+        };
+    }
     Ending {
-        status: max(one.status, other.status),
-        is_written: one.is_written & other.is_written,
+        status: one.status,
+        is_written,
     }
 }

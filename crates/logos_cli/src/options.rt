@@ -7,6 +7,7 @@ ghost use Rattle.logos_cli.specs.Orders.{asked, asked_given, enum_given, file_gi
 ghost use Rattle.logos_cli.specs.Orders.{order_given, order_value, placed, request_value, shape_named};
 
 use logos_codegen::generator::Config;
+use logos_expand::Shape;
 use logos_host::{Color, Failure, MessageFormat};
 use logos_options::{Answer, Given, Program, STANDARD_INPUT, given_by, misuse};
 
@@ -20,15 +21,6 @@ pub(crate) enum Request<'w> {
     ExpandEach(Batch<'w>),
     /// The answer to the derive macro.
     Derive(DeriveOrder),
-}
-
-/// How lexers are printed.
-#[derive(Clone, Copy)]
-pub(crate) enum Shape {
-    /// As code, in one of its shapes.
-    Code(Config),
-    /// As tables with a loop over them.
-    Tables,
 }
 
 /// A file to expand.

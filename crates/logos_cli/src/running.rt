@@ -9,17 +9,17 @@ ghost use Rattle.logos_host.specs.Messages.{message_of};
 ghost use Rattle.logos_cli.specs.Orders.{asked, order_value, request_value};
 ghost use Rattle.logos_cli.specs.Runs.{IsCarriedOut, IsDelivered, IsDenied, IsDeniedOrder, IsDone};
 ghost use Rattle.logos_cli.specs.Runs.{IsApart, IsOwnOutput, IsSettled};
-ghost use Rattle.logos_cli.specs.Expanding.{IsExpanded};
-ghost use Rattle.logos_cli.specs.Gathering.{FailsBy, IsRefusedFor};
+ghost use Rattle.logos_expand.specs.Expanding.{IsExpanded};
+ghost use Rattle.logos_expand.specs.Gathering.{FailsBy, IsRefusedFor};
 ghost use Rattle.logos_cli.specs.Runs.{IsOther};
 ghost use Rattle.logos_host.specs.Reading.{Reads};
 
 use crate::answering::run_derive;
 use crate::difference::{Compared, difference};
-use crate::expanding::{Expansion, expand};
 use crate::batch::run_batch;
 use crate::options::{Order, Request, request_of};
 use logos_causes::Showing;
+use logos_expand::{Expansion, expand};
 use logos_host::{
     ComparableFiles, Failure, Files, Standing, read_text, report, write_through,
 };
@@ -189,7 +189,7 @@ pub(crate) fn carry_out<F: ComparableFiles, O: Write, E: Write + IsTerminal>(
         × (IsTrue result.is_written → (front : List ℕ)
         × Appends (E.contents err.old) (E.contents err.new) (front ++ shown)) }
     ensures silent { result.status ≡ 1 → Keeps (O.contents out.old) (O.contents out.new) }
-    ensures said { IsTrue result.is_written → (text : List ℕ)
+    ensures messages { IsTrue result.is_written → (text : List ℕ)
         × Appends (E.contents err.old) (E.contents err.new) text }
     ensures known { (result.status ≤ 3) × (result.status ≢ 2) }
 {
@@ -261,7 +261,7 @@ fn deliver_and_end<F: ComparableFiles, O: Write, E: Write>(
         expansion.now.bytes.items files.old files.new) × (IsTrue result.is_written → (front : List ℕ)
         × Appends (E.contents err.old) (E.contents err.new) (front ++ shown)) }
     ensures silent { result.status ≡ 1 → Keeps (O.contents out.old) (O.contents out.new) }
-    ensures said { IsTrue result.is_written → (text : List ℕ)
+    ensures messages { IsTrue result.is_written → (text : List ℕ)
         × Appends (E.contents err.old) (E.contents err.new) text }
     ensures known { (result.status ≤ 3) × (result.status ≢ 2) }
 {

@@ -3,7 +3,7 @@ ghost use Rattle.std.specs.Prelude.{◌≡◌, ◌↔◌, IsTrue, IfOk, Some, op
 ghost use Rattle.logos_inspect.specs.Words.{place_at, held};
 ghost use Rattle.logos_inspect.specs.Views.{IsRowOf, IsTextAt, ShowsCallback, default_priority, held_priority, moved, variant_name};
 
-use crate::options::{LeafOptions, options_behind};
+use crate::options::{LeafOptions, options_from};
 use logos_lines::LineIndex;
 use logos_pattern::leaf::{Callback, Leaf, VariantKind};
 use logos_pattern::pattern::Pattern;
@@ -52,7 +52,7 @@ pub fn row_of<'l>(
         variant: variant_name(&leaf.kind),
         is_token: leaf.pattern.is_literal(),
         pattern: leaf.pattern.source(),
-        options: options_behind(text, leaf.span.to),
+        options: options_from(text, leaf.span.to),
         priority: leaf.priority,
         is_default,
         callback: callback_text(text, leaf.callback.as_ref()),

@@ -1,4 +1,4 @@
-//! The options that stand behind the literal of a leaf, and say what its pattern matches.
+//! The options that follow the literal of a leaf, and say what its pattern matches.
 
 use logos_lexeme::lexeme::{Kind, lexeme_at};
 
@@ -11,7 +11,7 @@ pub struct LeafOptions {
     pub allows_greedy: bool,
 }
 
-/// How far the arguments behind a literal are read.
+/// How far the arguments after a literal are read.
 #[derive(Clone, Copy)]
 struct Reading<'t> {
     /// The text that is left.
@@ -23,9 +23,8 @@ struct Reading<'t> {
     options: LeafOptions,
 }
 
-/// Returns the options that stand in a text behind an offset, up to the end of the delimiters around
-/// it.
-pub(crate) fn options_behind(text: &str, from: usize) -> LeafOptions {
+/// Returns the options that stand in a text after an offset, up to the end of the delimiters around it.
+pub(crate) fn options_from(text: &str, from: usize) -> LeafOptions {
     let mut reading = Reading {
         rest: rest_at(text, from),
         depth: 0,

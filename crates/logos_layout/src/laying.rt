@@ -20,16 +20,17 @@ pub struct Note {
 /// How a text is laid out, apart from its tokens.
 #[derive(Clone, Copy)]
 pub struct Setting<'n> {
-    /// How many blanks stand before each line.
-    pub margin: usize,
+    /// The blanks that stand before each line: spaces and tabs.
+    pub margin: &'n str,
     /// The comments that are put in, in the order of their offsets.
     pub notes: &'n [Note],
 }
 
 /// Returns a Rust text laid out in lines, with the same tokens and the same comments, and with
 /// those that the setting puts in. The margin and four blanks for each level of braces stand before
-/// a line, and a line has at most 100 bytes where a blank allows it. Lines end after `;`, after the braces of blocks, after commas between braces, after
-/// attributes and comments, and where the text has a line end. Short braces stay on one line.
+/// a line, and a line has at most 100 bytes where a blank allows it. Lines end after `;`, after the
+/// braces of blocks, after commas between braces, after attributes and comments, and where the text
+/// has a line end. Short braces stay on one line.
 ///
 /// A text that cannot be read into tokens, or is longer than 16,777,216 bytes in lines, stays as it
 /// is.

@@ -21,7 +21,7 @@ struct Layout {
 /// Returns a text in lines, or as much of it as can be read into lexemes.
 pub(crate) fn lines_of(alloc: Global, text: &str, setting: Setting<'_>) -> Result<String, Memory> {
     let mut layout = Layout {
-        lines: Lines::new(alloc, setting.margin),
+        lines: Lines::new(alloc, setting.margin)?,
         state: State::new(),
         outer: Vec::new(alloc),
     };

@@ -91,7 +91,7 @@ pub enum Asking<'w> {
     Examples,
     /// Inputs that together pass all edges of its graph, at most so many.
     Inputs(&'w str),
-    /// What matches from a place.
+    /// What matches from a position.
     Matches(&'w str),
 }
 

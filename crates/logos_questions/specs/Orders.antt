@@ -54,7 +54,7 @@ inputs_given None input = None
 inputs_given (Some most) None = Some (inputs most)
 inputs_given (Some most) (Some input) = None
 
--- What matches from a place of an input.
+-- What matches from a position of an input.
 abbrev pub matches_given : Option Position → Option (List ℕ) → Option QuestionValue
 matches_given None input = None
 matches_given (Some place) None = None

@@ -4,7 +4,7 @@ ghost use Rattle.std.specs.Prelude.{IfErr};
 ghost use Rattle.logos_show.specs.Orders.{IsNoMisuse};
 
 use crate::reading::{refused, text_of};
-use crate::running::Task;
+use crate::running::{Task, part_of};
 use logos_codegen::error::Memory;
 use logos_codegen::item::{ReadError, read_enum};
 use logos_codegen::token::{Delimiter, TokenError, tokenize};
@@ -16,7 +16,9 @@ use std::alloc::Global;
 
 /// The enums of a file that a name may mean.
 #[derive(Clone, Copy)]
-struct Choice {
+struct Choice<'n> {
+    /// The name, if one is given.
+    name: Option<&'n str>,
     /// The first one whose path is the name.
     exact: Option<FoundEnum>,
     /// The first one whose path ends with the name.
@@ -34,7 +36,7 @@ pub(crate) enum Chosen {
     Two(FoundEnum, FoundEnum),
 }
 
-/// The lexeme that comes first in a text, and the text behind it.
+/// The lexeme that comes first in a text, and the text after it.
 #[derive(Clone, Copy)]
 struct Word<'t> {
     kind: Kind,
@@ -116,8 +118,8 @@ fn several_text(
     source: &Source<'_>,
     enums: (FoundEnum, FoundEnum),
 ) -> Result<String, Memory> {
-    let one = path_of(alloc, source, enums.0)?;
-    let other = path_of(alloc, source, enums.1)?;
+    let one = path_of(alloc, part_of(source, enums.0), text_of(source, enums.0))?;
+    let other = path_of(alloc, part_of(source, enums.1), text_of(source, enums.1))?;
     let mut page = Page::new(alloc, false);
     page.push("error: several enums ");
     push_name(&mut page, task.order.name);
@@ -125,9 +127,9 @@ fn several_text(
     page.push_shown(source.path());
     page.push(" derive `Logos`: ");
     push_name(&mut page, Some(one.as_str()));
-    page.push("and ");
-    push_name(&mut page, Some(other.as_str()));
-    page.push("\nhelp: give the path of one, as in `--enum ");
+    page.push("and `");
+    page.push_shown(other.as_str());
+    page.push("`\nhelp: give the path of one, as in `--enum ");
     page.push_shown(one.as_str());
     page.push("`\n");
     Ok(page.finish()?)
@@ -151,12 +153,13 @@ fn chosen(
     name: Option<&str>,
 ) -> Result<Chosen, Memory> {
     let mut choice = Choice {
+        name,
         exact: None,
         first: None,
         second: None,
     };
     for one in found {
-        choice = choice_with(alloc, choice, source, *one, name)?;
+        choice = choice_with(alloc, choice, source, *one)?;
     }
     Ok(match (choice.exact, choice.first, choice.second) {
         (Some(one), _, _) | (None, Some(one), None) => Chosen::One(one),
@@ -166,53 +169,64 @@ fn chosen(
 }
 
 /// Returns a choice with one more enum.
-fn choice_with(
+fn choice_with<'n>(
     alloc: Global,
-    choice: Choice,
+    choice: Choice<'n>,
     source: &Source<'_>,
     one: FoundEnum,
-    name: Option<&str>,
-) -> Result<Choice, Memory> {
+) -> Result<Choice<'n>, Memory> {
     if !one.derives || choice.exact.is_some() {
         return Ok(choice);
     }
-    let Some(name) = name else {
-        return Ok(Choice {
+    let path = path_of(alloc, part_of(source, one), text_of(source, one))?;
+    match choice.name {
+        Some(name) if path.as_str() != name => {
+            if !ends_with_name(path.as_str(), name) {
+                return Ok(choice);
+            }
+            near_choice(alloc, choice, source, one)
+        }
+        _ => Ok(Choice {
             exact: Some(one),
-            ..choice
-        });
-    };
-    let path = path_of(alloc, source, one)?;
-    if path.as_str() == name {
-        return Ok(Choice {
-            exact: Some(one),
-            ..choice
-        });
-    }
-    match choice.first {
-        _ if !ends_with_name(path.as_str(), name) => Ok(choice),
-        None => Ok(Choice {
-            first: Some(one),
-            ..choice
-        }),
-        Some(first) if path_of(alloc, source, first)?.as_str() == path.as_str() => Ok(choice),
-        Some(_) => Ok(Choice {
-            second: choice.second.or(Some(one)),
             ..choice
         }),
     }
 }
 
+/// Returns a choice with one more enum whose path ends with the name.
+fn near_choice<'n>(
+    alloc: Global,
+    choice: Choice<'n>,
+    source: &Source<'_>,
+    one: FoundEnum,
+) -> Result<Choice<'n>, Memory> {
+    let Some(first) = choice.first else {
+        return Ok(Choice {
+            first: Some(one),
+            ..choice
+        });
+    };
+    let path = path_of(alloc, part_of(source, one), text_of(source, one))?;
+    let other = path_of(alloc, part_of(source, first), text_of(source, first))?;
+    if choice.second.is_some() || path.as_str() == other.as_str() {
+        return Ok(choice);
+    }
+    Ok(Choice {
+        second: Some(one),
+        ..choice
+    })
+}
+
 /// Returns whether an enum has the name, if one is given: whether its path ends with it.
 pub(crate) fn has_name(
     alloc: Global,
-    source: &Source<'_>,
-    one: FoundEnum,
+    part: Part<'_, '_>,
+    text: &str,
     name: Option<&str>,
 ) -> Result<bool, Memory> {
     match name {
         Some(name) => {
-            let path = path_of(alloc, source, one)?;
+            let path = path_of(alloc, part, text)?;
             Ok((path.as_str() == name) | ends_with_name(path.as_str(), name))
         }
         None => Ok(true),
@@ -227,19 +241,15 @@ fn ends_with_name(path: &str, name: &str) -> bool {
     }
 }
 
-/// Returns the path of an enum in its file, as `lexers::Token`: the names of the modules around it,
-/// and its own, which is empty if it is not well formed.
-fn path_of(
-    alloc: Global,
-    source: &Source<'_>,
-    one: FoundEnum,
-) -> Result<String, Memory> {
+/// Returns the path of an enum with this text in its file, as `lexers::Token`: the names of the modules
+/// around it, and its own, which is empty if it is not well formed.
+fn path_of(alloc: Global, part: Part<'_, '_>, text: &str) -> Result<String, Memory> {
     let mut path = String::new(alloc);
-    let before = front_of(source.text(), one.span.from);
+    let before = front_of(part.source.text(), part.offset);
     for level in &levels_of(alloc, before)? {
         push_level(&mut path, *level)?;
     }
-    path.push_str(name_of(alloc, text_of(source, one))?)?;
+    path.push_str(name_of(alloc, text)?)?;
     Ok(path)
 }
 

@@ -46,7 +46,7 @@ line for each item of INPUT, and at the end how many items there were. Either
 may be `-`, which is standard input.
 
 options:
-      --enum NAME   show, or lex by, the enum NAME alone
+      --enum NAME   show, or lex by, the enum NAME alone, or `module::NAME`
       --at L:C      print what matches from line L, column C of INPUT
       --examples    print for each leaf a shortest text that it finds, and one
                     where another leaf is found in its place

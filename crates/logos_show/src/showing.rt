@@ -118,7 +118,7 @@ fn pages_of<'f, 's>(
         style,
     };
     for one in found {
-        push_named(&mut pages, lines, source, *one, name)?;
+        push_named(&mut pages, enum_in(source, lines, *one), name)?;
     }
     Ok(pages)
 }
@@ -167,18 +167,16 @@ fn enum_in<'f, 's>(
 }
 
 /// Adds what is shown of an enum, if it has the name, or none is given.
-fn push_named<'f, 's>(
+fn push_named(
     pages: &mut Pages,
-    lines: &'f LineIndex<'s>,
-    source: &'f Source<'s>,
-    one: FoundEnum,
+    one: EnumInFile<'_, '_>,
     name: Option<&str>,
 ) -> Result<(), Failure<'static>>
     ensures { IfErr result IsNoMisuse }
 {
     let alloc = pages.style.showing.alloc;
-    if has_name(alloc, source, one, name)? {
-        push_enum(alloc, pages, enum_in(source, lines, one))?;
+    if has_name(alloc, one.part, one.text, name)? {
+        push_enum(alloc, pages, one)?;
     }
     Ok(())
 }
