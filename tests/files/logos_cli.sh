@@ -150,7 +150,25 @@ gives 0 '' source.rs --output links/link.rs
 same links/real.rs whole
 only links link.rs real.rs
 
-# So does one that leads to no file yet, which is made, also over several links and folders.
+# A file that may not be written is replaced all the same, and keeps its mode and its owner. Another name of it keeps the old content.
+mkdir kept
+printf old > kept/out.rs
+chmod 444 kept/out.rs
+ln kept/out.rs kept/other.rs
+gives 0 '' source.rs --output kept/out.rs
+same kept/out.rs whole
+printf old | same kept/other.rs -
+[ "$(stat -c %a kept/out.rs)" = 444 ] || fail "the permissions have changed"
+if [ "$(id -u)" = 0 ]; then
+    printf old > kept/owned.rs
+    chown 12345:54321 kept/owned.rs
+    chmod 4755 kept/owned.rs
+    gives 0 '' source.rs --output kept/owned.rs
+    same kept/owned.rs whole
+    [ "$(stat -c '%u:%g %a' kept/owned.rs)" = '12345:54321 4755' ] || fail "the owner or the permissions have changed"
+fi
+
+# A link that leads to no file yet stays a link, too; the file is made, also over several links and folders.
 mkdir links/deep
 ln -s to.rs links/dangling.rs
 gives 0 '' source.rs --output links/dangling.rs

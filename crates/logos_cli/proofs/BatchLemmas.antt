@@ -88,11 +88,13 @@ module _ {F : Type 0} (gives makes : F → List ℕ → List ℕ → F → Type 
             × (IsTrue w → Said texts old new)
         go before (inl e) = (
           before.0,
-          (λ b. before.1 (elim is [ | inl i ↦ omega (arith, b, i) | inr i ↦ absurd (omega (arith, b, i, e)) ])),
+          (λ b. before.1 (elim is [ inl i ↦ omega (arith, b, i) | inr i ↦ absurd (omega (arith, b, i, e)) ])),
           (λ after more h. before.2.0 after more (next, [], more, refl, inl (was, out, done e, refl), h)),
-          (λ t. let p = parts t in let s = before.2.1 p.0 in let u = said p.1 in
-            (s.0 ++ u.0, Appends-trans old middle new s.0 u.0 s.1.0 u.1,
-            λ more rest st. subst (λ x. StandInOrder (before.0 ++ more) x) (sym (append_assoc s.0 u.0 rest)) (s.1.1 more (u.0 ++ rest) (stand_behind u.0 more rest st)))),
+          (λ t. let p = parts t in let s = before.2.1 p.0 in let u = said p.1 in (
+            s.0 ++ u.0,
+            Appends-trans old middle new s.0 u.0 s.1.0 u.1,
+            λ more rest st. subst (λ x. StandInOrder (before.0 ++ more) x) (sym (append_assoc s.0 u.0 rest)) (s.1.1 more (u.0 ++ rest) (stand_behind u.0 more rest st)),
+          )),
         )
         go before (inr e) =
             let d = denied e in
@@ -100,9 +102,11 @@ module _ {F : Type 0} (gives makes : F → List ℕ → List ℕ → F → Type 
               before.0 ++ shown ∷ [],
               (λ b. some_after before.0 shown),
               (λ after more h. subst (λ t. AreEnded gives makes finds orders first after t) (sym (append_assoc before.0 (shown ∷ []) more)) (before.2.0 after (shown ∷ more) (next, shown ∷ [], more, refl, inr (shown, d.1.0, refl), h))),
-              (λ t. let p = parts t in let s = before.2.1 p.0 in let u = d.1.1 p.1 in let text = u.0 ++ shown in
-                (s.0 ++ text, Appends-trans old middle new s.0 text s.1.0 u.1,
-                λ more rest st. subst (λ x. StandInOrder x ((s.0 ++ text) ++ rest)) (sym (append_assoc before.0 (shown ∷ []) more)) (subst (λ x. StandInOrder (before.0 ++ shown ∷ more) x) (sym (append_assoc s.0 text rest)) (s.1.1 (shown ∷ more) (text ++ rest) (u.0, rest, append_assoc u.0 shown rest, st))))),
+              (λ t. let p = parts t in let s = before.2.1 p.0 in let u = d.1.1 p.1 in let text = u.0 ++ shown in (
+                s.0 ++ text,
+                Appends-trans old middle new s.0 text s.1.0 u.1,
+                λ more rest st. subst (λ x. StandInOrder x ((s.0 ++ text) ++ rest)) (sym (append_assoc before.0 (shown ∷ []) more)) (subst (λ x. StandInOrder (before.0 ++ shown ∷ more) x) (sym (append_assoc s.0 text rest)) (s.1.1 (shown ∷ more) (text ++ rest) (u.0, rest, append_assoc u.0 shown rest, st))),
+              )),
             )
 
   -- all files are through

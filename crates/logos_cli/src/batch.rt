@@ -178,7 +178,10 @@ fn run_each<F: ComparableFiles, O: Write, E: Write + IsTerminal>(
         is_written: true,
     };
     for entry in entries {
-        ending = joined(ending, carry_out(alloc, order_at(order, entry), files, out, err));
+        ending = joined(
+            ending,
+            carry_out(alloc, order_at(order, entry), files, out, err),
+        );
     }
     ending
 }

@@ -15,14 +15,12 @@ ghost use Rattle.logos_cli.specs.Runs.{IsOther};
 ghost use Rattle.logos_host.specs.Reading.{Reads};
 
 use crate::answering::run_derive;
-use crate::difference::{Compared, difference};
 use crate::batch::run_batch;
+use crate::difference::{Compared, difference};
 use crate::options::{Order, Request, request_of};
 use logos_causes::Showing;
 use logos_expand::{Expansion, expand};
-use logos_host::{
-    ComparableFiles, Failure, Files, Standing, read_text, report, write_through,
-};
+use logos_host::{ComparableFiles, Failure, Files, Standing, read_text, report, write_through};
 use logos_options::{Program, with_nearest};
 use logos_report::Source;
 use std::alloc::{AllocError, Global};
