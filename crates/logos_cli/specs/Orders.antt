@@ -18,7 +18,9 @@ use Rattle.logos_cli.specs.declared.options.Request.TheVariants as requests
 use Rattle.logos_expand.specs.declared.shape.Shape.{Shape}
 use Rattle.logos_expand.specs.declared.shape.Shape.TheVariants.{Code, Tables}
 
--- a file to expand: its path, the path of the file for the result, whether that is only compared, the shape of the lexers, how messages are written, whether warnings are denied, and when messages have colors
+-- A file to expand: its path, the path of the file for the result, whether that is only compared,
+-- the shape of the lexers, how messages are written, whether warnings are denied, and when messages
+-- have colors.
 pub record OrderValue : Type 0 where
   pub input : List ℕ
   pub output : Option (List ℕ)
@@ -28,7 +30,7 @@ pub record OrderValue : Type 0 where
   pub denies : Bool
   pub color : Color
 
--- what is asked for
+-- What is asked for.
 pub data Asked : Type 0 where
   asks_help : Asked
   asks_version : Asked
@@ -36,7 +38,7 @@ pub data Asked : Type 0 where
   asks_each : (orders : List OrderValue) → Asked
   asks_derive : (order : DeriveOrder) → Asked
 
--- the shapes of lexers, by their names
+-- The shapes of lexers, by their names.
 abbrev pub shape_named : List ℕ → Option Shape
 shape_named name =
     if bytes_eq name (codes "state_machine") then Some (Code (record { use_state_machine_codegen = true }))
@@ -44,12 +46,12 @@ shape_named name =
     else (if bytes_eq name (codes "tables") then Some Tables
     else None))
 
--- the shape with the name that is given, or tables
+-- The shape with the name that is given, or tables.
 abbrev pub named_shape : Option (List ℕ) → Option Shape
 named_shape None = Some Tables
 named_shape (Some name) = shape_named name
 
--- a path that ends in `/` is that of a folder
+-- A path that ends in `/` is that of a folder.
 abbrev pub is_folder : List ℕ → Bool
 is_folder path = slice_index path (length path - 1) == 47
 
@@ -57,35 +59,35 @@ abbrev pub name_after : List ℕ → Option (List ℕ × List ℕ) → List ℕ
 name_after path None = path
 name_after path (Some parts) = parts.1
 
--- the name of the file at a path: what follows the last `/`
+-- The name of the file at a path: what follows the last `/`.
 abbrev pub file_name : List ℕ → List ℕ
 file_name path = name_after path (rsplit_once 47 path)
 
--- the same of another file, whose result goes into a folder under the name of that file
+-- The same of another file, whose result goes into a folder under the name of that file.
 abbrev pub order_into : OrderValue → List ℕ → List ℕ → OrderValue
 order_into order folder path = record order { input = path; output = Some (folder ++ file_name path) }
 
 abbrev pub orders_into : OrderValue → List ℕ → List (List ℕ) → List OrderValue
 orders_into order folder paths = map (order_into order folder) paths
 
--- a file to expand, which is the only one
+-- A file to expand, which is the only one.
 abbrev pub one_order : OrderValue → Option (List ℕ) → Option Asked
 one_order order None = Some (asks_expansion order)
 one_order order (Some second) = None
 
--- the same, or all files of the words, whose results go into a folder
+-- The same, or all files of the words, whose results go into a folder.
 abbrev pub placed : List (List ℕ) → OrderValue → Option (List ℕ) → Option (List ℕ) → Option Asked
 placed words order None second = one_order order second
 placed words order (Some output) second =
     if is_folder output then Some (asks_each (orders_into order output (paths_of words))) else one_order order second
 
--- files to expand; what is only compared needs a file for the result
+-- Files to expand; what is only compared needs a file for the result.
 abbrev pub file_given : List (List ℕ) → GivenValue → List ℕ → Shape → Option Asked
 file_given words given input shape =
     if given.flags.is_check && not (is_some given.values.output) then None
     else placed words (record { input = input; output = given.values.output; is_check = given.flags.is_check; shape = shape; format = given_or Human given.values.format; denies = given.flags.denies; color = given_or Auto given.values.color }) given.values.output given.second
 
--- an enum to answer about, which is read from standard input; the answer is not for a file
+-- An enum to answer about, which is read from standard input; the answer is not for a file.
 abbrev pub enum_given : GivenValue → List ℕ → Shape → Option Asked
 enum_given given input shape =
     if given.flags.is_check || is_some given.values.output then None
@@ -98,7 +100,7 @@ abbrev pub shaped_given : List (List ℕ) → GivenValue → List ℕ → Option
 shaped_given words given input None = None
 shaped_given words given input (Some shape) = if given.flags.is_derive then enum_given given input shape else file_given words given input shape
 
--- what is asked of the input, if there is one
+-- What is asked of the input, if there is one.
 abbrev pub order_given : List (List ℕ) → GivenValue → Option (List ℕ) → Option Asked
 order_given words given None = None
 order_given words given (Some input) = shaped_given words given input (named_shape given.values.shape)
@@ -108,7 +110,7 @@ answer_given words given (Some answers.Help) = Some asks_help
 answer_given words given (Some answers.Version) = Some asks_version
 answer_given words given None = order_given words given given.first
 
--- what the words ask for
+-- What the words ask for.
 abbrev pub asked_given : List (List ℕ) → Option GivenValue → Option Asked
 asked_given words None = None
 asked_given words (Some given) = answer_given words given given.answer
@@ -116,7 +118,7 @@ asked_given words (Some given) = answer_given words given given.answer
 abbrev pub asked : List (List ℕ) → Option Asked
 asked words = asked_given words (given_of Cli words)
 
--- the same of what the program keeps
+-- The same of what the program keeps.
 abbrev pub order_value : Order → OrderValue
 order_value order = record {
   input = order.input.now;

@@ -1,5 +1,7 @@
--- What a run of the program does, by what its files give. `gives` holds of files, a path, all bytes that are read there, and the files after that; `makes` of files, a path,
--- the bytes of the file there from then on, and the files after that; `finds` of files, a path, some bytes, how the file there compares with them, and the files after that.
+-- What a run of the program does, by what its files give. `gives` holds of files, a path, all bytes
+-- that are read there, and the files after that; `makes` of files, a path, the bytes of the file
+-- there from then on, and the files after that; `finds` of files, a path, some bytes, how the file
+-- there compares with them, and the files after that.
 use Rattle.std.specs.Prelude.{◌≡◌, ◌≢◌, ◌⊎◌, ◌++◌, ◌||◌, ℕ, List, [], ◌∷◌, All, Bool, Contains, true, false, IsTrue, Option, Some, None, IfSome, bytes_eq, codes, map, string_bytes, unwrap_or}
 use Rattle.std.specs.Io.KnownBytes.{Appends, Keeps}
 use Rattle.logos_host.specs.declared.comparing.Standing.{Standing}
@@ -15,54 +17,56 @@ use Rattle.logos_derive.specs.declared.answering.Answer.{Answer}
 use Rattle.logos_text.specs.Standing.{StandInOrder}
 use Rattle.logos_token.specs.Faults.{Fault}
 
--- a file has other bytes than these, or cannot be read
+-- A file has other bytes than these, or cannot be read.
 pub record IsOther {F : Type 0} (finds : F → List ℕ → List ℕ → Standing → F → Type 0) (path bytes : List ℕ) (files after : F) : Type 0 where
   pub standing : Standing
   pub found : finds files path bytes standing after
   pub other : standing ≢ Same
 
--- a file had other bytes, and these were written to it
+-- A file had other bytes, and these were written to it.
 pub record IsRewritten {F : Type 0} (makes : F → List ℕ → List ℕ → F → Type 0) (finds : F → List ℕ → List ℕ → Standing → F → Type 0) (path bytes : List ℕ) (files after : F) : Type 0 where
   pub between : F
   pub other : IsOther finds path bytes files between
   pub made : makes between path bytes after
 
--- the enum on standard input has no faults, and its implementation is at the end of standard output, with placeholders
+-- The enum on standard input has no faults, and its implementation is at the end of standard
+-- output, with placeholders.
 abbrev pub IsAnswered : {F : Type 0} → (F → List ℕ → List ℕ → F → Type 0) → DeriveOrder → F → F → Option (List ℕ) → Option (List ℕ) → Type 0
 IsAnswered gives order files after old new =
     Reads gives files (codes "/dev/stdin") (λ text read. (after ≡ read) × ((answer : Answer) × IsDerived order.shape text answer × Appends old new (string_bytes answer.text)))
 
--- the enum on standard input has faults, which this text shows
+-- The enum on standard input has faults, which this text shows.
 abbrev pub IsDeniedAnswer : {F : Type 0} → (F → List ℕ → List ℕ → F → Type 0) → DeriveOrder → F → F → List ℕ → Type 0
 IsDeniedAnswer gives order files after shown =
     Reads gives files (codes "/dev/stdin") (λ text read. (after ≡ read) × ((faults : List Fault) × IsRefused text faults × ShowsErrors order.format (standard_input text) faults shown))
 
 module _ {F : Type 0} (gives makes : F → List ℕ → List ℕ → F → Type 0) (finds : F → List ℕ → List ℕ → Standing → F → Type 0) where
-  -- a file has these bytes, and was not written
+  -- A file has these bytes, and was not written.
   abbrev pub IsThere : List ℕ → List ℕ → F → F → Type 0
   IsThere path bytes files after = finds files path bytes Same after × gives files path bytes after
 
-  -- the result is in a file: it was there, or it was written, and not only to be compared
+  -- The result is in a file: it was there, or it was written, and not only to be compared.
   abbrev pub IsSettled : OrderValue → List ℕ → List ℕ → F → F → Type 0
   IsSettled order path bytes files after = IsThere path bytes files after ⊎ ((order.is_check ≡ false) × IsRewritten makes finds path bytes files after)
 
-  -- The result is where it was asked for: in a file, or at the end of standard output. What goes to one leaves the other as it is.
+  -- The result is where it was asked for: in a file, or at the end of standard output. What goes to
+  -- one leaves the other as it is.
   abbrev pub IsDelivered : OrderValue → Option (List ℕ) → List ℕ → F → F → Option (List ℕ) → Option (List ℕ) → Type 0
   IsDelivered order None bytes files after old new = (after ≡ files) × Appends old new bytes
   IsDelivered order (Some path) bytes files after old new = IsSettled order path bytes files after × Keeps old new
 
-  -- the file is read and expanded, and the result is where it was asked for
+  -- The file is read and expanded, and the result is where it was asked for.
   abbrev pub IsCarriedOut : OrderValue → F → F → Option (List ℕ) → Option (List ℕ) → Type 0
   IsCarriedOut order files after old new =
       Reads gives files order.input (λ text read. (bytes : List ℕ) × IsExpanded order.shape text bytes × IsDelivered order order.output bytes read after old new)
 
-  -- files are read and expanded one after another, and each result is where it was asked for
+  -- Files are read and expanded one after another, and each result is where it was asked for.
   abbrev pub AreCarriedOut : List OrderValue → F → F → Option (List ℕ) → Option (List ℕ) → Type 0
   AreCarriedOut [] files after old new = (after ≡ files) × (new ≡ old)
   AreCarriedOut (order ∷ rest) files after old new =
       (between : F) × (middle : Option (List ℕ)) × IsCarriedOut order files between old middle × AreCarriedOut rest between after middle new
 
-  -- what is asked for is done
+  -- What is asked for is done.
   abbrev pub IsDone : Asked → F → F → Option (List ℕ) → Option (List ℕ) → Type 0
   IsDone asks_help files after old new = after ≡ files
   IsDone asks_version files after old new = after ≡ files
@@ -70,28 +74,30 @@ module _ {F : Type 0} (gives makes : F → List ℕ → List ℕ → F → Type 
   IsDone (asks_each orders) files after old new = AreCarriedOut orders files after old new
   IsDone (asks_derive order) files after old new = IsAnswered gives order files after old new
 
-  -- the file is read, and has faults, which this text shows, or warnings, which are denied; or its expansion was only to be compared, and is not what the other file has. No file is written.
+  -- The file is read, and has faults, which this text shows, or warnings, which are denied; or its
+  -- expansion was only to be compared, and is not what the other file has. No file is written.
   abbrev pub IsDeniedOrder : OrderValue → F → F → List ℕ → Type 0
   IsDeniedOrder order files after shown =
       Reads gives files order.input (λ text read. ((after ≡ read) × IsCause order.format order.denies order.shape (record { path = order.input; text = text }) shown)
       ⊎ (IsTrue order.is_check × ((bytes : List ℕ) × IsExpanded order.shape text bytes × IfSome order.output (λ path. IsOther finds path bytes read after))))
 
-  -- what is asked of a file is done, or it is refused, for what a text says
+  -- What is asked of a file is done, or it is refused, for what a text says.
   abbrev pub EndsOne : OrderValue → F → F → List (List ℕ) → Type 0
   EndsOne order files after texts =
       ((old new : Option (List ℕ)) × IsCarriedOut order files after old new × (texts ≡ [])) ⊎ ((shown : List ℕ) × IsDeniedOrder order files after shown × (texts ≡ shown ∷ []))
 
-  -- the same of files one after another, of which these texts say why they are refused
+  -- The same of files one after another, of which these texts say why they are refused.
   abbrev pub AreEnded : List OrderValue → F → F → List (List ℕ) → Type 0
   AreEnded [] files after texts = (after ≡ files) × (texts ≡ [])
   AreEnded (order ∷ rest) files after texts =
       (between : F) × (first more : List (List ℕ)) × (texts ≡ first ++ more) × EndsOne order files between first × AreEnded rest between after more
 
-  -- some of these files are refused, for texts that stand in this one, in order, and what is asked of the others is done
+  -- Some of these files are refused, for texts that stand in this one, in order, and what is asked
+  -- of the others is done.
   abbrev pub AreDenied : List OrderValue → F → F → List ℕ → Type 0
   AreDenied orders files after shown = (texts : List (List ℕ)) × (texts ≢ []) × AreEnded orders files after texts × StandInOrder texts shown
 
-  -- what is asked for is refused, for what this text says
+  -- What is asked for is refused, for what this text says.
   abbrev pub IsDenied : Asked → F → F → List ℕ → Type 0
   IsDenied asks_help files after shown = ⊥
   IsDenied asks_version files after shown = ⊥
@@ -99,30 +105,31 @@ module _ {F : Type 0} (gives makes : F → List ℕ → List ℕ → F → Type 
   IsDenied (asks_each orders) files after shown = AreDenied orders files after shown
   IsDenied (asks_derive order) files after shown = IsDeniedAnswer gives order files after shown
 
--- the path of the file for a result, of which there is one
+-- The path of the file for a result, of which there is one.
 abbrev pub output_of : OrderValue → List ℕ
 output_of order = unwrap_or order.output []
 
--- a path is one of these
+-- A path is one of these.
 abbrev pub is_among : List ℕ → List (List ℕ) → Bool
 is_among path [] = false
 is_among path (other ∷ rest) = bytes_eq other path || is_among path rest
 
--- two of these paths are equal
+-- Two of these paths are equal.
 abbrev pub has_twins : List (List ℕ) → Bool
 has_twins [] = false
 has_twins (path ∷ rest) = is_among path rest || has_twins rest
 
 module _ {F : Type 0} (same : F → List ℕ → List ℕ → Bool → Type 0) where
-  -- the file at a path is none of those that are read; `same` holds of files, two paths, and whether these lead to one file
+  -- The file at a path is none of those that are read; `same` holds of files, two paths, and
+  -- whether these lead to one file.
   abbrev pub IsNoInput : List OrderValue → F → List ℕ → Type 0
   IsNoInput orders files path = All (λ order. same files order.input path false) orders
 
-  -- it is one of those
+  -- It is one of those.
   abbrev pub IsInput : List OrderValue → F → List ℕ → Type 0
   IsInput orders files path = (order : OrderValue) × Contains orders order × same files order.input path true
 
-  -- a file for a result is a file that is read, or that for another result
+  -- A file for a result is a file that is read, or that for another result.
   abbrev pub IsOwnOutput : Asked → F → Type 0
   IsOwnOutput asks_help files = ⊥
   IsOwnOutput asks_version files = ⊥
@@ -131,7 +138,7 @@ module _ {F : Type 0} (same : F → List ℕ → List ℕ → Bool → Type 0) w
   IsOwnOutput (asks_each orders) files =
       ((order : OrderValue) × Contains orders order × IsInput orders files (output_of order)) ⊎ (has_twins (map output_of orders) ≡ true)
 
-  -- each is another file
+  -- Each is another file.
   abbrev pub IsApart : Asked → F → Type 0
   IsApart asks_help files = Unit {0}
   IsApart asks_version files = Unit {0}

@@ -1,10 +1,8 @@
 //! Files whose results go into a folder.
 
-ghost use Rattle.std.specs.Prelude.{◌≡◌, ◌≢◌, ◌⊎◌, ◌≤◌, ◌++◌, ℕ, All, Contains, IfOk, IsTrue, List, MatchOption, Some, drop, false, map, string_bytes, true};
-ghost use Rattle.std.specs.Io.KnownBytes.{Appends, Keeps};
-ghost use Rattle.logos_cli.specs.Orders.{OrderValue, asks_each, batch_value, file_name, order_into, order_value};
-ghost use Rattle.logos_cli.specs.Runs.{AreCarriedOut, AreDenied, IsApart, IsOwnOutput, has_twins, is_among};
-ghost use Rattle.logos_cli.specs.inside.Entries.{entry_order, orders_of, output_text};
+ghost use Rattle.std.specs.Prelude.{◌≡◌, ◌≢◌, ◌⊎◌, ◌≤◌, ◌++◌, ℕ, All, Contains, IfOk, IsTrue, List, MatchOption, drop, false, map, true};
+ghost use Rattle.logos_cli.specs.Views.{Appends, AreCarriedOut, AreDenied, IsApart, IsOwnOutput, Keeps, OrderValue, asks_each, batch_value, entry_order, file_name, has_twins, is_among, order_into, order_value, orders_of, output_text};
+ghost use Rattle.logos_cli.specs.declared.batch.Entry.{Entry as EntryValue};
 
 use crate::options::{Batch, Order};
 use crate::running::{Ending, carry_out, failed};
@@ -101,7 +99,7 @@ fn own_output_in<'e, F: ComparableFiles>(entries: &'e [Entry<'_>], files: &F) ->
     ensures { MatchOption result
         (All (λ one. All (λ other. F.same_finds files.now other.input.now (output_text one) false)
         entries.now) entries.now)
-        (λ path. (one : Entry) × Contains entries.now one × ((other : Entry)
+        (λ path. (one : EntryValue) × Contains entries.now one × ((other : EntryValue)
         × Contains entries.now other
         × F.same_finds files.now other.input.now (output_text one) true)) }
 {
@@ -117,7 +115,7 @@ fn own_output_in<'e, F: ComparableFiles>(entries: &'e [Entry<'_>], files: &F) ->
 fn is_input<F: ComparableFiles>(entries: &[Entry<'_>], path: &str, files: &F) -> bool
     ensures apart { result ≡ false →
         All (λ other. F.same_finds files.now other.input.now path.now false) entries.now }
-    ensures same { result ≡ true → (other : Entry) × Contains entries.now other
+    ensures same { result ≡ true → (other : EntryValue) × Contains entries.now other
         × F.same_finds files.now other.input.now path.now true }
 {
     for entry in entries {

@@ -1,10 +1,7 @@
 //! What the words of a command line ask for.
 
 ghost use Rattle.std.specs.Prelude.{◌≡◌, IfErr, IfOk, None, Some, is_some, map, option_map, string_bytes};
-ghost use Rattle.logos_host.specs.Failures.{status_of};
-ghost use Rattle.logos_options.specs.Given.{given_value};
-ghost use Rattle.logos_cli.specs.Orders.{asked, asked_given, enum_given, file_given, is_folder, named_shape};
-ghost use Rattle.logos_cli.specs.Orders.{order_given, order_value, placed, request_value, shape_named};
+ghost use Rattle.logos_cli.specs.Views.{asked, asked_given, enum_given, file_given, given_value, is_folder, named_shape, order_given, order_value, placed, request_value, shape_named, status_of};
 
 use logos_codegen::generator::Config;
 use logos_expand::Shape;

@@ -4,3 +4,5 @@ pub mod Formats
 pub mod Messages
 pub mod Reading
 pub mod Writers
+pub mod Words
+pub mod Views

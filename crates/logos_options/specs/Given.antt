@@ -21,8 +21,8 @@ use Rattle.logos_options.specs.declared.program.Program.TheVariants.{Cli, Show}
 use Rattle.logos_options.specs.declared.word_steps.Progress.{Progress}
 
 -- What is asked of a lexer: whether another one is the same, examples of its leaves, inputs that
--- together pass all edges of its graph, or what matches from a position. A number and a position are
--- words as they are written.
+-- together pass all edges of its graph, or what matches from a position. A number and a position
+-- are words as they are written.
 pub data AskingValue : Type 0 where
   asks_comparison : AskingValue
   asks_examples : AskingValue

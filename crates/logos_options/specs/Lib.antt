@@ -3,3 +3,4 @@ pub mod Options
 pub mod Paths
 pub mod Programs
 pub mod WordSteps
+pub mod Words

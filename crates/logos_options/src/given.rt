@@ -1,12 +1,7 @@
 //! What the words of a command line give.
 
 ghost use Rattle.std.specs.Prelude.{◌≡◌, IfErr, IfOk, None, Some, is_some, map, option_map, string_bytes};
-ghost use Rattle.logos_host.specs.Colors.{color_named};
-ghost use Rattle.logos_host.specs.Failures.{status_of};
-ghost use Rattle.logos_host.specs.Formats.{format_named};
-ghost use Rattle.logos_options.specs.Given.{given_nothing, given_of, given_value, settled, values_value, with_asking, with_color, with_flag, with_flags, with_format};
-ghost use Rattle.logos_options.specs.Given.{asking_value, with_found, with_path, with_value, with_values, with_word, with_words};
-ghost use Rattle.logos_options.specs.WordSteps.{use_value};
+ghost use Rattle.logos_options.specs.Words.{asking_value, color_named, format_named, given_nothing, given_of, given_value, settled, status_of, use_value, values_value, with_asking, with_color, with_flag, with_flags, with_format, with_found, with_path, with_value, with_values, with_word, with_words};
 
 use crate::options::OptionName;
 use crate::paths::path_by_word;

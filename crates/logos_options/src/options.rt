@@ -1,7 +1,7 @@
 //! The options of command lines. A program takes some of them.
 
-ghost use Rattle.std.specs.Prelude.{◌≡◌};
-ghost use Rattle.logos_options.specs.Options.{later_named, letter_named, long_named, question_named};
+ghost use Rattle.std.specs.Prelude.{◌≡◌, Some};
+ghost use Rattle.logos_options.specs.Options.{later_named, letter_named, long_named, question_named, option_named, takes_value};
 
 /// An option, by its name.
 #[derive(Clone, Copy, Debug, PartialEq, Eq)]
@@ -45,9 +45,6 @@ pub(crate) const OPTIONS: [OptionName; 16] = [
 ];
 
 impl OptionName {
-    ghost use Rattle.std.specs.Prelude.{◌≡◌, Some};
-    ghost use Rattle.logos_options.specs.Options.{option_named, takes_value};
-
     /// Returns the option with this word, as `--output` or `-o`.
     pub fn by_word(word: &str) -> Option<OptionName>
         ensures { result ≡ option_named word.now }

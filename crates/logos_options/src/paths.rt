@@ -1,8 +1,7 @@
 //! The paths of a command line.
 
 ghost use Rattle.std.specs.Prelude.{◌≡◌, ◌++◌, IfOk, OnOk, map, option_map, string_bytes};
-ghost use Rattle.logos_options.specs.Paths.{found_path, next_paths, next_progress, path_named, paths_of, texts_of};
-ghost use Rattle.logos_options.specs.WordSteps.{step, use_value};
+ghost use Rattle.logos_options.specs.Words.{found_path, next_paths, next_progress, path_named, paths_of, step, texts_of, use_value};
 
 use crate::word_steps::{Progress, Use, next_step};
 use logos_token::error::Memory;

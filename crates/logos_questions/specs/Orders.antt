@@ -60,8 +60,8 @@ matches_given None input = None
 matches_given (Some place) None = None
 matches_given (Some place) (Some input) = Some (matches input place)
 
--- What is asked of a file, by what an option asks and by a second path. Matches and comparisons have
--- one, and examples and inputs have none.
+-- What is asked of a file, by what an option asks and by a second path. Matches and comparisons
+-- have one, and examples and inputs have none.
 abbrev pub question_given : Option AskingValue → Option (List ℕ) → Option QuestionValue
 question_given None None = Some leaves
 question_given None (Some input) = Some (items input)

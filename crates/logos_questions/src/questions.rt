@@ -1,8 +1,7 @@
 //! What the words of the command line of `logos_show` ask for.
 
 ghost use Rattle.std.specs.Prelude.{◌≡◌, IfErr, IfOk, Some, map, option_map, string_bytes};
-ghost use Rattle.logos_questions.specs.Words.{asked, asked_given, asking_value, given_value, inputs_given, matches_given, number_named};
-ghost use Rattle.logos_questions.specs.Words.{order_given, place_named, question_given, question_value, request_value, status_of};
+ghost use Rattle.logos_questions.specs.Words.{asked, asked_given, asking_value, given_value, inputs_given, matches_given, number_named, order_given, place_named, question_given, question_value, request_value, status_of};
 
 use logos_answers::{number_by_text, place_by_word};
 use logos_host::{Color, Failure, MessageFormat};

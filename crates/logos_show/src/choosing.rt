@@ -1,7 +1,7 @@
 //! Which enum of a file is meant by a name.
 
 ghost use Rattle.std.specs.Prelude.{IfErr};
-ghost use Rattle.logos_show.specs.Orders.{IsNoMisuse};
+ghost use Rattle.logos_show.specs.Words.{IsNoMisuse};
 
 use crate::reading::{refused, text_of};
 use crate::running::{Task, part_of};

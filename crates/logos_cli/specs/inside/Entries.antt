@@ -6,7 +6,7 @@ use Rattle.logos_cli.specs.declared.batch.Entry.{Entry}
 abbrev pub output_text : Entry → List ℕ
 output_text entry = string_bytes entry.output
 
--- what is asked for such a file
+-- What is asked for such a file.
 abbrev pub entry_order : OrderValue → Entry → OrderValue
 entry_order order entry = record order { input = entry.input.now; output = Some (output_text entry) }
 
