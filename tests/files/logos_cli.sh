@@ -153,7 +153,8 @@ gives 0 '' source.rs --output links/link.rs
 same links/real.rs whole
 only links link.rs real.rs
 
-# A file that may not be written is replaced all the same, and keeps its mode and its owner. Another name of it keeps the old content.
+# A file that may not be written is replaced all the same, and keeps its mode and its owner. Another
+# name of it keeps the old content.
 mkdir kept
 printf old > kept/out.rs
 chmod 444 kept/out.rs
@@ -171,7 +172,8 @@ if [ "$(id -u)" = 0 ]; then
     [ "$(stat -c '%u:%g %a' kept/owned.rs)" = '12345:54321 4755' ] || fail "the owner or the permissions have changed"
 fi
 
-# A link that leads to no file yet stays a link, too; the file is made, also over several links and folders.
+# A link that leads to no file yet stays a link, too; the file is made, also over several links and
+# folders.
 mkdir links/deep
 ln -s to.rs links/dangling.rs
 gives 0 '' source.rs --output links/dangling.rs
@@ -264,7 +266,8 @@ printf old | same several/full/two.rs -
 same several/full/small.rs several/in/small.rs
 only several/full small.rs two.rs
 
-# No result takes the place of a file that is read, whatever link leads there, and then none is written.
+# No result takes the place of a file that is read, whatever link leads there, and then none is
+# written.
 mkdir several/led
 ln -s ../in/two.rs several/led/one.rs
 gives 2 'error: several/led/one.rs is the input and the output' several/in/small.rs several/in/one.rs several/in/two.rs -o several/led/

@@ -50,8 +50,8 @@ fn pattern_cell<'l>(row: LeafRow<'l>) -> &'l str {
     first_line(row.pattern)
 }
 
-/// Returns what follows the literal in the column of patterns: the options of the definition, as its
-/// attribute has them.
+/// Returns what follows the literal in the column of patterns: the options of the definition, as
+/// its attribute has them.
 fn options_cell(row: LeafRow<'_>) -> &'static str {
     match (row.options.ignores_case, row.options.allows_greedy) {
         (false, false) => "",
@@ -114,7 +114,8 @@ fn cut_width(text: &str) -> usize {
     }
 }
 
-/// Returns the front of a text that is shown with two dots after it, if the text is longer than that.
+/// Returns the front of a text that is shown with two dots after it, if the text is longer than
+/// that.
 fn long_front(text: &str) -> Option<&str> {
     let (front, rest) = text.split_at_checked(text.floor_char_boundary(MOST))?;
     if rest.is_empty() { None } else { Some(front) }

@@ -23,8 +23,8 @@ struct Entry<'w> {
 
 /// Expands files, and writes each result into a folder, under the name of its file. A file that is
 /// refused, or that fails, does not keep the others from that. The status is the highest one of all
-/// files. No result takes the place of a file that is read, or of another result: else the status is
-/// 2, and nothing is read or written.
+/// files. No result takes the place of a file that is read, or of another result: else the status
+/// is 2, and nothing is read or written.
 pub(crate) fn run_batch<F: ComparableFiles, O: Write, E: Write + IsTerminal>(
     alloc: Global,
     batch: Batch<'_>,

@@ -23,7 +23,8 @@ struct Reading<'t> {
     options: LeafOptions,
 }
 
-/// Returns the options that stand in a text after an offset, up to the end of the delimiters around it.
+/// Returns the options that stand in a text after an offset, up to the end of the delimiters around
+/// it.
 pub(crate) fn options_from(text: &str, from: usize) -> LeafOptions {
     let mut reading = Reading {
         rest: rest_at(text, from),

@@ -30,7 +30,7 @@ pub fn paths_of<'w>(alloc: Global, words: &'w [String]) -> Result<Vec<&'w str>, 
     Ok(paths)
 }
 
-/// Pushes the path that one more word is, if it is one. Returns how far the words are read.
+/// Appends the path that one more word is, if it is one. Returns how far the words are read.
 fn push_path<'w>(
     paths: &mut Vec<&'w str>,
     progress: Progress,
@@ -49,7 +49,7 @@ fn push_path<'w>(
     }
 }
 
-/// Pushes a path, if one was found.
+/// Appends a path, if one was found.
 fn push_found<'w>(paths: &mut Vec<&'w str>, found: Option<Use<'w>>) -> Result<(), Memory>
     ensures { OnOk result (texts_of paths.new.items
         ≡ texts_of paths.old.items ++ found_path (option_map use_value found.entry)) }

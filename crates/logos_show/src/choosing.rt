@@ -135,7 +135,7 @@ fn several_text(
     Ok(page.finish()?)
 }
 
-/// Pushes the name of an enum, if one is given.
+/// Appends the name of an enum, if one is given.
 fn push_name(page: &mut Page, name: Option<&str>) {
     if let Some(name) = name {
         page.push("`");
@@ -241,8 +241,8 @@ fn ends_with_name(path: &str, name: &str) -> bool {
     }
 }
 
-/// Returns the path of an enum with this text in its file, as `lexers::Token`: the names of the modules
-/// around it, and its own, which is empty if it is not well formed.
+/// Returns the path of an enum with this text in its file, as `lexers::Token`: the names of the
+/// modules around it, and its own, which is empty if it is not well formed.
 fn path_of(alloc: Global, part: Part<'_, '_>, text: &str) -> Result<String, Memory> {
     let mut path = String::new(alloc);
     let before = front_of(part.source.text(), part.offset);
@@ -261,7 +261,7 @@ fn front_of(text: &str, offset: usize) -> &str {
     }
 }
 
-/// Pushes the name of a module and `::`.
+/// Appends the name of a module and `::`.
 fn push_level(path: &mut String, level: &str) -> Result<(), Memory> {
     if !level.is_empty() {
         path.push_str(level)?;
@@ -284,8 +284,8 @@ fn name_of<'t>(alloc: Global, text: &'t str) -> Result<&'t str, Memory> {
     }
 }
 
-/// Returns the modules whose braces are open at the end of a text, in order, and an empty text for each
-/// brace that is open and no module's.
+/// Returns the modules whose braces are open at the end of a text, in order, and an empty text for
+/// each brace that is open and no module's.
 fn levels_of<'t>(alloc: Global, text: &'t str) -> Result<Vec<&'t str>, Memory> {
     let mut levels = Vec::new(alloc);
     let mut rest = text;
