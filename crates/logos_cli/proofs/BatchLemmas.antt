@@ -1,5 +1,7 @@
 -- Files that are expanded one after another.
-use Rattle.std.proofs.Common.{◌≡◌, ◌≢◌, ◌⊎◌, ◌≤◌, ℕ, zero, suc, List, [], ◌∷◌, ◌++◌, Option, Some, None, Bool, true, false, IsTrue, IfSome, inl, inr, refl, sym, subst, ap, ◌∙◌, arith, append-nil, append_assoc}
+use Rattle.std.proofs.Common.{◌≡◌, ◌≢◌, ◌⊎◌, ◌≤◌, ◌<◌, ◌+◌, All, Contains, drop, drop-cons, get_or, length, map, ℕ, zero, suc, List, [], ◌∷◌, ◌++◌, Option, Some, None, Bool, true, false, IsTrue, IfSome, inl, inr, refl, sym, subst, ap, ◌∙◌, arith, append-nil, append_assoc}
+use Rattle.std.proofs.lemmas.List.{drop_all, get_or-map, length-map}
+use Rattle.std.proofs.lemmas.List.Elements.{All-cons, All-nil, All-same}
 use Rattle.std.proofs.KnownBytes.{Appends-trans, Keeps-refl, Keeps-trans}
 use Rattle.std.specs.Io.KnownBytes.{Appends, Keeps}
 use Rattle.logos_host.specs.declared.comparing.Standing.{Standing}
@@ -29,6 +31,19 @@ zero_or_one (suc (suc n)) h = absurd (omega (arith, h))
 nothing_appended : (known : Option (List ℕ)) → Appends known known []
 nothing_appended None = tt
 nothing_appended (Some bytes) = sym (append-nil bytes)
+
+-- One more element has the property, and so what is left decides as before.
+pub all_next : {X : Type 0} (P : X → Type 0) (xs : List X) (i : ℕ) (item : X) → i < length xs → item ≡ get_or xs i item → P item → (All P (drop i xs) → All P xs) → All P (drop (i + 1) xs) → All P xs
+all_next P xs i item l e p so rest =
+    let k : i + 1 ≡ suc i = omega arith in
+    so (All-same P (drop i xs) (get_or xs i item ∷ drop (suc i) xs) (drop-cons xs i item l) (All-cons P (get_or xs i item) (drop (suc i) xs) (subst P e p) (subst (λ n. All P (drop n xs)) k rest)))
+
+-- No element is left.
+pub all_seen : {X : Type 0} (P : X → Type 0) (xs : List X) (i : ℕ) → length xs ≤ i → (All P (drop i xs) → All P xs) → All P xs
+all_seen P xs i l so = so (All-same P (drop i xs) [] (drop_all i xs l) (All-nil P))
+
+pub contains_mapped : {X Y : Type 0} (f : X → Y) (xs : List X) (x : X) → Contains xs x → Contains (map f xs) (f x)
+contains_mapped f xs x h = (h.0, omega (arith, h.1, length-map f xs), get_or-map f xs h.0 x (f x) h.1 ∙ ap f h.2)
 
 -- What was written of refusals, so that the texts of later ones follow.
 abbrev pub Said : List (List ℕ) → Option (List ℕ) → Option (List ℕ) → Type 0

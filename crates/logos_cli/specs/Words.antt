@@ -7,6 +7,7 @@ pub use Rattle.logos_host.specs.Failures.{status_of}
 pub use Rattle.logos_host.specs.Messages.{message_of}
 pub use Rattle.logos_host.specs.Reading.{Reads}
 pub use Rattle.logos_options.specs.Given.{given_value}
+pub use Rattle.logos_options.specs.Paths.{texts_of}
 pub use Rattle.logos_report.specs.Faults.{faults_texts}
 pub use Rattle.logos_report.specs.Pages.{StandInOrder}
 pub use Rattle.logos_report.specs.Turns.{sizes_of}

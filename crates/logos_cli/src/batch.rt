@@ -1,7 +1,7 @@
 //! Files whose results go into a folder.
 
 ghost use Rattle.std.specs.Prelude.{◌≡◌, ◌≢◌, ◌⊎◌, ◌≤◌, ◌++◌, ℕ, All, Contains, IfOk, IsTrue, List, MatchOption, drop, false, map, true};
-ghost use Rattle.logos_cli.specs.Views.{Appends, AreCarriedOut, AreDenied, IsApart, IsOwnOutput, Keeps, OrderValue, asks_each, batch_value, entry_order, file_name, has_twins, is_among, order_into, order_value, orders_of, output_text};
+ghost use Rattle.logos_cli.specs.Views.{Appends, AreCarriedOut, AreDenied, IsApart, IsOwnOutput, Keeps, OrderValue, asks_each, batch_value, entry_order, file_name, has_twins, is_among, order_into, order_value, orders_into, orders_of, output_text, texts_of};
 ghost use Rattle.logos_cli.specs.declared.batch.Entry.{Entry as EntryValue};
 
 use crate::options::{Batch, Order};
@@ -66,8 +66,21 @@ fn entries_of<'w>(alloc: Global, batch: Batch<'w>) -> Result<Vec<Entry<'w>>, Mem
         orders_of (order_value batch.entry.order) entries.items ≡ batch_value batch.entry) }
 {
     let paths = paths_of(alloc, batch.words)?;
+    entries_at(alloc, batch, &paths)
+}
+
+/// Returns the files at these paths, with the paths of their results.
+fn entries_at<'w>(
+    alloc: Global,
+    batch: Batch<'w>,
+    paths: &[&'w str],
+) -> Result<Vec<Entry<'w>>, Memory>
+    ensures { IfOk result (λ entries. orders_of (order_value batch.entry.order) entries.items
+        ≡ orders_into (order_value batch.entry.order) batch.entry.folder.now
+        (texts_of paths.now)) }
+{
     let mut entries = Vec::new(alloc);
-    for path in &paths {
+    for path in paths {
         entries.push(entry_of(alloc, batch.folder, *path)?)?;
     }
     Ok(entries)
