@@ -1,5 +1,5 @@
 -- Files that are expanded one after another.
-use Rattle.std.proofs.Common.{◌≡◌, ◌≢◌, ◌⊎◌, ◌≤◌, ◌<◌, ◌+◌, All, Contains, drop, drop-cons, get_or, length, map, ℕ, zero, suc, List, [], ◌∷◌, ◌++◌, Option, Some, None, Bool, true, false, IsTrue, IfSome, inl, inr, refl, sym, subst, ap, ◌∙◌, arith, append-nil, append_assoc}
+use Rattle.std.proofs.Common.{◌≡◌, ◌≢◌, ◌⊎◌, ◌≤◌, ◌<◌, ◌+◌, All, Contains, drop, drop-cons, get_or, length, map, ℕ, zero, suc, List, [], ◌∷◌, ◌++◌, Option, Some, None, Bool, true, false, IsTrue, IfSome, inl, inr, refl, sym, subst, ap, ◌∙◌, arith, append-nil, append_assoc, length-append, true≢false}
 use Rattle.std.proofs.lemmas.List.{drop_all, get_or-map, length-map}
 use Rattle.std.proofs.lemmas.List.Elements.{All-cons, All-nil, All-same}
 use Rattle.std.proofs.KnownBytes.{Appends-trans, Keeps-refl, Keeps-trans}
@@ -7,12 +7,14 @@ use Rattle.std.specs.Io.KnownBytes.{Appends, Keeps}
 use Rattle.logos_host.specs.declared.comparing.Standing.{Standing}
 use Rattle.logos_text.specs.Standing.{StandInOrder}
 use Rattle.logos_cli.specs.Orders.{OrderValue}
+use Rattle.logos_cli.specs.declared.batch.Entry.{Entry}
+use Rattle.logos_cli.specs.inside.Entries.{entry_order, orders_of}
 use Rattle.logos_cli.specs.Runs.{AreCarriedOut, AreDenied, AreEnded, IsCarriedOut, IsDelivered, IsDeniedOrder}
 
 -- texts stand in a text behind another one
 stand_behind : (front : List ℕ) (texts : List (List ℕ)) (whole : List ℕ) → StandInOrder texts whole → StandInOrder texts (front ++ whole)
 stand_behind front [] whole s = tt
-stand_behind front (text ∷ texts) whole s = (front ++ s.0, s.1, ap (λ w. front ++ w) s.2.0 ∙ sym (append_assoc front s.0 (text ++ s.1)), s.2.1)
+stand_behind front (text ∷ texts) whole s = (front ++ s.0, s.1, ap (λ w. front ++ w) s.2 ∙ sym (append_assoc front s.0 (text ++ s.1)), s.3)
 
 -- texts stand in some text
 stand_somewhere : (texts : List (List ℕ)) → (whole : List ℕ) × StandInOrder texts whole
@@ -20,8 +22,7 @@ stand_somewhere [] = ([], tt)
 stand_somewhere (text ∷ texts) = let rest = stand_somewhere texts in (text ++ rest.0, ([], rest.0, refl, rest.1))
 
 some_after : {X : Type 0} (xs : List X) (x : X) → xs ++ x ∷ [] ≢ []
-some_after [] x e = absurd e
-some_after (y ∷ ys) x e = absurd e
+some_after xs x e = omega (arith, ap length e, length-append xs (x ∷ []))
 
 zero_or_one : (n : ℕ) → n ≤ 1 → (n ≡ 0) ⊎ (n ≡ 1)
 zero_or_one zero h = inl refl
@@ -43,7 +44,17 @@ pub all_seen : {X : Type 0} (P : X → Type 0) (xs : List X) (i : ℕ) → lengt
 all_seen P xs i l so = so (All-same P (drop i xs) [] (drop_all i xs l) (All-nil P))
 
 pub contains_mapped : {X Y : Type 0} (f : X → Y) (xs : List X) (x : X) → Contains xs x → Contains (map f xs) (f x)
-contains_mapped f xs x h = (h.0, omega (arith, h.1, length-map f xs), get_or-map f xs h.0 x (f x) h.1 ∙ ap f h.2)
+contains_mapped f xs x h = (h.0, omega (arith, h.1, length-map xs), get_or-map f xs h.0 x (f x) h.1 ∙ ap f h.2)
+
+-- The first order of those that are left.
+pub orders_next : (order : OrderValue) (entries : List Entry) (i : ℕ) (item : Entry) → i < length entries → item ≡ get_or entries i item → orders_of order (drop i entries) ≡ entry_order order item ∷ orders_of order (drop (i + 1) entries)
+orders_next order entries i item l e =
+    let k : suc i ≡ i + 1 = omega arith in
+    ap (orders_of order) (drop-cons entries i item l) ∙ ap (λ x. entry_order order x ∷ orders_of order (drop (suc i) entries)) (sym e) ∙ ap (λ n. entry_order order item ∷ orders_of order (drop n entries)) k
+
+-- No order is left.
+pub orders_through : (order : OrderValue) (entries : List Entry) (i : ℕ) → length entries ≤ i → orders_of order (drop i entries) ≡ []
+orders_through order entries i l = ap (orders_of order) (drop_all i entries l)
 
 -- What was written of refusals, so that the texts of later ones follow.
 abbrev pub Said : List (List ℕ) → Option (List ℕ) → Option (List ℕ) → Type 0
@@ -104,11 +115,11 @@ module _ {F : Type 0} (gives makes : F → List ℕ → List ℕ → F → Type 
         go before (inl e) = (
           before.0,
           (λ b. before.1 (elim is [ inl i ↦ omega (arith, b, i) | inr i ↦ absurd (omega (arith, b, i, e)) ])),
-          (λ after more h. before.2.0 after more (next, [], more, refl, inl (was, out, done e, refl), h)),
-          (λ t. let p = parts t in let s = before.2.1 p.0 in let u = said p.1 in (
+          (λ after more h. before.2 after more (next, [], more, refl, inl (was, out, done e, refl), h)),
+          (λ t. let p = parts t in let s = before.3 p.0 in let u = said p.1 in (
             s.0 ++ u.0,
-            Appends-trans old middle new s.0 u.0 s.1.0 u.1,
-            λ more rest st. subst (λ x. StandInOrder (before.0 ++ more) x) (sym (append_assoc s.0 u.0 rest)) (s.1.1 more (u.0 ++ rest) (stand_behind u.0 more rest st)),
+            Appends-trans old middle new s.0 u.0 s.1 u.1,
+            λ more rest st. subst (λ x. StandInOrder (before.0 ++ more) x) (sym (append_assoc s.0 u.0 rest)) (s.2 more (u.0 ++ rest) (stand_behind u.0 more rest st)),
           )),
         )
         go before (inr e) =
@@ -116,15 +127,29 @@ module _ {F : Type 0} (gives makes : F → List ℕ → List ℕ → F → Type 
             let shown = d.0 in (
               before.0 ++ shown ∷ [],
               (λ b. some_after before.0 shown),
-              (λ after more h. subst (λ t. AreEnded gives makes finds orders first after t) (sym (append_assoc before.0 (shown ∷ []) more)) (before.2.0 after (shown ∷ more) (next, shown ∷ [], more, refl, inr (shown, d.1.0, refl), h))),
-              (λ t. let p = parts t in let s = before.2.1 p.0 in let u = d.1.1 p.1 in let text = u.0 ++ shown in (
+              (λ after more h. subst (λ t. AreEnded gives makes finds orders first after t) (sym (append_assoc before.0 (shown ∷ []) more)) (before.2 after (shown ∷ more) (next, shown ∷ [], more, refl, inr (shown, d.1, refl), h))),
+              (λ t. let p = parts t in let s = before.3 p.0 in let u = d.2 p.1 in let text = u.0 ++ shown in (
                 s.0 ++ text,
-                Appends-trans old middle new s.0 text s.1.0 u.1,
-                λ more rest st. subst (λ x. StandInOrder x ((s.0 ++ text) ++ rest)) (sym (append_assoc before.0 (shown ∷ []) more)) (subst (λ x. StandInOrder (before.0 ++ shown ∷ more) x) (sym (append_assoc s.0 text rest)) (s.1.1 (shown ∷ more) (text ++ rest) (u.0, rest, append_assoc u.0 shown rest, st))),
+                Appends-trans old middle new s.0 text s.1 u.1,
+                λ more rest st. subst (λ x. StandInOrder x ((s.0 ++ text) ++ rest)) (sym (append_assoc before.0 (shown ∷ []) more)) (subst (λ x. StandInOrder (before.0 ++ shown ∷ more) x) (sym (append_assoc s.0 text rest)) (s.2 (shown ∷ more) (text ++ rest) (u.0, rest, append_assoc u.0 shown rest, st))),
               )),
             )
 
-  -- all files are through
+    pub next_silent : (old middle new : Option (List ℕ)) → (one ≤ 1 → Keeps old middle) → EndsDone order other now next middle new → (other ≡ 1 → Keeps middle new) → (path : List ℕ) → order.output ≡ Some path →
+        both ≤ 1 → Keeps old new
+    next_silent old middle new so done silent path e l = Keeps-trans old middle new (so (omega (arith, least, l))) (go (zero_or_one other (omega (arith, most, l))))
+      where
+        go : (other ≡ 0) ⊎ (other ≡ 1) → Keeps middle new
+        go (inl z) = carried_keeps order now next middle new path e (done z)
+        go (inr z) = silent z
+
+    pub next_known : (one ≤ 3) → (one ≢ 2) → (other ≤ 3) × (other ≢ 2) → (both ≤ 3) × (both ≢ 2)
+    next_known l n k = elim is [
+      | inl e ↦ (omega (arith, e, l), λ t. n (sym e ∙ t))
+      | inr e ↦ (omega (arith, e, k.0), λ t. k.1 (sym e ∙ t))
+    ]
+
+  -- All files are through.
   pub all_done : (orders : List OrderValue) (status : ℕ) (first now : F) (old new : Option (List ℕ)) → IsDoneSoFar orders [] status first now old new → status ≡ 0 → AreCarriedOut gives makes finds orders first now old new
   all_done orders status first now old new so e = so e now new (refl, refl)
 
@@ -132,9 +157,9 @@ module _ {F : Type 0} (gives makes : F → List ℕ → List ℕ → F → Type 
       (shown : List ℕ) × AreDenied gives makes finds orders first now shown × (IsTrue is_written → (front : List ℕ) × Appends old new (front ++ shown))
   all_denied orders status true first now old new so e =
       let h = so (omega (arith, e)) in
-      let s = h.2.1 tt in
-      (s.0 ++ [], (h.0 ++ [], (λ n. h.1 e (sym (append-nil h.0) ∙ n), h.2.0 now [] (refl, refl), s.1.1 [] [] tt)), λ t. ([], subst (λ x. Appends old new x) (sym (append-nil s.0)) s.1.0))
+      let s = h.3 refl in
+      (s.0 ++ [], (h.0 ++ [], (λ n. h.1 e (sym (append-nil h.0) ∙ n)), h.2 now [] (refl, refl), s.2 [] [] tt), λ t. ([], subst (λ x. Appends old new x) (sym (append-nil s.0)) s.1))
   all_denied orders status false first now old new so e =
       let h = so (omega (arith, e)) in
       let whole = stand_somewhere (h.0 ++ []) in
-      (whole.0, (h.0 ++ [], (λ n. h.1 e (sym (append-nil h.0) ∙ n), h.2.0 now [] (refl, refl), whole.1)), λ t. absurd t)
+      (whole.0, (h.0 ++ [], (λ n. h.1 e (sym (append-nil h.0) ∙ n)), h.2 now [] (refl, refl), whole.1), λ t. absurd (true≢false (sym t)))

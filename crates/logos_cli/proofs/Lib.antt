@@ -1,3 +1,4 @@
 pub mod BatchLemmas
-pub mod RunLemmas
+pub mod CutLemmas
 pub mod DeriveLemmas
+pub mod RunLemmas
