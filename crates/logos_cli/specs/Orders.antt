@@ -67,6 +67,7 @@ file_name path = name_after path (rsplit_once 47 path)
 abbrev pub order_into : OrderValue → List ℕ → List ℕ → OrderValue
 order_into order folder path = record order { input = path; output = Some (folder ++ file_name path) }
 
+-- The same of several files.
 abbrev pub orders_into : OrderValue → List ℕ → List (List ℕ) → List OrderValue
 orders_into order folder paths = map (order_into order folder) paths
 
@@ -130,9 +131,11 @@ order_value order = record {
   color = order.color;
 }
 
+-- What is asked for each of several files, as values.
 abbrev pub batch_value : Batch → List OrderValue
 batch_value batch = orders_into (order_value batch.order) batch.folder.now (paths_of (map string_bytes batch.words.now))
 
+-- What is asked for, as a value.
 abbrev pub request_value : Request → Asked
 request_value requests.Help = asks_help
 request_value requests.Version = asks_version

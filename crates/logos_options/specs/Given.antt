@@ -160,13 +160,14 @@ abbrev pub given_or : {A : Type 0} → A → Option A → A
 given_or other None = other
 given_or other (Some given) = given
 
--- The same of what the program keeps.
+-- What is asked of a lexer, as a value.
 abbrev pub asking_value : Asking → AskingValue
 asking_value askings.Comparison = asks_comparison
 asking_value askings.Examples = asks_examples
 asking_value (askings.Inputs word) = asks_inputs word.now
 asking_value (askings.Matches word) = asks_matches word.now
 
+-- The values of options, as values of definitions.
 abbrev pub values_value : Values → ValuesValue
 values_value values = record {
   color = values.color;
@@ -177,6 +178,7 @@ values_value values = record {
   shape = option_map (λ name. name.now) values.shape;
 }
 
+-- What words give, as a value.
 abbrev pub given_value : Given → GivenValue
 given_value given = record {
   first = option_map (λ path. path.now) given.first;
