@@ -1,15 +1,15 @@
 -- Files that are expanded one after another.
 use Rattle.std.proofs.Common.{◌≡◌, ◌≢◌, ◌⊎◌, ◌≤◌, ◌<◌, ◌+◌, All, Contains, drop, drop-cons, get_or, length, map, ℕ, zero, suc, List, [], ◌∷◌, ◌++◌, Option, Some, None, Bool, true, false, IsTrue, IfSome, inl, inr, refl, sym, subst, ap, ◌∙◌, arith, append-nil, append_assoc, length-append, true≢false}
-use Rattle.std.proofs.lemmas.List.{drop_all, get_or-map, length-map}
-use Rattle.std.proofs.lemmas.List.Elements.{All-cons, All-nil, All-same}
+use Rattle.std.proofs.lemmas.List.{drop_all, get_or-map}
+use Rattle.std.proofs.lemmas.List.Elements.{All-cons, All-map, All-nil, All-same, All-weaker}
 use Rattle.std.proofs.KnownBytes.{Appends-trans, Keeps-refl, Keeps-trans}
 use Rattle.std.specs.Io.KnownBytes.{Appends, Keeps}
 use Rattle.logos_host.specs.declared.comparing.Standing.{Standing}
 use Rattle.logos_text.specs.Standing.{StandInOrder}
-use Rattle.logos_cli.specs.Orders.{OrderValue}
+use Rattle.logos_cli.specs.Orders.{OrderValue, asks_each}
 use Rattle.logos_cli.specs.declared.batch.Entry.{Entry}
-use Rattle.logos_cli.specs.inside.Entries.{entry_order, orders_of}
-use Rattle.logos_cli.specs.Runs.{AreCarriedOut, AreDenied, AreEnded, IsCarriedOut, IsDelivered, IsDeniedOrder}
+use Rattle.logos_cli.specs.inside.Entries.{entry_order, orders_of, output_text}
+use Rattle.logos_cli.specs.Runs.{AreCarriedOut, AreDenied, AreEnded, IsApart, IsCarriedOut, IsDelivered, IsDeniedOrder, IsNoInput, IsOwnOutput, has_twins, output_of}
 
 -- texts stand in a text behind another one
 stand_behind : (front : List ℕ) (texts : List (List ℕ)) (whole : List ℕ) → StandInOrder texts whole → StandInOrder texts (front ++ whole)
@@ -43,8 +43,12 @@ all_next P xs i item l e p so rest =
 pub all_seen : {X : Type 0} (P : X → Type 0) (xs : List X) (i : ℕ) → length xs ≤ i → (All P (drop i xs) → All P xs) → All P xs
 all_seen P xs i l so = so (All-same P (drop i xs) [] (drop_all i xs l) (All-nil P))
 
+length_mapped : {X Y : Type 0} (f : X → Y) (xs : List X) → length (map f xs) ≡ length xs
+length_mapped f [] = refl
+length_mapped f (x ∷ xs) = ap suc (length_mapped f xs)
+
 pub contains_mapped : {X Y : Type 0} (f : X → Y) (xs : List X) (x : X) → Contains xs x → Contains (map f xs) (f x)
-contains_mapped f xs x h = (h.0, omega (arith, h.1, length-map xs), get_or-map f xs h.0 x (f x) h.1 ∙ ap f h.2)
+contains_mapped f xs x h = (h.0, omega (arith, h.1, length_mapped f xs), get_or-map f xs h.0 x (f x) h.1 ∙ ap f h.2)
 
 -- The first order of those that are left.
 pub orders_next : (order : OrderValue) (entries : List Entry) (i : ℕ) (item : Entry) → i < length entries → item ≡ get_or entries i item → orders_of order (drop i entries) ≡ entry_order order item ∷ orders_of order (drop (i + 1) entries)
@@ -55,6 +59,33 @@ orders_next order entries i item l e =
 -- No order is left.
 pub orders_through : (order : OrderValue) (entries : List Entry) (i : ℕ) → length entries ≤ i → orders_of order (drop i entries) ≡ []
 orders_through order entries i l = ap (orders_of order) (drop_all i entries l)
+
+-- The paths of results are those of the orders.
+outputs_are : (order : OrderValue) (entries : List Entry) → map output_text entries ≡ map output_of (orders_of order entries)
+outputs_are order [] = refl
+outputs_are order (entry ∷ entries) = ap (λ rest. output_text entry ∷ rest) (outputs_are order entries)
+
+module _ {F : Type 0} (same : F → List ℕ → List ℕ → Bool → Type 0) (order : OrderValue) (orders : List OrderValue) (files : F) where
+  -- A result is a file that is read.
+  pub own_found : (entries : List Entry) → orders_of order entries ≡ orders → (one : Entry) → Contains entries one → (other : Entry) → Contains entries other → same files other.input.now (output_text one) true →
+      IsOwnOutput same (asks_each orders) files
+  own_found entries e one has other holds is =
+      subst (λ all. IsOwnOutput same (asks_each all) files) e (inl (entry_order order one, contains_mapped (entry_order order) entries one has, (entry_order order other, contains_mapped (entry_order order) entries other holds, is)))
+
+  -- Two results have one path.
+  pub twins_found : (entries : List Entry) → orders_of order entries ≡ orders → has_twins (map output_text entries) ≡ true → IsOwnOutput same (asks_each orders) files
+  twins_found entries e t = subst (λ all. IsOwnOutput same (asks_each all) files) e (inr (sym (ap has_twins (outputs_are order entries)) ∙ t))
+
+  -- Each result is another file.
+  pub all_apart : (entries twins : List Entry) → orders_of order entries ≡ orders → orders_of order twins ≡ orders → All (λ one. All (λ other. same files other.input.now (output_text one) false) entries) entries →
+      has_twins (map output_text twins) ≡ false → IsApart same (asks_each orders) files
+  all_apart entries twins e d apart t = (
+    subst (λ all. All (λ one. IsNoInput same all files (output_of one)) all) e
+    (All-map (λ one. IsNoInput same (orders_of order entries) files (output_of one)) (entry_order order) entries
+    (All-weaker (λ one. All (λ other. same files other.input.now (output_text one) false) entries) (λ one. IsNoInput same (orders_of order entries) files (output_text one))
+    (λ one h. All-map (λ other. same files other.input (output_text one) false) (entry_order order) entries h) entries apart)),
+    ap (λ all. has_twins (map output_of all)) (sym d) ∙ sym (ap has_twins (outputs_are order twins)) ∙ t,
+  )
 
 -- What was written of refusals, so that the texts of later ones follow.
 abbrev pub Said : List (List ℕ) → Option (List ℕ) → Option (List ℕ) → Type 0

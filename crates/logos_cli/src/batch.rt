@@ -1,6 +1,6 @@
 //! Files whose results go into a folder.
 
-ghost use Rattle.std.specs.Prelude.{◌≡◌, ◌≢◌, ◌⊎◌, ◌≤◌, ◌++◌, ℕ, All, Contains, IfOk, IsTrue, List, MatchOption, drop, false, map, true};
+ghost use Rattle.std.specs.Prelude.{◌≡◌, ◌≢◌, ◌⊎◌, ◌≤◌, ◌++◌, ◌∷◌, [], ℕ, All, Contains, IfOk, IsTrue, List, MatchOption, OnOk, drop, false, map, true};
 ghost use Rattle.logos_cli.specs.Views.{Appends, AreCarriedOut, AreDenied, IsApart, IsOwnOutput, Keeps, OrderValue, asks_each, batch_value, entry_order, file_name, has_twins, is_among, order_into, order_value, orders_into, orders_of, output_text, texts_of};
 ghost use Rattle.logos_cli.specs.declared.batch.Entry.{Entry as EntryValue};
 
@@ -81,9 +81,24 @@ fn entries_at<'w>(
 {
     let mut entries = Vec::new(alloc);
     for path in paths {
-        entries.push(entry_of(alloc, batch.folder, *path)?)?;
+        push_entry(batch, *path, &mut entries)?;
     }
     Ok(entries)
+}
+
+/// Appends the file at a path, with the path of its result.
+fn push_entry<'w>(
+    batch: Batch<'w>,
+    path: &'w str,
+    entries: &mut Vec<Entry<'w>>,
+) -> Result<(), Memory>
+    ensures { OnOk result (orders_of (order_value batch.entry.order) entries.new.items
+        ≡ orders_of (order_value batch.entry.order) entries.old.items
+        ++ order_into (order_value batch.entry.order) batch.entry.folder.now path.now ∷ []) }
+{
+    let entry = entry_of(*entries.allocator(), batch.folder, path)?;
+    entries.push(entry)?;
+    Ok(())
 }
 
 /// Returns a file to expand, with the path of its result in a folder.

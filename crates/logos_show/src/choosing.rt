@@ -6,12 +6,9 @@ ghost use Rattle.logos_show.specs.Words.{IsNoMisuse};
 use crate::reading::{refused, text_of};
 use crate::running::{Task, part_of};
 use logos_codegen::error::Memory;
-use logos_codegen::item::{ReadError, read_enum};
-use logos_codegen::token::{Delimiter, TokenError, tokenize};
 use logos_host::Failure;
-use logos_lexeme::lexeme::{Kind, lexeme_at};
 use logos_report::{Page, Part, Source};
-use logos_rust_file::{FoundEnum, enums_in};
+use logos_rust_file::{FoundEnum, enums_in, path_of};
 use std::alloc::Global;
 
 /// The enums of a file that a name may mean.
@@ -34,14 +31,6 @@ pub(crate) enum Chosen {
     One(FoundEnum),
     /// The name means these two, which stand in two modules.
     Two(FoundEnum, FoundEnum),
-}
-
-/// The lexeme that comes first in a text, and the text after it.
-#[derive(Clone, Copy)]
-struct Word<'t> {
-    kind: Kind,
-    text: &'t str,
-    rest: &'t str,
 }
 
 /// Returns the enum of a file whose lexer is asked for.
@@ -118,8 +107,8 @@ fn several_text(
     source: &Source<'_>,
     enums: (FoundEnum, FoundEnum),
 ) -> Result<String, Memory> {
-    let one = path_of(alloc, part_of(source, enums.0), text_of(source, enums.0))?;
-    let other = path_of(alloc, part_of(source, enums.1), text_of(source, enums.1))?;
+    let one = path_at(alloc, part_of(source, enums.0), text_of(source, enums.0))?;
+    let other = path_at(alloc, part_of(source, enums.1), text_of(source, enums.1))?;
     let mut page = Page::new(alloc, false);
     page.push("error: several enums ");
     push_name(&mut page, task.order.name);
@@ -178,7 +167,7 @@ fn choice_with<'n>(
     if !one.derives || choice.exact.is_some() {
         return Ok(choice);
     }
-    let path = path_of(alloc, part_of(source, one), text_of(source, one))?;
+    let path = path_at(alloc, part_of(source, one), text_of(source, one))?;
     match choice.name {
         Some(name) if path.as_str() != name => {
             if !ends_with_name(path.as_str(), name) {
@@ -206,8 +195,8 @@ fn near_choice<'n>(
             ..choice
         });
     };
-    let path = path_of(alloc, part_of(source, one), text_of(source, one))?;
-    let other = path_of(alloc, part_of(source, first), text_of(source, first))?;
+    let path = path_at(alloc, part_of(source, one), text_of(source, one))?;
+    let other = path_at(alloc, part_of(source, first), text_of(source, first))?;
     if choice.second.is_some() || path.as_str() == other.as_str() {
         return Ok(choice);
     }
@@ -226,7 +215,7 @@ pub(crate) fn has_name(
 ) -> Result<bool, Memory> {
     match name {
         Some(name) => {
-            let path = path_of(alloc, part, text)?;
+            let path = path_at(alloc, part, text)?;
             Ok((path.as_str() == name) | ends_with_name(path.as_str(), name))
         }
         None => Ok(true),
@@ -241,16 +230,9 @@ fn ends_with_name(path: &str, name: &str) -> bool {
     }
 }
 
-/// Returns the path of an enum with this text in its file, as `lexers::Token`: the names of the
-/// modules around it, and its own, which is empty if it is not well formed.
-fn path_of(alloc: Global, part: Part<'_, '_>, text: &str) -> Result<String, Memory> {
-    let mut path = String::new(alloc);
-    let before = front_of(part.source.text(), part.offset);
-    for level in &levels_of(alloc, before)? {
-        push_level(&mut path, *level)?;
-    }
-    path.push_str(name_of(alloc, text)?)?;
-    Ok(path)
+/// Returns the path of an enum with this text in its file.
+fn path_at(alloc: Global, part: Part<'_, '_>, text: &str) -> Result<String, Memory> {
+    path_of(alloc, front_of(part.source.text(), part.offset), text)
 }
 
 /// Returns the text in front of an offset.
@@ -259,82 +241,4 @@ fn front_of(text: &str, offset: usize) -> &str {
         Some(front) => front,
         None => "",
     }
-}
-
-/// Appends the name of a module and `::`.
-fn push_level(path: &mut String, level: &str) -> Result<(), Memory> {
-    if !level.is_empty() {
-        path.push_str(level)?;
-        path.push_str("::")?;
-    }
-    Ok(())
-}
-
-/// Returns the name of an enum, or an empty text if it is not well formed.
-fn name_of<'t>(alloc: Global, text: &'t str) -> Result<&'t str, Memory> {
-    let stream = match tokenize(alloc, text) {
-        Ok(stream) => stream,
-        Err(TokenError::Memory) => return Err(Memory),
-        Err(_) => return Ok(""),
-    };
-    match read_enum(alloc, stream.run()) {
-        Ok(item) => Ok(item.name.text),
-        Err(ReadError::Memory) => Err(Memory),
-        Err(_) => Ok(""),
-    }
-}
-
-/// Returns the modules whose braces are open at the end of a text, in order, and an empty text for
-/// each brace that is open and no module's.
-fn levels_of<'t>(alloc: Global, text: &'t str) -> Result<Vec<&'t str>, Memory> {
-    let mut levels = Vec::new(alloc);
-    let mut rest = text;
-    let mut words = ("", "");
-    for _ in 0..text.len() {
-        let Some(word) = first_word(rest) else {
-            return Ok(levels);
-        };
-        note_brace(&mut levels, words, word)?;
-        words = words_after(words, word);
-        rest = word.rest;
-    }
-    Ok(levels)
-}
-
-/// Returns the first lexeme of a text, unless the text is empty or no Rust.
-fn first_word<'t>(text: &'t str) -> Option<Word<'t>> {
-    if text.is_empty() {
-        return None;
-    }
-    let Ok((kind, to)) = lexeme_at(text, 0) else {
-        return None;
-    };
-    let (text, rest) = text.split_at_checked(to)?;
-    Some(Word { kind, text, rest })
-}
-
-/// Returns the last two words after one more; gaps and documentation are none.
-fn words_after<'t>(words: (&'t str, &'t str), word: Word<'t>) -> (&'t str, &'t str) {
-    match word.kind {
-        Kind::Gap | Kind::Doc => words,
-        _ => (words.1, word.text),
-    }
-}
-
-/// Adds the module of a brace that opens, or takes away that of one that closes.
-fn note_brace<'t>(
-    levels: &mut Vec<&'t str>,
-    words: (&'t str, &'t str),
-    word: Word<'t>,
-) -> Result<(), Memory> {
-    match word.kind {
-        Kind::Opening(Delimiter::Brace) => {
-            levels.push(if words.0 == "mod" { words.1 } else { "" })?;
-        }
-        Kind::Closing(Delimiter::Brace) => {
-            let _ = levels.pop();
-        }
-        _ => {}
-    }
-    Ok(())
 }

@@ -1,7 +1,7 @@
 use Rattle.std.proofs.Common.{refl, subst}
 use Rattle.logos_cli.specs.Orders.{order_value}
 use Rattle.logos_cli.specs.inside.Entries.{entry_order, orders_of, output_text}
-use Rattle.logos_cli.proofs.BatchLemmas.{IsDoneSoFar, IsEndedSoFar, all_denied, next_done, next_ended, next_known, next_silent, orders_next, orders_through}
+use Rattle.logos_cli.proofs.BatchLemmas.{EndsDenied, EndsDone, IsDoneSoFar, IsEndedSoFar, all_denied, next_done, next_ended, next_known, next_silent, orders_next, orders_through}
 use Rattle.logos_cli.proofs.batch.run_each.Goals as goal
 
 pub loop-entry-preserved : goal.loop-entry-preserved
@@ -12,8 +12,8 @@ loop-entry-preserved g c =
     let gives = g.F.Files.read_gives in
     let makes = g.F.Files.write_makes in
     let finds = g.F.ComparableFiles.compare_finds in
-    let done = rw c.order_at.ensures at c.carry_out.ensures.done in
-    let denied = rw c.order_at.ensures at c.carry_out.ensures.denied in
+    let done = subst (λ o. EndsDone gives makes finds o c.carry_out.result.status c.loop-entry.files c.carry_out.new.files (g.O.Write.contents c.loop-entry.out) (g.O.Write.contents c.carry_out.new.out)) c.order_at.ensures c.carry_out.ensures.done in
+    let denied = subst (λ o. EndsDenied gives makes finds o c.carry_out.result.status c.carry_out.result.is_written c.loop-entry.files c.carry_out.new.files (g.E.Write.contents c.loop-entry.err) (g.E.Write.contents c.carry_out.new.err)) c.order_at.ensures c.carry_out.ensures.denied in
     let high = c.joined-ending.ensures.highest in
     let is = c.joined-ending.ensures.status in (
       next_done gives makes finds (orders_of order c.args.entries.now) _ (entry_order order c.entry-item.result) c.loop-entry.ending.status c.carry_out.result.status c.joined-ending.result.status c.args.files.now c.loop-entry.files c.carry_out.new.files high.0 high.1 is _ _ _
