@@ -60,6 +60,15 @@ orders_next order entries i item l e =
 pub orders_through : (order : OrderValue) (entries : List Entry) (i : ℕ) → length entries ≤ i → orders_of order (drop i entries) ≡ []
 orders_through order entries i l = ap (orders_of order) (drop_all i entries l)
 
+-- One more order stands at the end.
+pub orders_pushed : (order : OrderValue) (entries : List Entry) (all : List Entry) (entry : Entry) (last : OrderValue) → all ≡ entries ++ entry ∷ [] → entry_order order entry ≡ last →
+    orders_of order all ≡ orders_of order entries ++ last ∷ []
+orders_pushed order entries all entry last e l = ap (orders_of order) e ∙ go entries ∙ ap (λ x. orders_of order entries ++ x ∷ []) l
+  where
+    go : (list : List Entry) → orders_of order (list ++ entry ∷ []) ≡ orders_of order list ++ entry_order order entry ∷ []
+    go [] = refl
+    go (one ∷ list) = ap (λ rest. entry_order order one ∷ rest) (go list)
+
 -- The paths of results are those of the orders.
 outputs_are : (order : OrderValue) (entries : List Entry) → map output_text entries ≡ map output_of (orders_of order entries)
 outputs_are order [] = refl

@@ -8,7 +8,7 @@ pub returns-in-Some-clause-own : goal.returns-in-Some-clause-own
 returns-in-Some-clause-own g c =
     let order = order_value c.args.batch.order in
     let found = c.in-Some.ensures in
-    λ _. own_found g.F.ComparableFiles.same_finds order (batch_value c.args.batch) c.args.files.now c.deref.result.now (ap (orders_of order) c.deref.ensures.value ∙ c.in-Ok.ensures) found.0 found.1 found.2 found.3 found.4
+    λ _. own_found g.F.ComparableFiles.same_finds order (batch_value c.args.batch) c.args.files.now c.deref.result.now (ap (orders_of order) c.deref.ensures.value ∙ c.in-Ok.ensures) found.0 found.1 found.2.0 found.2.1 found.2.2
 
 pub returns-in-Some-twin_in-clause-own : goal.returns-in-Some-twin_in-clause-own
 returns-in-Some-twin_in-clause-own g c =

@@ -15,7 +15,8 @@ loop-entry-preserved g c =
     let done = subst (λ o. EndsDone gives makes finds o c.carry_out.result.status c.loop-entry.files c.carry_out.new.files (g.O.Write.contents c.loop-entry.out) (g.O.Write.contents c.carry_out.new.out)) c.order_at.ensures c.carry_out.ensures.done in
     let denied = subst (λ o. EndsDenied gives makes finds o c.carry_out.result.status c.carry_out.result.is_written c.loop-entry.files c.carry_out.new.files (g.E.Write.contents c.loop-entry.err) (g.E.Write.contents c.carry_out.new.err)) c.order_at.ensures c.carry_out.ensures.denied in
     let high = c.joined-ending.ensures.highest in
-    let is = c.joined-ending.ensures.status in (
+    let is = c.joined-ending.ensures.status in
+    let known = next_known gives makes finds (orders_of order c.args.entries.now) (orders_of order c.args.entries.now) (entry_order order c.entry-item.result) c.loop-entry.ending.status c.carry_out.result.status c.joined-ending.result.status c.args.files.now c.loop-entry.files c.carry_out.new.files high.0 high.1 is so.3 so.4 c.carry_out.ensures.known in (
       next_done gives makes finds (orders_of order c.args.entries.now) _ (entry_order order c.entry-item.result) c.loop-entry.ending.status c.carry_out.result.status c.joined-ending.result.status c.args.files.now c.loop-entry.files c.carry_out.new.files high.0 high.1 is _ _ _
       (subst (λ left. IsDoneSoFar gives makes finds (orders_of order c.args.entries.now) left c.loop-entry.ending.status c.args.files.now c.loop-entry.files (g.O.Write.contents c.args.out.now) (g.O.Write.contents c.loop-entry.out)) next so.0) done,
       next_ended gives makes finds (orders_of order c.args.entries.now) _ (entry_order order c.entry-item.result) c.loop-entry.ending.status c.carry_out.result.status c.joined-ending.result.status c.args.files.now c.loop-entry.files c.carry_out.new.files high.0 high.1 is
@@ -24,7 +25,8 @@ loop-entry-preserved g c =
       done denied c.carry_out.ensures.messages c.joined-ending.result.is_written c.joined-ending.ensures.written,
       next_silent gives makes finds (orders_of order c.args.entries.now) (orders_of order c.args.entries.now) (entry_order order c.entry-item.result) c.loop-entry.ending.status c.carry_out.result.status c.joined-ending.result.status c.args.files.now c.loop-entry.files c.carry_out.new.files high.0 high.1 is
       (g.O.Write.contents c.args.out.now) (g.O.Write.contents c.loop-entry.out) (g.O.Write.contents c.carry_out.new.out) so.2 done c.carry_out.ensures.silent (output_text c.entry-item.result) refl,
-      next_known gives makes finds (orders_of order c.args.entries.now) (orders_of order c.args.entries.now) (entry_order order c.entry-item.result) c.loop-entry.ending.status c.carry_out.result.status c.joined-ending.result.status c.args.files.now c.loop-entry.files c.carry_out.new.files high.0 high.1 is so.3 so.4 c.carry_out.ensures.known,
+      known.0,
+      known.1,
     )
 
 pub returns-clause-denied : goal.returns-clause-denied
