@@ -90,9 +90,9 @@ module _ {F : Type 0} (same : F → List ℕ → List ℕ → Bool → Type 0) (
       has_twins (map output_text twins) ≡ false → IsApart same (asks_each orders) files
   all_apart entries twins e d apart t = (
     subst (λ all. All (λ one. IsNoInput same all files (output_of one)) all) e
-    (All-map (λ one. IsNoInput same (orders_of order entries) files (output_of one)) (entry_order order) entries
-    (All-weaker (λ one. All (λ other. same files other.input.now (output_text one) false) entries) (λ one. IsNoInput same (orders_of order entries) files (output_text one))
-    (λ one h. All-map (λ other. same files other.input (output_text one) false) (entry_order order) entries h) entries apart)),
+        (All-map (λ one. IsNoInput same (orders_of order entries) files (output_of one)) (entry_order order) entries
+        (All-weaker (λ one. All (λ other. same files other.input.now (output_text one) false) entries) (λ one. IsNoInput same (orders_of order entries) files (output_text one))
+        (λ one h. All-map (λ other. same files other.input (output_text one) false) (entry_order order) entries h) entries apart)),
     ap (λ all. has_twins (map output_of all)) (sym d) ∙ sym (ap has_twins (outputs_are order twins)) ∙ t,
   )
 

@@ -18,13 +18,13 @@ loop-entry-preserved g c =
     let is = c.joined-ending.ensures.status in
     let known = next_known gives makes finds (orders_of order c.args.entries.now) (orders_of order c.args.entries.now) (entry_order order c.entry-item.result) c.loop-entry.ending.status c.carry_out.result.status c.joined-ending.result.status c.args.files.now c.loop-entry.files c.carry_out.new.files high.0 high.1 is so.3 so.4 c.carry_out.ensures.known in (
       next_done gives makes finds (orders_of order c.args.entries.now) _ (entry_order order c.entry-item.result) c.loop-entry.ending.status c.carry_out.result.status c.joined-ending.result.status c.args.files.now c.loop-entry.files c.carry_out.new.files high.0 high.1 is _ _ _
-      (subst (λ left. IsDoneSoFar gives makes finds (orders_of order c.args.entries.now) left c.loop-entry.ending.status c.args.files.now c.loop-entry.files (g.O.Write.contents c.args.out.now) (g.O.Write.contents c.loop-entry.out)) next so.0) done,
+          (subst (λ left. IsDoneSoFar gives makes finds (orders_of order c.args.entries.now) left c.loop-entry.ending.status c.args.files.now c.loop-entry.files (g.O.Write.contents c.args.out.now) (g.O.Write.contents c.loop-entry.out)) next so.0) done,
       next_ended gives makes finds (orders_of order c.args.entries.now) _ (entry_order order c.entry-item.result) c.loop-entry.ending.status c.carry_out.result.status c.joined-ending.result.status c.args.files.now c.loop-entry.files c.carry_out.new.files high.0 high.1 is
-      c.loop-entry.ending.is_written c.carry_out.result.is_written (g.E.Write.contents c.args.err.now) (g.E.Write.contents c.loop-entry.err) (g.E.Write.contents c.carry_out.new.err) (g.O.Write.contents c.loop-entry.out) (g.O.Write.contents c.carry_out.new.out)
-      (subst (λ left. IsEndedSoFar gives makes finds (orders_of order c.args.entries.now) left c.loop-entry.ending.status c.loop-entry.ending.is_written c.args.files.now c.loop-entry.files (g.E.Write.contents c.args.err.now) (g.E.Write.contents c.loop-entry.err)) next so.1)
-      done denied c.carry_out.ensures.messages c.joined-ending.result.is_written c.joined-ending.ensures.written,
+          c.loop-entry.ending.is_written c.carry_out.result.is_written (g.E.Write.contents c.args.err.now) (g.E.Write.contents c.loop-entry.err) (g.E.Write.contents c.carry_out.new.err) (g.O.Write.contents c.loop-entry.out) (g.O.Write.contents c.carry_out.new.out)
+          (subst (λ left. IsEndedSoFar gives makes finds (orders_of order c.args.entries.now) left c.loop-entry.ending.status c.loop-entry.ending.is_written c.args.files.now c.loop-entry.files (g.E.Write.contents c.args.err.now) (g.E.Write.contents c.loop-entry.err)) next so.1)
+          done denied c.carry_out.ensures.messages c.joined-ending.result.is_written c.joined-ending.ensures.written,
       next_silent gives makes finds (orders_of order c.args.entries.now) (orders_of order c.args.entries.now) (entry_order order c.entry-item.result) c.loop-entry.ending.status c.carry_out.result.status c.joined-ending.result.status c.args.files.now c.loop-entry.files c.carry_out.new.files high.0 high.1 is
-      (g.O.Write.contents c.args.out.now) (g.O.Write.contents c.loop-entry.out) (g.O.Write.contents c.carry_out.new.out) so.2 done c.carry_out.ensures.silent (output_text c.entry-item.result) refl,
+          (g.O.Write.contents c.args.out.now) (g.O.Write.contents c.loop-entry.out) (g.O.Write.contents c.carry_out.new.out) so.2 done c.carry_out.ensures.silent (output_text c.entry-item.result) refl,
       known.0,
       known.1,
     )
