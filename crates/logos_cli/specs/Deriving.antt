@@ -1,10 +1,10 @@
 -- The answer to the derive macro.
 use Rattle.std.specs.Prelude.{◌≡◌, ◌++◌, ℕ, List, Bool, codes}
 use Rattle.logos_code.specs.Code.{CodeValue}
-use Rattle.logos_cli.specs.Expanding.{IsLexerText, IsShown}
+use Rattle.logos_expand.specs.Expanding.{IsLexerText, IsShown}
 use Rattle.logos_host.specs.declared.message_format.MessageFormat.{MessageFormat}
 use Rattle.logos_host.specs.declared.message_format.MessageFormat.TheVariants.{Human, Json}
-use Rattle.logos_cli.specs.declared.options.Shape.{Shape}
+use Rattle.logos_expand.specs.declared.shape.Shape.{Shape}
 use Rattle.logos_derive.specs.Answers.{IsAnswer}
 use Rattle.logos_derive.specs.declared.answering.Answer.{Answer}
 use Rattle.logos_messages.specs.Answers.{version_tokens}

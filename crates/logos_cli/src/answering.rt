@@ -5,12 +5,13 @@ ghost use Rattle.std.specs.Prelude.{◌≡◌, ◌≢◌, ◌⊎◌, ◌≤◌, 
 ghost use Rattle.logos_cli.specs.Views.{Appends, Keeps, Fault, IsRefused, Answer as AnswerValue, IsDerived, ShowsErrors, standard_input, IsAnswered, IsDeniedAnswer};
 
 use crate::implementation::{answer_lines, derived, refusal_lines};
-use crate::options::{DeriveOrder, STANDARD_INPUT};
+use crate::options::DeriveOrder;
 use crate::running::{Ending, failed, print_bytes};
 use logos_codegen::Refusal;
 use logos_codegen::error::{Errors, Memory};
 use logos_derive::Answer;
 use logos_host::{Failure, Files, MessageFormat, read_text, write_through};
+use logos_options::STANDARD_INPUT;
 use logos_report::Source;
 use std::alloc::{AllocError, Global};
 use std::io::{IsTerminal, Write};

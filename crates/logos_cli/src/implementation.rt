@@ -4,12 +4,11 @@
 ghost use Rattle.std.specs.Prelude.{IfErr, IfOk, List, ℕ, string_bytes};
 ghost use Rattle.logos_cli.specs.Views.{IsRefused, faults_texts, StandInOrder, sizes_of, Refuses, AreFaultLines, IsDerived, IsDerivedBy, ShowsErrors};
 
-use crate::expanding::{config_of, lexer_text};
-use crate::options::Shape;
 use logos_causes::{Explained, explain};
 use logos_codegen::error::{Errors, Memory};
 use logos_codegen::{Generated, Refusal, generate};
 use logos_derive::{Answer, make_answer};
+use logos_expand::{Shape, config_of, lexer_text};
 use logos_host::MessageFormat;
 use logos_messages::{Piece, push_messages, push_pieces, push_version};
 use logos_report::{Clues, Page, Part, Source, count_errors, push_faults, push_summary};

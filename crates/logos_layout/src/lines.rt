@@ -22,8 +22,8 @@ pub(crate) enum WordLead {
 pub(crate) struct WordLines {
     /// The lines so far, without the last word.
     text: String,
-    /// How many blanks stand before each line.
-    margin: usize,
+    /// The blanks that stand before each line.
+    margin: String,
     /// How many bytes the last line has.
     column: usize,
     /// What stands before the last word.
@@ -33,15 +33,15 @@ pub(crate) struct WordLines {
 }
 
 impl WordLines {
-    /// Returns no lines. Before each one so many blanks will stand, and before the first one too.
-    pub(crate) fn new(alloc: Global, margin: usize) -> WordLines {
-        WordLines {
+    /// Returns no lines. Before each one these blanks will stand, and before the first one too.
+    pub(crate) fn new(alloc: Global, margin: &str) -> Result<WordLines, Memory> {
+        Ok(WordLines {
             text: String::new(alloc),
-            margin,
+            margin: String::from_str(alloc, margin)?,
             column: 0,
             lead: WordLead::Nothing,
             word: String::new(alloc),
-        }
+        })
     }
 
     /// Begins a word.
@@ -124,10 +124,8 @@ impl WordLines {
 
     /// Puts the blanks that stand before each line.
     fn put_margin(&mut self) -> Result<(), Memory> {
-        for _ in 0..self.margin {
-            self.text.push(' ')?;
-        }
-        self.column = self.margin;
+        self.text.push_str(self.margin.as_str())?;
+        self.column = self.margin.len();
         Ok(())
     }
 }

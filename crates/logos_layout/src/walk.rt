@@ -21,7 +21,7 @@ struct Layout {
 /// Returns a text in lines, or as much of it as can be read into lexemes.
 pub(crate) fn lines_of(alloc: Global, text: &str, setting: Setting<'_>) -> Result<String, Memory> {
     let mut layout = Layout {
-        lines: WordLines::new(alloc, setting.margin),
+        lines: WordLines::new(alloc, setting.margin)?,
         state: LayoutState::new(),
         outer: Vec::new(alloc),
     };

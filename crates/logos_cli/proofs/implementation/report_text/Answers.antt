@@ -3,7 +3,7 @@ use Rattle.logos_report.specs.Faults.{faults_texts}
 use Rattle.logos_report.specs.Pages.{PageValue, Shows}
 use Rattle.logos_report.specs.Turns.{sizes_of}
 use Rattle.logos_report.proofs.PageLemmas.{grown}
-use Rattle.logos_cli.proofs.ShownLemmas.{finished, first_shown}
+use Rattle.logos_expand.proofs.ShownLemmas.{finished, first_shown}
 use Rattle.logos_cli.proofs.implementation.report_text.Goals as goal
 
 pub returns : goal.returns
