@@ -1,7 +1,6 @@
 //! Lines of a file with what is marked in them.
 
 ghost use Rattle.std.specs.Prelude.{◌≡◌, [], ◌∷◌};
-ghost use Rattle.logos_report.specs.Places.{IsShownLine};
 ghost use Rattle.logos_messages.specs.Lines.{Gains};
 ghost use Rattle.logos_messages.specs.Growing.{GivesLineList, GivesLines};
 ghost use Rattle.logos_messages.specs.Tokens.{marked_tokens};
@@ -49,8 +48,7 @@ fn push_each_line(line: &mut Line, source: &Source<'_>, reach: Reach)
 fn push_line(line: &mut Line, source: &Source<'_>, reach: Reach, number: usize)
     ensures { GivesLines source.now.text line.old line.new }
 {
-    let text = source.line(number);
-    if text.len() <= LONG {
+    if let Some(text) = source.short_line(number, LONG) {
         push_marked(
             line,
             text,

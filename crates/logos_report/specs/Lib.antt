@@ -4,4 +4,5 @@ pub mod Shown
 pub mod Pages
 pub mod Places
 pub mod Faults
+pub mod Parts
 pub mod Warnings
