@@ -15,23 +15,22 @@ pub(crate) fn add_callbacks(
     warnings: &mut Vec<Warning>,
 ) -> Result<(), Memory> {
     for leaf in leaves {
-        if let Some(callback) = &leaf.callback {
-            add_callback(alloc, source, callback, warnings)?;
-        }
+        add_callback(alloc, source, leaf.callback.as_ref(), warnings)?;
     }
     Ok(())
 }
 
-/// Adds the warnings of a callback.
-fn add_callback(
+/// Adds the warnings of a callback, if there is one.
+pub(crate) fn add_callback(
     alloc: Global,
     source: &str,
-    callback: &Callback<'_>,
+    callback: Option<&Callback<'_>>,
     warnings: &mut Vec<Warning>,
 ) -> Result<(), Memory> {
     match callback {
-        Callback::Label(label) => add_label(label.run(), warnings),
-        Callback::Inline(closure) => add_closure(alloc, source, closure, warnings),
+        Some(Callback::Label(label)) => add_label(label.run(), warnings),
+        Some(Callback::Inline(closure)) => add_closure(alloc, source, closure, warnings),
+        None => Ok(()),
     }
 }
 
@@ -190,7 +189,7 @@ fn add_group(
 fn loses_brackets(delimiter: Delimiter, inside: Tokens<'_, '_>) -> bool {
     match delimiter {
         Delimiter::Bracket => true,
-        Delimiter::Parenthesis => inside.is_empty() | has_comma(inside),
+        Delimiter::Parenthesis => has_comma(inside),
         _ => false,
     }
 }

@@ -3,13 +3,15 @@
 
 use crate::by_sight::{
     help_for_body, help_for_closure, help_for_empty, help_for_ignore, help_for_named,
-    help_for_nested, help_for_source,
+    help_for_nested, help_for_source, help_for_unknown,
 };
 use crate::for_pattern::{help_for_dot, help_for_kind};
 use crate::sight::Sight;
 use logos_token::error::{FaultCode, SpannedError};
 
 const TWICE: &str = "keep one of them";
+
+const DOUBLE: &str = "put it in double quotes, as in `\"..\"`";
 
 const NEST: &str = "nest less deep";
 
@@ -24,6 +26,7 @@ pub fn help_for(fault: &SpannedError, sight: Sight<'_>) -> Option<&'static str> 
         FaultCode::Regex => help_for_kind(fault.message.as_str(), sight),
         FaultCode::GreedyDot => help_for_dot(sight),
         FaultCode::InvalidNested => help_for_nested(sight),
+        FaultCode::UnknownLogos => help_for_unknown(sight),
         FaultCode::SourceOld => help_for_source(sight),
         FaultCode::NamedExpected => help_for_named(sight),
         FaultCode::CallbackClosure => help_for_closure(sight),
@@ -43,6 +46,8 @@ fn help_for_lexical(message: &str, sight: Sight<'_>) -> &'static str {
         "close the string or the comment that begins here"
     } else if message.ends_with("Unbalanced") {
         "close this delimiter, or remove it: it has no partner"
+    } else if sight.text.starts_with('\'') {
+        DOUBLE
     } else if sight.text.contains("\\x") {
         "a string has `\\x00` to `\\x7F` and `\\u{..}`: write a byte string for other bytes"
     } else {
@@ -94,9 +99,6 @@ fn help_for_type(code: FaultCode) -> &'static str {
 fn help_for_option(code: FaultCode) -> &'static str {
     match code {
         FaultCode::LogosForm => "write `#[logos(..)]`, or drop it",
-        FaultCode::UnknownLogos => {
-            "the options are `crate`, `error`, `export_dir`, `extras`, `skip`, `subpattern`, `type` and `utf8`"
-        }
         FaultCode::CrateForm => "write `crate = path::to::logos`",
         FaultCode::ErrorTwice => TWICE,
         FaultCode::ErrorEmpty => "write `error(SomeType)`, or `error(SomeType, callback)`",
@@ -124,7 +126,7 @@ fn help_for_argument(code: FaultCode) -> &'static str {
         FaultCode::LiteralSyntax => {
             "write a string or a byte string, as `\"..\"`, `r\"..\"` or `b\"..\"`"
         }
-        FaultCode::NotText => "put it in quotes",
+        FaultCode::NotText => DOUBLE,
         FaultCode::UnexpectedToken => "remove it, or write the comma in front of it",
         FaultCode::UnknownNested => {
             "the arguments are `priority`, `callback`, `ignore` and `allow_greedy`"

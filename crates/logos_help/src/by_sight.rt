@@ -21,6 +21,21 @@ pub(crate) fn help_for_nested(sight: Sight<'_>) -> &'static str {
     }
 }
 
+/// Returns what to do about an option that there is not, by its name.
+pub(crate) fn help_for_unknown(sight: Sight<'_>) -> &'static str {
+    if is_argument(sight.text) {
+        "write it in the parentheses of `skip(\"..\", ..)`"
+    } else {
+        "the options are `crate`, `error`, `export_dir`, `extras`, `skip`, `subpattern`, `type` and `utf8`"
+    }
+}
+
+/// Returns whether a name is that of an argument of a pattern.
+fn is_argument(name: &str) -> bool {
+    let is_value = (name == "priority") | (name == "callback") | (name == "allow_greedy");
+    is_value | (name == "ignore")
+}
+
 /// Returns what to do about the option `source`, by its value.
 pub(crate) fn help_for_source(sight: Sight<'_>) -> &'static str {
     let value = match sight.after.split_once(')') {

@@ -3,7 +3,7 @@ use Rattle.std.specs.Prelude.{◌≡◌, ℕ, Bool, List, [], ◌∷◌, ◌++�
 use Rattle.logos_code.specs.Code.{CodeValue}
 use Rattle.logos_cli.specs.declared.options.Shape.{Shape}
 use Rattle.logos_cli.specs.declared.expanding.Gathered.{Gathered}
-use Rattle.logos_cli.specs.declared.expanding.Refused.{Refused}
+use Rattle.logos_report.specs.declared.refused.Refused.{Refused}
 use Rattle.logos_cli.specs.Expanding.{IsGuarded, IsShown, under}
 use Rattle.logos_cli.specs.Gathering.{Gathers}
 use Rattle.logos_layout.specs.Layout.{IsLaidOut}
