@@ -68,11 +68,27 @@ fn add_label(label: Tokens<'_, '_>, warnings: &mut Vec<Warning>) -> Result<(), M
         return add(
             span,
             "this callback is neither the path of a function nor a closure",
-            PATH,
+            help_for_label(label),
             warnings,
         );
     }
     Ok(())
+}
+
+/// Returns what to do about a callback that is neither a path nor a closure, by what it begins with.
+fn help_for_label(label: Tokens<'_, '_>) -> &'static str {
+    match label.first() {
+        Some(TokenTree::Ident(name)) if is_option(name.text) => {
+            "write the `=`, as in `priority = 3` or `callback = |lex| ..`"
+        }
+        Some(TokenTree::Literal(literal)) if literal.text.contains('"') => {
+            "write an attribute for each text, and a callback as a path or as `|lex| ..`"
+        }
+        Some(TokenTree::Literal(_)) => {
+            "write `priority = 3` for a priority, and a callback as a path or as `|lex| ..`"
+        }
+        _ => PATH,
+    }
 }
 
 /// Returns whether a run is the name of an option alone.

@@ -2,8 +2,8 @@
 //! `tests/lints/faults.py` compares them.
 
 use crate::by_sight::{
-    help_for_body, help_for_closure, help_for_empty, help_for_ignore, help_for_named,
-    help_for_nested, help_for_source, help_for_unknown,
+    help_for_body, help_for_closure, help_for_empty, help_for_ignore, help_for_literal,
+    help_for_name, help_for_named, help_for_nested, help_for_source, help_for_unknown,
 };
 use crate::for_pattern::{help_for_dot, help_for_kind};
 use crate::sight::Sight;
@@ -27,6 +27,8 @@ pub fn help_for(fault: &SpannedError, sight: Sight<'_>) -> Option<&'static str> 
         FaultCode::GreedyDot => help_for_dot(sight),
         FaultCode::InvalidNested => help_for_nested(sight),
         FaultCode::UnknownLogos => help_for_unknown(sight),
+        FaultCode::LiteralSyntax => help_for_literal(sight),
+        FaultCode::UnknownNested => help_for_name(fault.message.as_str(), sight),
         FaultCode::SourceOld => help_for_source(sight),
         FaultCode::NamedExpected => help_for_named(sight),
         FaultCode::CallbackClosure => help_for_closure(sight),
@@ -40,14 +42,14 @@ pub fn help_for(fault: &SpannedError, sight: Sight<'_>) -> Option<&'static str> 
 
 /// Returns what to do about a source that is not made of tokens. Its message ends with the kind.
 fn help_for_lexical(message: &str, sight: Sight<'_>) -> &'static str {
-    if message.ends_with("BadCharacter") {
+    if sight.text.starts_with('\'') {
+        DOUBLE
+    } else if message.ends_with("BadCharacter") {
         "remove this character: no token of Rust begins with it"
     } else if message.ends_with("Unterminated") {
         "close the string or the comment that begins here"
     } else if message.ends_with("Unbalanced") {
         "close this delimiter, or remove it: it has no partner"
-    } else if sight.text.starts_with('\'') {
-        DOUBLE
     } else if sight.text.contains("\\x") {
         "a string has `\\x00` to `\\x7F` and `\\u{..}`: write a byte string for other bytes"
     } else {
@@ -123,14 +125,8 @@ fn help_for_argument(code: FaultCode) -> &'static str {
     match code {
         FaultCode::TokenForm => "write `#[token(\"..\")]`",
         FaultCode::RegexForm => "write `#[regex(\"..\")]`",
-        FaultCode::LiteralSyntax => {
-            "write a string or a byte string, as `\"..\"`, `r\"..\"` or `b\"..\"`"
-        }
         FaultCode::NotText => DOUBLE,
         FaultCode::UnexpectedToken => "remove it, or write the comma in front of it",
-        FaultCode::UnknownNested => {
-            "the arguments are `priority`, `callback`, `ignore` and `allow_greedy`"
-        }
         FaultCode::PriorityValue => {
             "write a whole number, as in `priority = 3`, without `_` and without a suffix"
         }

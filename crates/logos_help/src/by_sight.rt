@@ -10,6 +10,8 @@ pub(crate) fn help_for_nested(sight: Sight<'_>) -> &'static str {
         "remove it: one comma between options is enough"
     } else if text.contains('>') {
         "write an alias for a type with a comma in it: a comma cuts, also between `<` and `>`"
+    } else if has_colon(text) {
+        "write `=` for the `:`"
     } else if text == "skip" {
         "write the pattern after it, as in `skip \"..\"`"
     } else if text.ends_with('"') & !text.contains('=') {
@@ -18,6 +20,32 @@ pub(crate) fn help_for_nested(sight: Sight<'_>) -> &'static str {
         "write the name with ASCII letters, digits and `_` alone"
     } else {
         "write an option with its value, as in `utf8 = false`"
+    }
+}
+
+/// Returns whether a part of `logos(..)` other than a skip has a colon where `=` belongs.
+fn has_colon(text: &str) -> bool {
+    text.contains(':') & !text.contains("::") & !text.starts_with("skip")
+}
+
+/// Returns what to do where a literal is wanted and something else stands.
+pub(crate) fn help_for_literal(sight: Sight<'_>) -> &'static str {
+    if sight.text.contains("\" | ") {
+        "write an attribute for each of them"
+    } else {
+        "write a string or a byte string, as `\"..\"`, `r\"..\"` or `b\"..\"`"
+    }
+}
+
+/// Returns what to do about an argument that there is not, by the names that there are and by what
+/// follows it.
+pub(crate) fn help_for_name(message: &str, sight: Sight<'_>) -> &'static str {
+    if !message.contains("priority, ") {
+        "write `callback = ..`, or the callback alone"
+    } else if sight.after.starts_with('(') {
+        "name a function without calling it, as in `callback = parse`"
+    } else {
+        "the arguments are `priority`, `callback`, `ignore` and `allow_greedy`"
     }
 }
 
