@@ -6,6 +6,8 @@ ghost use Rattle.logos_rust_file.specs.Replacing.{AreInOrder, IsFoundCut, found_
 ghost use Rattle.logos_rust_file.specs.Files.{AreEnumsOf};
 ghost use Rattle.logos_report.specs.Pages.{StandInOrder};
 ghost use Rattle.logos_report.specs.Parts.{refused_texts};
+ghost use Rattle.logos_report.specs.Turns.{sizes_of};
+ghost use Rattle.logos_causes.specs.Sizes.{AreSizes};
 ghost use Rattle.logos_rust_file.specs.Handed.{Refuses};
 ghost use Rattle.logos_cli.specs.Expanding.{IsExpanded, IsExpansion, IsFileOf};
 ghost use Rattle.logos_cli.specs.Expanding.{IsShown, IsUnreadable, config_of};
@@ -228,7 +230,9 @@ fn gather_enum(
 
 /// Returns what is known of an enum that is refused, and adds its warnings. Its text begins at an
 /// offset of the file.
-fn clues_of(text: &str, offset: usize, warned: &mut Vec<Warning>) -> Result<Clues, Memory> {
+fn clues_of(text: &str, offset: usize, warned: &mut Vec<Warning>) -> Result<Clues, Memory>
+    ensures { IfOk result (λ clues. AreSizes text.now (sizes_of clues)) }
+{
     let Explained { clues, warnings } = explain(*warned.allocator(), text)?;
     add_warnings(offset, warnings, warned)?;
     Ok(clues)
@@ -241,7 +245,8 @@ fn push_refusal(
     refusal: Refusal,
     clues: Clues,
 ) -> Result<(), Memory>
-    ensures { OnOk result (AddsRefusal offset refusal refused.old.items refused.new.items) }
+    ensures { OnOk result (AddsRefusal offset refusal (sizes_of clues) refused.old.items
+        refused.new.items) }
 {
     match refusal {
         Refusal::Errors(errors) => {

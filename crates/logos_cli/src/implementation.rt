@@ -1,10 +1,11 @@
 //! The answer to the derive macro: the implementation of one enum, with placeholders for what the
 //! user wrote.
 
-ghost use Rattle.std.specs.Prelude.{IfErr, IfOk};
+ghost use Rattle.std.specs.Prelude.{IfErr, IfOk, string_bytes};
+ghost use Rattle.logos_causes.specs.Sizes.{AreSizes};
 ghost use Rattle.logos_codegen.specs.Source.{IsRefused};
 ghost use Rattle.logos_report.specs.Faults.{faults_texts};
-ghost use Rattle.logos_report.specs.Pages.{Shows, StandInOrder};
+ghost use Rattle.logos_report.specs.Pages.{StandInOrder};
 ghost use Rattle.logos_report.specs.Turns.{sizes_of};
 ghost use Rattle.logos_rust_file.specs.Handed.{Refuses};
 ghost use Rattle.logos_cli.specs.Deriving.{AreFaultLines, IsDerived, IsDerivedBy, ShowsErrors};
@@ -19,7 +20,7 @@ use logos_codegen::{Generated, Refusal, generate};
 use logos_derive::{Answer, make_answer};
 use logos_host::MessageFormat;
 use logos_messages::{Piece, push_messages, push_pieces, push_version, push_warning_messages};
-use logos_report::{Clues, Page, Part, Source, Warning, count_errors, push_faults, push_summary};
+use logos_report::{Page, Part, Source, Warning, count_errors, push_faults, push_summary};
 use std::alloc::{AllocError, Global};
 
 /// The program, as the macro is answered.
@@ -123,20 +124,25 @@ pub(crate) fn refusal_lines(
 ) -> Result<Vec<u8>, Memory>
     ensures { IfOk result (λ lines. ShowsErrors showing.format source.now errors.now lines.items) }
 {
-    let mut warned = Vec::new(showing.alloc);
-    let clues = known_of(source.text(), &mut warned)?;
+    let known = known_of(showing.alloc, source.text())?;
     match showing.format {
-        MessageFormat::Human => report_lines(source, showing.is_colored, errors, &clues, &warned),
-        MessageFormat::Json => message_lines(source, errors, &clues, &warned),
+        MessageFormat::Human => report_lines(source, showing.is_colored, errors, &known),
+        MessageFormat::Json => message_lines(source, errors, &known),
     }
 }
 
-/// Returns what is known of an enum that is refused, and adds its warnings.
-fn known_of(source: &str, warned: &mut Vec<Warning>) -> Result<Clues, Memory> {
-    add_text(source, 0, true, warned)?;
-    let Explained { clues, warnings } = explain(*warned.allocator(), source)?;
-    add_warnings(0, warnings, warned)?;
-    Ok(clues)
+/// Returns what is known of an enum that is refused, with all its warnings.
+fn known_of(alloc: Global, source: &str) -> Result<Explained, Memory>
+    ensures { IfOk result (λ known. AreSizes source.now (sizes_of known.clues)) }
+{
+    let mut warned = Vec::new(alloc);
+    add_text(source, 0, true, &mut warned)?;
+    let Explained { clues, warnings } = explain(alloc, source)?;
+    add_warnings(0, warnings, &mut warned)?;
+    Ok(Explained {
+        clues,
+        warnings: warned,
+    })
 }
 
 /// Returns the faults of an enum as lines of JSON, after the line that names the protocol and those
@@ -144,8 +150,7 @@ fn known_of(source: &str, warned: &mut Vec<Warning>) -> Result<Clues, Memory> {
 fn message_lines(
     source: &Source<'_>,
     errors: &Errors,
-    clues: &Clues,
-    warned: &[Warning],
+    known: &Explained,
 ) -> Result<Vec<u8>, Memory>
     ensures { IfOk result (λ lines. AreFaultLines source.now errors.now lines.items) }
 {
@@ -153,8 +158,8 @@ fn message_lines(
     let part = Part { source, offset: 0 };
     let mut lines = Vec::new(alloc);
     push_version(alloc, &mut lines, PROGRAM)?;
-    push_warning_messages(alloc, &mut lines, part, warned)?;
-    push_messages(alloc, &mut lines, part, errors, clues)?;
+    push_warning_messages(alloc, &mut lines, part, &known.warnings)?;
+    push_messages(alloc, &mut lines, part, errors, &known.clues)?;
     Ok(lines)
 }
 
@@ -163,26 +168,31 @@ fn report_lines(
     source: &Source<'_>,
     is_colored: bool,
     errors: &Errors,
-    clues: &Clues,
-    warned: &[Warning],
+    known: &Explained,
 ) -> Result<Vec<u8>, Memory>
     ensures { IfOk result (λ lines. StandInOrder
-        (faults_texts is_colored source.now 0 (sizes_of clues.now) errors.now) lines.items) }
+        (faults_texts is_colored source.now 0 (sizes_of known.now.clues) errors.now) lines.items) }
 {
-    let mut page = Page::new(errors.alloc(), is_colored);
-    push_warned(&mut page, source, warned);
-    push_report(&mut page, Part { source, offset: 0 }, errors, clues);
-    match page.finish() {
+    match report_text(source, is_colored, errors, known) {
         Ok(text) => Ok(text.into_bytes()),
         Err(AllocError) => Err(Memory),
     }
 }
 
-/// Pushes the faults of an enum, with their number.
-fn push_report(page: &mut Page, part: Part<'_, '_>, errors: &Errors, clues: &Clues)
-    ensures { Shows (faults_texts page.old.is_colored part.entry.source.now part.entry.offset
-        (sizes_of clues.now) errors.now) page.old page.new }
+/// Returns the report of the faults of an enum, with their number, after its warnings.
+fn report_text(
+    source: &Source<'_>,
+    is_colored: bool,
+    errors: &Errors,
+    known: &Explained,
+) -> Result<String, AllocError>
+    ensures { IfOk result (λ text. StandInOrder
+        (faults_texts is_colored source.now 0 (sizes_of known.now.clues) errors.now) (string_bytes text)) }
 {
-    push_faults(page, part, errors, clues);
-    push_summary(page, count_errors(errors, clues));
+    let mut page = Page::new(errors.alloc(), is_colored);
+    let clues = &known.clues;
+    push_warned(&mut page, source, &known.warnings);
+    push_faults(&mut page, Part { source, offset: 0 }, errors, clues);
+    push_summary(&mut page, count_errors(errors, clues));
+    page.finish()
 }

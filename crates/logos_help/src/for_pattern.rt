@@ -106,8 +106,8 @@ fn help_for_escape(literal: &str) -> &'static str {
     }
 }
 
-/// Returns whether a literal has a backslash with one or two digits after it, as a pattern that refers
-/// back has. With more they are the number of a character.
+/// Returns whether a literal has a backslash with one or two digits after it, as a pattern that
+/// refers back has. With more they are the number of a character.
 fn refers_back(literal: &str) -> bool {
     for piece in literal.split('\\').skip(1) {
         let count = digits_of(piece);

@@ -13,8 +13,8 @@ const STEP: usize = 256;
 
 /// A text with the offsets at which its lines begin. A line ends in LF or CR LF.
 ///
-/// Offsets count bytes from 0, lines count from 1, and columns count characters from 1. The position
-/// of an offset is found in the same time wherever it is, also in a text of one long line.
+/// Offsets count bytes from 0, lines count from 1, and columns count characters from 1. The
+/// position of an offset is found in the same time wherever it is, also in a text of one long line.
 #[derive(Drop)]
 pub struct LineIndex<'t> {
     text: &'t str,
@@ -88,8 +88,8 @@ impl<'t> LineIndex<'t> {
         Some(&self.text[start..end])
     }
 
-    /// Returns the text of a line without LF or CR LF, if it has no more than `most` bytes. It looks
-    /// at no more than these.
+    /// Returns the text of a line without LF or CR LF, if it has no more than `most` bytes. It
+    /// looks at no more than these.
     pub fn short_line(&self, line: usize, most: usize) -> Option<&'t str>
         ensures { IfSome result (λ text. IsLineOf self.now line text.now) }
     {
