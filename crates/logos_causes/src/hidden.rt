@@ -2,7 +2,7 @@
 
 use crate::names::{name_of, text_with};
 use crate::quoting::push_quoted;
-use logos_automaton::dfa::{Dfa, Matches};
+use logos_automaton::dfa::{Dfa, Matches, StateId};
 use logos_evidence::{loses, matches_from, winner};
 use logos_graph::graph::Graph;
 use logos_inspect::marked_leaves;
@@ -110,11 +110,20 @@ fn is_written_alike(leaves: &[Leaf<'_>], one: usize, other: usize) -> bool {
 /// Returns whether two leaves match the same texts: whether each state lists both or neither.
 fn are_twins(dfa: &Dfa, one: usize, other: usize) -> bool {
     for state in dfa.get_states() {
-        if dfa.contains(state) && lists(dfa.iter_matches(state), one) != lists(dfa.iter_matches(state), other) {
+        if parts_leaves(dfa, state, one, other) {
             return false;
         }
     }
     true
+}
+
+/// Returns whether a state lists just one of two leaves.
+fn parts_leaves(dfa: &Dfa, state: StateId, one: usize, other: usize) -> bool {
+    if !dfa.contains(state) {
+        return false;
+    }
+    let matches = dfa.iter_matches(state);
+    lists(matches, one) != lists(matches, other)
 }
 
 /// Returns whether a leaf is one of these.
@@ -127,7 +136,7 @@ fn lists(leaves: Matches<'_>, number: usize) -> bool {
     false
 }
 
-/// Returns which leaf is found in the place of another one, on what text, and how their patterns are
+/// Returns which leaf is found in place of another one, on what text, and how their patterns are
 /// alike.
 fn note_of(
     alloc: Global,

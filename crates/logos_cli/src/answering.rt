@@ -1,20 +1,15 @@
-//! A run that answers the derive macro: it reads an enum from standard input, prints its
+//! Answers the derive macro: reads an enum from standard input, prints its
 //! implementation to standard output, and writes messages to standard error.
 
 ghost use Rattle.std.specs.Prelude.{◌≡◌, ◌≢◌, ◌⊎◌, ◌≤◌, ◌++◌, ℕ, List, IfOk, IsTrue, string_bytes};
-ghost use Rattle.std.specs.Io.KnownBytes.{Appends, Keeps};
-ghost use Rattle.logos_token.specs.Faults.{Fault};
-ghost use Rattle.logos_codegen.specs.Source.{IsRefused};
-ghost use Rattle.logos_derive.specs.declared.answering.Answer.{Answer as AnswerValue};
-ghost use Rattle.logos_cli.specs.Deriving.{IsDerived, ShowsErrors, standard_input};
-ghost use Rattle.logos_cli.specs.Runs.{IsAnswered, IsDeniedAnswer};
+ghost use Rattle.logos_cli.specs.Views.{Appends, Keeps, Fault, IsRefused, Answer as AnswerValue, IsDerived, ShowsErrors, standard_input, IsAnswered, IsDeniedAnswer};
 
 use crate::implementation::{answer_lines, derived, refusal_lines};
 use crate::options::{DeriveOrder, STANDARD_INPUT};
 use crate::running::{Ending, failed, print_bytes};
+use logos_causes::Showing;
 use logos_codegen::Refusal;
 use logos_codegen::error::{Errors, Memory};
-use logos_causes::Showing;
 use logos_derive::Answer;
 use logos_host::{Failure, Files, read_text, write_through};
 use logos_report::{Source, Warning};
@@ -136,7 +131,7 @@ fn lines_of(source: &str, showing: Showing, errors: &Errors) -> Result<Vec<u8>, 
     }
 }
 
-/// Ends a run with this status, and with these lines on standard error.
+/// Ends the program with this status, and with these lines on standard error.
 fn end_with<E: Write>(status: u8, lines: &[u8], err: &mut E) -> Ending
     ensures status { result.status ≡ status }
     ensures written { IsTrue result.is_written →

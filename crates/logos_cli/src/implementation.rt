@@ -2,13 +2,7 @@
 //! user wrote.
 
 ghost use Rattle.std.specs.Prelude.{IfErr, IfOk, string_bytes};
-ghost use Rattle.logos_causes.specs.Sizes.{AreSizes};
-ghost use Rattle.logos_codegen.specs.Source.{IsRefused};
-ghost use Rattle.logos_report.specs.Faults.{faults_texts};
-ghost use Rattle.logos_report.specs.Pages.{StandInOrder};
-ghost use Rattle.logos_report.specs.Turns.{sizes_of};
-ghost use Rattle.logos_rust_file.specs.Handed.{Refuses};
-ghost use Rattle.logos_cli.specs.Deriving.{AreFaultLines, IsDerived, IsDerivedBy, ShowsErrors};
+ghost use Rattle.logos_cli.specs.Views.{AreSizes, IsRefused, faults_texts, StandInOrder, sizes_of, Refuses, AreFaultLines, IsDerived, IsDerivedBy, ShowsErrors};
 
 use crate::expanding::{config_of, lexer_text};
 use crate::options::Shape;
@@ -147,11 +141,7 @@ fn known_of(alloc: Global, source: &str) -> Result<Explained, Memory>
 
 /// Returns the faults of an enum as lines of JSON, after the line that names the protocol and those
 /// of its warnings.
-fn message_lines(
-    source: &Source<'_>,
-    errors: &Errors,
-    known: &Explained,
-) -> Result<Vec<u8>, Memory>
+fn message_lines(source: &Source<'_>, errors: &Errors, known: &Explained) -> Result<Vec<u8>, Memory>
     ensures { IfOk result (λ lines. AreFaultLines source.now errors.now lines.items) }
 {
     let alloc = errors.alloc();

@@ -89,7 +89,10 @@ const ESCAPES: [(&str, &str); 5] = [
     ("\\h", "write `[ \\t]` for a blank"),
     ("\\R", "write `\\r?\\n` for a line end"),
     ("\\Z", "write `\\z` for the end of the input"),
-    ("\\Q", "write a backslash in front of each special character"),
+    (
+        "\\Q",
+        "write a backslash in front of each special character",
+    ),
 ];
 
 /// Returns what to do about an escape that there is not, by its literal.

@@ -6,3 +6,5 @@ pub mod Places
 pub mod Faults
 pub mod Parts
 pub mod Warnings
+pub mod Words
+pub mod Views

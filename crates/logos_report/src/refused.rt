@@ -1,12 +1,8 @@
 //! The faults of a whole file, part by part. The parts have the count of what is shown in common.
 
 ghost use Rattle.std.specs.Prelude.{◌≡◌, ◌++◌, ◌+◌, ◌<◌, ◌^◌, ◌-◌, length, min};
-ghost use Rattle.std.specs.List.{count_by};
-ghost use Rattle.logos_token.specs.FaultNames.{name_of};
-ghost use Rattle.logos_token.specs.FaultView.{faults_of};
-ghost use Rattle.logos_report.specs.Faults.{has_name, seen_of};
-ghost use Rattle.logos_report.specs.Pages.{PageValue, Shows};
-ghost use Rattle.logos_report.specs.Parts.{all_faults, listed_faults, refused_texts, texts_from};
+ghost use Rattle.logos_report.specs.Pages.{PageValue};
+ghost use Rattle.logos_report.specs.Views.{Shows, all_faults, count_by, faults_of, has_name, listed_faults, name_of, refused_texts, seen_of, texts_from};
 
 use crate::clues::{Clues, first_turn};
 use crate::faults::{MOST, count_code, push_all, seen_of};
@@ -36,7 +32,7 @@ pub(crate) struct Listing<'f> {
     pub(crate) later: &'f [Refused],
 }
 
-/// Pushes the faults of these parts of a file, in order, as `push_faults` does. Of the faults of one
+/// Appends the faults of these parts of a file, in order, as `push_faults` does. Of the faults of one
 /// code in all parts 50 are shown.
 pub fn push_refused(page: &mut Page, source: &Source<'_>, refused: &[Refused])
     ensures { Shows (refused_texts page.old.is_colored source.now refused.now) page.old page.new }
@@ -46,7 +42,7 @@ pub fn push_refused(page: &mut Page, source: &Source<'_>, refused: &[Refused])
     }
 }
 
-/// Pushes the faults of the part with a number.
+/// Appends the faults of the part with a number.
 fn push_part(page: &mut Page, source: &Source<'_>, refused: &[Refused], number: usize)
     requires { number < length refused.now }
     ensures colored { page.new.is_colored ≡ page.old.is_colored }
@@ -61,7 +57,12 @@ fn push_part(page: &mut Page, source: &Source<'_>, refused: &[Refused], number: 
         faults: one.errors.list(),
         later: &refused[number + 1..],
     };
-    push_all(page, Part { source, offset }, listing, first_turn(&one.clues));
+    push_all(
+        page,
+        Part { source, offset },
+        listing,
+        first_turn(&one.clues),
+    );
 }
 
 /// Returns how many faults of these parts, and of some more, have a code, but no more than one above

@@ -50,7 +50,11 @@ pub(crate) fn window_at<'t>(source: &Source<'t>, place: Place) -> Window<'t> {
     let before = text.get(from..place.offset).unwrap_or("").chars().count();
     let window = Window {
         text: near,
-        front: place.position.column.saturating_sub(1).saturating_sub(before),
+        front: place
+            .position
+            .column
+            .saturating_sub(1)
+            .saturating_sub(before),
         skipped: 0,
         goes_on: !ends_at(bytes, to),
     };
@@ -154,7 +158,7 @@ impl Window<'_> {
         (self.skipped > 0) | (self.front > 0)
     }
 
-    /// Pushes the part of the line that is shown, with dots where it is cut.
+    /// Appends the part of the line that is shown, with dots where it is cut.
     pub(crate) fn push(self, page: &mut Page)
         ensures { Shows [] page.old page.new }
     {
@@ -166,7 +170,7 @@ impl Window<'_> {
         }
     }
 
-    /// Pushes the part of the line that is shown. Returns whether it is cut at its end.
+    /// Appends the part of the line that is shown. Returns whether it is cut at its end.
     fn push_characters(self, page: &mut Page) -> bool
         ensures { Shows [] page.old page.new }
     {

@@ -1,8 +1,7 @@
 //! A try by itself: state by state, with a note of the last mark passed.
 
 ghost use Rattle.std.specs.Prelude.{◌≡◌, ◌+◌, ◌-◌, ◌<◌, ◌≤◌, ℕ, max, length, slice_get, drop, option_map, IfSome, IsTrue, IsCharBoundary, ◌^◌, ◌↔◌};
-ghost use Rattle.logos_scan.specs.Words.{state_at, mark_by, Does, Tries, EndsError, target, looped, marked, IsStand, StaysWithin, StopsAt, NamesTest};
-ghost use Rattle.logos_scan.specs.Views.{context_of, stand_of, turn_of, found_of};
+ghost use Rattle.logos_scan.specs.Views.{state_at, mark_by, Does, Tries, EndsError, target, looped, marked, IsStand, StaysWithin, StopsAt, NamesTest, context_of, stand_of, turn_of, found_of};
 
 use logos_code::code::Code;
 use logos_code::code::signs::Sign;
@@ -182,7 +181,7 @@ fn is_continuation(byte: u8) -> bool
     matches!(byte, 0x80..=0xBF)
 }
 
-/// Returns what is found from a place on, and how many states were entered, by a try that notes the
+/// Returns what is found from a point on, and how many states were entered, by a try that notes the
 /// marks passed.
 #[cold]
 #[inline(never)]

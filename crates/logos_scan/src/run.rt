@@ -1,8 +1,7 @@
 //! Tries of an input, one after the other, by the entries of a chunk.
 
 ghost use Rattle.std.specs.Prelude.{◌≡◌, ◌+◌, ◌<◌, ◌≤◌, length, MatchOption};
-ghost use Rattle.logos_scan.specs.Words.{IsBytes, IsPlace, StandsIn, answers_of, item_of};
-ghost use Rattle.logos_scan.specs.Views.{EndsItems, GivesItem, IsFlagged, IsHeld, IsLoaded, IsOver, IsReading, IsReady, IsRun, IsTaken};
+ghost use Rattle.logos_scan.specs.Views.{IsBytes, IsPlace, StandsIn, answers_of, item_of, EndsItems, GivesItem, IsFlagged, IsHeld, IsLoaded, IsOver, IsReading, IsReady, IsRun, IsTaken};
 
 use crate::attempt::{Found, attempt_with_marks};
 use crate::items::{error, matched_item, token};
@@ -55,7 +54,7 @@ pub enum Taken {
     Ends,
 }
 
-/// How many bytes of the input a chunk has, and the place after them.
+/// How many bytes of the input a chunk has, and the row after them.
 #[derive(Clone, Copy, Drop)]
 pub struct Loaded {
     pub count: usize,
@@ -79,7 +78,7 @@ fn are_bytes(input: &[u8])
     ensures { IsBytes input.now }
 {}
 
-/// Steps over the next bytes of the input, a chunk if there are as many, from a place on.
+/// Steps over the next bytes of the input, a chunk if there are as many, from a row on.
 fn step_over(reading: &Reading, base: usize, place: usize, entries: &mut [u32; 4096]) -> Loaded
     requires reading { IsReading reading.now }
     requires base { base ≤ length reading.now.input.now }
@@ -125,7 +124,7 @@ impl Run {
         }
     }
 
-    /// Goes on to the bytes from `base` on, where a try stands in a place that begins at `start`.
+    /// Goes on to the bytes from `base` on, where a try that begins at `start` stands in a row.
     fn fill(&mut self, reading: &Reading, base: usize, start: usize, place: usize)
         requires reading { IsReading reading.now }
         requires base { base ≤ length reading.now.input.now }

@@ -1,5 +1,5 @@
-//! Attributes of an enum and of its variants that a lexer passes over, but not for their names: those
-//! of older lexers, and those that stand under a condition.
+//! Attributes of an enum and of its variants that a lexer passes over, but not for their names:
+//! those of older lexers, and those that stand under a condition.
 
 use crate::attributes::name_of;
 use crate::helper::is_helper_name;
