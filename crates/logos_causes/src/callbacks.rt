@@ -75,7 +75,7 @@ fn add_label(label: Tokens<'_, '_>, warnings: &mut Vec<Warning>) -> Result<(), M
     Ok(())
 }
 
-/// Returns what to do about a callback that is neither a path nor a closure, by what it begins with.
+/// Returns what to do about a callback that is neither a path nor a closure, by its first token.
 fn help_for_label(label: Tokens<'_, '_>) -> &'static str {
     match label.first() {
         Some(TokenTree::Ident(name)) if is_option(name.text) => {

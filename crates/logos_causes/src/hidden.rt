@@ -117,7 +117,7 @@ fn are_twins(dfa: &Dfa, one: usize, other: usize) -> bool {
     true
 }
 
-/// Returns whether a state lists just one of two leaves.
+/// Returns whether a state lists one of two leaves without the other.
 fn parts_leaves(dfa: &Dfa, state: StateId, one: usize, other: usize) -> bool {
     if !dfa.contains(state) {
         return false;

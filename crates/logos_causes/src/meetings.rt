@@ -1,6 +1,6 @@
 //! What is known of the sets of ambiguous leaves of a graph.
 
-ghost use Rattle.std.specs.Prelude.{◌≡◌, ◌≤◌, ◌++◌, IfOk, IsTrue, OnOk, length, map};
+ghost use Rattle.std.specs.Prelude.{◌≡◌, ◌≤◌, ◌++◌, ◌∷◌, [], IfOk, IsTrue, OnOk, length, map};
 ghost use Rattle.std.specs.List.Sorted.{IsStrictlyIncreasing};
 ghost use Rattle.logos_causes.specs.Words.{fault_of, size_in, size_of, sizes_in};
 
@@ -21,8 +21,20 @@ pub(crate) fn meetings_of(alloc: Global, graph: &Graph<'_>) -> Result<Vec<Meetin
     ensures { IfOk result
         (λ meetings. map size_of meetings.items ≡ sizes_in graph.now.faults) }
 {
+    meetings_in(alloc, graph, graph.errors())
+}
+
+/// Returns what is known of the sets of ambiguous leaves among these faults, in order.
+fn meetings_in(
+    alloc: Global,
+    graph: &Graph<'_>,
+    faults: &[GraphError],
+) -> Result<Vec<Meeting>, AllocError>
+    ensures { IfOk result
+        (λ meetings. map size_of meetings.items ≡ sizes_in (map fault_of faults.now)) }
+{
     let mut meetings = Vec::new(alloc);
-    for fault in graph.errors() {
+    for fault in faults {
         add_fault(alloc, graph, fault, &mut meetings)?;
     }
     Ok(meetings)
@@ -38,11 +50,26 @@ fn add_fault(
     ensures { OnOk result (map size_of meetings.new.items
         ≡ map size_of meetings.old.items ++ size_in (fault_of fault.now)) }
 {
-    if let GraphError::Disambiguation(leaves) = fault {
-        let set = numbers_of(alloc, leaves)?;
-        let is_searched = meetings.len() < SEARCHED;
-        meetings.push(meeting_of(alloc, graph, &set, is_searched)?)?;
+    match fault {
+        GraphError::Disambiguation(leaves) => add_set(alloc, graph, leaves, meetings),
+        GraphError::NoUniversalStart => Ok(()),
+        GraphError::EmptyMatch(_) => Ok(()),
     }
+}
+
+/// Adds what is known of a set of ambiguous leaves.
+fn add_set(
+    alloc: Global,
+    graph: &Graph<'_>,
+    leaves: &[LeafId],
+    meetings: &mut Vec<Meeting>,
+) -> Result<(), AllocError>
+    ensures { OnOk result (map size_of meetings.new.items
+        ≡ map size_of meetings.old.items ++ length leaves.now ∷ []) }
+{
+    let set = numbers_of(alloc, leaves)?;
+    let is_searched = meetings.len() < SEARCHED;
+    meetings.push(meeting_of(alloc, graph, &set, is_searched)?)?;
     Ok(())
 }
 

@@ -71,8 +71,8 @@ pub fn add_text(
     add_warnings(offset, warnings, warned)
 }
 
-/// Adds the warnings of the lexer of an enum, whose text begins at an offset of a file. It may have a
-/// callback for errors.
+/// Adds the warnings of the lexer of an enum, whose text begins at an offset of a file. It may have
+/// a callback for errors.
 pub fn add_lexer(
     text: &str,
     offset: usize,

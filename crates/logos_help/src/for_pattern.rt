@@ -70,7 +70,7 @@ pub(crate) fn help_for_kind(message: &str, sight: Sight<'_>) -> &'static str {
     }
 }
 
-/// Returns what to do about a group that begins with what is no flag, by its literal.
+/// Returns what to do about a group that does not begin with a flag, by its literal.
 fn help_for_flag(literal: &str) -> &'static str {
     if literal.contains("(?P=") {
         REFERENCE

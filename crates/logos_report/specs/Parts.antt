@@ -17,8 +17,8 @@ all_faults parts = flat_map (λ part. part.errors) parts
 abbrev pub listed_faults : Listing → List Fault
 listed_faults listing = all_faults listing.earlier.now ++ (faults_of listing.faults.now ++ all_faults listing.later.now)
 
--- What is shown of the faults of a part, where the first ones are those of all parts, and the others
--- those of the parts in front.
+-- What is shown of the faults of a part, where the first ones are those of all parts, and the
+-- others those of the parts in front.
 abbrev pub part_texts : Bool → SourceValue → List Fault → List Fault → Refused → List (List ℕ)
 part_texts is_colored source all front part = texts_after is_colored source part.offset all front (first_turn (sizes_of part.clues)) part.errors
 
@@ -27,8 +27,8 @@ abbrev pub parts_texts : Bool → SourceValue → List Fault → List Fault → 
 parts_texts is_colored source all front [] = []
 parts_texts is_colored source all front (part ∷ rest) = part_texts is_colored source all front part ++ parts_texts is_colored source all (front ++ part.errors) rest
 
--- What is shown of the faults of all parts of a file, in order: of those of one code 50, and how many
--- more there are.
+-- What is shown of the faults of all parts of a file, in order: of those of one code 50, and how
+-- many more there are.
 abbrev pub refused_texts : Bool → SourceValue → List Refused → List (List ℕ)
 refused_texts is_colored source parts = parts_texts is_colored source (all_faults parts) [] parts
 

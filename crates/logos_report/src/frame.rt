@@ -5,7 +5,7 @@ ghost use Rattle.logos_report.specs.Views.{shown_text, Gains, Shows, arrow_line,
 
 use crate::page::{Page, Style};
 use crate::source::{Part, Source};
-use crate::window::{Place, Window, window_at};
+use crate::window::{Spot, Window, window_at};
 use logos_lines::Position;
 use logos_token::token::Span;
 
@@ -14,9 +14,9 @@ use logos_token::token::Span;
 struct Frame<'p, 't> {
     source: &'p Source<'t>,
     /// Where the span begins.
-    first: Place,
+    first: Spot,
     /// Where it ends.
-    last: Place,
+    last: Spot,
     /// How wide the column of line numbers is.
     width: usize,
     /// The style of the carets and of the label.
@@ -69,8 +69,8 @@ pub(crate) fn push_frame_with(
 
 /// Returns how a span of a part of a file is shown.
 fn frame_of<'p, 't>(part: Part<'p, 't>, marks: Marks<'p>) -> Frame<'p, 't> {
-    let first = place_in(part, marks.span.from);
-    let last = last_shown(part.source, first, place_in(part, marks.span.to));
+    let first = spot_in(part, marks.span.from);
+    let last = last_shown(part.source, first, spot_in(part, marks.span.to));
     Frame {
         source: part.source,
         first,
@@ -81,9 +81,9 @@ fn frame_of<'p, 't>(part: Part<'p, 't>, marks: Marks<'p>) -> Frame<'p, 't> {
     }
 }
 
-/// Returns the place in the file of an offset of a part.
-fn place_in(part: Part<'_, '_>, offset: usize) -> Place {
-    Place {
+/// Returns the spot in the file of an offset of a part.
+fn spot_in(part: Part<'_, '_>, offset: usize) -> Spot {
+    Spot {
         offset: offset.saturating_add(part.offset),
         position: part.position(offset),
     }
@@ -91,12 +91,12 @@ fn place_in(part: Part<'_, '_>, offset: usize) -> Place {
 
 /// Returns where what is shown of a span ends: at the end of the line before, where it ends with a
 /// line.
-fn last_shown(source: &Source<'_>, first: Place, end: Place) -> Place {
+fn last_shown(source: &Source<'_>, first: Spot, end: Spot) -> Spot {
     if (end.position.column > 1) | (lines_after(first, end) == 0) {
         return end;
     }
     let offset = end.offset.saturating_sub(1);
-    Place {
+    Spot {
         offset,
         position: source.position(offset),
     }
@@ -185,8 +185,8 @@ fn push_dots(page: &mut Page, frame: Frame<'_, '_>)
     }
 }
 
-/// Returns how many lines a place is below another one.
-fn lines_after(first: Place, last: Place) -> usize {
+/// Returns how many lines a spot is below another one.
+fn lines_after(first: Spot, last: Spot) -> usize {
     last.position.line.saturating_sub(first.position.line)
 }
 

@@ -32,8 +32,8 @@ pub(crate) struct Listing<'f> {
     pub(crate) later: &'f [Refused],
 }
 
-/// Appends the faults of these parts of a file, in order, as `push_faults` does. Of the faults of one
-/// code in all parts 50 are shown.
+/// Appends the faults of these parts of a file, in order, as `push_faults` does. Of the faults of
+/// one code in all parts 50 are shown.
 pub fn push_refused(page: &mut Page, source: &Source<'_>, refused: &[Refused])
     ensures { Shows (refused_texts page.old.is_colored source.now refused.now) page.old page.new }
 {
@@ -65,8 +65,8 @@ fn push_part(page: &mut Page, source: &Source<'_>, refused: &[Refused], number: 
     );
 }
 
-/// Returns how many faults of these parts, and of some more, have a code, but no more than one above
-/// the number that is shown. It looks from the last one on.
+/// Returns how many faults of these parts, and of some more, have a code, but no more than one
+/// above the number that is shown. It looks from the last one on.
 pub(crate) fn seen_in(earlier: &[Refused], front: &[SpannedError], code: FaultCode) -> usize
     ensures { result ≡ seen_of code (all_faults earlier.now ++ faults_of front.now) }
 {

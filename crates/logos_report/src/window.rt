@@ -1,5 +1,5 @@
-//! What is shown of a line: all of it, or about 140 columns around a place in it. Only what is near
-//! the place is looked at, however long the line is.
+//! What is shown of a line: all of it, or about 140 columns around a spot in it. Only what is near
+//! the spot is looked at, however long the line is.
 
 ghost use Rattle.std.specs.Prelude.{◌≡◌, []};
 ghost use Rattle.logos_report.specs.Pages.{Shows};
@@ -15,22 +15,22 @@ const COLUMNS: usize = 140;
 const NEAR: usize = 100;
 /// How many columns are shown in front of the first caret, if more are left out.
 const FRONT: usize = 60;
-/// How many bytes on either side of a place are looked at. The columns that are shown have fewer,
+/// How many bytes on either side of a spot are looked at. The columns that are shown have fewer,
 /// but for characters that take no column.
 const FAR: usize = 800;
 
-/// A place in a file.
+/// A spot in a file: its offset and its position.
 #[derive(Clone, Copy)]
-pub(crate) struct Place {
+pub(crate) struct Spot {
     /// In bytes of the file.
     pub(crate) offset: usize,
     pub(crate) position: Position,
 }
 
-/// What is near a place in a line, and how much of it is left out.
+/// What is near a spot in a line, and how much of it is left out.
 #[derive(Clone, Copy)]
 pub(crate) struct Window<'t> {
-    /// What is near the place.
+    /// What is near the spot.
     text: &'t str,
     /// How many characters of the line stand in front of it.
     front: usize,
@@ -40,17 +40,17 @@ pub(crate) struct Window<'t> {
     goes_on: bool,
 }
 
-/// Returns what is shown of the line of a place of a file.
-pub(crate) fn window_at<'t>(source: &Source<'t>, place: Place) -> Window<'t> {
+/// Returns what is shown of the line of a spot of a file.
+pub(crate) fn window_at<'t>(source: &Source<'t>, spot: Spot) -> Window<'t> {
     let text = source.text();
     let bytes = text.as_bytes();
-    let from = character_at(text, near_start(bytes, place.offset));
-    let to = near_end(bytes, from, place.offset.saturating_add(FAR));
+    let from = character_at(text, near_start(bytes, spot.offset));
+    let to = near_end(bytes, from, spot.offset.saturating_add(FAR));
     let near = text.get(from..character_at(text, to)).unwrap_or("");
-    let before = text.get(from..place.offset).unwrap_or("").chars().count();
+    let before = text.get(from..spot.offset).unwrap_or("").chars().count();
     let window = Window {
         text: near,
-        front: place
+        front: spot
             .position
             .column
             .saturating_sub(1)
@@ -111,7 +111,7 @@ fn character_at(text: &str, offset: usize) -> usize {
     at
 }
 
-/// Returns how many characters of a window are left out in front of the place that has so many in
+/// Returns how many characters of a window are left out in front of the spot that has so many in
 /// front of it.
 fn skipped_of(window: Window<'_>, before: usize) -> usize {
     let width = columns(window.text, 0, before);
