@@ -1,1 +1,2 @@
 pub mod MeetingLemmas
+pub mod SizeLemmas
