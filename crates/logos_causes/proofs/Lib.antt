@@ -1,2 +1,0 @@
-pub mod MeetingLemmas
-pub mod SizeLemmas

@@ -1,8 +1,5 @@
 //! What is known of a source that is refused, and what warnings a lexer has.
 
-ghost use Rattle.std.specs.Prelude.{◌≡◌, IfOk};
-ghost use Rattle.logos_causes.specs.Words.{AreSizes, AreSizesOf, rules_of, sizes_in, sizes_of};
-
 use crate::callbacks::{add_callback, add_callbacks};
 use crate::hidden::add_hidden;
 use crate::meetings::meetings_of;
@@ -31,9 +28,7 @@ pub struct Explained {
 /// # Errors
 ///
 /// Returns `Memory` if memory runs out.
-pub fn explain(alloc: Global, source: &str) -> Result<Explained, Memory>
-    ensures { IfOk result (λ explained. AreSizes source.now (sizes_of explained.clues)) }
-{
+pub fn explain(alloc: Global, source: &str) -> Result<Explained, Memory> {
     match analyze(alloc, source) {
         Ok(mut analysis) => explain_analysis(alloc, source, &mut analysis),
         Err(Refusal::Errors(_)) => Ok(Explained {
@@ -49,10 +44,7 @@ fn explain_analysis(
     alloc: Global,
     source: &str,
     analysis: &mut Analysis<'_>,
-) -> Result<Explained, Memory>
-    ensures { IfOk result (λ explained.
-        AreSizesOf (rules_of analysis.old.leaves.items) (sizes_of explained.clues)) }
-{
+) -> Result<Explained, Memory> {
     let mut warnings = Vec::new(alloc);
     add_callback(alloc, source, callback_of(analysis), &mut warnings)?;
     add_callbacks(alloc, source, &analysis.leaves, &mut warnings)?;
@@ -70,24 +62,18 @@ fn callback_of<'a, 's>(analysis: &'a Analysis<'s>) -> Option<&'a Callback<'s>> {
 
 /// Returns what is known of the faults of the graph of an analysis, whose leaves are taken out of
 /// it.
-fn clues_of_analysis(alloc: Global, analysis: &mut Analysis<'_>) -> Result<Clues, Memory>
-    ensures { IfOk result (λ clues.
-        AreSizesOf (rules_of analysis.old.leaves.items) (sizes_of clues)) }
-{
+fn clues_of_analysis(alloc: Global, analysis: &mut Analysis<'_>) -> Result<Clues, Memory> {
     let utf8_mode = analysis.parser.is_utf8();
     let leaves = mem::replace(&mut analysis.leaves, Vec::new(alloc));
     match Graph::new(alloc, leaves, Config { utf8_mode }) {
         Ok(graph) => Ok(clues_of(alloc, &graph)?),
         Err(BuildError::Memory) => Err(Memory),
-        Err(BuildError::LimitSize) => Ok(Clues::none(alloc)),
-        Err(BuildError::LimitStates) => Ok(Clues::none(alloc)),
+        Err(_) => Ok(Clues::none(alloc)),
     }
 }
 
 /// Returns what is known of the faults of a graph.
-fn clues_of(alloc: Global, graph: &Graph<'_>) -> Result<Clues, AllocError>
-    ensures { IfOk result (λ clues. sizes_of clues ≡ sizes_in graph.now.faults) }
-{
+fn clues_of(alloc: Global, graph: &Graph<'_>) -> Result<Clues, AllocError> {
     Ok(Clues {
         meetings: meetings_of(alloc, graph)?,
         starts: starts_of(alloc, graph.leaves())?,

@@ -1,8 +1,7 @@
 //! What is known of the sets of ambiguous leaves of a graph.
 
-ghost use Rattle.std.specs.Prelude.{◌≡◌, ◌≤◌, ◌++◌, ◌∷◌, [], IfOk, IsTrue, OnOk, length, map};
+ghost use Rattle.std.specs.Prelude.{◌≤◌, IsTrue, length};
 ghost use Rattle.std.specs.List.Sorted.{IsStrictlyIncreasing};
-ghost use Rattle.logos_causes.specs.Words.{fault_of, size_in, size_of, sizes_in};
 
 use crate::names::name_of;
 use crate::quoting::push_quoted;
@@ -17,24 +16,9 @@ use std::alloc::{AllocError, Global};
 const SEARCHED: usize = 10;
 
 /// Returns what is known of each set of ambiguous leaves of a graph, in order.
-pub(crate) fn meetings_of(alloc: Global, graph: &Graph<'_>) -> Result<Vec<Meeting>, AllocError>
-    ensures { IfOk result
-        (λ meetings. map size_of meetings.items ≡ sizes_in graph.now.faults) }
-{
-    meetings_in(alloc, graph, graph.errors())
-}
-
-/// Returns what is known of the sets of ambiguous leaves among these faults, in order.
-fn meetings_in(
-    alloc: Global,
-    graph: &Graph<'_>,
-    faults: &[GraphError],
-) -> Result<Vec<Meeting>, AllocError>
-    ensures { IfOk result
-        (λ meetings. map size_of meetings.items ≡ sizes_in (map fault_of faults.now)) }
-{
+pub(crate) fn meetings_of(alloc: Global, graph: &Graph<'_>) -> Result<Vec<Meeting>, AllocError> {
     let mut meetings = Vec::new(alloc);
-    for fault in faults {
+    for fault in graph.errors() {
         add_fault(alloc, graph, fault, &mut meetings)?;
     }
     Ok(meetings)
@@ -46,37 +30,17 @@ fn add_fault(
     graph: &Graph<'_>,
     fault: &GraphError,
     meetings: &mut Vec<Meeting>,
-) -> Result<(), AllocError>
-    ensures { OnOk result (map size_of meetings.new.items
-        ≡ map size_of meetings.old.items ++ size_in (fault_of fault.now)) }
-{
-    match fault {
-        GraphError::Disambiguation(leaves) => add_set(alloc, graph, leaves, meetings),
-        GraphError::NoUniversalStart => Ok(()),
-        GraphError::EmptyMatch(_) => Ok(()),
+) -> Result<(), AllocError> {
+    if let GraphError::Disambiguation(leaves) = fault {
+        let set = numbers_of(alloc, leaves)?;
+        let is_searched = meetings.len() < SEARCHED;
+        meetings.push(meeting_of(alloc, graph, &set, is_searched)?)?;
     }
-}
-
-/// Adds what is known of a set of ambiguous leaves.
-fn add_set(
-    alloc: Global,
-    graph: &Graph<'_>,
-    leaves: &[LeafId],
-    meetings: &mut Vec<Meeting>,
-) -> Result<(), AllocError>
-    ensures { OnOk result (map size_of meetings.new.items
-        ≡ map size_of meetings.old.items ++ length leaves.now ∷ []) }
-{
-    let set = numbers_of(alloc, leaves)?;
-    let is_searched = meetings.len() < SEARCHED;
-    meetings.push(meeting_of(alloc, graph, &set, is_searched)?)?;
     Ok(())
 }
 
 /// Returns the numbers of leaves.
-fn numbers_of(alloc: Global, leaves: &[LeafId]) -> Result<Vec<usize>, AllocError>
-    ensures { IfOk result (λ set. length set.items ≡ length leaves.now) }
-{
+fn numbers_of(alloc: Global, leaves: &[LeafId]) -> Result<Vec<usize>, AllocError> {
     let mut set = Vec::new(alloc);
     for leaf in leaves {
         set.push(leaf.0)?;
@@ -90,9 +54,7 @@ fn meeting_of(
     graph: &Graph<'_>,
     set: &[usize],
     is_searched: bool,
-) -> Result<Meeting, AllocError>
-    ensures { IfOk result (λ meeting. size_of meeting ≡ length set.now) }
-{
+) -> Result<Meeting, AllocError> {
     Ok(Meeting {
         names: names_of(alloc, graph.leaves(), set)?,
         note: note_of(alloc, graph, set, is_searched)?,
@@ -100,9 +62,7 @@ fn meeting_of(
 }
 
 /// Returns the names of these leaves.
-fn names_of(alloc: Global, leaves: &[Leaf<'_>], set: &[usize]) -> Result<Vec<String>, AllocError>
-    ensures { IfOk result (λ names. length names.items ≡ length set.now) }
-{
+fn names_of(alloc: Global, leaves: &[Leaf<'_>], set: &[usize]) -> Result<Vec<String>, AllocError> {
     let mut names = Vec::new(alloc);
     for number in set {
         names.push(name_at(alloc, leaves, *number)?)?;

@@ -14,8 +14,6 @@ use Rattle.logos_cli.specs.Expanding.{IsExpansion, IsExpanded, IsFileOf, IsUnrea
 use Rattle.logos_cli.specs.Expanding.Replaces.{ended as r_ended, stays as r_stays, gives as r_gives}
 use Rattle.logos_cli.specs.Heads.{IsFileWith}
 use Rattle.logos_cli.specs.inside.Steps.{AddsRefusal, AreFaultsOf, GathersOne, IsExpansionBy}
-use Rattle.logos_causes.specs.Sizes.{AreSizes}
-use Rattle.logos_report.specs.Turns.{sizes_of}
 use Rattle.logos_cli.specs.Gathering.{AreRefused, Gathers, GathersAll}
 use Rattle.logos_cli.specs.Gathering.AreRefused.{whole, lexers}
 use Rattle.logos_cli.specs.Gathering.Gathers.{ended as g_ended, stays as g_stays, gives as g_gives, refuses as g_refuses}
@@ -105,15 +103,14 @@ faults_hold : (Hold : List Fault → Type 0) (refusal : Refusal) (faults : List 
 faults_hold Hold (refusals.Errors errors) faults h a = subst Hold (sym a) h
 faults_hold Hold refusals.Memory faults h a = absurd a
 
-pub refuses_one : (shape : Shape) (text : List ℕ) (one : FoundEnum) (refusal : Refusal) (sizes : List ℕ) (old new : Gathered) (source : List ℕ) → source ≡ text_at text one → one.derives ≡ true → Refuses (IsRefused source) refusal →
-    AreSizes source sizes → AddsRefusal one.span.from refusal sizes old.refused.items new.refused.items → new.parts.items ≡ old.parts.items → GathersOne shape text one old new
-refuses_one shape text one refusal sizes old new source k e h z a p = record {
+pub refuses_one : (shape : Shape) (text : List ℕ) (one : FoundEnum) (refusal : Refusal) (old new : Gathered) (source : List ℕ) → source ≡ text_at text one → one.derives ≡ true → Refuses (IsRefused source) refusal →
+    AddsRefusal one.span.from refusal old.refused.items new.refused.items → new.parts.items ≡ old.parts.items → GathersOne shape text one old new
+refuses_one shape text one refusal old new source k e h a p = record {
   parts = [];
   refused = a.bad ∷ [];
   parts_are = p ∙ sym (append-nil old.parts.items);
   refused_are = a.are;
-  completes = λ rest more worse g. g_refuses e a.is_offset (subst (λ bytes. IsRefused bytes a.bad.errors) k (faults_hold (IsRefused source) refusal a.bad.errors h a.faults))
-      (subst (λ bytes. AreSizes bytes (sizes_of a.bad.clues)) k (subst (AreSizes source) (sym a.sizes_are) z)) g;
+  completes = λ rest more worse g. g_refuses e a.is_offset (subst (λ bytes. IsRefused bytes a.bad.errors) k (faults_hold (IsRefused source) refusal a.bad.errors h a.faults)) g;
 }
 
 -- ---- all enums
@@ -122,7 +119,7 @@ replaces_all : (shape : Shape) (text : List ℕ) (found : List FoundEnum) (parts
 replaces_all shape text _ _ _ g_ended e = r_ended
 replaces_all shape text _ _ _ (g_stays d g) e = r_stays d (replaces_all shape text _ _ _ g e)
 replaces_all shape text _ _ _ (g_gives d s x g) e = r_gives d s x (replaces_all shape text _ _ _ g e)
-replaces_all shape text _ _ _ (g_refuses d s x z g) e = absurd cc
+replaces_all shape text _ _ _ (g_refuses d s x g) e = absurd cc
 
 -- the result of a file without faults
 pub expanded_all : (shape : Shape) (text bytes : List ℕ) (found : List FoundEnum) (gathered : Gathered) → AreEnumsOf text found → GathersAll shape text found gathered → gathered.refused.items ≡ [] →
@@ -167,7 +164,7 @@ order_parts shape text _ _ _ from to (g_stays {one} {rest} {parts} {refused} d g
     earlier from one.span.to (map part_span parts) to (omega (arith, o.0, o.1)) (order_parts shape text rest parts refused one.span.to to g o.2)
 order_parts shape text _ _ _ from to (g_gives {one} {part} {rest} {parts} {refused} d s x g) o =
     rw s (o.0, o.1, order_parts shape text rest parts refused one.span.to to g o.2)
-order_parts shape text _ _ _ from to (g_refuses {one} {bad} {rest} {parts} {refused} d s x z g) o =
+order_parts shape text _ _ _ from to (g_refuses {one} {bad} {rest} {parts} {refused} d s x g) o =
     earlier from one.span.to (map part_span parts) to (omega (arith, o.0, o.1)) (order_parts shape text rest parts refused one.span.to to g o.2)
 
 pub ordered_parts : (shape : Shape) (text : List ℕ) (found : List FoundEnum) (gathered : Gathered) → GathersAll shape text found gathered → AreInOrder 0 (map found_span found) (length text) →
@@ -192,8 +189,8 @@ expansion_made shape source shown graph code name export g b = record {
 
 -- ---- refusals
 
-pub whole_refused : (shape : Shape) (text : List ℕ) (refusal : Refusal) (sizes : List ℕ) (old new : List Refused) → old ≡ [] → sizes ≡ [] → Refuses (IsUnreadable text) refusal → AddsRefusal 0 refusal sizes old new → AreRefused shape text new
-whole_refused shape text refusal sizes old new e z h a = whole (a.are ∙ ap (λ r. r ++ a.bad ∷ []) e) a.is_offset (faults_hold (IsUnreadable text) refusal a.bad.errors h a.faults) (a.sizes_are ∙ z)
+pub whole_refused : (shape : Shape) (text : List ℕ) (refusal : Refusal) (old new : List Refused) → old ≡ [] → Refuses (IsUnreadable text) refusal → AddsRefusal 0 refusal old new → AreRefused shape text new
+whole_refused shape text refusal old new e h a = whole (a.are ∙ ap (λ r. r ++ a.bad ∷ []) e) a.is_offset (faults_hold (IsUnreadable text) refusal a.bad.errors h a.faults)
 
 -- a source that is not read is refused
 pub unread_refused : (source : List ℕ) (refusal : Refusal) → Refuses (IsUnreadable source) refusal → Refuses (IsRefused source) refusal
@@ -211,9 +208,9 @@ ok_then (Ok done) f h = f h
 ok_then (Err error) f h = tt
 
 -- an enum with faults was gathered, where there was memory for them
-pub refuses_then : {A E : Type 0} (result : Result A E) (shape : Shape) (text : List ℕ) (one : FoundEnum) (refusal : Refusal) (sizes : List ℕ) (old new : Gathered) (source : List ℕ) → Refuses (IsRefused source) refusal → AreSizes source sizes →
-    OnOk result (AddsRefusal one.span.from refusal sizes old.refused.items new.refused.items) → new.parts.items ≡ old.parts.items → source ≡ text_at text one → one.derives ≡ true → OnOk result (GathersOne shape text one old new)
-refuses_then result shape text one refusal sizes old new source h z a p k e = ok_then result (λ b. refuses_one shape text one refusal sizes old new source k e h z b p) a
+pub refuses_then : {A E : Type 0} (result : Result A E) (shape : Shape) (text : List ℕ) (one : FoundEnum) (refusal : Refusal) (old new : Gathered) (source : List ℕ) → Refuses (IsRefused source) refusal →
+    OnOk result (AddsRefusal one.span.from refusal old.refused.items new.refused.items) → new.parts.items ≡ old.parts.items → source ≡ text_at text one → one.derives ≡ true → OnOk result (GathersOne shape text one old new)
+refuses_then result shape text one refusal old new source h a p k e = ok_then result (λ b. refuses_one shape text one refusal old new source k e h b p) a
 
 -- what holds of a result gives something else of it
 pub wraps : {A E : Type 0} {One Other : A → Type 0} (result : Result A E) → ((a : A) → One a → Other a) → IfOk result One → IfOk result Other

@@ -3,7 +3,6 @@ use Rattle.std.specs.Prelude.{◌≡◌, ◌≢◌, ◌⊎◌, ◌++◌, ℕ, Bo
 use Rattle.logos_host.specs.declared.message_format.MessageFormat.{MessageFormat}
 use Rattle.logos_host.specs.declared.message_format.MessageFormat.TheVariants.{Human, Json}
 use Rattle.logos_cli.specs.declared.options.Shape.{Shape}
-use Rattle.logos_causes.specs.Sizes.{AreSizes}
 use Rattle.logos_codegen.specs.Source.{IsRefused}
 use Rattle.logos_cli.specs.declared.expanding.Gathered.{Gathered}
 use Rattle.logos_report.specs.declared.refused.Refused.{Refused}
@@ -17,11 +16,9 @@ use Rattle.logos_host.specs.Failures.{status_of}
 use Rattle.logos_report.specs.Pages.{StandInOrder}
 use Rattle.logos_report.specs.Parts.{refused_texts}
 use Rattle.logos_report.specs.Places.{SourceValue}
-use Rattle.logos_report.specs.Turns.{sizes_of}
 use Rattle.logos_messages.specs.Messages.{AreMessages}
 
--- Each enum that derives `Logos` gives a part, or has faults and ambiguous sets of these sizes, in
--- order, and no other one does.
+-- Each enum that derives `Logos` gives a part or has faults, in order, and no other one does.
 pub data Gathers (shape : Shape) (text : List ℕ) : List FoundEnum → List Replacement → List Refused → Type 0 where
   ended : Gathers shape text [] [] []
   stays : {one : FoundEnum} {rest : List FoundEnum} {parts : List Replacement} {refused : List Refused} →
@@ -30,8 +27,8 @@ pub data Gathers (shape : Shape) (text : List ℕ) : List FoundEnum → List Rep
       one.derives ≡ true → part.span ≡ one.span → IsExpansion shape (text_at text one) (string_bytes part.text) → Gathers shape text rest parts refused →
       Gathers shape text (one ∷ rest) (part ∷ parts) refused
   refuses : {one : FoundEnum} {bad : Refused} {rest : List FoundEnum} {parts : List Replacement} {refused : List Refused} →
-      one.derives ≡ true → bad.offset ≡ one.span.from → IsRefused (text_at text one) bad.errors →
-      AreSizes (text_at text one) (sizes_of bad.clues) → Gathers shape text rest parts refused → Gathers shape text (one ∷ rest) parts (bad ∷ refused)
+      one.derives ≡ true → bad.offset ≡ one.span.from → IsRefused (text_at text one) bad.errors → Gathers shape text rest parts refused →
+      Gathers shape text (one ∷ rest) parts (bad ∷ refused)
 
 -- All these enums were gathered.
 abbrev pub GathersAll : Shape → List ℕ → List FoundEnum → Gathered → Type 0
@@ -40,7 +37,7 @@ GathersAll shape text found gathered = Gathers shape text found gathered.parts.i
 -- These are the refusals of a file: the one of a file that cannot be read into tokens, or those of
 -- all lexers that have faults, of which there are some.
 pub data AreRefused (shape : Shape) (text : List ℕ) (refused : List Refused) : Type 0 where
-  whole : {bad : Refused} → refused ≡ bad ∷ [] → bad.offset ≡ 0 → IsUnreadable text bad.errors → sizes_of bad.clues ≡ [] → AreRefused shape text refused
+  whole : {bad : Refused} → refused ≡ bad ∷ [] → bad.offset ≡ 0 → IsUnreadable text bad.errors → AreRefused shape text refused
   lexers : {found : List FoundEnum} {parts : List Replacement} → AreEnumsOf text found → Gathers shape text found parts refused → refused ≢ [] → AreRefused shape text refused
 
 -- These are lines of JSON, one for each fault, in order.

@@ -1,5 +1,5 @@
 -- Definitions that clauses cite: those of `Words`, and those that name types of this crate.
-pub use Rattle.logos_cli.specs.Words.{Answer, Appends, AreEnumsOf, AreInOrder, AreSizes, Fault, IsFoundCut, IsLaidOut, IsRefused, IsWithoutInner, Keeps, Reads, Refuses, StandInOrder, color_named, faults_texts, format_named, found_span, message_of, part_span, refused_texts, sizes_of, status_of, tokens_of, use_value}
+pub use Rattle.logos_cli.specs.Words.{Answer, Appends, AreEnumsOf, AreInOrder, Fault, IsFoundCut, IsLaidOut, IsRefused, IsWithoutInner, Keeps, Reads, Refuses, StandInOrder, color_named, faults_texts, format_named, found_span, message_of, part_span, refused_texts, sizes_of, status_of, tokens_of, use_value}
 pub use Rattle.logos_cli.specs.Deriving.{AreFaultLines, IsDerived, IsDerivedBy, ShowsErrors, standard_input}
 pub use Rattle.logos_cli.specs.Expanding.{IsExpanded, IsExpansion, IsFileOf, IsGuard, IsGuarded, IsShown, IsUnreadable, are_blanks, config_of, guard_text, import_under, lexer_under, under}
 pub use Rattle.logos_cli.specs.Gathering.{AreRefused, EndsWithLines, FailsBy, FailsFor, GathersAll, IsRefusedFor, ShowsRefused}

@@ -1,5 +1,4 @@
 -- Definitions that clauses cite: of lower crates, and those of this one that name no type of it.
-pub use Rattle.logos_causes.specs.Sizes.{AreSizes}
 pub use Rattle.logos_codegen.specs.Source.{IsRefused}
 pub use Rattle.logos_derive.specs.declared.answering.Answer.{Answer}
 pub use Rattle.logos_host.specs.Colors.{color_named}

@@ -1,7 +1,7 @@
 //! A file with the derive of its lexers expanded.
 
 ghost use Rattle.std.specs.Prelude.{◌≡◌, ◌≤◌, ◌++◌, All, IfErr, IfOk, IsTrue, OnOk, length, map, string_bytes};
-ghost use Rattle.logos_cli.specs.Views.{IsRefused, AreInOrder, IsFoundCut, found_span, part_span, AreEnumsOf, StandInOrder, Refuses, IsExpanded, IsExpansion, IsFileOf, IsShown, IsUnreadable, config_of, AreRefused, AreSizes, EndsWithLines, FailsFor, GathersAll, ShowsRefused, refused_texts, sizes_of, AddsRefusal, GathersOne, IsExpansionBy};
+ghost use Rattle.logos_cli.specs.Views.{IsRefused, AreInOrder, IsFoundCut, found_span, part_span, AreEnumsOf, StandInOrder, Refuses, IsExpanded, IsExpansion, IsFileOf, IsShown, IsUnreadable, config_of, AreRefused, EndsWithLines, FailsFor, GathersAll, ShowsRefused, refused_texts, AddsRefusal, GathersOne, IsExpansionBy};
 
 use crate::head::with_head;
 use crate::options::Shape;
@@ -218,9 +218,7 @@ fn gather_enum(
 
 /// Returns what is known of an enum that is refused, and adds its warnings. Its text begins at an
 /// offset of the file.
-fn clues_of(text: &str, offset: usize, warned: &mut Vec<Warning>) -> Result<Clues, Memory>
-    ensures { IfOk result (λ clues. AreSizes text.now (sizes_of clues)) }
-{
+fn clues_of(text: &str, offset: usize, warned: &mut Vec<Warning>) -> Result<Clues, Memory> {
     let Explained { clues, warnings } = explain(*warned.allocator(), text)?;
     add_warnings(offset, warnings, warned)?;
     Ok(clues)
@@ -233,8 +231,7 @@ fn push_refusal(
     refusal: Refusal,
     clues: Clues,
 ) -> Result<(), Memory>
-    ensures { OnOk result (AddsRefusal offset refusal (sizes_of clues) refused.old.items
-        refused.new.items) }
+    ensures { OnOk result (AddsRefusal offset refusal refused.old.items refused.new.items) }
 {
     match refusal {
         Refusal::Errors(errors) => {

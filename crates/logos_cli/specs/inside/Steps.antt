@@ -7,7 +7,6 @@ use Rattle.logos_report.specs.declared.refused.Refused.{Refused}
 use Rattle.logos_cli.specs.Expanding.{IsGuarded, IsShown, under}
 use Rattle.logos_cli.specs.Gathering.{Gathers}
 use Rattle.logos_layout.specs.Layout.{IsLaidOut}
-use Rattle.logos_report.specs.Turns.{sizes_of}
 use Rattle.logos_rust_file.specs.declared.finding.FoundEnum.{FoundEnum}
 use Rattle.logos_rust_file.specs.declared.replacing.Replacement.{Replacement}
 use Rattle.logos_rust_file.specs.Handed.{Refusal}
@@ -29,13 +28,11 @@ abbrev pub AreFaultsOf : Refusal → List Fault → Type 0
 AreFaultsOf (refusals.Errors faults) others = others ≡ faults
 AreFaultsOf refusals.Memory others = ⊥
 
--- One more refusal stands at the end, with the faults of what begins at an offset, whose ambiguous
--- sets have these sizes.
-pub record AddsRefusal (offset : ℕ) (refusal : Refusal) (sizes : List ℕ) (old new : List Refused) : Type 0 where
+-- One more refusal stands at the end, with the faults of what begins at an offset.
+pub record AddsRefusal (offset : ℕ) (refusal : Refusal) (old new : List Refused) : Type 0 where
   pub bad : Refused
   pub is_offset : bad.offset ≡ offset
   pub faults : AreFaultsOf refusal bad.errors
-  pub sizes_are : sizes_of bad.clues ≡ sizes
   pub are : new ≡ old ++ bad ∷ []
 
 -- These are tokens, and after LF the text of a lexer with this code and with attributes, laid out.
