@@ -285,6 +285,17 @@ status=0
 [ "$status" = 1 ] && [ ! -s out ] && grep -q '^error\[TokenForm\]' err || fail "faults end with status $status"
 printf old | same kept.rs -
 
+# 400 KB of faulty source on one line: little time, memory and text.
+many() { yes "$2" | head -n "$1" | tr -d '\n' || true; }
+many 9000 '#[derive(Logos)] enum E { #[regex("[")] A } ' > enums.rs
+{ printf '#[derive(Logos)] enum E { '; many 22000 '#[regex(".*")] V, '; printf '}\n'; } > variants.rs
+for name in enums variants; do
+    status=0
+    (ulimit -t 5 -v 200000; exec "$program" "$name.rs" > out 2> err) || status=$?
+    [ "$status" = 1 ] && [ ! -s out ] && [ "$(wc -c < err)" -lt 1000000 ] && grep -q ' more are not shown$' err || fail "$name.rs: status $status"
+    met=$((met + 1))
+done
+
 # Standard output is full, closed, read slowly, or read no more.
 status=0
 "$program" source.rs > /dev/full 2> err || status=$?

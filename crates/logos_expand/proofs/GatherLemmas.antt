@@ -9,7 +9,7 @@ use Rattle.logos_codegen.specs.Given.{IsGiven}
 use Rattle.logos_codegen.specs.Source.{IsRefused}
 use Rattle.logos_codegen.specs.Source.IsRefused.{unread}
 use Rattle.logos_expand.specs.declared.expanding.Gathered.{Gathered}
-use Rattle.logos_expand.specs.declared.expanding.Refused.{Refused}
+use Rattle.logos_report.specs.declared.refused.Refused.{Refused}
 use Rattle.logos_expand.specs.Expanding.{IsExpansion, IsExpanded, IsFileOf, IsUnreadable, Replaces, config_of, text_at}
 use Rattle.logos_expand.specs.Expanding.Replaces.{ended as r_ended, stays as r_stays, gives as r_gives}
 use Rattle.logos_expand.specs.Heads.{IsFileWith}

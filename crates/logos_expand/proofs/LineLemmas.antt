@@ -3,7 +3,7 @@ use Rattle.std.proofs.Common.{◌≡◌, ◌≤◌, ◌<◌, ◌+◌, ℕ, suc, 
 use Rattle.std.proofs.lemmas.List.{append-nil}
 use Rattle.std.proofs.Math.Seq.{drop-cons}
 use Rattle.std.proofs.Math.ListN.{drop_of_length-le}
-use Rattle.logos_expand.specs.declared.expanding.Refused.{Refused}
+use Rattle.logos_report.specs.declared.refused.Refused.{Refused}
 use Rattle.logos_expand.specs.Gathering.{AreLinesOf, EndsWithLines}
 use Rattle.logos_messages.specs.Messages.{AreMessages}
 use Rattle.logos_report.specs.Places.{SourceValue}

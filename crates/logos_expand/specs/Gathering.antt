@@ -1,12 +1,11 @@
 -- What the enums of a file give, one after another, and what is shown of their faults.
 use Rattle.std.specs.Prelude.{◌≡◌, ◌≢◌, ◌⊎◌, ◌++◌, ℕ, Bool, IsTrue, List, [], ◌∷◌, true, false, string_bytes}
-use Rattle.std.specs.List.{flat_map}
 use Rattle.logos_host.specs.declared.message_format.MessageFormat.{MessageFormat}
 use Rattle.logos_host.specs.declared.message_format.MessageFormat.TheVariants.{Human, Json}
 use Rattle.logos_expand.specs.declared.shape.Shape.{Shape}
 use Rattle.logos_codegen.specs.Source.{IsRefused}
 use Rattle.logos_expand.specs.declared.expanding.Gathered.{Gathered}
-use Rattle.logos_expand.specs.declared.expanding.Refused.{Refused}
+use Rattle.logos_report.specs.declared.refused.Refused.{Refused}
 use Rattle.logos_expand.specs.Expanding.{IsExpansion, IsUnreadable, text_at}
 use Rattle.logos_rust_file.specs.declared.finding.FoundEnum.{FoundEnum}
 use Rattle.logos_rust_file.specs.declared.replacing.Replacement.{Replacement}
@@ -14,10 +13,9 @@ use Rattle.logos_rust_file.specs.Files.{AreEnumsOf}
 use Rattle.logos_host.specs.declared.failure.Failure.{Failure}
 use Rattle.logos_host.specs.declared.failure.Failure.TheVariants as failures
 use Rattle.logos_host.specs.Failures.{status_of}
-use Rattle.logos_report.specs.Faults.{faults_texts}
 use Rattle.logos_report.specs.Pages.{StandInOrder}
+use Rattle.logos_report.specs.Parts.{refused_texts}
 use Rattle.logos_report.specs.Places.{SourceValue}
-use Rattle.logos_report.specs.Turns.{sizes_of}
 use Rattle.logos_messages.specs.Messages.{AreMessages}
 
 -- Each enum that derives `Logos` gives a part or has faults, in order, and no other one does.
@@ -35,10 +33,6 @@ pub data Gathers (shape : Shape) (text : List ℕ) : List FoundEnum → List Rep
 -- All these enums were gathered.
 abbrev pub GathersAll : Shape → List ℕ → List FoundEnum → Gathered → Type 0
 GathersAll shape text found gathered = Gathers shape text found gathered.parts.items gathered.refused.items
-
--- What is shown of faults, in order.
-abbrev pub refused_texts : Bool → SourceValue → List Refused → List (List ℕ)
-refused_texts is_colored source refused = flat_map (λ one. faults_texts is_colored source one.offset (sizes_of one.clues) one.errors) refused
 
 -- These are the refusals of a file: the one of a file that cannot be read into tokens, or those of
 -- all lexers that have faults, of which there are some.

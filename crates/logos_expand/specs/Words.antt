@@ -2,7 +2,8 @@
 pub use Rattle.logos_codegen.specs.Source.{IsRefused}
 pub use Rattle.logos_layout.specs.Inner.{IsWithoutInner}
 pub use Rattle.logos_layout.specs.Layout.{IsLaidOut}
-pub use Rattle.logos_report.specs.Pages.{Shows, StandInOrder}
+pub use Rattle.logos_report.specs.Pages.{StandInOrder}
+pub use Rattle.logos_report.specs.Parts.{refused_texts}
 pub use Rattle.logos_rust_file.specs.Files.{AreEnumsOf}
 pub use Rattle.logos_rust_file.specs.Handed.{Refuses}
 pub use Rattle.logos_rust_file.specs.Replacing.{AreInOrder, IsFoundCut, found_span, part_span}

@@ -1,7 +1,7 @@
 //! A file with the derive of its lexers expanded.
 
 ghost use Rattle.std.specs.Prelude.{◌≡◌, ◌≤◌, ◌++◌, All, IfErr, IfOk, IsTrue, OnOk, length, map, string_bytes};
-ghost use Rattle.logos_expand.specs.Views.{IsRefused, AreInOrder, IsFoundCut, found_span, part_span, AreEnumsOf, Shows, StandInOrder, Refuses, IsExpanded, IsExpansion, IsFileOf, IsShown, IsUnreadable, config_of, AreRefused, EndsWithLines, FailsFor, GathersAll, ShowsRefused, refused_texts, AddsRefusal, GathersOne, IsExpansionBy};
+ghost use Rattle.logos_expand.specs.Views.{IsRefused, AreInOrder, IsFoundCut, found_span, part_span, AreEnumsOf, StandInOrder, Refuses, IsExpanded, IsExpansion, IsFileOf, IsShown, IsUnreadable, config_of, AreRefused, EndsWithLines, FailsFor, GathersAll, ShowsRefused, refused_texts, AddsRefusal, GathersOne, IsExpansionBy};
 
 use crate::head::with_head;
 use crate::printing::{Site, printed_with};
@@ -10,12 +10,14 @@ use logos_causes::{
     Explained, Showing, add_lexer, add_missing, add_passed, add_text, add_warnings, denial_text,
     explain, push_warned, text_of, warning_lines, warning_text,
 };
-use logos_codegen::error::{Errors, Memory};
+use logos_codegen::error::Memory;
 use logos_codegen::generator::Config;
 use logos_codegen::{Generated, Refusal, generate, strip_attributes};
 use logos_host::{Failure, MessageFormat};
 use logos_messages::push_messages;
-use logos_report::{Clues, Page, Part, Source, Warning, count_errors, push_faults, push_summary};
+use logos_report::{
+    Clues, Page, Part, Refused, Source, Warning, count_errors, push_refused, push_summary,
+};
 use logos_rust_file::{FoundEnum, Replacement, enums_in, replace};
 use logos_tables::tables;
 use std::alloc::{AllocError, Global};
@@ -26,15 +28,6 @@ pub struct Expansion {
     pub bytes: Vec<u8>,
     /// What is written of the warnings.
     pub warnings: Vec<u8>,
-}
-
-/// The faults of an enum or of a whole file, and where that begins in the file.
-#[derive(Drop)]
-struct Refused {
-    offset: usize,
-    errors: Errors,
-    /// What is known of the faults of its graph.
-    clues: Clues,
 }
 
 /// The replacements of the enums of a file, and the faults of those that are refused.
@@ -288,12 +281,23 @@ fn expanded(source: &str, site: Site<'_, '_>, warned: &mut Vec<Warning>) -> Resu
 {
     let alloc = *warned.allocator();
     match generate(alloc, source, config_of(site.shape)) {
-        Ok(made) => match add_lexer(source, site.offset, &made.graph, warned) {
+        Ok(made) => match add_lexer_of(source, site, &made, warned) {
             Ok(()) => expansion_by(alloc, source, site, &made),
             Err(Memory) => Err(Refusal::Memory),
         },
         Err(refusal) => Err(refusal),
     }
+}
+
+/// Adds the warnings of the lexer of an enum.
+fn add_lexer_of(
+    source: &str,
+    site: Site<'_, '_>,
+    made: &Generated<'_>,
+    warned: &mut Vec<Warning>,
+) -> Result<(), Memory> {
+    let error = made.code.error_callback();
+    add_lexer(source, site.offset, &made.graph, error, warned)
 }
 
 /// Returns an enum without what belongs to the derive, and the text of its lexer.
@@ -388,19 +392,15 @@ fn refusal_text(
 {
     let mut page = Page::new(showing.alloc, showing.is_colored);
     push_warned(&mut page, source, warned);
-    let count = push_refused(&mut page, source, refused);
-    push_summary(&mut page, count);
+    push_refused(&mut page, source, refused);
+    push_summary(&mut page, count_refused(refused));
     page.finish()
 }
 
-/// Appends all these faults. Returns how many of them are errors.
-fn push_refused(page: &mut Page, source: &Source<'_>, refused: &[Refused]) -> usize
-    ensures { Shows (refused_texts page.old.is_colored source.now refused.now) page.old page.new }
-{
+/// Returns how many of these faults are errors.
+fn count_refused(refused: &[Refused]) -> usize {
     let mut count: usize = 0;
     for one in refused {
-        let offset = one.offset;
-        push_faults(page, Part { source, offset }, &one.errors, &one.clues);
         count = count.saturating_add(count_errors(&one.errors, &one.clues));
     }
     count

@@ -224,7 +224,13 @@ fn push_made(
     ensures { IfErr result IsNoMisuse }
 {
     push_form(alloc, pages, one, made)?;
-    add_lexer(one.text, one.part.offset, &made.graph, &mut pages.warned)?;
+    add_lexer(
+        one.text,
+        one.part.offset,
+        &made.graph,
+        made.code.error_callback(),
+        &mut pages.warned,
+    )?;
     Ok(())
 }
 

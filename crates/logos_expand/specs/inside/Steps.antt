@@ -3,7 +3,7 @@ use Rattle.std.specs.Prelude.{◌≡◌, ℕ, Bool, List, [], ◌∷◌, ◌++�
 use Rattle.logos_code.specs.Code.{CodeValue}
 use Rattle.logos_expand.specs.declared.shape.Shape.{Shape}
 use Rattle.logos_expand.specs.declared.expanding.Gathered.{Gathered}
-use Rattle.logos_expand.specs.declared.expanding.Refused.{Refused}
+use Rattle.logos_report.specs.declared.refused.Refused.{Refused}
 use Rattle.logos_expand.specs.Expanding.{IsGuarded, IsShown, under}
 use Rattle.logos_expand.specs.Gathering.{Gathers}
 use Rattle.logos_layout.specs.Layout.{IsLaidOut}
