@@ -7,7 +7,7 @@ ghost use Rattle.logos_machine.specs.Views.{answers_of, begun, item_of, Gives, E
 mod attempt;
 mod fast_loop;
 mod part;
-mod walk;
+pub mod walk;
 
 pub use logos_code::action::Action;
 use logos_code::code::Code;
@@ -227,7 +227,7 @@ fn check_utf8(input: &[u8]) -> Result<(), NotUtf8>
 
 /// Returns the token of a match.
 #[inline(always)]
-fn token<'i>(input: &'i [u8], leaf: LeafId, span: Span) -> Item<'i>
+pub fn token<'i>(input: &'i [u8], leaf: LeafId, span: Span) -> Item<'i>
     requires order { span.from ≤ span.to }
     requires within { span.to ≤ length input.now }
     ensures { item_of result ≡ token leaf.0 span.from span.to
@@ -241,7 +241,7 @@ fn token<'i>(input: &'i [u8], leaf: LeafId, span: Span) -> Item<'i>
 }
 
 /// Returns the error of bytes that no leaf matches.
-fn error<'i>(input: &'i [u8], span: Span) -> Item<'i>
+pub fn error<'i>(input: &'i [u8], span: Span) -> Item<'i>
     requires order { span.from ≤ span.to }
     requires within { span.to ≤ length input.now }
     ensures { item_of result ≡ error None span.from span.to
@@ -256,7 +256,7 @@ fn error<'i>(input: &'i [u8], span: Span) -> Item<'i>
 
 /// Returns the item of a match, if it is not skipped.
 #[inline(always)]
-fn matched_item<'i, C: Fn(LeafId, &[u8]) -> Action>(
+pub fn matched_item<'i, C: Fn(LeafId, &[u8]) -> Action>(
     code: &Code,
     input: &'i [u8],
     callback: &C,

@@ -11,8 +11,7 @@ use Rattle.logos_machine.specs.LexerValue.{LexerValue, HasSpan, Gives, Ends}
 use Rattle.logos_machine.proofs.LexerLemmas.{GoesOn, goes_past, goes_past_skip, gives_item, gives_token, gives_error, ends_run, moved}
 use Rattle.logos_scan.specs.Tries.{SkipsTo, skips_none, skips_then}
 use Rattle.logos_code.specs.Code.{CodeValue}
-use Rattle.logos_scan.specs.Runs.{IsRun}
-use Rattle.logos_scan.specs.declared.run.Run.{Run}
+use Rattle.logos_scan.specs.Runs.{IsRun, WithChunk}
 
 module _ {C : Type 0} (callback : Callback) (old : LexerValue C) where
   -- what goes on goes on after what is skipped
@@ -74,7 +73,7 @@ module _ {C : Type 0} (callback : Callback) (old : LexerValue C) where
       record { from = e.from; to = e.to; over = e.over }
 
 -- a run's try begins in the input
-pub start_within : (code : CodeValue) (rows input : List ℕ) (run : Run) (at : ℕ) → IsRun code rows input run at → run.cursor.start ≤ length input
+pub start_within : (code : CodeValue) (rows input : List ℕ) (run : WithChunk) (at : ℕ) → IsRun code rows input run at → run.cursor.start ≤ length input
 start_within code rows input run at r =
     let s = r.stands in
     let past = s.past in

@@ -2,6 +2,4 @@
 
 #![tactic(auto)]
 
-mod attempt;
-mod items;
 pub mod run;

@@ -24,6 +24,7 @@ pub struct Cursor {
 impl Cursor {
     /// Returns the cursor before the entry `from` of a chunk, where a try stands that begins at
     /// `start`.
+    #[inline(always)]
     pub fn new(chunk: &Chunk, base: usize, start: usize, from: usize) -> Cursor
         requires marked { IsMarked chunk.now }
         requires from { from < 4096 }

@@ -14,7 +14,7 @@ use logos_hir::leaf::LeafId;
 
 /// What a try finds. The numbers after leaves are the end of the match and how many states were entered.
 #[derive(Clone, Copy)]
-pub(super) enum Outcome {
+pub enum Outcome {
     /// A match up to this offset that is skipped.
     Skips(usize),
     /// A match that is a token.
@@ -27,9 +27,9 @@ pub(super) enum Outcome {
     Ends(usize),
 }
 
-/// Returns what is found from a place of the input on.
+/// Returns what a try finds that begins at a point of the input.
 #[inline(always)]
-pub(super) fn attempt(code: &Code, input: &[u8], start: usize) -> Outcome
+pub fn attempt(code: &Code, input: &[u8], start: usize) -> Outcome
     requires { start ≤ length input.now }
     ensures { IsOutcome code.now input.now start result }
 {
