@@ -200,6 +200,27 @@ impl<'c, 's, 'i, C: Fn(LeafId, &[u8]) -> Action> Lexer<'c, 's, 'i, C> {
         &self.input[self.to..]
     }
 
+    /// Returns the code.
+    pub fn code(&self) -> &'c Code<'s>
+        ensures { result.now ≡ self.now.code }
+    {
+        self.code
+    }
+
+    /// Returns the whole input.
+    pub fn input(&self) -> &'i [u8]
+        ensures { result.now ≡ self.now.input }
+    {
+        self.input
+    }
+
+    /// Returns the callback.
+    pub fn callback(&self) -> &C
+        ensures { result.now ≡ self.now.callback }
+    {
+        &self.callback
+    }
+
     /// Returns how many states the last try entered, 0 before the first.
     pub fn steps(&self) -> usize
         ensures { result ≡ self.now.steps }

@@ -16,8 +16,8 @@ use Rattle.logos_machine.specs.inside.Looks.{Tried}
 use Rattle.logos_machine.proofs.WalkLemmas.{comes_first}
 use Rattle.logos_scan.specs.Tries.{StandsIn, SkipsTo, skips_none, skips_then}
 use Rattle.logos_scan.specs.Runs.{IsChunk, IsLoaded, IsRun, IsTaken, WithChunk, point_of}
-use Rattle.logos_scan.specs.declared.run.Taken.{Taken}
-use Rattle.logos_scan.specs.declared.run.Taken.TheVariants.{Emits as TakenEmits, Asks as TakenAsks, Fails as TakenFails, Ends as TakenEnds}
+use Rattle.logos_scan.specs.declared.tries.Taken.{Taken}
+use Rattle.logos_scan.specs.declared.tries.Taken.TheVariants.{Emits as TakenEmits, Asks as TakenAsks, Fails as TakenFails, Ends as TakenEnds}
 use Rattle.logos_scan.specs.declared.run.Loaded.{Loaded}
 use Rattle.logos_scan.proofs.RunLemmas.{Holds, later_at, starts_same, starts_short, tried, ends_as, holds_next}
 use Rattle.logos_scan.proofs.TryLemmas.{stands_begun}

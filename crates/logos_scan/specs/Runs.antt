@@ -10,8 +10,8 @@ use Rattle.logos_scan.specs.Tries.{StandsIn, SkipsTo}
 use Rattle.logos_scan.specs.declared.run.Loaded.{Loaded}
 use Rattle.logos_scan.specs.declared.run.Reading.{Reading}
 use Rattle.logos_scan.specs.declared.run.Run.{Run}
-use Rattle.logos_scan.specs.declared.run.Taken.{Taken}
-use Rattle.logos_scan.specs.declared.run.Taken.TheVariants.{Emits, Asks, Fails, Ends}
+use Rattle.logos_scan.specs.declared.tries.Taken.{Taken}
+use Rattle.logos_scan.specs.declared.tries.Taken.TheVariants.{Emits, Asks, Fails, Ends}
 use Rattle.logos_walk.specs.Cursor.{HasRoom, token_bit}
 use Rattle.logos_walk.specs.Cursors.{IsMarked, Stands}
 use Rattle.logos_walk.specs.declared.cursor.Cursor.{Cursor}

@@ -2,4 +2,7 @@
 
 #![tactic(auto)]
 
+pub mod choice;
+pub mod items;
 pub mod run;
+pub mod tries;

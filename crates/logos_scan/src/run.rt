@@ -4,12 +4,12 @@ ghost use Rattle.std.specs.Prelude.{◌≡◌, ◌+◌, ◌<◌, ◌≤◌, leng
 ghost use Rattle.logos_scan.specs.Words.{IsBytes, IsPlace, StandsIn, answers_of, item_of};
 ghost use Rattle.logos_scan.specs.Views.{EndsItems, GivesItem, IsFlagged, IsHeld, IsLoaded, IsMarked, IsOver, IsReading, IsReady, IsRun, IsTaken, with_chunk};
 
+use crate::tries::{Taken, tried};
 use logos_code::action::Action;
 use logos_code::code::Code;
 use logos_fold::entries::CALLS;
 use logos_fold::folded::Folded;
 use logos_hir::leaf::LeafId;
-use logos_machine::machine::walk::{Outcome, attempt};
 use logos_machine::machine::{Item, error, matched_item, token};
 use logos_token::token::Span;
 use logos_walk::blocks::walk_chunk;
@@ -20,15 +20,15 @@ use logos_walk::walk::{ENDED, PLACE, walk};
 
 /// A code, its folded rows, and the input that is stepped over.
 #[derive(Clone, Copy, Drop)]
-pub struct Reading<'c, 's, 'i> {
+pub struct Reading<'r, 'c, 's, 'i> {
     pub code: &'c Code<'s>,
-    pub rows: &'c [u32],
+    pub rows: &'r [u32],
     pub input: &'i [u8],
 }
 
-impl<'c, 's, 'i> Reading<'c, 's, 'i> {
+impl<'r, 'c, 's, 'i> Reading<'r, 'c, 's, 'i> {
     /// Returns a reading of an input by the folded rows of a code.
-    pub fn new(folded: &'c Folded<'c, 's>, input: &'i [u8]) -> Reading<'c, 's, 'i>
+    pub fn new(folded: &'r Folded<'c, 's>, input: &'i [u8]) -> Reading<'r, 'c, 's, 'i>
         ensures folded { IsReading result }
         ensures code { result.code.now ≡ folded.now.code }
         ensures input { result.input.now ≡ input.now }
@@ -39,19 +39,6 @@ impl<'c, 's, 'i> Reading<'c, 's, 'i> {
             input,
         }
     }
-}
-
-/// What is found after matches that are skipped without a callback.
-#[derive(Clone, Copy)]
-pub enum Taken {
-    /// A match that is a token.
-    Emits(LeafId, Span),
-    /// A match that may be skipped, or up to a callback.
-    Asks(LeafId, Span),
-    /// Bytes that no leaf matches.
-    Fails(Span),
-    /// The end of the input.
-    Ends,
 }
 
 /// How many bytes of the input a chunk has, and the place after them.
@@ -117,24 +104,6 @@ fn load(reading: &Reading, base: usize, place: usize, chunk: &mut Chunk) -> Load
     loaded
 }
 
-/// Returns what a try finds that begins at a point of the input, after matches that are skipped
-/// without a callback, and where the next one begins.
-fn tried(reading: &Reading, from: usize) -> (Taken, usize)
-    requires { from ≤ length reading.now.input.now }
-    ensures { IsTaken reading.now.code.now reading.now.input.now from result.0 result.1 }
-{
-    let mut from = from;
-    loop {
-        match attempt(reading.code, reading.input, from) {
-            Outcome::Skips(to) => from = to,
-            Outcome::Emits(leaf, to, _) => return (Taken::Emits(leaf, Span { from, to }), to),
-            Outcome::Asks(leaf, to, _) => return (Taken::Asks(leaf, Span { from, to }), to),
-            Outcome::Fails(to, _) => return (Taken::Fails(Span { from, to }), to),
-            Outcome::Ends(_) => return (Taken::Ends, from),
-        }
-    }
-}
-
 /// Makes the try that stands before an entry again, by itself: it notes the marks that it passes.
 #[cold]
 #[inline(never)]
@@ -145,7 +114,7 @@ fn try_again(reading: &Reading, run: Run, chunk: &mut Chunk) -> (Taken, Run)
     ensures taken { IsTaken reading.now.code.now reading.now.input.now run.cursor.start
         result.0 result.1.cursor.start }
 {
-    let (taken, next) = tried(reading, run.cursor.start);
+    let (taken, next) = tried(reading.code, reading.input, run.cursor.start);
     (taken, restarted(reading, run, chunk, next))
 }
 
@@ -307,7 +276,7 @@ impl Run {
     #[inline(always)]
     pub fn next_item<'i, C: Fn(LeafId, &[u8]) -> Action>(
         &mut self,
-        reading: &Reading<'_, '_, 'i>,
+        reading: &Reading<'_, '_, '_, 'i>,
         chunk: &mut Chunk,
         callback: &C,
     ) -> Option<Item<'i>>

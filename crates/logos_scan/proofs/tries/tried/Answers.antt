@@ -1,7 +1,7 @@
 use Rattle.std.proofs.Common.{◌≡◌, ◌-◌, ◌<◌, length, refl, arith}
 use Rattle.logos_machine.specs.inside.Stands.{IsMatch}
 use Rattle.logos_scan.specs.Tries.{skips_none, skips_then}
-use Rattle.logos_scan.proofs.run.tried.Goals as goal
+use Rattle.logos_scan.proofs.tries.tried.Goals as goal
 
 pub loop-from-init : goal.loop-from-init
 loop-from-init c = record {
@@ -11,24 +11,24 @@ loop-from-init c = record {
 
 pub loop-from-smaller : goal.loop-from-smaller
 loop-from-smaller c =
-    let input = c.args.reading.now.input.now in
+    let input = c.args.input.now in
     let from = c.loop-from.from in
     let to = c.in-Skips.to in
     let e = c.in-Skips.ensures in
-    let fits : IsMatch c.args.reading.now.code.now input from e.0 to = e.2.0.within in
+    let fits : IsMatch c.args.code.now input from e.0 to = e.2.within in
     let smaller : length input - to < length input - from = omega (arith, fits.1, fits.2) in
     smaller
 
 pub loop-from-preserved : goal.loop-from-preserved
 loop-from-preserved c =
-    let input = c.args.reading.now.input.now in
+    let input = c.args.input.now in
     let from = c.loop-from.from in
     let to = c.in-Skips.to in
     let e = c.in-Skips.ensures in
-    let fits : IsMatch c.args.reading.now.code.now input from e.0 to = e.2.0.within in
+    let fits : IsMatch c.args.code.now input from e.0 to = e.2.within in
     record {
-      within = fits.2.1;
-      skips = skips_then c.args.from from to e.0 e.1 c.loop-from.invariant.skips e.2.0 e.2.1;
+      within = fits.2;
+      skips = skips_then c.args.from from to e.0 e.1 c.loop-from.invariant.skips e.2 e.3;
     }
 
 pub returns-in-Emits : goal.returns-in-Emits

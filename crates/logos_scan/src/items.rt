@@ -1,0 +1,62 @@
+//! All items of an input at once.
+
+ghost use Rattle.std.specs.Prelude.{◌≡◌, map, IfOk};
+ghost use Rattle.logos_scan.specs.Words.{answers_of, item_of, Runs};
+
+use crate::choice::suits;
+use crate::run::{Reading, Run};
+use logos_code::action::Action;
+use logos_fold::folded::Folded;
+use logos_hir::leaf::LeafId;
+use logos_machine::machine::{Item, Lexer};
+use logos_walk::masks::Chunk;
+use std::alloc::{AllocError, Global};
+
+/// Returns all items of the input of a lexer that stands at its start, in order: by chunks where
+/// that likely takes less time.
+///
+/// # Errors
+///
+/// Returns `AllocError` if memory runs out.
+pub fn items<'i, C: Fn(LeafId, &[u8]) -> Action + Drop>(
+    alloc: Global,
+    lexer: Lexer<'_, '_, 'i, C>,
+) -> Result<Vec<Item<'i>>, AllocError>
+    requires callable { C.IsAlwaysCallable lexer.callback }
+    requires first { lexer.to ≡ 0 }
+    ensures { IfOk result (λ items. Runs lexer.entry.code (answers_of C.Fn lexer.entry.callback)
+        lexer.entry.input 0 (map item_of items.items)) }
+{
+    if !suits(lexer.code(), lexer.input()) {
+        return lexer.items(alloc);
+    }
+    match Folded::new(alloc, lexer.code())? {
+        Some(folded) => items_by_chunks(alloc, &folded, lexer.input(), lexer.callback()),
+        None => lexer.items(alloc),
+    }
+}
+
+/// Returns all items of an input, in order, by chunks.
+///
+/// # Errors
+///
+/// Returns `AllocError` if memory runs out.
+pub fn items_by_chunks<'i, C: Fn(LeafId, &[u8]) -> Action>(
+    alloc: Global,
+    folded: &Folded<'_, '_>,
+    input: &'i [u8],
+    callback: &C,
+) -> Result<Vec<Item<'i>>, AllocError>
+    requires { C.IsAlwaysCallable callback.now }
+    ensures { IfOk result (λ items. Runs folded.now.code (answers_of C.Fn callback.now) input.now 0
+        (map item_of items.items)) }
+{
+    let reading = Reading::new(folded, input);
+    let mut chunk = Chunk::new();
+    let mut run = Run::new(&reading, &mut chunk);
+    let mut items = Vec::new(alloc);
+    while let Some(item) = run.next_item(&reading, &mut chunk, callback) {
+        items.push(item)?;
+    }
+    Ok(items)
+}
