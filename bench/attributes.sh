@@ -1,6 +1,7 @@
 #!/usr/bin/env bash
-# Measures `analyze` on enums with many attributes, and prints a table: the seconds of the call alone, the leaves, the faults, and
-# the most memory that the program used, its source included. Of three runs the fastest counts.
+# Measures `analyze` on enums with many attributes, and prints a table: the seconds of the call
+# alone, the leaves, the faults, and the most memory that the program used, its source included. Of
+# three runs the fastest counts.
 #
 # It needs python3. `bench/program.sh` builds the program of `bench/attributes`.
 set -euo pipefail

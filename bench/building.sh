@@ -1,11 +1,12 @@
 #!/usr/bin/env bash
-# Measures `generate` on sources that a script makes, and prints a table: the seconds of the call alone, the states of the
-# code, or the fault where there is none, the most memory that the program used, its source included, and how many times as
-# long it took as the row of 4000 keywords, which grows with its keywords. Of three runs the fastest counts. Rows of long
-# times have a number that they may not pass there: each one that passes it is named at the end, and the status is 1.
+# Measures `generate` on sources that a script makes, and prints a table: the seconds of the call
+# alone, the states of the code, or the fault where there is none, the most memory that the program
+# used, its source included, and how many times as long it took as the row of 4000 keywords, which
+# grows with its keywords. Of three runs the fastest counts. Rows of long times have a number that
+# they may not pass there: each one that passes it is named at the end, and the status is 1.
 #
-# It needs python3. `bench/program.sh` builds the program of bench/building. The variable BUILDING names a program to measure in its place, which can be
-# one that is not proved.
+# It needs python3. `bench/program.sh` builds the program of bench/building. The variable BUILDING
+# names a program to measure in its place, which can be one that is not proved.
 set -euo pipefail
 
 . "$(dirname "${BASH_SOURCE[0]}")/program.sh"
@@ -25,7 +26,8 @@ fastest() {
     done | sort -n | head -n 1
 }
 
-# NAME KIND SIZE [MOST]: a row of the table, which may take at most MOST times as long as the row of 4000 keywords.
+# NAME KIND SIZE [MOST]: a row of the table, which may take at most MOST times as long as the row of
+# 4000 keywords.
 measure() {
     fastest "$2" "$3" | awk -v name="$1" -v linear="$linear" -v most="${4:-0}" -v slow="$copy/slow" '{
         printf "| %s | %.3f | %s | %.0f | %.2f |\n", name, $1, $2, $3 / 1024, $1 / linear

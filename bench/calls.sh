@@ -1,7 +1,8 @@
 #!/usr/bin/env bash
-# Measures public calls that the other scripts do not, each on a large text and on one of half its size, and prints a table: the seconds
-# of the call alone, how much it gave (bytes, tokens, pieces, items, parts or tables), and the most memory that the program used, its text
-# included. Each row is one run.
+# Measures public calls that the other scripts do not, each on a large text and on one of half its
+# size, and prints a table: the seconds of the call alone, how much it gave (bytes, tokens, pieces,
+# items, parts or tables), and the most memory that the program used, its text included. Each row is
+# one run.
 #
 # It needs python3. `bench/program.sh` builds the program of `bench/calls`.
 set -euo pipefail

@@ -1,11 +1,13 @@
 #!/usr/bin/env bash
-# Measures how long a package with four lexers takes to build: with `#[derive(Logos)]`, in the shape of tables, and with the same lexers expanded by
-# hand in the shape `tailcall`. Each time everything is built anew, the packages `logos` and `logos-derive` too.
+# Measures how long a package with four lexers takes to build: with `#[derive(Logos)]`, in the shape
+# of tables, and with the same lexers expanded by hand in the shape `tailcall`. Each time everything
+# is built anew, the packages `logos` and `logos-derive` too.
 #
 #   bench/derive.sh [PROGRAM] [TIMES]
 #
-# PROGRAM is `logos_cli`. Without it, it is the one that the variable LOGOS_CLI names, or the one that the gate has built. A line for each build:
-# the package, the profile, and its seconds by the clock and of processor time.
+# PROGRAM is `logos_cli`. Without it, it is the one that the variable LOGOS_CLI names, or the one
+# that the gate has built. A line for each build: the package, the profile, and its seconds by the
+# clock and of processor time.
 set -euo pipefail
 
 root=$(cd "$(dirname "${BASH_SOURCE[0]}")/.." && pwd)

@@ -1,7 +1,7 @@
 #!/usr/bin/env bash
-# Measures `Graph::new`, and prints a table: the seconds of the call alone, the states of the automaton
-# and of the graph, the number of errors, and the most memory that the program used. Of three runs the
-# fastest counts.
+# Measures `Graph::new`, and prints a table: the seconds of the call alone, the states of the
+# automaton and of the graph, the number of errors, and the most memory that the program used. Of
+# three runs the fastest counts.
 #
 # `bench/program.sh` builds the program of `bench/graph`.
 set -euo pipefail

@@ -1,14 +1,18 @@
 #!/usr/bin/env bash
-# Measures `Lexer` beside scanners of the same rules on the same texts: those that flex and re2c make, and, where rustc is found,
-# what it makes of the Rust text of these rules, over `runtime/rust`: in both shapes of `logos gen`, and as tables. Each text has 32 MiB and is made by
-# bench/lexer/text.py. Prints a table of megabytes a second, the time of `Lexer` by that of the fastest of these but the tables, and the times of the
-# tables and of their `scan` by that of the faster other shape. Where rustc is found a second
-# table follows: `logos lex` beside programs in Rust that print the same lines through a `BufWriter`, on texts of 64 MiB. Of the runs, taken in turns,
-# the fastest of each counts; the first argument says how many, ten without it. Further arguments name the texts that are measured, instead of all.
+# Measures `Lexer` beside scanners of the same rules on the same texts: those that flex and re2c
+# make, and, where rustc is found, what it makes of the Rust text of these rules, over
+# `runtime/rust`: in both shapes of `logos gen`, and as tables. Each text has 32 MiB and is made by
+# bench/lexer/text.py. Prints a table of megabytes a second, the time of `Lexer` by that of the
+# fastest of these but the tables, and the times of the tables and of their `scan` by that of the
+# faster other shape. Where rustc is found a second table follows: `logos lex` beside programs in
+# Rust that print the same lines through a `BufWriter`, on texts of 64 MiB. Of the runs, taken in
+# turns, the fastest of each counts; the first argument says how many, ten without it. Further
+# arguments name the texts that are measured, instead of all.
 #
-# It needs flex, re2c, gcc and python3, as in `apt-get install flex re2c gcc python3`, and uses rustc where it is found. `bench/program.sh` builds
-# the program of `bench/lexer`, and `logos`. The variables LEXER and LOGOS name two programs to measure in their place, which can be ones that are not
-# proved.
+# It needs flex, re2c, gcc and python3, as in `apt-get install flex re2c gcc python3`, and uses
+# rustc where it is found. `bench/program.sh` builds the program of `bench/lexer`, and `logos`. The
+# variables LEXER and LOGOS name two programs to measure in their place, which can be ones that are
+# not proved.
 set -euo pipefail
 
 . "$(dirname "${BASH_SOURCE[0]}")/program.sh"
@@ -74,7 +78,8 @@ if command -v rustc > /dev/null; then
     done
 fi
 
-# Adds the shape of tables, which `logos_cli` prints, as a scanner. The variable CLI names a program to take in its place.
+# Adds the shape of tables, which `logos_cli` prints, as a scanner. The variable CLI names a program
+# to take in its place.
 add_tables() {
     local name folder cli=${CLI:-$copy/crates/logos_cli/out/logos_cli}
     if [ -z "${CLI:-}" ]; then

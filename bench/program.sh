@@ -1,8 +1,9 @@
-# The beginning of the scripts of this folder, which read it. It gives them `bench`, this folder, and `copy`, a folder that is removed
-# at their end.
+# The beginning of the scripts of this folder, which read it. It gives them `bench`, this folder,
+# and `copy`, a folder that is removed at their end.
 #
-# The program of bench/NAME is built in a copy of the repository as `rt run` builds it, so the crates below it are proved
-# first, where they are not already. Its sources do not end in .rt in bench/NAME, since the gate refuses such files outside the crates.
+# The program of bench/NAME is built in a copy of the repository as `rt run` builds it, so the
+# crates below it are proved first, where they are not already. Its sources do not end in .rt in
+# bench/NAME, since the gate refuses such files outside the crates.
 bench=$(cd "$(dirname "${BASH_SOURCE[0]}")" && pwd)
 copy=$(mktemp -d)
 trap 'rm -rf "$copy"' EXIT
@@ -19,7 +20,8 @@ copy_crates() {
     done
 }
 
-# NAME LIBRARIES: adds the crate NAME_bench, with the sources of bench/NAME, over these libraries. `crate` is its folder from then on.
+# NAME LIBRARIES: adds the crate NAME_bench, with the sources of bench/NAME, over these libraries.
+# `crate` is its folder from then on.
 add_crate() {
     local file name
     crate="$copy/crates/${1}_bench"

@@ -1,7 +1,7 @@
 #!/usr/bin/env bash
-# Measures `read_enum` on the tokens of large enums, and prints a table: the bytes of the source, the
-# variants, the seconds of the call alone, and the most memory that the program used, its source and
-# tokens included. Of three runs the fastest counts.
+# Measures `read_enum` on the tokens of large enums, and prints a table: the bytes of the source,
+# the variants, the seconds of the call alone, and the most memory that the program used, its source
+# and tokens included. Of three runs the fastest counts.
 #
 # `bench/program.sh` builds the program of `bench/reading`.
 set -euo pipefail

@@ -1,10 +1,11 @@
 #!/usr/bin/env bash
-# Measures edits of one byte, at a thousand points all over a text of 64 MiB (or of as many as the first argument says), and prints a table:
-# the items, the chunks, the milliseconds of a lexer on the whole text and of `Lexed::new`, and the microseconds of an edit, in the mean and
-# at most. An edit puts a letter in place of a byte. The texts are those of two examples, again and again.
+# Measures edits of one byte, at a thousand points all over a text of 64 MiB (or of as many as the
+# first argument says), and prints a table: the items, the chunks, the milliseconds of a lexer on
+# the whole text and of `Lexed::new`, and the microseconds of an edit, in the mean and at most. An
+# edit puts a letter in place of a byte. The texts are those of two examples, again and again.
 #
-# `bench/program.sh` builds the program of bench/relex. The variable RELEX names a program to measure in its place, which can be one that is
-# not proved.
+# `bench/program.sh` builds the program of bench/relex. The variable RELEX names a program to
+# measure in its place, which can be one that is not proved.
 set -euo pipefail
 
 . "$(dirname "${BASH_SOURCE[0]}")/program.sh"

@@ -1,9 +1,13 @@
 #!/usr/bin/env bash
-# Measures `logos_show FILE INPUT` beside `logos lex` on an input of 64 MiB: show.sh [LOGOS_SHOW [LOGOS]]
+# Measures `logos_show FILE INPUT` beside `logos lex` on an input of 64 MiB:
 #
-# The input is examples/lexers/json.input, repeated, and the lexer is the enum of examples/lexers/json.rs. Each program runs three times, in
-# turns, and its fastest run counts. The script fails if `logos_show` needs more than the input and 16 MiB of memory, or more than twice
-# the processor time of `logos lex`. The programs are those in crates/logos_show/out and crates/logos_program/out, if they are not given.
+#   show.sh [LOGOS_SHOW [LOGOS]]
+#
+# The input is examples/lexers/json.input, repeated, and the lexer is the enum of
+# examples/lexers/json.rs. Each program runs three times, in turns, and its fastest run counts. The
+# script fails if `logos_show` needs more than the input and 16 MiB of memory, or more than twice
+# the processor time of `logos lex`. The programs are those in crates/logos_show/out and
+# crates/logos_program/out, if they are not given.
 set -euo pipefail
 
 root=$(cd "$(dirname "${BASH_SOURCE[0]}")/.." && pwd)

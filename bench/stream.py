@@ -1,10 +1,12 @@
 #!/usr/bin/env python3
-"""Feeds a long standard input to `logos_show FILE -`, and prints how much memory it took and how fast it was.
+"""Feeds a long standard input to `logos_show FILE -`, and prints how much memory it took and how
+fast it was.
 
   python3 bench/stream.py [LOGOS_SHOW] [GB] [--torn]
 
-Without words it feeds 10 GB to crates/logos_show/out/logos_show. With `--torn` the middle is a byte that is not UTF-8: then the items before it
-and the message are compared with what they have to be, and without it the counts. It fails if they differ, or if more than 64 MiB are in memory.
+Without words it feeds 10 GB to crates/logos_show/out/logos_show. With `--torn` the middle is a byte
+that is not UTF-8: then the items before it and the message are compared with what they have to be,
+and without it the counts. It fails if they differ, or if more than 64 MiB are in memory.
 """
 import os
 import subprocess

@@ -1,13 +1,15 @@
 #!/usr/bin/env bash
-# Measures the texts of lexers in their three shapes: the bytes of the text, the processor seconds that `rustc -O` takes for a program with it, the
-# bytes of that program's machine code and tables, and the MB that it lexes in a second, the fastest of some runs. The lexers are like those
-# of Rust, SQL and Python, with Unicode identifiers, and that of JSON. Each reads a text of its kind, made by bench/text/text.py; all
-# three shapes have to find as many tokens and errors in it. The row `scan` is of a program that calls `scan` of the shape `tables`.
+# Measures the texts of lexers in their three shapes: the bytes of the text, the processor seconds
+# that `rustc -O` takes for a program with it, the bytes of that program's machine code and tables,
+# and the MB that it lexes in a second, the fastest of some runs. The lexers are like those of Rust,
+# SQL and Python, with Unicode identifiers, and that of JSON. Each reads a text of its kind, made by
+# bench/text/text.py; all three shapes have to find as many tokens and errors in it. The row `scan`
+# is of a program that calls `scan` of the shape `tables`.
 #
 #   bash bench/text.sh [RUNS]
 #
-# It needs rustc and python3. `bench/program.sh` builds `logos` and `logos_cli`. The variables LOGOS and CLI name two programs in their place, which can
-# be ones that are not proved.
+# It needs rustc and python3. `bench/program.sh` builds `logos` and `logos_cli`. The variables LOGOS
+# and CLI name two programs in their place, which can be ones that are not proved.
 set -euo pipefail
 
 . "$(dirname "${BASH_SOURCE[0]}")/program.sh"

@@ -1,10 +1,13 @@
 #!/usr/bin/env python3
-"""Changes one wanted value of each part of the tests in a copy of the checkout, and runs the part there: it has to fail.
+"""Changes one wanted value of each part of the tests in a copy of the checkout, and runs the part
+there: it has to fail.
 
   python3 tests/changed_rows.py [PART ..]
 
-It is run by hand, and before a release, on the programs that `tests/quick.sh` has built: it shows that no part passes whatever is wanted. Each part is
-run as it stands first, and has to pass. The last line is `N passed, M failed`: a part has passed if it failed with its changed value, and passed without it.
+It is run by hand, and before a release, on the programs that `tests/quick.sh` has built: it shows
+that no part passes whatever is wanted. Each part is run as it stands first, and has to pass. The
+last line is `N passed, M failed`: a part has passed if it failed with its changed value, and passed
+without it.
 """
 import pathlib
 import shutil
@@ -15,7 +18,8 @@ import tempfile
 import run_parts
 
 TOP = pathlib.Path(__file__).resolve().parents[1]
-# Each part: the file that is changed, and what is put in the place of which text, which stands in the file. With no text the new one is added.
+# Each part: the file that is changed, and what is put in the place of which text, which stands in
+# the file. With no text the new one is added.
 PARTS = {
     "borrows": ("tests/borrows/group_returned.edit", "borrow-e0515", "borrow-e0505"),
     "definitions": ("docs/DEFINITIONS.md", "`IsAccepted`", "`IsAcceptable`"),
@@ -97,7 +101,7 @@ def shows(room, part):
 
 
 def main(names):
-    parts = {it.name: it for it in run_parts.listed() if it.name != "proofs"}
+    parts = {it.name: it for it in run_parts.listed() if it.name not in run_parts.OF_PROOFS}
     unknown = [it for it in [*names, *parts] if it not in parts or it not in PARTS]
     if unknown:
         sys.exit(f"changed_rows: no value is stated here of a part {unknown[0]}")

@@ -1,8 +1,10 @@
 #!/usr/bin/env bash
-# Runs the examples: `cargo test` in each Cargo package of examples/, of runtime/rust and of runtime/build, without a network.
+# Runs the examples: `cargo test` in each Cargo package of examples/, of runtime/rust and of
+# runtime/build, without a network.
 #
-# The program `logos_cli` is the one that the gate has built, or the first argument. Where cargo is missing, that is printed, and nothing is tested. The
-# last line is `examples: N passed, M failed`, with the number of tests that passed, and that of packages that failed.
+# The program `logos_cli` is the one that the gate has built, or the first argument. Where cargo is
+# missing, that is printed, and nothing is tested. The last line is `examples: N passed, M failed`,
+# with the number of tests that passed, and that of packages that failed.
 set -uo pipefail
 
 root=$(cd "$(dirname "${BASH_SOURCE[0]}")/.." && pwd)

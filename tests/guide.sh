@@ -1,12 +1,15 @@
 #!/usr/bin/env bash
-# Runs each command of docs/GUIDE.md and of README.md at the top of the repository, and compares what it prints with what stands below it.
+# Runs each command of docs/GUIDE.md and of README.md at the top of the repository, and compares
+# what it prints with what stands below it.
 #
-# A command stands after `$ ` in a block of the kind `console`. The script fails where the guide has a block of another kind, where a page
-# has a block without a command, or a command outside blocks; and where other numbers of blocks and commands ran than are stated here. The
-# enum of the guide has to be that of the tokenizer.
+# A command stands after `$ ` in a block of the kind `console`. The script fails where the guide has
+# a block of another kind, where a page has a block without a command, or a command outside blocks;
+# and where other numbers of blocks and commands ran than are stated here. The enum of the guide has
+# to be that of the tokenizer.
 #
-# `logos`, `logos_cli` and `logos_show` are the programs as `rt ci` or `rt run` leaves them in crates/logos_program/out, crates/logos_cli/out and
-# crates/logos_show/out, or the first three arguments.
+# `logos`, `logos_cli` and `logos_show` are the programs as `rt ci` or `rt run` leaves them in
+# crates/logos_program/out, crates/logos_cli/out and crates/logos_show/out, or the first three
+# arguments.
 set -euo pipefail
 
 root=$(cd "$(dirname "${BASH_SOURCE[0]}")/.." && pwd)
@@ -41,8 +44,9 @@ logos_show() {
     "$show" "$@"
 }
 
-# Reads a page, runs its commands, and writes the page with what they print in place of what it shows. Counts blocks and commands.
-# Each line is looked at together with whether it is inside of a block of commands, of another block, or of none.
+# Reads a page, runs its commands, and writes the page with what they print in place of what it
+# shows. Counts blocks and commands. Each line is looked at together with whether it is inside of a
+# block of commands, of another block, or of none.
 run_page() {
     local line inside=no begun=0 ran_before=0
     opened=0
@@ -67,7 +71,8 @@ run_page() {
     done < "$1" > "$room/page"
 }
 
-# Runs a page, which has so many blocks and commands: its name, the two numbers, and whether it may have other blocks.
+# Runs a page, which has so many blocks and commands: its name, the two numbers, and whether it may
+# have other blocks.
 check_page() {
     local ran_before=$ran
     run_page "$1" "$4"

@@ -1,11 +1,13 @@
 #!/usr/bin/env bash
-# Installs the three programs into a folder of its own, and runs there what README.md shows and the rows of each program.
+# Installs the three programs into a folder of its own, and runs there what README.md shows and the
+# rows of each program.
 #
 #   tests/install.sh [FOLDER]   installs them as tests/programs.py has built them in FOLDER, out/installed if it is not given
 #   tests/install.sh --whole    has tools/install.sh build them, as users do, which takes minutes. This is not in the gate
 #
-# Then it packs a release in two clones, and installs one of them. Last it builds a program that adds one to the byte 255, whose checks at run time end it: where its sums are those of proved.sums, and where its
-# source has changed since.
+# Then it packs a release in two clones, and installs one of them. Last it builds a program that
+# adds one to the byte 255, whose checks at run time end it: where its sums are those of
+# proved.sums, and where its source has changed since.
 set -uo pipefail
 
 root=$(cd "$(dirname "${BASH_SOURCE[0]}")/.." && pwd)

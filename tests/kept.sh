@@ -1,6 +1,8 @@
-# Read by scripts that compile what they have printed. In a quick test, the variable KEPT_BUILDS names a folder for what was compiled.
+# Read by scripts that compile what they have printed. In a quick test, the variable KEPT_BUILDS
+# names a folder for what was compiled.
 
-# Runs a command that makes a file, unless an earlier run made it from the same; all from which it is made is read from standard input.
+# Runs a command that makes a file, unless an earlier run made it from the same; all from which it
+# is made is read from standard input.
 kept() {
     local out=$1 at sum
     shift

@@ -1,9 +1,10 @@
 #!/usr/bin/env bash
-# Meets each limit of sources and patterns, and passes it by one, in both shapes: what is within a limit is accepted, what is beyond it
-# is refused with that limit at its place. Then it cuts a source off at each byte: each proper beginning is refused with one fault, by
-# `lex` and by `strip`.
+# Meets each limit of sources and patterns, and passes it by one, in both shapes: what is within a
+# limit is accepted, what is beyond it is refused with that limit at its place. Then it cuts a
+# source off at each byte: each proper beginning is refused with one fault, by `lex` and by `strip`.
 #
-# It needs the program as `rt ci` or `rt run` leaves it in crates/logos_program/out, or the first argument.
+# It needs the program as `rt ci` or `rt run` leaves it in crates/logos_program/out, or the first
+# argument.
 set -euo pipefail
 
 program=$(realpath "${1:-$(dirname "${BASH_SOURCE[0]}")/../crates/logos_program/out/logos_program}")
@@ -32,7 +33,8 @@ times() {
     printf '%s' "${text// /"$1"}"
 }
 
-# The status, the output and the complaint that the source in the file `source` must give, in both shapes.
+# The status, the output and the complaint that the source in the file `source` must give, in both
+# shapes.
 gives() {
     local name=$1 wanted=$2 out=$3 err=$4 shape status
     for shape in state_machine tailcall; do
@@ -45,7 +47,8 @@ gives() {
     done
 }
 
-# The complaint that is one fault, whichever it is, which the source in the file `source` must give, in both shapes and when it is stripped.
+# The complaint that is one fault, whichever it is, which the source in the file `source` must give,
+# in both shapes and when it is stripped.
 gives_a_fault() {
     local name=$1 command status
     for command in 'lex source input --shape state_machine' 'lex source input --shape tailcall' 'strip source'; do
@@ -126,7 +129,8 @@ printf '#[logos(type T = Vec<U>, type U = Option<T>)] enum E<T, U> { #[token("a"
 gives "types that hold each other" 1 '' '53..54 TypeHoldsItself: Type parameter T holds itself
 56..57 TypeHoldsItself: Type parameter U holds itself'
 
-# Each of these subpatterns names the one in front of it twice, so that their texts outgrow any memory; the program has little of it here.
+# Each of these subpatterns names the one in front of it twice, so that their texts outgrow any
+# memory; the program has little of it here.
 {
     printf '#[logos(subpattern s0 = "a")]\n'
     for ((number = 1; number <= 64; number++)); do

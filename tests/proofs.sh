@@ -1,19 +1,19 @@
 #!/usr/bin/env bash
-# Proves every crate, has each wrong body in the folders `must-fail` refused, and builds the programs.
+# Proves every crate, and builds the programs.
 #
 #   bash tests/proofs.sh            proves what has changed since the last run
 #   bash tests/proofs.sh --anew     proves everything
 #   bash tests/proofs.sh --kept     proves nothing: fails where an earlier run has not proved all of this
 #
-# Some toolchains keep what `rt ci` proved, crate by crate. With one that does not, a run whose proofs all passed leaves a note in the
-# folder .git/gate: which files it proved, with which toolchain, and which programs it built. A later run over the same files takes
-# its word for them.
+# Some toolchains keep what `rt ci` proved, crate by crate. With one that does not, a run whose
+# proofs all passed leaves a note in the folder .git/gate: which files it proved, with which
+# toolchain, and which programs it built. A later run over the same files takes its word for them.
 #
 # The sums in proved.sums have to be those of the crates, so that a program that is installed
 # without proofs may leave its checks out.
 #
-# In front of each verdict stand the seconds since the run began, and at the end the processor minutes of each crate. RT_JOBS says how
-# many checks run at once.
+# In front of each verdict stand the seconds since the run began, and at the end the processor
+# minutes of each crate. RT_JOBS says how many checks run at once.
 set -uo pipefail
 if [ $# -gt 0 ] && [ "$*" != --anew ] && [ "$*" != --kept ]; then
     echo "usage: bash tests/proofs.sh [--anew | --kept]" >&2
@@ -25,7 +25,8 @@ trap 'rm -rf "$room"' EXIT
 gate=$(git rev-parse --absolute-git-dir 2> /dev/null || echo "$room")/gate
 export GATE_ROOM=$room
 
-# Prints how many checks may run at once: at most 4, at most one for each core, and at most one for each 5 GiB of memory.
+# Prints how many checks may run at once: at most 4, at most one for each core, and at most one for
+# each 5 GiB of memory.
 jobs_that_fit() {
     local memory
     memory=$(awk '/^MemAvailable:/ { print int($2 / 1024 / 1024 / 5) }' /proc/meminfo)
@@ -37,7 +38,8 @@ kit() {
     dirname "$(realpath "$(rt doc | awk '{ print $1; exit }')")"
 }
 
-# Prints the sum of everything on which the proofs depend: the toolchain, this script, and the files of the crates.
+# Prints the sum of everything on which the proofs depend: the toolchain, this script, and the files
+# of the crates.
 inputs() {
     local at
     at=$(kit)
@@ -75,8 +77,9 @@ with_seconds() {
     done
 }
 
-# Notes every five seconds which checks of this run are under way, and how many seconds of processor time each has taken, until the
-# run ends. The checks of another run on this machine lack the word GATE_ROOM of this one.
+# Notes every five seconds which checks of this run are under way, and how many seconds of processor
+# time each has taken, until the run ends. The checks of another run on this machine lack the word
+# GATE_ROOM of this one.
 watch_checks() {
     local pid times words
     while command -v ps > /dev/null && [ -d "$room" ] && sleep 5; do
@@ -86,7 +89,8 @@ watch_checks() {
     done > "$room/checks"
 }
 
-# Prints the processor minutes of each crate that was seen while it was checked: as a library; and as a program, with its tests, or with a wrong body.
+# Prints the processor minutes of each crate that was seen while it was checked: as a library; and
+# as a program, with its tests, or with a wrong body.
 print_checks() {
     [ -s "$room/checks" ] || return 0
     printf '%-18s %8s %8s\n' 'processor minutes' library others

@@ -6,8 +6,9 @@
 #   bash tests/rattle_examples.sh --proved    proves each example by `rt ci`, as another repository would: as a crate of its own, in a folder with a
 #                                             copy of crates/ and the lines of crates.txt; and runs it. This is not in the gate
 #
-# Each example is examples/NAME/main.rt.in, with the crates that it uses, NAME.rs and the files of data/, and has to print data/expected
-# and end with status 0. The last line is `rattle_examples: N passed, M failed`.
+# Each example is examples/NAME/main.rt.in, with the crates that it uses, NAME.rs and the files of
+# data/, and has to print data/expected and end with status 0. The last line is
+# `rattle_examples: N passed, M failed`.
 set -uo pipefail
 
 root=$(cd "$(dirname "${BASH_SOURCE[0]}")/.." && pwd)
@@ -36,8 +37,8 @@ make_repository() {
     git -C "$room" init -q
 }
 
-# Makes a crate NAME_example of an example (a library of the toolchain may have the short name): its name, what it has to print, and its
-# words. Its program is read from standard input.
+# Makes a crate NAME_example of an example (a library of the toolchain may have the short name): its
+# name, what it has to print, and its words. Its program is read from standard input.
 add_crate() {
     local at=$room/crates/$1_example text
     names+=("$1_example")
@@ -53,7 +54,8 @@ add_crate() {
         cp "$root/examples/$1/$1.rs" "$root/examples/$1/data"/* "$at/data"
         rm "$at/data/expected"
     fi
-    # What is written of its proofs stands in files whose names end with `.in`: files of the toolchain may stand in crates alone.
+    # What is written of its proofs stands in files whose names end with `.in`: files of the
+    # toolchain may stand in crates alone.
     if [ -d "$root/examples/$1/proofs" ]; then
         cp -r "$root/examples/$1/proofs" "$at"
         find "$at/proofs" -name '*.in' -exec sh -c 'mv "$1" "${1%.in}"' _ {} \;
@@ -78,7 +80,8 @@ run_example() {
     fi
 }
 
-# Takes an example: its name, what it has to print, and its words. Its program is read from standard input.
+# Takes an example: its name, what it has to print, and its words. Its program is read from standard
+# input.
 take() {
     if [ "$mode" = proved ]; then
         add_crate "$@"

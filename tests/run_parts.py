@@ -1,16 +1,18 @@
 #!/usr/bin/env python3
 """Runs the parts of tests/parts, and counts what passed.
 
-  run_parts.py proved [--anew] [PART..]   with the programs that the part `proofs` leaves in the crates
-  run_parts.py quick [PART..]             without `proofs`, with programs that are built unproved
+  run_parts.py proved [--anew] [PART..]   with the programs that the part `proofs` has left
+  run_parts.py quick [PART..]             without `proofs` and `wrong_bodies`, with programs that
+                                          are built unproved
 
-What is built unproved is kept in `out/quick`, and for the proved programs beside it in `out/installed`, since it is then built as
-`tools/install.sh` builds programs.
+What is built unproved is kept in `out/quick`, and for the proved programs beside it in
+`out/installed`, since it is then built as `tools/install.sh` builds programs.
 
-Without names all parts run. Those that may run beside others do so, as many at once as there are cores. Each runs,
-whatever failed before it. At the end stand the time and the counts of each part, then a line for each part that was
-left out because a tool is missing, and last a line `N passed, M failed` with the sums. A part in which fewer passed
-than the list states has failed, and so has one that prints no counts. The status is 1 if anything failed."""
+Without names all parts run. Those that may run beside others do so, as many at once as there are
+cores. Each runs, whatever failed before it. At the end stand the time and the counts of each part,
+then a line for each part that was left out because a tool is missing, and last a line
+`N passed, M failed` with the sums. A part in which fewer passed than the list states has failed,
+and so has one that prints no counts. The status is 1 if anything failed."""
 import argparse
 import dataclasses
 import glob
@@ -27,11 +29,15 @@ ROOT = os.path.dirname(os.path.dirname(os.path.realpath(__file__)))
 LIST = f"{ROOT}/tests/parts"
 KEPT = {"quick": f"{ROOT}/out/quick", "proved": f"{ROOT}/out/installed"}
 LEVEL = {"quick": "-O1", "proved": ""}
-# The programs that commands name, the folder of the examples in Rattle, and that of all that is built without proofs.
+# The programs that commands name, the folder of the examples in Rattle, and that of all that is
+# built without proofs.
 NAMES = {"logos": "logos", "logos_cli": "logos_cli", "logos_show": "logos_show", "calls": "calls", "evidence": "evidence", "edits": "edits", "examples": "examples", "built": "."}
 # Where `proofs` leaves programs.
 PROVED = {name: f"{ROOT}/crates/{crate}/out/{crate}" for name, crate in (("logos", "logos_program"), ("logos_cli", "logos_cli"), ("logos_show", "logos_show"))}
 BUILD = "programs"
+# The parts that the quick test leaves out: the proofs, and what needs the libraries that they
+# leave.
+OF_PROOFS = ("proofs", "wrong_bodies")
 PRINTING = threading.Lock()
 
 
@@ -84,7 +90,8 @@ def paths_of(how):
 
 
 def with_programs(parts, how):
-    """Returns the parts with one that builds what they need, in front of them, but after the proofs."""
+    """Returns the parts with one that builds what they need, in front of them, but after the
+    proofs."""
     if all(it in PROVED and how == "proved" for part in parts for it in part.programs):
         return parts
     at = next((number for number, part in enumerate(parts, 1) if part.name == "proofs"), 0)
@@ -98,7 +105,8 @@ def words(part, paths):
 
 
 def counts(part, output, status):
-    """Returns how many passed and failed by the last line of the output, and what is wrong besides."""
+    """Returns how many passed and failed by the last line of the output, and what is wrong
+    besides."""
     lines = output.rstrip("\n").rsplit("\n", 1)
     found = re.search(r"(\d+) passed, (\d+) failed", lines[-1])
     if not found:
@@ -162,7 +170,8 @@ class Line:
             return None
 
     def first_ready(self):
-        """Returns the first part whose programs are there. After a part that runs alone none begins before it has ended."""
+        """Returns the first part whose programs are there. After a part that runs alone none begins
+        before it has ended."""
         for part in self.waiting:
             if part.alone:
                 return None if self.running else part
@@ -193,7 +202,7 @@ def table(results):
 
 def chosen(given):
     """Returns the parts that are asked for, and lines for those that are left out."""
-    parts = [it for it in listed() if given.how == "proved" or it.name != "proofs"]
+    parts = [it for it in listed() if given.how == "proved" or it.name not in OF_PROOFS]
     unknown = set(given.parts) - {it.name for it in parts}
     if unknown:
         fail(f"no part is named {sorted(unknown)[0]}: there are {', '.join(it.name for it in parts)}")
@@ -211,7 +220,7 @@ def main():
     parts, left_out = chosen(given)
     if given.anew:
         for part in parts:
-            part.command += " --anew" * (part.name == "proofs")
+            part.command += " --anew" * (part.name in OF_PROOFS)
     begun = time.monotonic()
     line = Line(parts, given.how)
     os.environ["PYTHONDONTWRITEBYTECODE"] = "1"

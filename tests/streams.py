@@ -1,5 +1,6 @@
 #!/usr/bin/env python3
-"""Feeds standard inputs to `logos_show FILE -`: pipes that stay open, come in pieces, are long, or are not UTF-8.
+"""Feeds standard inputs to `logos_show FILE -`: pipes that stay open, come in pieces, are long, or
+are not UTF-8.
 
   python3 tests/streams.py LOGOS_SHOW
 
@@ -54,7 +55,8 @@ def program(*words):
 
 
 def given(data, *words, pieces=None):
-    """Returns the status, the lines before the empty line, and the messages of a program that is fed some bytes, perhaps in pieces."""
+    """Returns the status, the lines before the empty line, and the messages of a program that is
+    fed some bytes, perhaps in pieces."""
     with program(*words) as running:
         if pieces:
             for piece in pieces:
@@ -130,7 +132,8 @@ def any_bytes():
 
 
 def a_token_that_is_too_long():
-    """A token of more bytes than are in memory is an error after the items before it; one of fewer is none."""
+    """A token of more bytes than are in memory is an error after the items before it; one of fewer
+    is none."""
     message = f'error: the token at byte 5 is longer than {MOST} bytes; name a file as the input\n'
     wants('too long', (1, ['1:1  Fast  "fast"', ''], message), given(b'fast ' + b'x' * (MOST + 1)))
     status, items, message = given(b'fast ' + b'x' * (MOST - 1) + b' 12')

@@ -1,12 +1,14 @@
 #!/usr/bin/env python3
-"""Feeds each character that a terminal obeys, or does not show, through the places of a report and of an answer, and looks for it in
-what is printed.
+"""Feeds each character that a terminal obeys, or does not show, through the places of a report and
+of an answer, and looks for it in what is printed.
 
   terminal.py LOGOS_CLI LOGOS_SHOW
 
-The places of a report are a comment and a pattern in the lines of a source, the message of a fault that quotes a pattern, the line of a
-warning, the text on which ambiguous leaves meet, and the path of the file. The answers are those of `logos_show` about a pattern or an input that holds the character, and the paths that they name.
-What `--inputs` prints must also read back as the character. Each character in each place counts as one. The last line is
+The places of a report are a comment and a pattern in the lines of a source, the message of a fault
+that quotes a pattern, the line of a warning, the text on which ambiguous leaves meet, and the path
+of the file. The answers are those of `logos_show` about a pattern or an input that holds the
+character, and the paths that they name. What `--inputs` prints must also read back as the
+character. Each character in each place counts as one. The last line is
 `terminal: N passed, M failed`."""
 import os
 import re
@@ -15,8 +17,9 @@ import sys
 import tempfile
 import unicodedata
 
-# Characters of the categories of controls, formats and separators of lines, but for those that a source or a path cannot hold
-# there. A prepended mark of Arabic, Syriac or Kaithi is seen, and so are the controls of hieroglyphs and of notes.
+# Characters of the categories of controls, formats and separators of lines, but for those that a
+# source or a path cannot hold there. A prepended mark of Arabic, Syriac or Kaithi is seen, and so
+# are the controls of hieroglyphs and of notes.
 SEEN = {*range(0x600, 0x606), 0x6DD, 0x70F, 0x890, 0x891, 0x8E2, 0x110BD, 0x110CD, *range(0x13430, 0x13440), *range(0x1BCA0, 0x1BCA4),
         *range(0x1D173, 0x1D17B)}
 WANTED = [c for c in range(0x110000) if unicodedata.category(chr(c)) in ("Cc", "Cf", "Zl", "Zp") and c not in SEEN]
@@ -29,7 +32,8 @@ PLACES = {
 }
 
 
-# Questions to `logos_show`, each with the words, what else has to be printed, and the files. `{}` is the character.
+# Questions to `logos_show`, each with the words, what else has to be printed, and the files. `{}`
+# is the character.
 FOUND = '#[derive(Logos)] enum E {{ #[token("{}")] A }}'
 ANY = '#[derive(Logos)] enum E {{ #[regex("[^a]+")] A }}'
 QUESTIONS = {

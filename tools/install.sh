@@ -1,10 +1,13 @@
 #!/usr/bin/env bash
-# Puts the programs `logos_cli`, `logos_show` and `logos` into PREFIX/bin: tools/install.sh [--proved | --built FOLDER] [--only NAME] [PREFIX]
+# Puts the programs `logos_cli`, `logos_show` and `logos` into PREFIX/bin: tools/install.sh
+# [--proved | --built FOLDER] [--only NAME] [PREFIX]
 #
-# PREFIX is ~/.local if it is not given. Without --proved the programs are built from the same sources, optimised and unproved, in a few minutes:
-# without checks at run time where the crates are those of proved.sums, which the gate compares with what it proved, and with them else.
-# With --proved, every crate is proved first, which takes about an hour, and the programs are those that the gate builds. With --built they
-# are taken from a folder in which they were built. With --only just the program with this name is installed.
+# PREFIX is ~/.local if it is not given. Without --proved the programs are built from the same
+# sources, optimised and unproved, in a few minutes: without checks at run time where the crates are
+# those of proved.sums, which the gate compares with what it proved, and with them else. With
+# --proved, every crate is proved first, which takes about an hour, and the programs are those that
+# the gate builds. With --built they are taken from a folder in which they were built. With --only
+# just the program with this name is installed.
 set -euo pipefail
 
 root=$(cd "$(dirname "${BASH_SOURCE[0]}")/.." && pwd)

@@ -1,8 +1,9 @@
 #!/usr/bin/env bash
 # Installs the programs of a release: bash install.sh [PREFIX]
 #
-# PREFIX is ~/.local if it is not given. The programs come into PREFIX/bin, and the Rust crates, the pages and the licences into
-# PREFIX/share/logos, in the place of those of another release. Nothing is installed where a file is not as its sum says.
+# PREFIX is ~/.local if it is not given. The programs come into PREFIX/bin, and the Rust crates, the
+# pages and the licences into PREFIX/share/logos, in the place of those of another release. Nothing
+# is installed where a file is not as its sum says.
 set -euo pipefail
 
 here=$(cd "$(dirname "${BASH_SOURCE[0]}")" && pwd)

@@ -65,7 +65,8 @@ def different(root, crates):
 
 
 def write(root):
-    """Writes the sums of all crates. Where they stand there already, the toolchain joins the others."""
+    """Writes the sums of all crates. Where they stand there already, the toolchain joins the
+    others."""
     proved_by, sums = noted(root)
     same = proved_by if not changed(root, {*lines_of(root), *sums}) else []
     with open(f"{root}/{NAME}", "w", encoding="utf-8") as file:

@@ -1,13 +1,16 @@
 #!/usr/bin/env bash
-# Packs the three proved programs for machines without the toolchain: tools/release.sh [--built FOLDER] FOLDER
+# Packs the three proved programs for machines without the toolchain: tools/release.sh [--built
+# FOLDER] FOLDER
 #
-# It writes FOLDER/logos-VERSION-x86_64-linux.tar.gz, with the programs, `runtime/`, the pages and the licences; the file COMMIT,
-# which names the commit; and the file SHA256SUMS, with the sum of each other file. Its `install.sh` compares the sums, and puts
-# the programs into PREFIX/bin and the rest into PREFIX/share/logos. The programs need x86-64 Linux with glibc 2.34 or later.
+# It writes FOLDER/logos-VERSION-x86_64-linux.tar.gz, with the programs, `runtime/`, the pages and
+# the licences; the file COMMIT, which names the commit; and the file SHA256SUMS, with the sum of
+# each other file. Its `install.sh` compares the sums, and puts the programs into PREFIX/bin and the
+# rest into PREFIX/share/logos. The programs need x86-64 Linux with glibc 2.34 or later.
 #
-# The programs are those that `.ci/run` has proved and built, and it refuses where a file has changed since. With --built they are taken from a
-# folder in which they were built, and COMMIT says that they are not the proved ones. The same commit and the same programs give the
-# same bytes, wherever the clone lies.
+# The programs are those that `.ci/run` has proved and built, and it refuses where a file has
+# changed since. With --built they are taken from a folder in which they were built, and COMMIT says
+# that they are not the proved ones. The same commit and the same programs give the same bytes,
+# wherever the clone lies.
 set -euo pipefail
 
 root=$(cd "$(dirname "${BASH_SOURCE[0]}")/.." && pwd)
@@ -61,7 +64,8 @@ printf '%s\n%s\n' "$commit" "$said" > "$room/$name/COMMIT"
 install -m 755 "$root/tools/install_release.sh" "$room/$name/install.sh"
 (cd "$room/$name" && find . -type f ! -name SHA256SUMS -print0 | LC_ALL=C sort -z | xargs -0 sha256sum > SHA256SUMS)
 chmod -R u=rwX,go=rX "$room/$name"
-# The order of files, their times and their owners are those of the commit, so that the bytes depend on nothing else.
+# The order of files, their times and their owners are those of the commit, so that the bytes depend
+# on nothing else.
 tar --sort=name --mtime="@$("${git[@]}" log -1 --format=%ct)" --owner=0 --group=0 --numeric-owner --format=gnu -cf - -C "$room" "$name" \
     | gzip -n -9 > "$to/$name.tar.gz.part"
 mv "$to/$name.tar.gz.part" "$to/$name.tar.gz"

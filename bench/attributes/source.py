@@ -1,4 +1,5 @@
-"""Writes an enum with many attributes to the standard output: of the kind that the first argument names, as many as the second one says."""
+"""Writes an enum with many attributes to the standard output: of the kind that the first argument
+names, as many as the second one says."""
 import sys
 
 

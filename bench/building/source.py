@@ -1,4 +1,5 @@
-"""Writes the source of an enum to the standard output: of the kind that the first argument names, and of the size that the second one says."""
+"""Writes the source of an enum to the standard output: of the kind that the first argument names,
+and of the size that the second one says."""
 import itertools
 import random
 import sys
@@ -15,7 +16,8 @@ def long_words(rng, count):
 
 
 def short_words(rng, count):
-    """The words of two letters, then those of three, then those of four, as many as are wanted, in any order."""
+    """The words of two letters, then those of three, then those of four, as many as are wanted, in
+    any order."""
     lengths = (itertools.product(LETTERS, repeat=length) for length in (2, 3, 4))
     words = ["".join(word) for word in itertools.islice(itertools.chain.from_iterable(lengths), count)]
     rng.shuffle(words)
@@ -86,7 +88,8 @@ RUST_SIGNS = """+ - * / % ^ ! & | && || << >> += -= *= /= %= ^= &= |= <<= >>= = 
 
 
 def rust_like(rng, count):
-    """The words and signs of a language like Rust, with its literals, comments, lifetimes and names of all scripts. The size says nothing."""
+    """The words and signs of a language like Rust, with its literals, comments, lifetimes and names
+    of all scripts. The size says nothing."""
     patterns = [
         r"[_\p{XID_Start}]\p{XID_Continue}*",
         r"'[_\p{XID_Start}]\p{XID_Continue}*",
@@ -108,19 +111,22 @@ SETS = [r"[\p{{L}}--\p{{{0}}}]", r"[\p{{L}}\p{{N}}~~\p{{{0}}}]", r"[\p{{L}}&&\P{
 
 
 def class_sets(rng, count):
-    """Repeated sets of characters, each of two properties, with a number after them that keeps the rules apart."""
+    """Repeated sets of characters, each of two properties, with a number after them that keeps the
+    rules apart."""
     return regexes([SETS[number % 3].format(SCRIPTS[number % len(SCRIPTS)]) + f"+#{number}" for number in range(count)])
 
 
 def beginnings(rng, count):
-    """Regexes of which many begin alike: one of twenty words, a sign, and then letters or digits."""
+    """Regexes of which many begin alike: one of twenty words, a sign, and then letters or
+    digits."""
     words = long_words(rng, 20)
     ends = ["[a-z]+", "[0-9]+", "[a-z0-9]+x", "[a-f]{2,5}", "(ab|cd)+e"]
     return regexes([words[number % 20] + "-" + "xy"[number // 20 % 2] * (number // 40 + 1) + ends[number // 20 % 5] for number in range(count)])
 
 
 def log_lines(rng, count):
-    """What stands in lines of a log: dates, addresses, identifiers, paths, levels, words. The size says nothing."""
+    """What stands in lines of a log: dates, addresses, identifiers, paths, levels, words. The size
+    says nothing."""
     levels = ["TRACE", "DEBUG", "INFO", "WARN", "ERROR", "FATAL"]
     patterns = [
         r"[0-9]{4}-[01][0-9]-[0-3][0-9][T ][0-2][0-9]:[0-5][0-9]:[0-5][0-9](\.[0-9]{1,9})?(Z|[+-][0-2][0-9]:[0-5][0-9])?",
@@ -141,7 +147,8 @@ def log_lines(rng, count):
 
 
 def groups(rng, count):
-    """Branches of one character in one alternation, inside 249 groups with a branch in front of each."""
+    """Branches of one character in one alternation, inside 249 groups with a branch in front of
+    each."""
     branches = "|".join("abcdefghij"[number % 10] for number in range(count - 1)) + "|ab"
     return regexes(["(?:k|" * 249 + branches + ")" * 249])
 

@@ -1,4 +1,5 @@
-"""Texts for measurements: `source.py KIND SIZE` prints one. A kind that is none is a text, which is repeated."""
+"""Texts for measurements: `source.py KIND SIZE` prints one. A kind that is none is a text, which is
+repeated."""
 
 import random
 import sys

@@ -1,9 +1,11 @@
-"""Compares programs that print a line for each item of a text. Prints a row of a table: the lines, of each program the least
-processor seconds and the most memory in MiB, and the first program's seconds by those of the fastest other. The programs run in turns.
+"""Compares programs that print a line for each item of a text. Prints a row of a table: the lines,
+of each program the least processor seconds and the most memory in MiB, and the first program's
+seconds by those of the fastest other. The programs run in turns.
 
   lines.py RUNS TEXT NAME PROGRAM ..
 
-A program is one argument, its words parted by spaces; the text's path is its last word. Fails where two print different lines."""
+A program is one argument, its words parted by spaces; the text's path is its last word. Fails where
+two print different lines."""
 import hashlib
 import os
 import subprocess
@@ -23,7 +25,8 @@ def digest(command):
 
 
 def measured(command):
-    """Runs the command without its output. Returns its processor seconds and its most memory in KiB."""
+    """Runs the command without its output. Returns its processor seconds and its most memory in
+    KiB."""
     with open(os.devnull, "wb") as nowhere:
         running = subprocess.Popen(command, stdout=nowhere)
         _, status, used = os.wait4(running.pid, 0)

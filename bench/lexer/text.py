@@ -1,4 +1,5 @@
-"""Writes a text to the standard output: as many bytes as the first argument says, and of the kind that the second one names.
+"""Writes a text to the standard output: as many bytes as the first argument says, and of the kind
+that the second one names.
 
 A page of about a mebibyte is made from a fixed seed and repeated; what is left is blanks."""
 import random

@@ -1,9 +1,11 @@
 #!/usr/bin/env python3
-"""Reads a crate, with the libraries below it as sources, as far as the borrow checker, and proves nothing.
+"""Reads a crate, with the libraries below it as sources, as far as the borrow checker, and proves
+nothing.
 
   front_end.py CHECKOUT CRATE
 
-Its output and its status are those of `rattle check --only ""`. It takes seconds, where `rt check --only ""` first proves the libraries."""
+Its output and its status are those of `rattle check --only ""`. It takes seconds, where
+`rt check --only ""` first proves the libraries."""
 import os
 import re
 import subprocess

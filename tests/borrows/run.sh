@@ -4,9 +4,10 @@
 # Each file of tests/borrows is code that keeps a view for too long. Its first line names the error
 # that it has to meet. A line that ends with `// fault` is of that code alone; a line that ends with
 # `// sound` stands in its place in the same code without the fault. Both are put into a copy of the
-# crate that they call, of tokens, of enums or of attributes, each as a module, and the compiler reads that copy once
-# and without a proof, which is as far as the borrow checker. The script fails where a fault is not met, where the code without a
-# fault or the crate itself meets any, and where a file of the list is missing or another one stands.
+# crate that they call, of tokens, of enums or of attributes, each as a module, and the compiler
+# reads that copy once and without a proof, which is as far as the borrow checker. The script fails
+# where a fault is not met, where the code without a fault or the crate itself meets any, and where
+# a file of the list is missing or another one stands.
 set -euo pipefail
 export PYTHONDONTWRITEBYTECODE=1
 

@@ -3,8 +3,9 @@
 
   check.py TABLE FOLDER RUNTIME
 
-Makes a package in the folder whose programs are the sources of the table, lets cargo check it with the package RUNTIME as `logos`, and
-compares the errors of each. The last line is `N passed, M failed`."""
+Makes a package in the folder whose programs are the sources of the table, lets cargo check it with
+the package RUNTIME as `logos`, and compares the errors of each. The last line is
+`N passed, M failed`."""
 import json
 import os
 import re
@@ -22,8 +23,8 @@ def sources(table):
 
 
 def wanted(source):
-    """Returns the errors that are written in a source: line, first column, column after the last one, and text. Of a place over several lines
-    the last column is missing."""
+    """Returns the errors that are written in a source: line, first column, column after the last
+    one, and text. Of a place over several lines the last column is missing."""
     errors, line = [], 0
     for number, text in enumerate(source.split("\n"), 1):
         mark = MARK.fullmatch(text)
@@ -63,7 +64,8 @@ def found(message):
 
 
 def messages(folder, *words, **variables):
-    """Runs `cargo check` in a folder, and returns the compiler's messages with the program of each."""
+    """Runs `cargo check` in a folder, and returns the compiler's messages with the program of
+    each."""
     output = subprocess.run(["cargo", "check", "--offline", "--quiet", "--keep-going", "--message-format", "json", *words], cwd=folder,
                             env={**os.environ, **variables}, stdout=subprocess.PIPE, stderr=subprocess.DEVNULL, text=True, check=False).stdout
     lines = [json.loads(line) for line in output.splitlines()]

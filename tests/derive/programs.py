@@ -3,8 +3,9 @@
 
   programs.py TABLE FOLDER RUNTIME
 
-Makes a package in the folder, lets cargo check it with each program of the table, and compares the message. Four rows are of its own: a
-warning that the enum allows, a program that is missing, one that is not on the path, and a shape that there is not. The last line is `N passed, M failed`."""
+Makes a package in the folder, lets cargo check it with each program of the table, and compares the
+message. Four rows are of its own: a warning that the enum allows, a program that is missing, one
+that is not on the path, and a shape that there is not. The last line is `N passed, M failed`."""
 import os
 import shutil
 import sys
@@ -46,7 +47,8 @@ def shown(found):
 
 
 def rows(table, folder):
-    """Returns for each row its name, the wanted message, the program of the package that is checked, and the variables."""
+    """Returns for each row its name, the wanted message, the program of the package that is
+    checked, and the variables."""
     for number, (name, row) in enumerate(sources(table).items()):
         wanted, script = row.split("---\n", 1)
         program = f"{folder}/program{number}"

@@ -3,16 +3,22 @@
 #
 #   tests/derive/run.sh [PROGRAM]
 #
-# PROGRAM is `logos_cli`. Without it, it is the one that the variable LOGOS_CLI names, or the one that the gate has built.
+# PROGRAM is `logos_cli`. Without it, it is the one that the variable LOGOS_CLI names, or the one
+# that the gate has built.
 #
-# - The packages of accepted/ are built, and print what their files `expected` hold. The lexers are built in each shape, too.
+# - The packages of accepted/ are built, and print what their files `expected` hold. The lexers are
+#   built in each shape, too.
 # - Each source of the table refused has the errors that are written in it.
-# - With each program of the table programs, which is not as it should be, there is the one message that the table says.
-# - The package of switched/, which uses the crate from the registry, is switched by one line of its Cargo.toml, and then prints what its
-#   file `expected` holds. A program that has changed is asked again.
-# - The features of the package `logos` are there: one chooses the shape, and one prints the implementations.
-# - The package of scripted/ has its lexers expanded by a build script, and prints what its file `expected` holds. Its faults end the build, its
-#   warnings are shown, and a program that has changed is asked again.
+# - With each program of the table programs, which is not as it should be, there is the one message
+#   that the table says.
+# - The package of switched/, which uses the crate from the registry, is switched by one line of its
+#   Cargo.toml, and then prints what its file `expected` holds. A program that has changed is asked
+#   again.
+# - The features of the package `logos` are there: one chooses the shape, and one prints the
+#   implementations.
+# - The package of scripted/ has its lexers expanded by a build script, and prints what its file
+#   `expected` holds. Its faults end the build, its warnings are shown, and a program that has
+#   changed is asked again.
 #
 # The last line is `N passed, M failed`. How many have to pass is stated here.
 set -uo pipefail
@@ -52,7 +58,8 @@ contains() {
     compare "$1" "$room/yes" "$room/answer"
 }
 
-# Adds the counts in the last line of a script's output, and tells whether so many passed as have to.
+# Adds the counts in the last line of a script's output, and tells whether so many passed as have
+# to.
 add() {
     local wanted=$1 good bad
     cat "$room/output"

@@ -1,4 +1,5 @@
-"""Makes sources, inputs and edits, and has the program compare the items after each edit with those of the whole input."""
+"""Makes sources, inputs and edits, and has the program compare the items after each edit with those
+of the whole input."""
 
 import os
 import subprocess
@@ -54,7 +55,8 @@ def edits_of(text, inputs, random, is_utf8):
 
 
 def judge(program, seed):
-    """Nothing where the program finds the same after each edit, or if the source is refused; else the difference."""
+    """Nothing where the program finds the same after each edit, or if the source is refused; else
+    the difference."""
     try:
         source, reading, inputs = made(seed)
     except TooLarge:

@@ -1,8 +1,10 @@
-"""Measures how long it takes to compare a lexer of 1,000 keywords and names with its rewritten form, and with one that differs.
+"""Measures how long it takes to compare a lexer of 1,000 keywords and names with its rewritten
+form, and with one that differs.
 
   keywords.py PROGRAM
 
-It needs the program of evidence. The last lines are the times in seconds, each the least of five, with that of the two graphs and the comparison.
+It needs the program of evidence. The last lines are the times in seconds, each the least of five,
+with that of the two graphs and the comparison.
 """
 
 import subprocess

@@ -1,4 +1,5 @@
-"""Makes small sets of patterns, asks the program of evidence about each in both modes, and compares its answers with those of the reader."""
+"""Makes small sets of patterns, asks the program of evidence about each in both modes, and compares
+its answers with those of the reader."""
 
 import subprocess
 import sys
@@ -64,7 +65,8 @@ def changed(rules, seed):
 
 
 def questions(seed):
-    """The lines that are asked about the rules of a seed; the wanted answers, up to the inputs; and the lexers whose inputs and comparison are judged."""
+    """The lines that are asked about the rules of a seed; the wanted answers, up to the inputs; and
+    the lexers whose inputs and comparison are judged."""
     try:
         _, reading, inputs = made(seed)
     except TooLarge:
@@ -107,7 +109,8 @@ def is_right_difference(told, one, other):
 
 
 def is_right(answer, wanted, one, other):
-    """Whether an answer is the wanted one; with a lexer, whether its inputs cover it, and with another, whether the comparison is right."""
+    """Whether an answer is the wanted one; with a lexer, whether its inputs cover it, and with
+    another, whether the comparison is right."""
     if one is None:
         return answer == wanted
     if other is not None:

@@ -1,7 +1,8 @@
 """Finds evidence of a lexer in another way: it follows what is left of each pattern byte by byte.
 
-A search goes breadth first over what is left of the patterns, with what has to follow for the bytes to be UTF-8, and tries bytes in the order in
-which texts are to be chosen. So its answer is the first of the shortest ones.
+A search goes breadth first over what is left of the patterns, with what has to follow for the bytes
+to be UTF-8, and tries bytes in the order in which texts are to be chosen. So its answer is the
+first of the shortest ones.
 """
 
 from rests import looks
@@ -26,7 +27,8 @@ def utf8_step(open_, byte):
 
 
 def letters_of(*matchings):
-    """One byte of each class that neither the patterns nor UTF-8 tell apart: the first in the order."""
+    """One byte of each class that neither the patterns nor UTF-8 tell apart: the first in the
+    order."""
     found = {}
     for byte in ORDER:
         sign = tuple(matching.first[byte] for matching in matchings) + (SECOND.get(byte), byte >> 4 if 0x80 <= byte < 0xC0 else byte < 0x80)
@@ -100,7 +102,8 @@ class Evidence:
         return search((self.matching.start, False, None), self.letters, step, is_goal, self.utf8)
 
     def meeting(self, leaves):
-        """An input that begins with a span of which these leaves have the match of highest priority."""
+        """An input that begins with a span of which these leaves have the match of highest
+        priority."""
         def step(at, byte):
             state, met = at
             met = met or self.best(state, self.matching.first[byte]) == leaves
@@ -117,7 +120,8 @@ class Evidence:
         return found
 
     def classes(self):
-        """The number of each live state's class, where states are alike that no bytes distinguish."""
+        """The number of each live state's class, where states are alike that no bytes
+        distinguish."""
         states = self.matching.live | {self.matching.start}
         letters = self.matching.letters
         block = {state: tuple(self.best(state, byte) for byte in [*letters, None]) for state in states}
@@ -156,7 +160,8 @@ class Evidence:
         return found
 
     def are_covering(self, texts):
-        """Whether these are inputs that together pass each edge that inputs pass, and each passes a new one, where no pattern looks."""
+        """Whether these are inputs that together pass each edge that inputs pass, and each passes a
+        new one, where no pattern looks."""
         passed, looking = set(), any(looks(number) for number in self.matching.start[0])
         for text in texts:
             more = self.passed(text) - passed
@@ -166,7 +171,8 @@ class Evidence:
         return passed == self.edges()
 
     def first(self, text):
-        """The first item of an input that is not empty: the leaf and the end of a match, or None and the end of an error."""
+        """The first item of an input that is not empty: the leaf and the end of a match, or None
+        and the end of an error."""
         state, stop, found = self.matching.start, 0, None
         while stop < len(text):
             state = self.next(state, text[stop])
@@ -193,7 +199,8 @@ def texts(letters, utf8, length):
 
 
 def first_difference(one, other, most):
-    """The first of the shortest inputs up to a length at whose beginning two lexers find different things, or None."""
+    """The first of the shortest inputs up to a length at whose beginning two lexers find different
+    things, or None."""
     letters = letters_of(one.matching, other.matching)
     for length in range(1, most + 1):
         for text in texts(letters, one.utf8, length):

@@ -1,10 +1,12 @@
 #!/usr/bin/env bash
-# Runs the program where files and outputs fail: files that are missing, folders, or not UTF-8; words that are not UTF-8; an input that
-# comes piece by piece; a standard output that is full, closed, read slowly or read no more, or that takes the beginning alone; and
-# charts whose folders are missing or whose files cannot be made, or not whole: then what was there stays. Each time the status and
-# every byte that is written must be as stated here.
+# Runs the program where files and outputs fail: files that are missing, folders, or not UTF-8;
+# words that are not UTF-8; an input that comes piece by piece; a standard output that is full,
+# closed, read slowly or read no more, or that takes the beginning alone; and charts whose folders
+# are missing or whose files cannot be made, or not whole: then what was there stays. Each time the
+# status and every byte that is written must be as stated here.
 #
-# It needs the program as `rt ci` or `rt run` leaves it in crates/logos_program/out, or the first argument.
+# It needs the program as `rt ci` or `rt run` leaves it in crates/logos_program/out, or the first
+# argument.
 set -euo pipefail
 
 program=$(realpath "${1:-$(dirname "${BASH_SOURCE[0]}")/../../crates/logos_program/out/logos_program}")
@@ -48,7 +50,8 @@ wants() {
     met=$((met + 1))
 }
 
-# Runs the program with the words after the status and the lines of output and of complaint that it must give.
+# Runs the program with the words after the status and the lines of output and of complaint that it
+# must give.
 gives() {
     local wanted=$1 out=$2 err=$3 status=0
     shift 3

@@ -1,9 +1,11 @@
 #!/usr/bin/env bash
-# Runs `logos_cli` where files and outputs fail: words and files that are not UTF-8, outputs that are full, closed or read no more, and
-# results that cannot be written, or not whole. A result is written whole or not at all: what stood in its place stays, and no other file
-# is left. Links, permissions and devices stay what they are.
+# Runs `logos_cli` where files and outputs fail: words and files that are not UTF-8, outputs that
+# are full, closed or read no more, and results that cannot be written, or not whole. A result is
+# written whole or not at all: what stood in its place stays, and no other file is left. Links,
+# permissions and devices stay what they are.
 #
-# It needs the program as `rt ci` or `rt run` leaves it in crates/logos_cli/out, or the first argument.
+# It needs the program as `rt ci` or `rt run` leaves it in crates/logos_cli/out, or the first
+# argument.
 set -euo pipefail
 
 program=$(realpath -m "${1:-$(dirname "${BASH_SOURCE[0]}")/../../crates/logos_cli/out/logos_cli}")
@@ -90,7 +92,8 @@ same out whole_of_stdin
 gives 0 '' - < source.rs
 same out whole_of_stdin
 
-# No more is read of a file than shows that it is too long: so a device has an end, and the last character may be cut off there.
+# No more is read of a file than shows that it is too long: so a device has an end, and the last
+# character may be cut off there.
 too_long() {
     printf 'error[LimitSource]: limit LimitSource passed\n --> %s:1:1\n  = help: split the enum\n\nerror: aborting due to 1 previous error' "$1"
 }
@@ -166,7 +169,8 @@ same links/last.rs whole
 gives 3 'error: cannot write round.rs: its links lead round' source.rs --output round.rs
 [ -L round.rs ] || fail "a link that leads round was replaced"
 
-# What runs that were killed left beside is removed, but not what a running one writes, nor other files.
+# What runs that were killed left beside is removed, but not what a running one writes, nor other
+# files.
 mkdir beside
 process=$(bash -c 'echo $$')
 printf left > "beside/out.rs.$process.new"

@@ -5,7 +5,8 @@ from faults import ASSIGNED_HERE, CALLBACK_HERE, DEFINITION_HERE
 from tokens import printed, span
 from written_types import is_type, names_of
 
-# A piece: `form` is one of unnamed, unexpected, assign, literal, group, keyword. The name and, of a keyword, the second word are trees.
+# A piece: `form` is one of unnamed, unexpected, assign, literal, group, keyword. The name and, of a
+# keyword, the second word are trees.
 Piece = namedtuple('Piece', 'form name word run')
 OPTIONS = ('crate', 'error', 'export_dir', 'extras', 'skip', 'source', 'subpattern', 'type', 'utf8')
 MOST = 2 ** 64 - 1
@@ -186,7 +187,8 @@ def read_definition(trees, faults):
 
 
 class Options:
-    """All that the `#[logos(..)]` of an enum say. Of each option that may stand once, `places` has the place of the last value."""
+    """All that the `#[logos(..)]` of an enum say. Of each option that may stand once, `places` has
+    the place of the last value."""
 
     def __init__(self, parameters, faults):
         self.faults, self.places, self.utf8 = faults, {}, True

@@ -1,5 +1,6 @@
-"""Writes rows of calls: the leaves that the automata of small sets of patterns list after some bytes, as the plain reader has it; and that the bytes
-that their graphs give for each two states tell these apart."""
+"""Writes rows of calls: the leaves that the automata of small sets of patterns list after some
+bytes, as the plain reader has it; and that the bytes that their graphs give for each two states
+tell these apart."""
 
 from main import PATTERNS, made
 from patterns import Faulty, compiled
@@ -32,7 +33,8 @@ def is_alike(leaf, text):
 
 
 def rules_of(reading):
-    """The patterns with their priorities as a row gives them, or None where one has no such text."""
+    """The patterns with their priorities as a row gives them, or None where one has no such
+    text."""
     rules = []
     for leaf in reading.leaves:
         text = leaf.source[leaf.source.index('"') + 1:leaf.source.rindex('"')]

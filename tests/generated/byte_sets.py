@@ -1,4 +1,5 @@
-"""Sets of characters and bytes as sorted lists of ranges, and the sequences of bytes that encode characters."""
+"""Sets of characters and bytes as sorted lists of ranges, and the sequences of bytes that encode
+characters."""
 
 import functools
 import itertools
@@ -18,7 +19,8 @@ NAMED = {
 
 
 def united(ranges):
-    """The ranges that cover what these cover, as few as there can be. Surrogates count for no gap."""
+    """The ranges that cover what these cover, as few as there can be. Surrogates count for no
+    gap."""
     out = []
     for low, high in sorted(ranges):
         if out and (low <= out[-1][1] + 1 or (out[-1][1], low) == (0xD7FF, 0xE000)):
@@ -42,7 +44,8 @@ def without(one, other):
 
 CATEGORIES = ('L', 'Lu', 'Ll', 'M', 'N', 'Nd', 'P', 'Pc', 'S', 'Z')
 
-# Characters that fold as others do in the Unicode of the program, and are not assigned yet in that of older Pythons.
+# Characters that fold as others do in the Unicode of the program, and are not assigned yet in that
+# of older Pythons.
 LATER = {0x1DF95: 0xDF}
 
 
@@ -63,7 +66,8 @@ def partners():
 
 
 def folded(ranges, unicode):
-    """The set with every character that shares a simple folding with a member; without `unicode` ASCII letters alone fold."""
+    """The set with every character that shares a simple folding with a member; without `unicode`
+    ASCII letters alone fold."""
     if unicode:
         more = [(other, other) for low, high in ranges if high - low < 0x3000 for code in range(low, high + 1)
                 for other in partners().get(code, ())]
@@ -76,7 +80,8 @@ def folded(ranges, unicode):
 
 @functools.cache
 def runs_of_categories():
-    """The general category of each character, as runs of characters: the category, the first and the last."""
+    """The general category of each character, as runs of characters: the category, the first and
+    the last."""
     runs, first = [], 0
     for name, run in itertools.groupby(map(unicodedata.category, map(chr, range(0x110000)))):
         count = sum(1 for _ in run)
@@ -87,8 +92,8 @@ def runs_of_categories():
 
 @functools.cache
 def of_category(name):
-    """The characters of a general category, or of all that begin with this letter. Python may know an older Unicode, so sources take from it
-    what lies between some old characters alone."""
+    """The characters of a general category, or of all that begin with this letter. Python may know
+    an older Unicode, so sources take from it what lies between some old characters alone."""
     if name not in CATEGORIES:
         return ()
     return united((low, high) for category, low, high in runs_of_categories() if category.startswith(name) and category != 'Cs')
@@ -105,7 +110,8 @@ def sequences(ranges):
 
 
 def halved(low, high):
-    """The sequences between two encodings of one length: split until all but one byte of both are alike or go all the way."""
+    """The sequences between two encodings of one length: split until all but one byte of both are
+    alike or go all the way."""
     if len(low) == 1 or all(a == 0x80 and b == 0xBF for a, b in zip(low[1:], high[1:])):
         return [tuple(zip(low, high))]
     if low[0] == high[0]:

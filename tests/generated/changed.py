@@ -1,4 +1,5 @@
-"""Writes rows of calls: enums of which pieces are dropped, doubled or turned, each with the fault that the plain reader finds in it."""
+"""Writes rows of calls: enums of which pieces are dropped, doubled or turned, each with the fault
+that the plain reader finds in it."""
 
 from enums import Unread, read_enum
 from tokens import tokenize
@@ -13,7 +14,8 @@ NEAR = 6
 
 
 def changes(pieces, first, last):
-    """The pieces with one changed between these places: dropped, doubled, or turned with the next."""
+    """The pieces with one changed between these places: dropped, doubled, or turned with the
+    next."""
     for at in range(first, min(last, len(pieces))):
         yield at, pieces[:at] + pieces[at + 1:]
         yield at, pieces[:at] + pieces[at:at + 1] + pieces[at:]

@@ -1,4 +1,5 @@
-"""Reads a chart back, and finds whether it is one of the least graph of some leaves, looks and all."""
+"""Reads a chart back, and finds whether it is one of the least graph of some leaves, looks and
+all."""
 
 import re
 from matching import label, letter, shown_text
@@ -34,7 +35,8 @@ def bytes_of(text):
 
 
 class Chart:
-    """A chart: for each state its early mark, its late one where that is shown, the state after each byte, and the one after the end."""
+    """A chart: for each state its early mark, its late one where that is shown, the state after
+    each byte, and the one after the end."""
 
     def __init__(self, lines):
         self.early, self.late, self.edges, self.end = [], [], [], []
@@ -57,7 +59,8 @@ class Chart:
         need(lines == self.lines(), 'the order or form of the lines')
 
     def lines(self):
-        """The lines of a chart with these states: the edges of a state by their targets, then that of the end."""
+        """The lines of a chart with these states: the edges of a state by their targets, then that
+        of the end."""
         lines = ['flowchart TB']
         for state, edges in enumerate(self.edges):
             early, late, targets = self.early[state], self.late[state], {}
@@ -80,7 +83,8 @@ class Chart:
         return order
 
     def count_blocks(self, marks):
-        """The number of blocks of states that no bytes tell apart, where states have these marks."""
+        """The number of blocks of states that no bytes tell apart, where states have these
+        marks."""
         block, count = marks, 0
         while count != len(set(block)):
             count = len(set(block))
@@ -96,9 +100,11 @@ class Comparison:
 
     def __init__(self, chart, matching, trees):
         self.chart, self.matching = chart, matching
-        # For each state of the chart the marks with which it is entered where these are new, and where they stood there before.
+        # For each state of the chart the marks with which it is entered where these are new, and
+        # where they stood there before.
         self.needed, self.free, self.unmarked = {}, {}, {0}
-        # The sets of leaves whose match some edge marks anew where nothing more can match; None where a class without members hides that.
+        # The sets of leaves whose match some edge marks anew where nothing more can match; None
+        # where a class without members hides that.
         self.last = None if any(map(has_empty_class, trees)) else {
             matching.listed[state][byte] for state in matching.live for byte in matching.letters + [None] if self.is_last(state, byte) and self.is_new(state, byte)}
         self.compare()
@@ -108,7 +114,8 @@ class Comparison:
         return byte is None or all(number == NONE for number in self.matching.edges[state][byte][0])
 
     def is_new(self, state, byte):
-        """Whether a leaf matches at a state in front of a byte that does not match there whatever comes next."""
+        """Whether a leaf matches at a state in front of a byte that does not match there whatever
+        comes next."""
         mark = self.row(state).get(byte)
         return mark is not None and mark != self.early(state)
 
@@ -122,7 +129,8 @@ class Comparison:
         return {byte: best[0] if best else None for byte, best in self.matching.matches.get(state, {}).items()} or {None: None}
 
     def compare(self):
-        """Follows chart and leaves side by side, and then compares the states of the chart with one another."""
+        """Follows chart and leaves side by side, and then compares the states of the chart with one
+        another."""
         ahead, met = [(0, self.matching.start)], set()
         while ahead:
             number, state = ahead.pop()
@@ -139,7 +147,8 @@ class Comparison:
         need(self.chart.count_blocks(marks) == len(marks), 'some states are alike')
 
     def targets(self, number, state):
-        """Where the bytes and the end lead from a state. There is an edge where it is of use, or where the same leaves' match is marked elsewhere."""
+        """Where the bytes and the end lead from a state. There is an edge where it is of use, or
+        where the same leaves' match is marked elsewhere."""
         row, found = self.row(state), []
         for byte in [*range(256), None]:
             first = byte if byte is None else self.matching.first[byte]

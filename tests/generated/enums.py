@@ -4,9 +4,11 @@ from collections import namedtuple
 from tokens import span
 from written_types import Cursor, LeftOut, NotAType, TypeReader
 
-# An attribute: its place, the one name that is its path (None for other paths), and the group behind it, where there is one.
+# An attribute: its place, the one name that is its path (None for other paths), and the group
+# behind it, where there is one.
 Attribute = namedtuple('Attribute', 'span name group')
-# A generic parameter: `lifetime`, `constant` or `type`, its name and the places of the name and of all of it.
+# A generic parameter: `lifetime`, `constant` or `type`, its name and the places of the name and of
+# all of it.
 Parameter = namedtuple('Parameter', 'kind name name_span span')
 # A variant: its attributes, its name, the group of its fields and how many these are.
 Variant = namedtuple('Variant', 'attributes name fields count')

@@ -1,4 +1,5 @@
-"""Writes rows of calls: texts of pieces of expressions, each with its tokens or its first error, as a plain tokenizer has it."""
+"""Writes rows of calls: texts of pieces of expressions, each with its tokens or its first error, as
+a plain tokenizer has it."""
 
 import re
 from random import Random
@@ -11,7 +12,8 @@ TEXTS, ERRORS = 500, (50, 450)
 
 
 def tokens(text):
-    """The tokens of a text with their spans, or the span of the first character that begins none."""
+    """The tokens of a text with their spans, or the span of the first character that begins
+    none."""
     found, at = [], 0
     while at < len(text):
         token = TOKEN.match(text, at)

@@ -1,4 +1,5 @@
-"""The forms from which sources are put together: lexemes parted by blanks, right ones and wrong ones."""
+"""The forms from which sources are put together: lexemes parted by blanks, right ones and wrong
+ones."""
 
 TYPES = ['u8', '()', 'Vec < u8 >', '& str', "& 'a str", "Cow < 'a , str >", 'Option < Box < T > >', '[ T ; 4 ]', '[ u8 ]', '( T , U )',
          'fn ( T ) -> U', "dyn Fn ( T ) -> U + 'a", '< T as Trait > :: Item', 'std :: vec :: Vec < T >', ':: core :: primitive :: u8',

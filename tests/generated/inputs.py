@@ -1,4 +1,5 @@
-"""Makes inputs for a lexer: texts that its leaves match, whole or cut short, and others between them."""
+"""Makes inputs for a lexer: texts that its leaves match, whole or cut short, and others between
+them."""
 
 from trees import parts_of
 

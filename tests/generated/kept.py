@@ -1,4 +1,5 @@
-"""Sources whose faults are written down by hand, so that reader and program cannot be wrong in the same way unseen."""
+"""Sources whose faults are written down by hand, so that reader and program cannot be wrong in the
+same way unseen."""
 
 KEPT = [
     ('', ['0..0 NotAnEnum: Logos can be only be derived for enums']),

@@ -1,6 +1,8 @@
-"""Makes sources, reads each with the plain reader, runs the program on it, and compares what both find.
+"""Makes sources, reads each with the plain reader, runs the program on it, and compares what both
+find.
 
-The words are the paths of the program and of the program of calls and, where just these sources are wanted, their seeds.
+The words are the paths of the program and of the program of calls and, where just these sources are
+wanted, their seeds.
 """
 
 import os
@@ -23,7 +25,8 @@ from small_sets import SmallSetMaker, inputs_of_patterns, inputs_of_words
 from sources import SourceMaker
 
 SOURCES, INPUTS = 600, 2
-# Seeds from here on make small sets of patterns, and then of words; so many of their inputs stand alone.
+# Seeds from here on make small sets of patterns, and then of words; so many of their inputs stand
+# alone.
 PATTERNS, WORDS, ALONE = range(1000, 1700), range(2000, 2200), 8
 # So many charts are met of each look at least, and so many accepted sources of each form.
 CHARTS, ACCEPTED = 20, 2
@@ -67,7 +70,8 @@ def write(path, content):
 
 
 def compare(program, room, source, reading, inputs):
-    """Compares all that the program says of a source and these inputs, which it lexes in both shapes by turns. Gives the number of comparisons."""
+    """Compares all that the program says of a source and these inputs, which it lexes in both
+    shapes by turns. Gives the number of comparisons."""
     write(f'{room}/source', source.encode())
     faults = reading.lines()
     if faults:
@@ -85,7 +89,8 @@ def compare(program, room, source, reading, inputs):
 
 
 def compare_chart(reading, found):
-    """Compares the chart: where no pattern looks it is the one that the reader draws, and else one that fits all that the leaves match."""
+    """Compares the chart: where no pattern looks it is the one that the reader draws, and else one
+    that fits all that the leaves match."""
     if not reading.looks():
         return expect('mermaid', (0, ended(reading.matching.chart()), ['']), found)
     expect('mermaid', (0, found[1], ['']), found)
@@ -96,7 +101,8 @@ def compare_chart(reading, found):
 
 
 def stream(calls, source, reading, inputs, random):
-    """Compares the items of the inputs as streams, each cut into pieces at random, of which some cannot be read the first time. Gives how many there are."""
+    """Compares the items of the inputs as streams, each cut into pieces at random, of which some
+    cannot be read the first time. Gives how many there are."""
     requests, wanted = [], []
     for text in inputs:
         sizes = [random.choice([0, 1, 1, 2, 3, 5, 8, 40, 300]) for _ in range(random.randint(1, 12))] + [random.randint(1, 9)]
@@ -135,7 +141,8 @@ def made_small(seed):
 
 
 def made(seed):
-    """The source of a seed, what the reader finds in it, and inputs. One that is meant to be right is made anew while it is not."""
+    """The source of a seed, what the reader finds in it, and inputs. One that is meant to be right
+    is made anew while it is not."""
     if seed >= PATTERNS.start:
         return made_small(seed)
     random = Random(seed)
@@ -153,7 +160,8 @@ def made(seed):
 
 
 def judge(program, calls, seed):
-    """What came of a source: its faults' codes, the numbers of comparisons and of streams, the forms of an accepted one, and the difference or None."""
+    """What came of a source: its faults' codes, the numbers of comparisons and of streams, the
+    forms of an accepted one, and the difference or None."""
     source, reading, inputs = made(seed)
     forms = [] if reading.faults.list else [form for form in FORMS if MET[form]]
     with tempfile.TemporaryDirectory() as room:

@@ -1,4 +1,5 @@
-"""What leaves match: their ambiguous sets, the items of an input, and the chart of the least graph where no pattern looks.
+"""What leaves match: their ambiguous sets, the items of an input, and the chart of the least graph
+where no pattern looks.
 
 `charts.py` compares a chart where some pattern looks.
 """
@@ -27,7 +28,8 @@ def classes_of(numbers):
 
 
 class Matching:
-    """All that the leaves have left behind any bytes. A state is what is left of each leaf, and the kind of the byte before it.
+    """All that the leaves have left behind any bytes. A state is what is left of each leaf, and the
+    kind of the byte before it.
 
     `edges` has for each state the state behind each first byte of a class.
     """
@@ -114,7 +116,8 @@ class Matching:
         return lines
 
     def blocks(self):
-        """The number of each live state's block, where states are alike that no bytes tell apart."""
+        """The number of each live state's block, where states are alike that no bytes tell
+        apart."""
         states = self.live | {self.start}
         block = {state: self.matches[state].get(None, ()) for state in states}
         count = 0

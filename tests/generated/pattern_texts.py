@@ -29,7 +29,8 @@ class PatternMaker:
         return self.random.choice(choices)
 
     def next_wrong(self, choices):
-        """One of the wrong forms. They come by turns, so that some hundred sources have them all."""
+        """One of the wrong forms. They come by turns, so that some hundred sources have them
+        all."""
         self.turn += 37
         return choices[self.turn % len(choices)]
 

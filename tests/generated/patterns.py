@@ -1,7 +1,8 @@
 """Reads a pattern's text into a tree.
 
-Trees are tuples: ('empty',), ('literal', bytes), ('class', ranges, of_characters), ('look', kind), ('capture', body),
-('repetition', least, most or None, greedy, body), ('concatenation', parts), ('alternation', branches).
+Trees are tuples: ('empty',), ('literal', bytes), ('class', ranges, of_characters), ('look', kind),
+('capture', body), ('repetition', least, most or None, greedy, body), ('concatenation', parts),
+('alternation', branches).
 """
 
 import re
@@ -126,7 +127,8 @@ class PatternReader:
         return tree
 
     def alternation(self):
-        """All branches up to the end of the group around them. Flags that are set hold up to there."""
+        """All branches up to the end of the group around them. Flags that are set hold up to
+        there."""
         kept, branches = set(self.flags), [self.branch()]
         while self.next('|'):
             branches.append(self.branch())
@@ -240,7 +242,8 @@ class PatternReader:
         return self.literal(code)
 
     def perl(self):
-        """A class of digits, white space or word characters, or of characters with a property; or its complement."""
+        """A class of digits, white space or word characters, or of characters with a property; or
+        its complement."""
         kind, unicode = self.text[self.at + 1], 'u' in self.flags
         if kind in 'pP':
             return self.property()
@@ -253,7 +256,8 @@ class PatternReader:
         return without(BYTES, ranges) if kind.isupper() else ranges
 
     def property(self):
-        """The characters of a general category, or the others. Other properties are refused here, and none is made."""
+        """The characters of a general category, or the others. Other properties are refused here,
+        and none is made."""
         found = self.need(self.match(PROPERTY))
         self.need('u' in self.flags)
         ranges = self.need(of_category(found[2] or found[3]))

@@ -11,7 +11,8 @@ from tokens import Lexical, span, tokenize
 from trees import has_greedy_dot, has_look, is_passable, is_utf8, leads, size, value
 
 MOST, MOST_SIZE = 2 ** 64 - 1, 2 ** 20
-# A leaf: the place and text of its literal, its tree, its priority, the text of its kind and the attribute that names it.
+# A leaf: the place and text of its literal, its tree, its priority, the text of its kind and the
+# attribute that names it.
 Leaf = namedtuple('Leaf', 'place source tree priority kind attribute')
 
 
@@ -20,7 +21,8 @@ def shown(leaf):
 
 
 class Reading:
-    """A source read whole. `faults` are those that are listed; `leaves` are there also where some are."""
+    """A source read whole. `faults` are those that are listed; `leaves` are there also where some
+    are."""
 
     def __init__(self, source):
         self.faults, self.leaves, self.utf8, self.matching, self.stored = Faults(), [], True, None, {}
@@ -162,7 +164,8 @@ class Reading:
         return self.faults.lines()
 
     def items(self, text):
-        """The lines of the items of an input of bytes, or None where it would have to be text and is not."""
+        """The lines of the items of an input of bytes, or None where it would have to be text and
+        is not."""
         if self.utf8:
             try:
                 text.decode()

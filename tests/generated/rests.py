@@ -1,7 +1,8 @@
 """What is left of a pattern behind the bytes that it has read, as expressions over bytes.
 
-An expression is a number. `SHAPES` has the tuple of each: ('none',), ('empty',), ('bytes', bits), ('look', kind), ('then', first, second),
-('either', a set of expressions), ('times', body, least, most or None). Equal expressions have one number.
+An expression is a number. `SHAPES` has the tuple of each: ('none',), ('empty',), ('bytes', bits),
+('look', kind), ('then', first, second), ('either', a set of expressions), ('times', body, least,
+most or None). Equal expressions have one number.
 """
 
 import functools
@@ -130,7 +131,8 @@ def rest(number, before, byte):
 
 
 def times_rest(shape, before, byte):
-    """Behind a byte of a repetition. Turns that match nothing can stand before the one that reads the byte."""
+    """Behind a byte of a repetition. Turns that match nothing can stand before the one that reads
+    the byte."""
     _, body, least, most = shape
     turn, left = rest(body, before, byte), []
     for empty in range(least + 1 if ends(body, before, byte) else 1):

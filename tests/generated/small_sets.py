@@ -1,4 +1,5 @@
-"""Makes small sets of rules and all short inputs of a few letters: patterns with looks and classes of all forms, and words that repeat."""
+"""Makes small sets of rules and all short inputs of a few letters: patterns with looks and classes
+of all forms, and words that repeat."""
 
 from itertools import product
 
@@ -84,7 +85,8 @@ class SmallSetMaker:
 
 
 def inputs_of_patterns(random, alone, is_text):
-    """All words of three letters or bytes in one input, and some words of up to four alone, which end with the input."""
+    """All words of three letters or bytes in one input, and some words of up to four alone, which
+    end with the input."""
     letters = ['a', 'b', '\n', '\r', 'é', 'k', '-'] if is_text else ['a', 'b', '\n', '\r', '\xC3', '\xA9', 'k', '-']
     joined = ' '.join(words(letters[:5 if is_text else 6], 3) + [''.join(random.choices(letters, k=5)) for _ in range(40)])
     all_words = [joined] + [''.join(random.choices(letters, k=random.randint(1, 4))) for _ in range(alone)]

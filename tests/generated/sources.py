@@ -1,4 +1,5 @@
-"""Makes the sources: enums of options and variants, with gaps and comments of all kinds, and with wrong pieces."""
+"""Makes the sources: enums of options and variants, with gaps and comments of all kinds, and with
+wrong pieces."""
 
 import re
 import forms
@@ -22,7 +23,8 @@ def lexemes(*parts):
 
 
 class SourceMaker(LiteralMaker):
-    """Makes one source. `wrong` is the share of pieces that are wrong; `odd` says whether gaps are of all kinds."""
+    """Makes one source. `wrong` is the share of pieces that are wrong; `odd` says whether gaps are
+    of all kinds."""
 
     def __init__(self, random, wrong, turn):
         super().__init__(random)
@@ -60,7 +62,8 @@ class SourceMaker(LiteralMaker):
         return out
 
     def head(self):
-        """What stands between the item's attributes and its variants, with the generic parameters."""
+        """What stands between the item's attributes and its variants, with the generic
+        parameters."""
         found = []
         if self.chance(0.3):
             found.append(self.pick(["'a", "'a : 'b", "# [ x ] 'a"]))

@@ -1,4 +1,5 @@
-"""What is left of an enum when the attributes of the derive macro and its entries in `derive` are removed."""
+"""What is left of an enum when the attributes of the derive macro and its entries in `derive` are
+removed."""
 
 import copy
 from enums import EnumReader, read_enum
@@ -9,7 +10,8 @@ MACRO = (['Logos'], ['logos', '::', 'Logos'], ['::', 'logos', '::', 'Logos'])
 
 
 class AttributeFinder(EnumReader):
-    """Reads the parts of an enum, and notes the trees of the attributes that are removed, and the lists of its derives."""
+    """Reads the parts of an enum, and notes the trees of the attributes that are removed, and the
+    lists of its derives."""
 
     def __init__(self, trees, gone):
         super().__init__(trees)
@@ -70,7 +72,8 @@ def find_entries(group, gone):
 
 
 def left(trees, gone):
-    """The trees without those that are removed. A punctuation directly before one of these stands alone."""
+    """The trees without those that are removed. A punctuation directly before one of these stands
+    alone."""
     found = []
     for at, tree in enumerate(trees):
         if any(tree is other for other in gone):

@@ -1,5 +1,6 @@
-"""Makes sources, strips each with the plain reader, and compares that with what the program's `strip` prints; and so for the sources that
-stand in the repository. Of what is left all must be left again. A source that is no enum must be refused with the fault that the reader finds.
+"""Makes sources, strips each with the plain reader, and compares that with what the program's
+`strip` prints; and so for the sources that stand in the repository. Of what is left all must be
+left again. A source that is no enum must be refused with the fault that the reader finds.
 
 The word is the program's path. The last line has the counts.
 """
@@ -27,7 +28,8 @@ FILES = 43
 
 
 def wanted_of(source):
-    """Returns the status, the output and the complaint that the reader wants, and what is left of the source, or None."""
+    """Returns the status, the output and the complaint that the reader wants, and what is left of
+    the source, or None."""
     faults = Faults()
     try:
         left = stripped(source)
@@ -49,7 +51,8 @@ def found_of(program, source):
 
 
 def differences(program, name, source):
-    """Returns how many comparisons were made of a source, and those in which the program answers otherwise."""
+    """Returns how many comparisons were made of a source, and those in which the program answers
+    otherwise."""
     wanted, left = wanted_of(source)
     asked = [(name, source)] if left is None else [(name, source), (f'what is left of {name}', left)]
     wrong = []

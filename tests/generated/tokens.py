@@ -1,4 +1,5 @@
-"""Reads a source into trees of tokens with their places, one regular expression for each kind of lexeme."""
+"""Reads a source into trees of tokens with their places, one regular expression for each kind of
+lexeme."""
 
 import re
 
@@ -26,8 +27,9 @@ class Lexical(Exception):
 class Tree:
     """A token, or a group with those inside it. Places are bytes of the source.
 
-    `kind` is one of ident, punct, literal, doc, group. A punctuation is `alone` where no other follows directly. A literal has a `form`,
-    and a string one its `value`: text or bytes. A documentation comment is a `line` or not, and `inner` or not.
+    `kind` is one of ident, punct, literal, doc, group. A punctuation is `alone` where no other
+    follows directly. A literal has a `form`, and a string one its `value`: text or bytes. A
+    documentation comment is a `line` or not, and `inner` or not.
     """
 
     def __init__(self, kind, text, start, end, **more):
@@ -53,7 +55,8 @@ def span(run):
 
 
 def comment_end(text, at):
-    """The end of the comment that starts here, or None where none does. A line comment ends before its line's end."""
+    """The end of the comment that starts here, or None where none does. A line comment ends before
+    its line's end."""
     if text.startswith('//', at):
         end = text.find('\n', at)
         return len(text[at:].rstrip('\r')) + at if end < 0 else len(text[at:end].rstrip('\r')) + at
@@ -114,7 +117,8 @@ def escape_code(escape, form):
 
 
 def literal_at(text, at):
-    """The literal that opens here, as its form, its value and its end without the suffix; None where none opens."""
+    """The literal that opens here, as its form, its value and its end without the suffix; None
+    where none opens."""
     forms = {'': 'str', 'b': 'bytes', 'c': 'cstr'}
     raw = RAW.match(text, at)
     if raw:
@@ -155,7 +159,8 @@ def letter_at(text, at):
 
 
 class Reader:
-    """Reads the trees of a text. The list `open` holds the groups that are begun and the trees that stand before each."""
+    """Reads the trees of a text. The list `open` holds the groups that are begun and the trees that
+    stand before each."""
 
     def __init__(self, text):
         self.text, self.open, self.trees = text, [], []
@@ -228,7 +233,8 @@ def tokenize(text):
 
 
 def printed(run):
-    """The text of a run: lexemes parted by a space, none behind a punctuation that others follow directly."""
+    """The text of a run: lexemes parted by a space, none behind a punctuation that others follow
+    directly."""
     return re.sub('[ \n]$', '', spread(run)) if run and not run[-1].kind == 'doc' else spread(run)
 
 

@@ -1,5 +1,6 @@
-"""Makes whole Rust files of random items, has `logos_cli` expand them, and compares with the plain reader: every byte outside of the enums that
-derive `Logos` stays, but for documentation and attributes of the file itself, which become plain comments; each such enum gives way to the tokens
+"""Makes whole Rust files of random items, has `logos_cli` expand them, and compares with the plain
+reader: every byte outside of the enums that derive `Logos` stays, but for documentation and
+attributes of the file itself, which become plain comments; each such enum gives way to the tokens
 that the plain reader leaves of it, and to an implementation.
 
 The word is the program's path. The last line has the counts.
@@ -70,7 +71,8 @@ class FileMaker:
         return f'{head}{self.pick(["", "pub ", "pub(crate) "])}enum E{self.serial} {{{self.pick(GAPS)}{variants}{self.pick(["", ",", ", // last" + chr(10)])}}}'
 
     def items(self, end):
-        """Items that stay, with a mark that no expansion has at the front, and modules that are left and entered."""
+        """Items that stay, with a mark that no expansion has at the front, and modules that are
+        left and entered."""
         self.serial += 1
         text, depth = f'/* mark {self.serial} */', self.depth
         for _ in range(self.random.randrange(4)):
@@ -126,7 +128,8 @@ def is_expansion(source, enum, text):
 
 
 def differences(program, seed):
-    """Returns how many pieces of a file were compared, and in which the program answers otherwise."""
+    """Returns how many pieces of a file were compared, and in which the program answers
+    otherwise."""
     front, plain, texts, enums = FileMaker(seed).pieces()
     shape = SHAPES[seed % len(SHAPES)]
     source = front + ''.join(text + enum for text, enum in zip(texts, [*enums, '']))

@@ -1,4 +1,5 @@
-"""Reads types, as far as faults rest on them: what is no type, what is left out, and which names stand where types are walked."""
+"""Reads types, as far as faults rest on them: what is no type, what is left out, and which names
+stand where types are walked."""
 
 
 class NotAType(Exception):
@@ -66,7 +67,8 @@ class Cursor:
 
 
 class TypeReader(Cursor):
-    """Reads one type. The list `named` gets the paths of one name alone that stand where types are walked."""
+    """Reads one type. The list `named` gets the paths of one name alone that stand where types are
+    walked."""
 
     def __init__(self, trees, named):
         super().__init__(trees)
@@ -223,7 +225,8 @@ class TypeReader(Cursor):
 
 
 def names_of(run):
-    """The names that a written type names where types are walked. Raises where the run is no type, or one that is left out."""
+    """The names that a written type names where types are walked. Raises where the run is no type,
+    or one that is left out."""
     named = []
     reader = TypeReader(run, named)
     reader.type()

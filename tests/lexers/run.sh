@@ -1,15 +1,19 @@
 #!/usr/bin/env bash
-# Takes lexers as users of Logos write them through `logos_cli`, rustc, clippy and rustfmt, and compares the items with those of
-# `logos_show`.
+# Takes lexers as users of Logos write them through `logos_cli`, rustc, clippy and rustfmt, and
+# compares the items with those of `logos_show`.
 #
-# Each of the forty files is a whole Rust file with one lexer or more: those of examples/lexers, of the other examples and of the guide, and
-# those of tests/lexers/files, which have modules, conditions, callbacks, comments, documentation of the file itself, and line ends of all
-# kinds. Beside it stands an input. The derive is expanded in all three shapes; lines outside of the enums have to stay; another file
-# includes the results, and rustc and clippy accept them where all warnings are errors; a result is as rustfmt leaves it where its source
-# is. What each lexer finds in its input is compared with what `logos_show` prints, line by line: callbacks give an item for each match.
-# So is what `scan` finds, in the shape that has it. The tables have to compile over a runtime without `scan`, too.
+# Each of the forty files is a whole Rust file with one lexer or more: those of examples/lexers, of
+# the other examples and of the guide, and those of tests/lexers/files, which have modules,
+# conditions, callbacks, comments, documentation of the file itself, and line ends of all kinds.
+# Beside it stands an input. The derive is expanded in all three shapes; lines outside of the enums
+# have to stay; another file includes the results, and rustc and clippy accept them where all
+# warnings are errors; a result is as rustfmt leaves it where its source is. What each lexer finds
+# in its input is compared with what `logos_show` prints, line by line: callbacks give an item for
+# each match. So is what `scan` finds, in the shape that has it. The tables have to compile over a
+# runtime without `scan`, too.
 #
-# It needs rustc, and the programs that the gate has built, or the first two arguments. Where rustfmt or clippy is missing it says so.
+# It needs rustc, and the programs that the gate has built, or the first two arguments. Where
+# rustfmt or clippy is missing it says so.
 set -euo pipefail
 
 root=$(cd "$(dirname "${BASH_SOURCE[0]}")/../.." && pwd)
@@ -59,7 +63,8 @@ lay_out() {
     deriving codes docs/guide/codes_cured.rs docs/guide/greeting
 }
 
-# Lays out a file of the repository, as it is, or with a public enum that derives `Logos` and `Debug`.
+# Lays out a file of the repository, as it is, or with a public enum that derives `Logos` and
+# `Debug`.
 as_it_is() {
     cp "$root/$2" "$room/files/$1.rs"
     cp "$root/$3" "$room/files/$1.input"
@@ -69,7 +74,8 @@ deriving() {
     cp "$root/$3" "$room/files/$1.input"
 }
 
-# Has rustc compile the expanded files, where all warnings are errors, and a program that lexes by them.
+# Has rustc compile the expanded files, where all warnings are errors, and a program that lexes by
+# them.
 compile() {
     (cd "$room" && rustc --edition 2021 -A warnings --crate-name logos --crate-type rlib --cfg 'feature="std"' -o liblogos.rlib "$root/runtime/rust/src/lib.rs" \
         && rustc --edition 2021 --extern logos=liblogos.rlib --crate-name expanded --crate-type rlib -o libexpanded.rlib expanded.rs \
@@ -94,7 +100,8 @@ accepted_by_clippy() {
         && date > clippy)
 }
 
-# Prints the arm that lexes by a module: the module, the type of its tokens, and whether it reads bytes.
+# Prints the arm that lexes by a module: the module, the type of its tokens, and whether it reads
+# bytes.
 arm() {
     local source='std::str::from_utf8(&bytes).expect("UTF-8")'
     [ "$3" = text ] || source='&bytes'

@@ -3,11 +3,11 @@
 
   contracts.py
 
-The last column of each table cites functions, as `generate` or `Parser::parse_generic`, and after a colon clauses of
-the function before it. A function has to stand in the crates that its row names, or anywhere where it names none, and
-have a clause that promises something; a clause has to be one of its own. A type or a module counts as found where it
-has such a function, and a trait's word where some `impl` of it has one. The last line is
-`contracts: N passed, M failed`."""
+The last column of each table cites functions, as `generate` or `Parser::parse_generic`, and after a
+colon clauses of the function before it. A function has to stand in the crates that its row names,
+or anywhere where it names none, and have a clause that promises something; a clause has to be one
+of its own. A type or a module counts as found where it has such a function, and a trait's word
+where some `impl` of it has one. The last line is `contracts: N passed, M failed`."""
 import pathlib
 import re
 import sys
@@ -21,7 +21,8 @@ CLAUSE = re.compile(r"\b(?:ensures|ghost ensures) (\w+)? ?\{")
 
 
 def functions(text):
-    """Yields the name of each function of a text, and its contract: the lines up to the one that opens its body."""
+    """Yields the name of each function of a text, and its contract: the lines up to the one that
+    opens its body."""
     for head in FUNCTION.finditer(text):
         lines = []
         for line in text[head.start() :].split("\n"):
@@ -33,7 +34,8 @@ def functions(text):
 
 
 class Crate:
-    """The functions of a crate with their clauses, its modules, and the types that have functions with clauses."""
+    """The functions of a crate with their clauses, its modules, and the types that have functions
+    with clauses."""
 
     def __init__(self, folder):
         self.clauses, self.holders = {}, set()

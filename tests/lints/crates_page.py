@@ -1,12 +1,14 @@
 #!/usr/bin/env python3
-"""Makes the page `crates/README.md` from `crates.txt` and from the first comment of each crate, or compares it.
+"""Makes the page `crates/README.md` from `crates.txt` and from the first comment of each crate, or
+compares it.
 
-  crates_page.py           fails where the page is not what the crates give, or where a crate is in no room
+  crates_page.py           fails where the page is not what the crates give, or a crate has no room
   crates_page.py --write   writes the page
 
-`crates.txt` has a line `# TITLE: WHAT IT HOLDS` for each room and the crates of the room below it. What a crate is for
-is the first paragraph of the comment at the top of its `src/lib.rt` or `src/main.rt`. "Used by" are the crates that
-name it. The last line is `crates_page: N passed, M failed`: a crate counts as one, and so does the page."""
+`crates.txt` has a line `# TITLE: WHAT IT HOLDS` for each room and the crates of the room below it.
+What a crate is for is the first paragraph of the comment at the top of its `src/lib.rt` or
+`src/main.rt`. "Used by" are the crates that name it. The last line is
+`crates_page: N passed, M failed`: a crate counts as one, and so does the page."""
 import os
 import re
 import sys
@@ -31,7 +33,8 @@ This page is made by `python3 tests/lints/crates_page.py --write`.
 
 
 def rooms():
-    """Returns the rooms of `crates.txt`: the title of each, and its crates with the libraries that they use."""
+    """Returns the rooms of `crates.txt`: the title of each, and its crates with the libraries that
+    they use."""
     found = []
     with open(f"{ROOT}/crates.txt", encoding="utf-8") as lines:
         for line in lines:
@@ -45,7 +48,8 @@ def rooms():
 
 
 def purpose(crate):
-    """Returns the first paragraph of the comment at the top of a crate, or nothing if there is none."""
+    """Returns the first paragraph of the comment at the top of a crate, or nothing if there is
+    none."""
     for name in ("lib.rt", "main.rt"):
         path = f"{ROOT}/crates/{crate}/src/{name}"
         if os.path.exists(path):

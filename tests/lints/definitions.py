@@ -1,12 +1,16 @@
 #!/usr/bin/env python3
-"""Looks up every name in backticks of docs/DEFINITIONS.md in the crates, and every definition that a public contract cites on that page.
+"""Looks up every name in backticks of docs/DEFINITIONS.md in the crates, and every definition that
+a public contract cites on that page.
 
-A name in a column `Definition` must be declared in one of the files that its row gives, in the folder that the heading above the table gives. A
-code of a fault must be a variant of `FaultCode`. A path must be that of a file or a folder. Any other name must stand somewhere in the crates. Texts
-in backticks that are no names, such as operators, are passed over, and counted apart. Prints a line for each name that is missing, and last
-how many were found and how many were not. Ends with status 1 where one is missing, or where fewer were looked up than there must be.
+A name in a column `Definition` must be declared in one of the files that its row gives, in the
+folder that the heading above the table gives. A code of a fault must be a variant of `FaultCode`. A
+path must be that of a file or a folder. Any other name must stand somewhere in the crates. Texts in
+backticks that are no names, such as operators, are passed over, and counted apart. Prints a line
+for each name that is missing, and last how many were found and how many were not. Ends with status
+1 where one is missing, or where fewer were looked up than there must be.
 
-The other way: a definition of `specs` that a clause of a public function in a public module cites needs a row, in a table of its file.
+The other way: a definition of `specs` that a clause of a public function in a public module cites
+needs a row, in a table of its file.
 """
 import pathlib
 import re
@@ -14,7 +18,8 @@ import sys
 
 TOP = pathlib.Path(__file__).resolve().parents[2]
 CRATES = TOP / "crates"
-# The page had more names than this when this number was last set. With fewer, rows were lost, or are no longer read.
+# The page had more names than this when this number was last set. With fewer, rows were lost, or
+# are no longer read.
 AT_LEAST = 1000
 NAME = re.compile(r"[A-Za-z_][A-Za-z0-9_]*(::[A-Za-z_][A-Za-z0-9_]*)*!?")
 PATH = re.compile(r"[a-z_]+(/[A-Za-z_]+)+(\.antt)?")
@@ -34,7 +39,8 @@ def backticked(text):
 
 
 def declared(path):
-    """The names that a file of definitions declares or hands on: definitions, constructors and fields."""
+    """The names that a file of definitions declares or hands on: definitions, constructors and
+    fields."""
     text = path.read_text(encoding="utf-8")
     names = set(DECLARED.findall(text))
     for handed_on in HANDED_ON.findall(text):
@@ -55,7 +61,8 @@ def public_files(crate):
 
 
 def origin(path, name):
-    """The file that declares a definition, and its name there, followed through the modules that hand it on; `None` for one of a library or a declared type."""
+    """The file that declares a definition, and its name there, followed through the modules that
+    hand it on; `None` for one of a library or a declared type."""
     for module, listed in HANDED_FROM.findall((CRATES / path).read_text(encoding="utf-8")) if (CRATES / path).is_file() else []:
         for entry in map(str.strip, listed.split(",")):
             if entry.split(" as ")[-1].strip() == name:
@@ -67,7 +74,8 @@ def origin(path, name):
 
 
 def imported(text):
-    """The names of definitions that a file imports, each with the file and the name that it has there."""
+    """The names of definitions that a file imports, each with the file and the name that it has
+    there."""
     names = {}
     for crate, module, listed in IMPORTS.findall(text):
         for name in filter(None, map(str.strip, listed.split(","))):
@@ -167,7 +175,8 @@ class Lookup:
 
 
     def citations(self):
-        """Looks up each definition that a public contract cites on the page. Returns how many there were."""
+        """Looks up each definition that a public contract cites on the page. Returns how many there
+        were."""
         found = {}
         for path, name, place in cited():
             found.setdefault((path, name), place)

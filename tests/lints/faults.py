@@ -3,10 +3,11 @@
 
   faults.py [PROGRAM]
 
-PROGRAM is `logos` as the gate has built it, if it is not given. Every code of the library needs an entry, and every kind a row of its table.
-Every code also needs a row of `logos_cli` that is named after it and shows how the program prints it. Each help in these rows
-is a sentence of the entry, or what the table has for the kind, and every code and kind but `Previous` has one. The last line
-is `faults: N passed, M failed`."""
+PROGRAM is `logos` as the gate has built it, if it is not given. Every code of the library needs an
+entry, and every kind a row of its table. Every code also needs a row of `logos_cli` that is named
+after it and shows how the program prints it. Each help in these rows is a sentence of the entry, or
+what the table has for the kind, and every code and kind but `Previous` has one. The last line is
+`faults: N passed, M failed`."""
 import glob
 import os
 import re
@@ -36,7 +37,8 @@ def written_out(source):
 
 
 def printed(program, room, source, given):
-    """Returns what the program prints for the source: its items of the input, or else its faults."""
+    """Returns what the program prints for the source: its items of the input, or else its
+    faults."""
     with open(f"{room}/enum.rs", "w", encoding="utf-8") as out:
         out.write(source)
     words = ["gen", "enum.rs"]
@@ -64,7 +66,8 @@ def entries(page):
 
 
 def rows(page):
-    """Yields the name of each kind in the tables, a source that has it, and the beginning of the line wanted."""
+    """Yields the name of each kind in the tables, a source that has it, and the beginning of the
+    line wanted."""
     for kind, shown, place in re.findall(r"^\| `(\w+)` \| `+ ?(.+?) ?`+ \| ([\d.]+) \|", page, re.M):
         if ".." in place:
             yield kind, shown, f"{place} Lexical: unreadable source: {kind}"
@@ -73,7 +76,8 @@ def rows(page):
 
 
 def shown():
-    """Returns the codes that a row of `logos_cli` shows: it is named after the code, and its messages have a line for it."""
+    """Returns the codes that a row of `logos_cli` shows: it is named after the code, and its
+    messages have a line for it."""
     with open(SHOWN, encoding="utf-8") as it:
         rows = it.read().split("\n=== the fault ")[1:]
     found = set()
@@ -88,7 +92,8 @@ def shown():
 
 
 def reports():
-    """Yields the code, the message and the help or None of each error in a report of the rows of `logos_cli`."""
+    """Yields the code, the message and the help or None of each error in a report of the rows of
+    `logos_cli`."""
     for path in sorted(glob.glob(REPORTS)):
         with open(path, encoding="utf-8") as it:
             rows = it.read()
@@ -101,7 +106,8 @@ def reports():
 
 
 def words(page):
-    """Returns the words below each heading of a code, and what stands in the last column for each kind of pattern fault."""
+    """Returns the words below each heading of a code, and what stands in the last column for each
+    kind of pattern fault."""
     found = {name: " ".join(body.split()) for name, body in re.findall(r"^### `(\w+)`\n(.*?)(?=^##)", page, re.M | re.S)}
     cells = dict(re.findall(r"^\| `(\w+)` \| .* \| ([^|\n]+) \|$", page.partition("## Kinds of pattern faults")[2], re.M))
     return found, cells

@@ -1,12 +1,14 @@
 #!/usr/bin/env python3
 """Counts the functions with many parameters, `self` included.
 
-  parameters.py           prints for each crate how many functions it has, and how many of them have five parameters or more and six
+  parameters.py           prints for each crate how many functions it has, and how many of them
+                          have five parameters or more and six
   parameters.py --names   prints those functions too
 
-No function may have more than six parameters, no crate more than ten functions with five or more, and the library as a whole no more than
-four in a hundred. The program of tests/calls, which only answers rows, is not counted in the whole. Each bound that holds for a crate counts as one, and so does
-that of the whole. The last line is `parameters: N passed, M failed`."""
+No function may have more than six parameters, no crate more than ten functions with five or more,
+and the library as a whole no more than four in a hundred. The program of tests/calls, which only
+answers rows, is not counted in the whole. Each bound that holds for a crate counts as one, and so
+does that of the whole. The last line is `parameters: N passed, M failed`."""
 import glob
 import os
 import re
@@ -21,7 +23,8 @@ TESTS = "tests/calls"
 
 
 def after_generics(text, at):
-    """Returns where the generic parameters end that begin there, or the same place where none do."""
+    """Returns where the generic parameters end that begin there, or the same place where none
+    do."""
     depth = 0
     while at < len(text):
         depth += (text[at] == "<") - (text[at] == ">" and text[at - 1] != "-")

@@ -3,9 +3,10 @@
 
   sources.py
 
-Each crate of `crates.txt` has to be as `rt fmt` leaves it. Files of the toolchain stand in the folders `src`, `specs` and `proofs` of
-crates alone, and a list of crates at the top alone: other sources have names that end with `.in`. The last line is
-`sources: N passed, M failed`: one for each crate, and one for the places of files."""
+Each crate of `crates.txt` has to be as `rt fmt` leaves it. Files of the toolchain stand in the
+folders `src`, `specs` and `proofs` of crates alone, and a list of crates at the top alone: other
+sources have names that end with `.in`. The last line is `sources: N passed, M failed`: one for each
+crate, and one for the places of files."""
 import filecmp
 import os
 import re

@@ -1,45 +1,43 @@
 #!/usr/bin/env python3
-"""Looks for words that this repository does not use, for the form of comments, and for the homes of words.
+"""Looks for words that this repository does not use, for the form of comments, and for the homes of
+words: words.py
 
-  words.py           fails where such a word stands in a crate or on a page that is clean
-  words.py --all     prints each place, and how many are left in each crate and on each page
+Read for words are the comments and the names in `src` and `specs` of each crate and of tests/calls,
+the names of these files, the pages in `docs`, and the README. Text between quotes is left out, and
+so are blocks of code on pages. `docs/GLOSSARY.md` has the words that are not used, with what stands
+in their place; each of them has its patterns here. Each word of that page has a home, which must be
+there.
 
-Read are the comments and the names in `src` and `specs` of each crate and of tests/calls, the names of these files, the pages in `docs`, and the README. Text
-between quotes is left out, and so are blocks of code on pages. `docs/GLOSSARY.md` has the words that are not used, with what stands in their place;
-each of them has its patterns here. Each word of that page has a home, which must be there.
+Comments have a form, too. In a crate there is a blank line after `# Errors`, and after the first
+comment of a file in `src`; "if memory runs out" where memory can; and in `specs` a capital letter
+first and a full stop last. The docstring of a function begins with a verb in the third person, and
+its first paragraph ends with a full stop; a law, which has no body, states a fact. A function
+`push_*` appends. In all files, also in scripts, rows and proofs, a comment has at most 100 columns.
 
-Comments have a form, too: at most 100 columns; a blank line after `# Errors`, and after the first comment of a file in `src`; "if memory runs out" where
-memory can; and in `specs` a capital letter first.
-
-The crates and pages in `NOT_YET` are not clean yet, and those in `FORM_NOT_YET` have not this form yet; both are only counted. Each other crate and page
-counts as one for its words, each other crate as one for its form, and each home as one. The last line is `words: N passed, M failed`."""
+Each crate and each page counts as one for its words, each crate as one for its form, the proofs of
+each crate and the other files of each folder as one for the width of their comments, and each home
+as one. The last line is `words: N passed, M failed`."""
 import collections
+import io
 import os
 import re
+import subprocess
 import sys
+import tokenize
 
 ROOT = os.path.dirname(os.path.dirname(os.path.dirname(os.path.realpath(__file__))))
 GLOSSARY = "docs/GLOSSARY.md"
 # With fewer that pass, files or rows were lost, or are no longer read.
-LEAST = 60
-# The crates and pages that are not clean yet. An entry goes when none of these words is left in it.
-NOT_YET = """
-logos_byte_class logos_layout logos_places logos_reduce logos_report tests/calls
-""".split()
-# The crates whose comments have not the form yet.
-FORM_NOT_YET = """
-logos_automaton logos_byte_class logos_code logos_codegen logos_generator logos_graph logos_inspect logos_layout logos_machine logos_warnings
-logos_places logos_reduce logos_search logos_tables logos_text logos_cli logos_commands logos_host logos_messages logos_report
-logos_show logos_program tests/calls
-""".split()
+LEAST = 250
 COLUMNS = 100
-# The crates and pages where a word is used, or is not replaced yet.
+# The endings of other files that have comments, of those among them that begin with `//`, and the
+# names of lists that have some.
+SLASHED = (".rt", ".rt.in", ".rs", ".c")
+COMMENTED = (*SLASHED, ".antt", ".py", ".sh", ".rows", ".sed")
+LISTS = (".ci/run", "crates.txt", "tests/parts")
+# The crates where a word has its home. On pages it is used, too.
 USED_IN = {
-    "place, outside of graphs": """
-logos_automaton logos_byte_class logos_code logos_codegen logos_generator logos_graph logos_inspect logos_machine logos_places logos_warnings logos_reduce logos_tables logos_text
-logos_cli logos_commands logos_disk logos_host logos_report logos_show logos_program logos_type_reader tests/calls
-logos_derive logos_expansion logos_layout logos_messages logos_pieces logos_placeholder logos_spelling logos_written logos_search logos_walk logos_fold logos_scan
-""".split()
+    "place, outside of graphs": ["logos_places", "logos_automaton"]
 }
 # Each entry of the glossary's last table: the words in a name, and the pattern in a sentence.
 UNUSED = {
@@ -54,7 +52,7 @@ UNUSED = {
         r"|\blists? (?:its|their|the|a|an|no|one|all|each) faults?\b|\bfaults (?:that )?(?:\w+ )?(?:lists?|listed)\b",
     ),
     "just, for exactly": ([], r"\bjust\b"),
-    "place, outside of graphs": ([], r"(?<!\bin )\b(?:a|one|each|this|that|any|no|its|their|second|same) places?\b|\bplaces\b"),
+    "place, outside of graphs": ([], r"(?<=.)(?<!\bin )(?<!\bin its )(?<!\bin their )(?<!\btakes the )(?<!\btook the )\bplaces?\b"),
     "what is no": ([], r"\bwhat (?:is|are) no\b"),
     "reached, work, as names of types": ([], r"(?!)"),
 }
@@ -165,25 +163,114 @@ def places(path, listing):
         yield from in_code(path, listing)
 
 
-def comment_faults(path):
+def python_comments(text):
+    """Yields the first and the last line of each comment and each docstring of a script."""
+    begins = True
+    for token in tokenize.generate_tokens(io.StringIO(text).readline):
+        if token.type == tokenize.COMMENT or begins and token.string.startswith('"""'):
+            yield token.start[0], token.end[0]
+        if token.type not in (tokenize.NL, tokenize.COMMENT):
+            begins = token.type in (tokenize.INDENT, tokenize.DEDENT, tokenize.NEWLINE)
+
+
+def comments(path):
+    """Yields the line number of each comment of a file that stands on lines of its own, and the
+    text of the line."""
+    text = read(path)
+    lines = text.split("\n")
+    if path.endswith(".py"):
+        for first, last in python_comments(text):
+            yield from ((at, lines[at - 1]) for at in range(first, last + 1))
+        return
+    if path.endswith(SLASHED) or path.endswith(".antt"):
+        form = DEFINITION if path.endswith(".antt") else RATTLE
+        found = [it.start() for it in form.finditer(text) if it["comment"]]
+    else:
+        found = [it.start() for it in re.finditer(r"^ *# \w", text, re.M)]
+    for start in found:
+        at = text.count("\n", 0, start)
+        if not text[text.rfind("\n", 0, start) + 1 : start].strip():
+            yield at + 1, lines[at]
+
+
+def width_faults(path):
+    """Yields the line of each comment that is too wide, and that it is."""
+    for number, line in comments(path):
+        if len(line) > COLUMNS and " " in line.strip().lstrip("#/!- "):
+            yield number, f"more than {COLUMNS} columns"
+
+
+def block_faults(numbers, lines):
+    """Yields the faults of comments of `specs`: of their first letters and their full stops."""
+    for number in numbers:
+        text = lines[number - 1].strip()
+        if number - 1 not in numbers and re.match(r"-- [a-z]", text):
+            yield number, "no capital letter first"
+        if number + 1 in numbers:
+            continue
+        first = number
+        while first - 1 in numbers:
+            first -= 1
+        if re.match(r"-- [A-Z0-9]", lines[first - 1].strip()) and not re.search(r"[.:?]$", text):
+            yield number, "no full stop last"
+
+
+def docstring_faults(lines):
+    """Yields the faults of the docstrings of functions."""
+    for at, line in enumerate(lines):
+        name = re.match(r"\s*(?:pub(?:\([^)]*\))? )?(?:const )?fn (\w+)", line)
+        if not name:
+            continue
+        end = at
+        while re.match(r"\s*#\[", lines[end - 1]):
+            end -= 1
+        first = end
+        while lines[first - 1].strip().startswith("///"):
+            first -= 1
+        words = " ".join(it.strip()[3:].strip() or "\n" for it in lines[first:end]).split("\n")[0].split()
+        if not words:
+            continue
+        if not words[-1].endswith("."):
+            yield first + 1, "no full stop after the first paragraph"
+        body = next((it.strip() for it in lines[at:] if it.strip() in ("{", "{}") or it.endswith(") {")), "")
+        if not words[0].rstrip(",").endswith("s") and body != "{}":
+            yield first + 1, f"no verb in the third person: {words[0]}"
+        if name[1].startswith("push_") and words[0] != "Appends":
+            yield first + 1, f"a function push_* appends: {words[0]}"
+
+
+def form_faults(path):
     """Yields the line of each comment of a file of a crate that has not the form, and why."""
     lines = read(path).split("\n")
-    mark = "//" if path.endswith((".rt", ".rt.in")) else "--"
+    yield from width_faults(path)
+    numbers = dict(comments(path))
+    if path.endswith(".antt"):
+        yield from block_faults(numbers, lines)
+        return
     first = next((at for at, line in enumerate(lines) if not line.startswith("//!")), 0)
-    if mark == "//" and 0 < first < len(lines) and lines[first]:
+    if 0 < first < len(lines) and lines[first]:
         yield first + 1, "no blank line after the first comment"
-    for at, line in enumerate(lines):
-        text = line.strip()
-        if not text.startswith(mark):
-            continue
-        if len(line) > COLUMNS:
-            yield at + 1, f"more than {COLUMNS} columns"
-        if text == "/// # Errors" and lines[at + 1].strip() != "///":
-            yield at + 1, "no blank line after # Errors"
-        if re.search(r"if there is not enough memory|when memory runs out", text):
-            yield at + 1, "if memory runs out"
-        if mark == "--" and re.match(r"-- [a-z]", text) and not (at and lines[at - 1].strip().startswith("--")):
-            yield at + 1, "no capital letter first"
+    for number, line in numbers.items():
+        if line.strip() == "/// # Errors" and lines[number].strip() != "///":
+            yield number, "no blank line after # Errors"
+        if re.search(r"if there is not enough memory|when memory runs out", line):
+            yield number, "if memory runs out"
+    if not path.endswith("/laws.rt"):
+        yield from docstring_faults(lines)
+
+
+def others(found):
+    """Returns the other files of the repository that have comments: those of each room at the top,
+    and the proofs of each crate."""
+    listed = subprocess.run(["git", "ls-files", "--cached", "--others", "--exclude-standard"],
+                            cwd=ROOT, stdout=subprocess.PIPE, text=True, check=True)
+    known = {path for paths in found.values() for path in paths}
+    rooms = collections.defaultdict(list)
+    for path in listed.stdout.split("\n"):
+        if (path.endswith(COMMENTED) or path in LISTS) and path not in known and os.path.exists(f"{ROOT}/{path}"):
+            parts = path.split("/")
+            rooms["/".join(parts[:2]) if parts[0] in ("crates", "tests") else parts[0]].append(path)
+    return rooms
 
 
 def homes():
@@ -205,48 +292,29 @@ def homes():
         yield f"{entry}: not both in {GLOSSARY} and in this script"
 
 
+def word_faults(found):
+    """Yields for each crate and page the words in it that are not used."""
+    listing = {name for paths in found.values() for path in paths if path.endswith((".rt", ".rt.in"))
+               for name in LISTS_A_FAULT.findall(read(path))}
+    for unit, paths in found.items():
+        yield [f"{path}:{line}: {entry}" for path in paths for line, entry in places(path, listing)
+               if not (entry in USED_IN and (unit in USED_IN[entry] or unit.endswith(".md")))]
+
+
 def main():
-    show = sys.argv[1:] == ["--all"]
-    if sys.argv[1:] and not show:
+    if sys.argv[1:]:
         sys.exit(__doc__)
     found = units()
-    listing = {name for paths in found.values() for path in paths if path.endswith((".rt", ".rt.in")) for name in LISTS_A_FAULT.findall(read(path))}
-    passed = failed = 0
-    for unit, paths in found.items():
-        counts = collections.Counter()
-        lines = []
-        for path in paths:
-            for line, entry in places(path, listing):
-                if entry in USED_IN and (unit in USED_IN[entry] or unit.endswith(".md")):
-                    continue
-                counts[entry] += 1
-                lines.append(f"{path}:{line}: {entry}")
-        number = sum(counts.values())
-        passed += number == 0
-        if number and unit not in NOT_YET:
-            failed += 1
-            print(f"words: {unit} has {number} places with words that are not used")
-        if show or number and unit not in NOT_YET:
-            print("".join(f"{line}\n" for line in lines), end="")
-        if not number and unit in NOT_YET:
-            print(f"words: {unit} is clean, and leaves the list NOT_YET")
-        if show and number:
-            print(f"{unit}: {number} left: " + ", ".join(f"{count} {entry}" for entry, count in counts.most_common()))
+    checked = [*word_faults(found)]
     for crate in (it for it in found if "." not in it):
-        faults = [f"{path}:{line}: {why}" for path in found[crate] for line, why in comment_faults(path)]
-        passed += not faults
-        if faults and crate not in FORM_NOT_YET:
-            failed += 1
-            print("".join(f"words: {line}\n" for line in faults), end="")
-        if not faults and crate in FORM_NOT_YET:
-            print(f"words: the comments of {crate} have the form, and it leaves the list FORM_NOT_YET")
-        if show and faults:
-            print(f"{crate}: {len(faults)} comments without the form")
-    for missing in homes():
-        passed += missing is None
-        failed += missing is not None
-        if missing:
-            print(f"words: {missing}")
+        checked.append([f"{path}:{line}: {why}" for path in found[crate] for line, why in form_faults(path)])
+    for paths in others(found).values():
+        checked.append([f"{path}:{line}: {why}" for path in paths for line, why in width_faults(path)])
+    checked += [[missing] if missing else [] for missing in homes()]
+    for faults in checked:
+        print("".join(f"words: {line}\n" for line in faults), end="")
+    passed = sum(not faults for faults in checked)
+    failed = len(checked) - passed
     print(f"words: {passed} passed, {failed} failed")
     sys.exit(1 if failed or passed < LEAST else 0)
 

@@ -3,17 +3,23 @@
 
   run.py logos PROGRAM        runs each command of `logos` on each source of tests/memory/logos
   run.py tools CLI SHOW       runs `logos_cli` and `logos_show` on the sources of tests/memory/tools
-  run.py calls PROGRAM        has the program of calls answer the rows of tests/rows/calls, but for those of large.rows
+  run.py calls PROGRAM        has the program of calls answer the rows of tests/rows/calls, but for
+                              those of large.rows
 
-Each run of a program is made once with ample memory, and then once for each of its requests with just that one refused (refuse.c).
-Each time it must end as it did, or in want of memory: with status 3, `out of memory` as the last line of its messages, and nothing on
-standard output. A file is written as it was, or not at all, and no other file is left. For each run some refusal has to end so.
+Each run of a program is made once with ample memory, and then once for each of its requests with
+just that one refused (refuse.c). Each time it must end as it did, or in want of memory: with status
+3, `out of memory` as the last line of its messages, and nothing on standard output. A file is
+written as it was, or not at all, and no other file is left. For each run some refusal has to end
+so.
 
-The program of calls refuses by itself (refuse_next.c): each row is answered once with ample memory, and then once for each request that its
-answer makes. The answer must be the wanted one, or that memory ran out; what is lent to a call must then be as it was, and a parser
-to which it was lent must answer again that memory ran out. Each call of the program has to have a row for which something was refused.
+The program of calls refuses by itself (refuse_next.c): each row is answered once with ample memory,
+and then once for each request that its answer makes. The answer must be the wanted one, or that
+memory ran out; what is lent to a call must then be as it was, and a parser to which it was lent
+must answer again that memory ran out. Each call of the program has to have a row for which
+something was refused.
 
-It needs gcc. The last line is `N passed, M failed`: a refused request counts as one, and so does a row of calls."""
+It needs gcc. The last line is `N passed, M failed`: a refused request counts as one, and so does a
+row of calls."""
 import glob
 import os
 import re
@@ -28,7 +34,8 @@ ROWS = os.path.join(HERE, "..", "rows", "calls")
 # The sources of `logos`, each with an input. That of `EXPORTED` says where its chart goes.
 SOURCES = ["alike", "bytes", "faults", "letters", "sentence", "subpatterns", "whole"]
 EXPORTED = "whole"
-# The words of each run of the other programs. The lexers of `whole.rs` have faults, so nothing is written for them.
+# The words of each run of the other programs. The lexers of `whole.rs` have faults, so nothing is
+# written for them.
 CLI = ["whole.rs", "right.rs --output written", "whole.rs --output written", "whole.rs --output faults.rs --check", "whole.rs --output whole.rs", "whole.rs --shape tailcall", "faults.rs", "--help"]
 SHOW = ["whole.rs", "whole.rs input", "whole.rs input --enum Digits", "faults.rs", "faults.rs input", "whole.rs --json", "whole.rs input --json",
         "right.rs --inputs 5", "right.rs --inputs 5 --json", "right.rs --examples --json", "right.rs input --at 1:1 --json", "right.rs whole.rs --compare",
@@ -51,7 +58,8 @@ def read(path):
 
 
 def answer(folder, number):
-    """Returns how a run ended: its status, its outputs, and the files that it left. The time differs from run to run."""
+    """Returns how a run ended: its status, its outputs, and the files that it left. The time
+    differs from run to run."""
     files = {os.path.relpath(path, f"{folder}/{number}"): read(path) for path in glob.glob(f"{folder}/{number}/**", recursive=True) if os.path.isfile(path)}
     out = re.sub(rb"^milliseconds: .*\n", b"", read(f"{folder}/{number}.out"), flags=re.M)
     return int(read(f"{folder}/{number}.status")), out, read(f"{folder}/{number}.err"), files
@@ -63,7 +71,8 @@ def is_want(status, out, err, files):
 
 
 def refuse_each(refuse, program, words):
-    """Runs a program with each of its requests refused. Returns how many there were, how many ended in want of memory, and the ample answer."""
+    """Runs a program with each of its requests refused. Returns how many there were, how many ended
+    in want of memory, and the ample answer."""
     with tempfile.TemporaryDirectory(prefix="refused-", dir=place()) as room:
         subprocess.run([program, *words], env={**os.environ, "LD_PRELOAD": refuse, "REFUSE": room}, stdin=subprocess.DEVNULL, check=True)
         ample = answer(room, 0)
@@ -118,7 +127,8 @@ def try_run(refuse, program, words, writes):
 
 
 def of_runs(refuse, runs):
-    """Tries all runs, several at once. Returns how many requests were refused, and how many runs failed."""
+    """Tries all runs, several at once. Returns how many requests were refused, and how many runs
+    failed."""
     with ThreadPoolExecutor(len(os.sched_getaffinity(0))) as pool:
         results = list(pool.map(lambda run: try_run(refuse, *run), runs))
     refused, lacked = sum(it[0] for it in results), sum(it[1] for it in results)

@@ -1,14 +1,18 @@
 #!/usr/bin/env python3
 """Runs rows of tests on built programs, several at once, and compares what they give.
 
-  rows.py commands PROGRAM FILE..   for each row of the files: lays its files out in a new folder, runs the program there, and
-                                    compares its status, every byte of its outputs, and every file that is there afterwards
-  rows.py calls PROGRAM FILE..      hands the rows of the files to the program of calls, which compares them itself
+  run.py commands PROGRAM FILE..   for each row of the files: lays its files out in a new folder,
+                                   runs the program there, and compares its status, every byte of
+                                   its outputs, and every file that is there afterwards
+  run.py calls PROGRAM FILE..      hands the rows of the files to the program of calls, which
+                                   compares them itself
 
-The first line of a file says how many rows it has, as `# rows: 40`. tests/README.md describes the rest of the notation.
+The first line of a file says how many rows it has, as `# rows: 40`. tests/README.md describes the
+rest of the notation.
 
-Prints each row that failed and why, and last a line `N passed, M failed`. The status is 1 if a row failed, if a file has
-another number of rows than it says, if it cannot be read, or if fewer rows passed than `--least` asks for.
+Prints each row that failed and why, and last a line `N passed, M failed`. The status is 1 if a row
+failed, if a file has another number of rows than it says, if it cannot be read, or if fewer rows
+passed than `--least` asks for.
 """
 
 import argparse
@@ -39,7 +43,8 @@ class BadRow(Exception):
 
 
 def decoded(text):
-    """Returns the bytes of a text, in which `⟨E9⟩` is the character with this number, `⟨xE9⟩` a byte, and `⟨ab×3⟩` is `ababab`."""
+    """Returns the bytes of a text, in which `⟨E9⟩` is the character with this number, `⟨xE9⟩` a
+    byte, and `⟨ab×3⟩` is `ababab`."""
     front, *parts = text.split('⟨')
     out = bytearray(front.encode())
     for part in parts:
@@ -88,7 +93,8 @@ def stated_rows(path, lines):
 
 
 class Row:
-    """A row of commands: its runs, which all have to give the same, the files before and after them, and the outputs."""
+    """A row of commands: its runs, which all have to give the same, the files before and after
+    them, and the outputs."""
 
     def __init__(self, place, name):
         self.place, self.name = place, name
@@ -137,7 +143,8 @@ class Reader:
         return self.rows, stated
 
     def take(self, place, line):
-        """Reads a line: the name of a row or of a part, a line of a part, a setting, a note, or an empty line."""
+        """Reads a line: the name of a row or of a part, a line of a part, a setting, a note, or an
+        empty line."""
         setting = re.fullmatch(r'(args|status|full):(.*)', line)
         if line.startswith('=== '):
             self.begin_row(place, line[4:])
@@ -174,7 +181,8 @@ class Reader:
 
 
 def lay_out(row, outside):
-    """Makes the files of a row in the folder `here` of this one, so that a path can lead to the folder above."""
+    """Makes the files of a row in the folder `here` of this one, so that a path can lead to the
+    folder above."""
     here = os.path.join(outside, 'here')
     os.mkdir(here)
     for name, data in row.files():
@@ -273,8 +281,8 @@ def is_call_row(line):
 
 
 def batches(path):
-    """Cuts a file of calls into runs of rows. Returns lists of lines with their numbers of rows, each with its header in front, and
-    how many rows the file says that it has."""
+    """Cuts a file of calls into runs of rows. Returns lists of lines with their numbers of rows,
+    each with its header in front, and how many rows the file says that it has."""
     lines = read_lines(path)
     stated = stated_rows(path, lines)
     header, cut, count, found = '', [], 0, []

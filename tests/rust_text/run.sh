@@ -1,35 +1,47 @@
 #!/usr/bin/env bash
-# Compiles the Rust texts that `logos gen` prints, and those that `logos_cli --shape tables` does, and compares what they find with `logos lex`.
+# Compiles the Rust texts that `logos gen` prints, and those that `logos_cli --shape tables` does,
+# and compares what they find with `logos lex`.
 #
-# Each source of tests/rust_text/sources, and some from elsewhere in the repository, is stripped, and printed in all three shapes; and it stands
-# there as it is, for the derive macro. rustc compiles all texts at once over runtime/rust, and what comes of each input of
-# tests/rust_text/inputs is compared, item by item; a source with inputs of its own in tests/rust_text/own, NAME or NAME.ANYTHING, reads these
-# alone. The lines of tests/rust_text/rows are small sources: a name, an enum, and inputs, parted by tabs. A source has at most one attribute
-# on a variant, so that a variant's place gives its leaf, and each skip on a line of its own. A source with callbacks, values or parameters may
-# have more; beside it stands a file of this name in tests/rust_text/beside, with the Rust items that it names, the type of its tokens and the
-# leaf of each. Its callbacks keep what they match, as `logos lex` does. Derives that rustc does not know do nothing.
+# Each source of tests/rust_text/sources, and some from elsewhere in the repository, is stripped,
+# and printed in all three shapes; and it stands there as it is, for the derive macro. rustc
+# compiles all texts at once over runtime/rust, and what comes of each input of
+# tests/rust_text/inputs is compared, item by item; a source with inputs of its own in
+# tests/rust_text/own, NAME or NAME.ANYTHING, reads these alone. The lines of tests/rust_text/rows
+# are small sources: a name, an enum, and inputs, parted by tabs. A source has at most one attribute
+# on a variant, so that a variant's place gives its leaf, and each skip on a line of its own. A
+# source with callbacks, values or parameters may have more; beside it stands a file of this name in
+# tests/rust_text/beside, with the Rust items that it names, the type of its tokens and the leaf of
+# each. Its callbacks keep what they match, as `logos lex` does. Derives that rustc does not know do
+# nothing.
 #
-# Callbacks of skips, callbacks that refuse what they match or leave it out, and the one that makes errors are shown too. Of a source with a
-# file of its name in tests/rust_text/skips the skips stand in `skip(..)`, and `logos lex` is asked with each of them as a variant in front of the
-# others, so that it gives all matches in order, by the same leaves. The file, in sed's language, says what becomes of these lines: `token`
-# where a skip's callback has to say that it was called, `made` in front of `error` where the callback that makes errors has to say so. Each prints
-# where the lexer stands, and `told`, in the file beside, looks at the value of each error.
+# Callbacks of skips, callbacks that refuse what they match or leave it out, and the one that makes
+# errors are shown too. Of a source with a file of its name in tests/rust_text/skips the skips stand
+# in `skip(..)`, and `logos lex` is asked with each of them as a variant in front of the others, so
+# that it gives all matches in order, by the same leaves. The file, in sed's language, says what
+# becomes of these lines: `token` where a skip's callback has to say that it was called, `made` in
+# front of `error` where the callback that makes errors has to say so. Each prints where the lexer
+# stands, and `told`, in the file beside, looks at the value of each error.
 #
-# What `scan` finds by the tables of a source has to be what they find otherwise, in inputs made of each input, whole and in parts.
+# What `scan` finds by the tables of a source has to be what they find otherwise, in inputs made of
+# each input, whole and in parts.
 #
-# The tables of a source have to find in each beginning of an input, up to 512 bytes of it, what its code finds there.
+# The tables of a source have to find in each beginning of an input, up to 512 bytes of it, what its
+# code finds there.
 #
-# An input that is not UTF-8 has to be refused by each source that does not read bytes, and is then compared no further. Which inputs and
-# sources these are, and how many comparisons and refusals there have to be, is stated here.
+# An input that is not UTF-8 has to be refused by each source that does not read bytes, and is then
+# compared no further. Which inputs and sources these are, and how many comparisons and refusals
+# there have to be, is stated here.
 #
-# It needs rustc, and the programs as `rt ci` leaves them in crates/logos_program/out and crates/logos_cli/out, or the two arguments.
+# It needs rustc, and the programs as `rt ci` leaves them in crates/logos_program/out and
+# crates/logos_cli/out, or the two arguments.
 set -euo pipefail
 
 comparisons=768
 refusals=120
 # the least number of items that `scan` has to find
 scans=3000000
-# The inputs that are not UTF-8, with the length of their longest beginning that is, and the sources that read bytes.
+# The inputs that are not UTF-8, with the length of their longest beginning that is, and the sources
+# that read bytes.
 declare -A not_utf8=([bytes]=2 [marks]=31 [records]=0 [program]=97)
 of_bytes=' bytes marks program records '
 # The sources whose errors know where they are, which is another place in a part.
@@ -186,7 +198,8 @@ compare() {
     compared=$((compared + 1))
 }
 
-# Compares what the tables of a source find in each beginning of an input with what its code finds there.
+# Compares what the tables of a source find in each beginning of an input with what its code finds
+# there.
 compare_cuts() {
     local name=$1 input=$2 kind=text shape
     [[ $of_bytes != *" $name "* ]] || kind=bytes
@@ -197,7 +210,8 @@ compare_cuts() {
     grep -q '^cut 0$' "$room/cuts.tables" || fail "$name on $(basename "$input") was not cut"
 }
 
-# Compares what `scan` finds by the tables of a source with what they find otherwise, in inputs that are made of this one, whole and in parts.
+# Compares what `scan` finds by the tables of a source with what they find otherwise, in inputs that
+# are made of this one, whole and in parts.
 compare_scan() {
     local name=$1 input=$2 how=parted
     [[ $placed != *" $name "* ]] || how=scan

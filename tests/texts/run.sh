@@ -1,10 +1,12 @@
 #!/usr/bin/env bash
 # Compares the Rust texts that `logos gen` prints with stored ones, word for word.
 #
-# Beside each source NAME.rs of tests/texts stand its texts, NAME.state_machine.txt and NAME.tailcall.txt. They were put together from the
-# templates of the crate, by the graph of the source as it is worked out by hand, and not taken from the program. A stored text is laid out in
-# lines; the printed one has one space between its words, a line end where the stored one has `↵`, and ends its last line.
-# The script fails where a file of the list is missing, and where another one stands.
+# Beside each source NAME.rs of tests/texts stand its texts, NAME.state_machine.txt and
+# NAME.tailcall.txt. They were put together from the templates of the crate, by the graph of the
+# source as it is worked out by hand, and not taken from the program. A stored text is laid out in
+# lines; the printed one has one space between its words, a line end where the stored one has `↵`,
+# and ends its last line. The script fails where a file of the list is missing, and where another
+# one stands.
 #
 # It needs the program as `rt ci` leaves it in crates/logos_program/out, or the first argument.
 set -euo pipefail

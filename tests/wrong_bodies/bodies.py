@@ -1,4 +1,4 @@
-"""Wrong bodies, as the pages `others.md` list them."""
+"""Wrong bodies, as the pages `gate.md` and `others.md` list them."""
 
 import re
 from dataclasses import dataclass
@@ -26,7 +26,8 @@ class Change:
 
 @dataclass
 class Body:
-    """A wrong body: its changes, and the functions in which they lie. What is wrong with its page stands in `fault`."""
+    """A wrong body: its changes, and the functions in which they lie. What is wrong with its page
+    stands in `fault`."""
 
     crate: str
     name: str
@@ -87,22 +88,33 @@ def body_of(folder, name, block):
     return body
 
 
-def bodies_of(folder):
-    """The bodies that the page of a crate lists."""
-    page = folder / 'must-fail' / 'others.md'
+def pages_in(folder, names):
+    """The pages of these names that a crate has."""
+    return [it for it in (folder / 'must-fail' / name for name in names) if it.is_file()]
+
+
+def listed_on(page):
+    """The name and the block of each body that a page lists."""
     text = page.read_text(encoding='utf-8')
     found = re.findall(r'^### (\S+)\n\n(?:.+\n)+\n```\n([\s\S]*?)^```$', text, re.M)
-    names = [name for name, _ in found]
-    if len(names) != len(re.findall(r'^### ', text, re.M)):
+    if len(found) != len(re.findall(r'^### ', text, re.M)):
         raise BadPage(f'{page}: a heading is followed by no sentence and block')
-    twice = [it for it in names if names.count(it) > 1]
+    return found
+
+
+def bodies_of(folder, names):
+    """The bodies that the pages of these names list in the folder of a crate."""
+    found = [it for page in pages_in(folder, names) for it in listed_on(page)]
+    listed = [name for name, _ in found]
+    twice = [it for it in listed if listed.count(it) > 1]
     if twice:
-        raise BadPage(f'{page}: {twice[0]} stands there twice')
+        raise BadPage(f'{folder.name}: the body {twice[0]} is listed twice')
     return [body_of(folder, name, block) for name, block in found]
 
 
 def together(bodies):
-    """The first body, and those after it that can be tried in one check with it and with one another."""
+    """The first body, and those after it that can be tried in one check with it and with one
+    another."""
     chosen = []
     for body in bodies:
         if not any(body.clashes(it) for it in chosen):

@@ -17,7 +17,8 @@ PROOF = re.compile(r'(?:\./)?(proofs/\S+?):\d+:\d+: error: (.*)')
 
 @dataclass
 class Outcome:
-    """What a check printed: of each function by its path whether it is proved, what was said at places in sources, and the errors in proofs."""
+    """What a check printed: of each function by its path whether it is proved, what was said at
+    places in sources, and the errors in proofs."""
 
     status: int
     output: str
@@ -78,7 +79,8 @@ def kit():
 
 
 class Repository:
-    """A copy of the checkout's texts of some crates and of those below them, without wrong bodies, and with the libraries that `rt ci` builds there."""
+    """A copy of the checkout's texts of some crates and of those below them, without wrong bodies,
+    and with the libraries that `rt ci` builds there."""
 
     def __init__(self, root: Path, crates, room: Path):
         self.root, self.room, self.kit = root, room, kit()
@@ -97,14 +99,16 @@ class Repository:
         subprocess.run(['git', 'init', '-q', str(room)], check=True)
 
     def take_libraries(self):
-        """Takes the libraries that `rt ci` has built in the checkout, for all crates of the copy that have one there."""
+        """Takes the libraries that `rt ci` has built in the checkout, for all crates of the copy
+        that have one there."""
         for crate in (self.room / 'crates').iterdir():
             built = self.root / 'crates' / crate.name / 'out' / 'rlib'
             if built.is_dir():
                 shutil.copytree(built, crate / 'out' / 'rlib')
 
     def prove(self, is_proved):
-        """Whether all crates are proved as they stand, and what was said. Where they are, as the gate's note says, the libraries that it built are taken."""
+        """Whether all crates are proved as they stand, and what was said. Where they are, as the
+        gate's note says, the libraries that it built are taken."""
         if is_proved:
             self.take_libraries()
             return True, ''
@@ -130,22 +134,24 @@ class Repository:
 
 
 class Copy:
-    """A crate of such a copy, which is checked with some of its texts changed. Each check begins with what the ones before it kept."""
+    """A crate of such a copy, which is checked with some of its texts changed. Each check begins
+    with what the ones before it kept."""
 
     def __init__(self, repository: Repository, crate):
         self.crate, self.folder = repository.root / 'crates' / crate, repository.room / 'crates' / crate
         self.words = repository.words(crate)
 
     def check(self, functions):
-        """What a check says of these functions and of those that they call, or of the whole crate if there are none."""
+        """What a check says of these functions and of those that they call, or of the whole crate
+        if there are none."""
         only = [word for it in functions for word in ('--only', it.path)]
         how = {'stdin': subprocess.DEVNULL, 'stdout': subprocess.PIPE, 'stderr': subprocess.STDOUT, 'text': True, 'errors': 'replace'}
         done = subprocess.run([*self.words, *only], cwd=self.folder, check=False, **how)
         return outcome_of(done.returncode, done.stdout)
 
     def check_with(self, texts, functions):
-        """What a check says with these texts of these functions, or of the whole crate if there are none, or one of them has another path than the one that is
-        known of it."""
+        """What a check says with these texts of these functions, or of the whole crate if there are
+        none, or one of them has another path than the one that is known of it."""
         for path, text in texts.items():
             (self.folder / path).write_text(text, encoding='utf-8')
         try:

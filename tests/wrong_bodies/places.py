@@ -10,7 +10,8 @@ ANY = r'\w*'
 
 @dataclass(frozen=True)
 class Function:
-    """A function as it stands in a file: its crate and module, the type of its `impl`, with the trait if there is one, its name, and its lines."""
+    """A function as it stands in a file: its crate and module, the type of its `impl`, with the
+    trait if there is one, its name, and its lines."""
 
     crate: str
     module: str
@@ -22,13 +23,15 @@ class Function:
 
     @property
     def path(self):
-        """How a check is asked for this function alone: its path below the crate, or of a method its type's name and its own."""
+        """How a check is asked for this function alone: its path below the crate, or of a method
+        its type's name and its own."""
         if self.owner:
             return f'{self.owner.removesuffix(ANY)}::{self.name}'
         return '::'.join([*self.module.split('::')[1:], self.name])
 
     def is_at(self, path):
-        """Whether the prover's path names this function, or a closure in it. A method is named by the module of its type."""
+        """Whether the prover's path names this function, or a closure in it. A method is named by
+        the module of its type."""
         before = rf'{self.crate}::(?:\w+::)*' if self.owner else f'{self.module}::'
         name = f'{self.owner}::{self.name}' if self.owner else self.name
         return re.fullmatch(rf'{before}{name}|{before}fn::{name}::.*', path) is not None
@@ -51,7 +54,8 @@ def without_angles(text):
 
 
 def owner_of(header):
-    """How the prover names what an `impl` is for, as a pattern: the type, and then the trait, if there is one, with what that is given."""
+    """How the prover names what an `impl` is for, as a pattern: the type, and then the trait, if
+    there is one, with what that is given."""
     words = without_angles(header).split('{')[0].split()
     last = [it.split('::')[-1] for it in words]
     if 'for' in last:

@@ -12,7 +12,8 @@ WAITS = re.compile(r'(?:no proof:|not proved;) it (?:calls|passes)')
 
 
 def failures_of(outcome, path, words):
-    """Why a function is not proved, as far as that is by its own body; what is said of it where it only calls what is not proved is no such reason."""
+    """Why a function is not proved, as far as that is by its own body; what is said of it where it
+    only calls what is not proved is no such reason."""
     if words == 'proved':
         return []
     if words != 'not proved' and not WAITS.match(words):
@@ -21,13 +22,15 @@ def failures_of(outcome, path, words):
 
 
 def refused_for(reasons):
-    """The verdict on what is refused for these reasons. Where each is that a proof names what is gone, the refusal says nothing of a contract."""
+    """The verdict on what is refused for these reasons. Where each is that a proof names what is
+    gone, the refusal says nothing of a contract."""
     first = next((it for it in reasons if not SHAPE.search(it)), None)
     return (REFUSED, first) if first else (BY_SHAPE, reasons[0])
 
 
 def of_function(outcome, function):
-    """What a check says of a function: a verdict and its words, or None where it says nothing of the function itself."""
+    """What a check says of a function: a verdict and its words, or None where it says nothing of
+    the function itself."""
     said = {path: words for path, words in outcome.functions.items() if function.is_at(path)}
     wrong = [it for path, words in said.items() for it in failures_of(outcome, path, words)]
     errors = [words for file, line, words in outcome.places if function.has_line(file, line) and words.startswith('error')]
@@ -39,7 +42,8 @@ def of_function(outcome, function):
 
 
 def of_body(outcome, body):
-    """What a check says of a body in it: the verdict on one of its functions, or None where it says nothing."""
+    """What a check says of a body in it: the verdict on one of its functions, or None where it says
+    nothing."""
     found = [it for it in (of_function(outcome, function) for function in body.functions) if it]
     refused = [it for kind in (REFUSED, BY_SHAPE) for it in found if it[0] == kind]
     if refused:
@@ -48,7 +52,8 @@ def of_body(outcome, body):
 
 
 def of_whole(outcome):
-    """What a check says of the one body in it, if that lies in no function: any goal that stays open refuses it."""
+    """What a check says of the one body in it, if that lies in no function: any goal that stays
+    open refuses it."""
     if outcome.status == 0:
         return ACCEPTED, 'the crate is proved'
     wrong = [it for path, words in outcome.functions.items() for it in failures_of(outcome, path, words)]
@@ -66,7 +71,8 @@ def last_words(outcome):
 
 
 class Rounds:
-    """Tries the bodies of a crate, as many in a check as can be told apart, until each has a verdict."""
+    """Tries the bodies of a crate, as many in a check as can be told apart, until each has a
+    verdict."""
 
     def __init__(self, copy, folder, bodies, keep):
         self.copy, self.folder, self.bodies, self.keep = copy, folder, bodies, keep
@@ -89,7 +95,8 @@ class Rounds:
         self.verdicts[body.label] = verdict
 
     def check(self, bodies):
-        """What a check says of the crate with these bodies. Where each lies in functions, the check looks at these alone."""
+        """What a check says of the crate with these bodies. Where each lies in functions, the check
+        looks at these alone."""
         functions = list(dict.fromkeys(it for body in bodies for it in body.functions)) if all(it.functions for it in bodies) else []
         outcome = self.copy.check_with(texts_with(self.folder, bodies), functions)
         self.count += 1
@@ -99,7 +106,8 @@ class Rounds:
         return outcome
 
     def try_many(self, bodies):
-        """Tries bodies together, and those on which a check says nothing again after all others, as long as there comes a verdict; those that do not compile are left."""
+        """Tries bodies together, and those on which a check says nothing again after all others, as
+        long as there comes a verdict; those that do not compile are left."""
         waiting, is_of_use = [], False
         while len(bodies) + len(waiting) > 1:
             if not bodies:

@@ -1,7 +1,8 @@
 #!/usr/bin/env bash
-# Tries the wrong bodies that the pages crates/NAME/must-fail/others.md list: the prover must refuse
-# each. Run it by hand, and before a release; the gate tries only the files
-# crates/NAME/must-fail/*.edit.
+# Tries the wrong bodies that the pages gate.md and others.md in crates/NAME/must-fail list: the
+# prover must refuse each. Run it by hand, and before a release. As a part of the gate it has the
+# word `--gate`: then it tries those of the pages gate.md alone, with the libraries that the gate
+# has just proved, and fails at once where these are not proved.
 #
 # It copies the texts of the crates that are named, or of each with such a page, and of those below
 # them. All have to be proved as they stand: where the gate has proved this checkout, its libraries

@@ -1,6 +1,7 @@
-//! Prints a line for each item of the file that the first argument names, as `logos lex` does. The rules stand beside this file:
-//! `rules.rs` is the enum without its attributes, `lexer.rs` the text of its lexer. They have one skip, in front of the variants,
-//! and each variant has one leaf.
+//! Prints a line for each item of the file that the first argument names, as `logos lex` does. The
+//! rules stand beside this file: `rules.rs` is the enum without its attributes, `lexer.rs` the text
+//! of its lexer. They have one skip, in front of the variants, and each variant has one leaf.
+
 #![allow(warnings)]
 
 use std::io::{BufWriter, Write};

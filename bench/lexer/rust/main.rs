@@ -1,6 +1,7 @@
-//! Measures the lexer that the text beside this file says: `rules.rs` is the enum without its attributes, `lexer.rs` the text.
-//! Lexes the file that the first argument names, and prints the seconds, the tokens and the errors. With `--cfg scan` the items are those of
-//! `Scan::scan`.
+//! Measures the lexer that the text beside this file says: `rules.rs` is the enum without its
+//! attributes, `lexer.rs` the text. Lexes the file that the first argument names, and prints the
+//! seconds, the tokens and the errors. With `--cfg scan` the items are those of `Scan::scan`.
+
 #![allow(warnings)]
 
 include!("rules.rs");
@@ -19,7 +20,8 @@ fn main() {
     println!("{seconds:.6} {tokens} {errors}");
 }
 
-/// Returns how many tokens and errors there are. It is a function of its own, so that the counts stay in registers.
+/// Returns how many tokens and errors there are. It is a function of its own, so that the counts
+/// stay in registers.
 #[inline(never)]
 fn count<Error>(items: impl Iterator<Item = Result<Rules, Error>>) -> (u64, u64) {
     let (mut tokens, mut errors) = (0, 0);

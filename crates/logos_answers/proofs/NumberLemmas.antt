@@ -60,7 +60,8 @@ module _ (table : Table) (distinct : AreDistinct table) where
           let places = one_place table distinct a.0 b.0 a.1 b.1 a.3 b.3 (a.4 ∙ names ∙ sym b.4) in
           omega arith
 
-  -- two leaves, or two that are not there, have the same number exactly if they have the same variant
+  -- two leaves, or two that are not there, have the same number exactly if they have the same
+  -- variant
   pub are_numbered : (leaves others : List Leaf) (names other_names : List ℕ) → AreNumbers table leaves (length leaves) names → AreNumbers table others (length others) other_names → AreNumbered leaves names others other_names
   are_numbered leaves others names other_names a b leaf other =
       go (slice_get_cases leaves leaf).1 (slice_get_cases names leaf).1 (slice_get_cases others other).1 (slice_get_cases other_names other).1

@@ -16,7 +16,7 @@ struct Known<'l> {
     callbacks: IndexSet<(&'l str, &'l str)>,
 }
 
-/// Pushes a note that names each variant that two lexers have, and for which their callbacks are
+/// Appends a note that names each variant that two lexers have, and for which their callbacks are
 /// written in different ways. Pushes nothing if there is no such variant.
 ///
 /// # Errors
@@ -32,7 +32,7 @@ pub fn push_callbacks<'l>(
     push_differing(alloc, page, &known, other)
 }
 
-/// Pushes the note about a lexer and what is known of another one.
+/// Appends the note about a lexer and what is known of another one.
 fn push_differing<'l>(
     alloc: Global,
     page: &mut Page,
@@ -43,7 +43,7 @@ fn push_differing<'l>(
     push_names_of(alloc, page, known, &other)
 }
 
-/// Pushes the note about two lexers, by what is known of them.
+/// Appends the note about two lexers, by what is known of them.
 fn push_names_of<'l>(
     alloc: Global,
     page: &mut Page,
@@ -129,7 +129,7 @@ fn add_if_differing<'l>(
     }
 }
 
-/// Pushes the note about these variants, if there are some.
+/// Appends the note about these variants, if there are some.
 fn push_note(page: &mut Page, variants: &[&str]) {
     if variants.is_empty() {
         return;
@@ -139,7 +139,7 @@ fn push_note(page: &mut Page, variants: &[&str]) {
     page.push(" are written in another way: what they do is not compared\n");
 }
 
-/// Pushes names, with commas between them.
+/// Appends names, with commas between them.
 fn push_names(page: &mut Page, names: &[&str]) {
     for number in 0..names.len() {
         page.push(if number == 0 { "`" } else { ", `" });

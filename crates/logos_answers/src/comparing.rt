@@ -1,8 +1,7 @@
 //! Two lexers, compared by the names of their variants.
 
 ghost use Rattle.std.specs.Prelude.{◌≡◌, [], Some, IfOk, OnOk, length, option_map};
-ghost use Rattle.logos_answers.specs.Words.{AreDistinct, AreNumbers, Grows, IsGraphOf, IsNumberOf};
-ghost use Rattle.logos_answers.specs.Views.{IsCompared, compared_by};
+ghost use Rattle.logos_answers.specs.Views.{AreDistinct, AreNumbers, Grows, IsGraphOf, IsNumberOf, IsCompared, compared_by};
 
 use crate::names::variant_of;
 use indexmap::IndexSet;

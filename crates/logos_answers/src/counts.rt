@@ -39,8 +39,8 @@ impl Counts {
         self.errors = self.errors.saturating_add(1);
     }
 
-    /// Adds a line for each variant with the number of its items, and one with that of errors. The
-    /// leaves of a variant follow one another.
+    /// Appends a line for each variant with the number of its items, and one with that of errors.
+    /// The leaves of a variant follow one another.
     ///
     /// # Errors
     ///
@@ -72,8 +72,8 @@ impl Counts {
     }
 }
 
-/// Adds the line of a variant at its last leaf. `sum` is the number of the items of the leaves of
-/// the variant up to this one. Returns what the next leaf adds to: the sum, or 0 where a variant
+/// Appends the line of a variant at its last leaf. `sum` is the number of the items of the leaves
+/// of the variant up to this one. Returns what the next leaf adds to: the sum, or 0 where a variant
 /// ends.
 fn push_sum(
     block: &mut Vec<u8>,
@@ -99,7 +99,7 @@ pub fn code_name_at<'l>(leaves: &'l [CodeLeaf<'_>], number: usize) -> Option<&'l
     }
 }
 
-/// Adds a line with a name and a number.
+/// Appends a line with a name and a number.
 ///
 /// # Errors
 ///

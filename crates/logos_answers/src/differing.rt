@@ -33,13 +33,13 @@ pub struct Finding<'f> {
     pub bytes: &'f [u8],
 }
 
-/// Pushes which inputs two lexers read.
+/// Appends which inputs two lexers read.
 pub fn push_modes(page: &mut Page, one: Lexed<'_, '_>, other: Lexed<'_, '_>) {
     push_mode(page, one);
     push_mode(page, other);
 }
 
-/// Pushes the line that says which inputs a lexer reads.
+/// Appends the line that says which inputs a lexer reads.
 fn push_mode(page: &mut Page, one: Lexed<'_, '_>) {
     page.push_shown(one.path);
     if one.graph.utf8_mode() {
@@ -49,7 +49,7 @@ fn push_mode(page: &mut Page, one: Lexed<'_, '_>) {
     }
 }
 
-/// Pushes an input on which two lexers differ, and what they find there first.
+/// Appends an input on which two lexers differ, and what they find there first.
 ///
 /// # Errors
 ///
@@ -68,7 +68,7 @@ pub fn push_difference(
     push_finding(alloc, page, other, input)
 }
 
-/// Pushes the line that says what a lexer finds at the beginning of an input.
+/// Appends the line that says what a lexer finds at the beginning of an input.
 fn push_finding(
     alloc: Global,
     page: &mut Page,
@@ -84,7 +84,7 @@ fn push_finding(
     Ok(())
 }
 
-/// Pushes an error, or that there is none.
+/// Appends an error, or that there is none.
 fn push_error(page: &mut Page, error: &[u8]) {
     if error.is_empty() {
         page.push("nothing");

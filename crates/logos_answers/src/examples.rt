@@ -30,9 +30,9 @@ pub struct Loss {
     pub winner: usize,
 }
 
-/// Pushes a line for each leaf of a graph without faults: a shortest input on which a lexer finds a
-/// match of the leaf first, and a shortest one on which the leaf matches and another leaf is found
-/// first, with that leaf. Where a leaf is never found the line says so.
+/// Appends a line for each leaf of a graph without faults: a shortest input on which a lexer finds
+/// a match of the leaf first, and a shortest one on which the leaf matches and another leaf is
+/// found first, with that leaf. Where a leaf is never found the line says so.
 ///
 /// # Errors
 ///
@@ -48,7 +48,7 @@ pub fn push_examples(alloc: Global, page: &mut Page, graph: &Graph<'_>) -> Resul
     Ok(())
 }
 
-/// Pushes the line of a leaf.
+/// Appends the line of a leaf.
 fn push_example(
     alloc: Global,
     page: &mut Page,
@@ -111,7 +111,7 @@ fn with_winner(alloc: Global, graph: &Graph<'_>, input: Vec<u8>) -> Result<Optio
     }
 }
 
-/// Pushes the line of a leaf, by what it finds and where it loses.
+/// Appends the line of a leaf, by what it finds and where it loses.
 fn push_evidence(page: &mut Page, leaves: &[Leaf<'_>], leaf: usize, evidence: &Evidence)
     ensures { Gains (shown.evidence_line leaves.now leaf
         (option_map (λ input. input.items) evidence.now.found)
@@ -123,7 +123,7 @@ fn push_evidence(page: &mut Page, leaves: &[Leaf<'_>], leaf: usize, evidence: &E
     page.push("\n");
 }
 
-/// Pushes what a leaf finds.
+/// Appends what a leaf finds.
 fn push_found(page: &mut Page, found: &Option<Vec<u8>>)
     ensures { Gains (shown.found_text (option_map (λ input. input.items) found.now))
         page.old page.new }
@@ -134,7 +134,7 @@ fn push_found(page: &mut Page, found: &Option<Vec<u8>>)
     }
 }
 
-/// Pushes an input on which a leaf is found.
+/// Appends an input on which a leaf is found.
 fn push_example_of(page: &mut Page, input: &[u8])
     ensures { Gains (codes "finds " ++ quoted input.now) page.old page.new }
 {
@@ -142,7 +142,7 @@ fn push_example_of(page: &mut Page, input: &[u8])
     push_quoted(page, input);
 }
 
-/// Pushes where a leaf loses, if it does.
+/// Appends where a leaf loses, if it does.
 fn push_loss(page: &mut Page, leaves: &[Leaf<'_>], loss: &Option<Loss>)
     ensures { Gains (shown.loss_text leaves.now (option_map shown.loss_value loss.now))
         page.old page.new }
@@ -152,7 +152,7 @@ fn push_loss(page: &mut Page, leaves: &[Leaf<'_>], loss: &Option<Loss>)
     }
 }
 
-/// Pushes an input on which a leaf loses, and to which one.
+/// Appends an input on which a leaf loses, and to which one.
 fn push_lost(page: &mut Page, leaves: &[Leaf<'_>], input: &[u8], winner: usize)
     ensures { Gains (codes ", loses " ++ (quoted input.now
         ++ (codes " to " ++ leaf_text leaves.now winner))) page.old page.new }

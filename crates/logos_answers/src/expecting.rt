@@ -7,10 +7,10 @@ use crate::quoting::push_quoted;
 use logos_lines::Cursor;
 use logos_report::Page;
 
-/// What begins the line of an answer that differs from run to run.
+/// What begins the line of an answer that differs from one time to the next.
 const TIME: &[u8] = b"milliseconds: ";
 
-/// Pushes whether an answer is the stored one, and returns that. If not, pushes at which line and
+/// Appends whether an answer is the stored one, and returns that. If not, pushes at which line and
 /// column of the stored one they differ first, and both lines. The line of the time that was taken
 /// is not compared. `path` is that of the stored answer.
 pub fn push_standing(page: &mut Page, path: &str, stored: &[u8], made: &[u8]) -> bool
@@ -70,7 +70,7 @@ fn tail_of(text: &[u8], at: usize) -> &[u8]
     }
 }
 
-/// Pushes where two answers differ first, and how.
+/// Appends where two answers differ first, and how.
 fn push_difference(page: &mut Page, path: &str, stored: &[u8], made: &[u8]) {
     let at = common_length(stored, made);
     let start = line_start(stored, at);
@@ -99,7 +99,7 @@ fn line_from(text: &[u8], start: usize) -> &[u8] {
     }
 }
 
-/// Pushes the path of a file, and a line and a column of it.
+/// Appends the path of a file, and a line and a column of it.
 fn push_place(page: &mut Page, path: &str, text: &[u8], at: usize) {
     let mut cursor = Cursor::new(text);
     cursor.go_to(at);
@@ -112,7 +112,7 @@ fn push_place(page: &mut Page, path: &str, text: &[u8], at: usize) {
     page.push(": the answer is another\n");
 }
 
-/// Pushes a line of an answer in quotes.
+/// Appends a line of an answer in quotes.
 fn push_line(page: &mut Page, before: &str, line: &[u8]) {
     page.push(before);
     push_quoted(page, line);

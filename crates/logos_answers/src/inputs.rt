@@ -1,8 +1,7 @@
 //! Inputs that together pass all edges of a graph.
 
 ghost use Rattle.std.specs.Prelude.{◌≡◌, IfOk, map, take};
-ghost use Rattle.std.specs.List.{flat_map};
-ghost use Rattle.logos_answers.specs.Words.{Gains, ShowsInputs, input_line};
+ghost use Rattle.logos_answers.specs.Words.{flat_map, Gains, ShowsInputs, input_line};
 
 use crate::quoting::push_literal;
 use logos_evidence::covering_inputs;
@@ -10,7 +9,7 @@ use logos_graph::graph::Graph;
 use logos_report::Page;
 use std::alloc::{AllocError, Global};
 
-/// Pushes a line for each of the first inputs of those that together pass all edges of a graph, at
+/// Appends a line for each of the first inputs of those that together pass all edges of a graph, at
 /// most `most` lines, and returns how many inputs there are in all. A line is a literal of Rust.
 ///
 /// # Errors
@@ -40,7 +39,7 @@ pub fn first_of(inputs: &[Vec<u8>], most: usize) -> &[Vec<u8>]
     }
 }
 
-/// Pushes a line for each of these inputs.
+/// Appends a line for each of these inputs.
 fn push_literals(page: &mut Page, inputs: &[Vec<u8>])
     ensures { Gains (flat_map input_line (map (λ input. input.items) inputs.now)) page.old page.new }
 {
@@ -49,7 +48,7 @@ fn push_literals(page: &mut Page, inputs: &[Vec<u8>])
     }
 }
 
-/// Pushes the line of an input.
+/// Appends the line of an input.
 fn push_line(page: &mut Page, input: &[u8])
     ensures { Gains (input_line input.now) page.old page.new }
 {

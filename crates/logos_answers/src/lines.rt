@@ -21,7 +21,7 @@ const HEAD: usize = 64;
 /// escape of four bytes for each byte that is shown, a quote and a line end.
 pub const LINE: usize = 347;
 
-/// Adds the line of an item: its position, its head, which names it, and its text in quotes. A
+/// Appends the line of an item: its position, its head, which names it, and its text in quotes. A
 /// short line is put together in `line` first.
 ///
 /// # Errors
@@ -64,7 +64,7 @@ fn write_short(line: &mut [u8; LINE], head: &[u8], slice: &[u8]) -> usize
     requires head { length head.now ≤ 64 }
     requires short { length slice.now ≤ 60 }
     ensures after { 41 ≤ result }
-    ensures within { result ≤ 347 }
+    ensures within { result ≤ LINE }
 {
     let mut at = write_text(line, POSITION, head);
     for byte in slice {
@@ -146,7 +146,7 @@ fn hexadecimal_digit(number: u8) -> u8
     }
 }
 
-/// Adds a number in decimal.
+/// Appends a number in decimal.
 ///
 /// # Errors
 ///
@@ -157,7 +157,7 @@ pub fn push_number(block: &mut Vec<u8>, number: usize) -> Result<(), AllocError>
     block.extend_from_slice(&digits[from..])
 }
 
-/// Adds what is shown of an item, and the closing quote.
+/// Appends what is shown of an item, and the closing quote.
 fn push_quoted(block: &mut Vec<u8>, slice: &[u8]) -> Result<(), AllocError> {
     match str::from_utf8(slice) {
         Ok(text) => push_text(block, text),
@@ -165,7 +165,7 @@ fn push_quoted(block: &mut Vec<u8>, slice: &[u8]) -> Result<(), AllocError> {
     }
 }
 
-/// Adds what is shown of a text, and the closing quote.
+/// Appends what is shown of a text, and the closing quote.
 fn push_text(block: &mut Vec<u8>, text: &str) -> Result<(), AllocError> {
     for character in text.chars().take(SHOWN) {
         push_character(block, character)?;
@@ -173,7 +173,7 @@ fn push_text(block: &mut Vec<u8>, text: &str) -> Result<(), AllocError> {
     push_end(block, text.chars().count(), " characters")
 }
 
-/// Adds what is shown of bytes that are not UTF-8, and the closing quote.
+/// Appends what is shown of bytes that are not UTF-8, and the closing quote.
 fn push_bytes(block: &mut Vec<u8>, slice: &[u8]) -> Result<(), AllocError> {
     for byte in slice.iter().take(SHOWN) {
         push_byte(block, *byte)?;
@@ -181,7 +181,7 @@ fn push_bytes(block: &mut Vec<u8>, slice: &[u8]) -> Result<(), AllocError> {
     push_end(block, slice.len(), " bytes")
 }
 
-/// Adds the closing quote, and the length if not all is shown.
+/// Appends the closing quote, and the length if not all is shown.
 fn push_end(block: &mut Vec<u8>, count: usize, unit: &str) -> Result<(), AllocError> {
     block.extend_from_slice(b"\"")?;
     if count <= SHOWN {
@@ -192,7 +192,7 @@ fn push_end(block: &mut Vec<u8>, count: usize, unit: &str) -> Result<(), AllocEr
     block.extend_from_slice(unit.as_bytes())
 }
 
-/// Adds a character, or its escape.
+/// Appends a character, or its escape.
 fn push_character(block: &mut Vec<u8>, character: char) -> Result<(), AllocError> {
     let code = character as u32;
     if code < 128 {
@@ -205,7 +205,7 @@ fn push_character(block: &mut Vec<u8>, character: char) -> Result<(), AllocError
     block.extend_from_slice(character.encode_utf8(&mut bytes).as_bytes())
 }
 
-/// Adds the escape of a character that is not shown as it is, by its number.
+/// Appends the escape of a character that is not shown as it is, by its number.
 fn push_number_escape(block: &mut Vec<u8>, code: u32) -> Result<(), AllocError> {
     block.extend_from_slice(b"\\u{")?;
     if code > 0xFFFF {
@@ -216,13 +216,13 @@ fn push_number_escape(block: &mut Vec<u8>, code: u32) -> Result<(), AllocError> 
     block.extend_from_slice(b"}")
 }
 
-/// Adds the two hexadecimal digits of a byte.
+/// Appends the two hexadecimal digits of a byte.
 fn push_two_digits(block: &mut Vec<u8>, byte: u8) -> Result<(), AllocError> {
     let digits = [hexadecimal_digit(byte / 16), hexadecimal_digit(byte % 16)];
     block.extend_from_slice(&digits)
 }
 
-/// Adds a byte, or its escape.
+/// Appends a byte, or its escape.
 fn push_byte(block: &mut Vec<u8>, byte: u8) -> Result<(), AllocError> {
     let mut text = [0; 4];
     let to = write_byte(&mut text, 0, byte);

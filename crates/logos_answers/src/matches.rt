@@ -20,8 +20,8 @@ struct Start<'a, 's> {
     from: usize,
 }
 
-/// Pushes a line for each leaf that matches from an offset of an input, with its longest match from
-/// there, and then a line that names the match that a lexer takes there, and says why.
+/// Appends a line for each leaf that matches from an offset of an input, with its longest match
+/// from there, and then a line that names the match that a lexer takes there, and says why.
 ///
 /// # Errors
 ///
@@ -51,7 +51,7 @@ pub fn push_matches(
     Ok(())
 }
 
-/// Pushes the match that a lexer takes at the beginning of an input, and returns whether there is
+/// Appends the match that a lexer takes at the beginning of an input, and returns whether there is
 /// one.
 ///
 /// # Errors
@@ -97,7 +97,7 @@ pub fn longest_of(
     Ok(longest)
 }
 
-/// Puts a match in the place of an earlier one of its leaf.
+/// Puts a match in place of an earlier one of its leaf.
 fn set_longest(longest: &mut Vec<Option<Match>>, found: Match)
     ensures count { length longest.new.items ≡ length longest.old.items }
     ensures each { (leaf : ℕ) → leaf < length longest.old.items →
@@ -109,7 +109,7 @@ fn set_longest(longest: &mut Vec<Option<Match>>, found: Match)
     }
 }
 
-/// Pushes the lines of the leaves that match.
+/// Appends the lines of the leaves that match.
 fn push_lines(page: &mut Page, start: Start<'_, '_>, longest: &[Option<Match>])
     ensures { Gains (shown.lines_of start.entry.leaves.now start.entry.input.now start.entry.from
         longest.now) page.old page.new }
@@ -119,7 +119,7 @@ fn push_lines(page: &mut Page, start: Start<'_, '_>, longest: &[Option<Match>])
     }
 }
 
-/// Pushes the line of a leaf, if it matches.
+/// Appends the line of a leaf, if it matches.
 fn push_found(page: &mut Page, start: Start<'_, '_>, found: Option<Match>)
     ensures { Gains (shown.line_or_none start.entry.leaves.now start.entry.input.now start.entry.from
         found) page.old page.new }
@@ -129,7 +129,7 @@ fn push_found(page: &mut Page, start: Start<'_, '_>, found: Option<Match>)
     }
 }
 
-/// Pushes the line of a match.
+/// Appends the line of a match.
 fn push_line(page: &mut Page, start: Start<'_, '_>, found: Match)
     ensures { Gains (shown.match_line start.entry.leaves.now start.entry.input.now start.entry.from
         found) page.old page.new }
@@ -141,7 +141,7 @@ fn push_line(page: &mut Page, start: Start<'_, '_>, found: Match)
     push_extent(page, start, found.end);
 }
 
-/// Pushes the beginning of the line of a leaf.
+/// Appends the beginning of the line of a leaf.
 pub(crate) fn push_head(page: &mut Page, leaves: &[Leaf<'_>], leaf: usize)
     ensures { Gains (shown.leaf_head leaves.now leaf) page.old page.new }
 {
@@ -152,7 +152,7 @@ pub(crate) fn push_head(page: &mut Page, leaves: &[Leaf<'_>], leaf: usize)
     page.push("  ");
 }
 
-/// Pushes how long a match is, and its text.
+/// Appends how long a match is, and its text.
 fn push_extent(page: &mut Page, start: Start<'_, '_>, end: usize)
     ensures { Gains (shown.extent_text start.entry.input.now start.entry.from end) page.old page.new }
 {
@@ -169,7 +169,7 @@ fn length_from(from: usize, end: usize) -> usize
     end.saturating_sub(from)
 }
 
-/// Pushes a number of bytes.
+/// Appends a number of bytes.
 fn push_length(page: &mut Page, count: usize)
     ensures { Gains (shown.length_text count) page.old page.new }
 {
@@ -194,7 +194,7 @@ pub fn bytes_between(input: &[u8], from: usize, to: usize) -> &[u8]
     }
 }
 
-/// Pushes the line that names the match that a lexer takes of these.
+/// Appends the line that names the match that a lexer takes of these.
 fn push_verdict(page: &mut Page, leaves: &[Leaf<'_>], matches: &[Match])
     ensures { (text : List ℕ) × shown.IsVerdict leaves.now matches.now text
         × Gains text page.old page.new }
@@ -205,7 +205,7 @@ fn push_verdict(page: &mut Page, leaves: &[Leaf<'_>], matches: &[Match])
     }
 }
 
-/// Pushes the line that names the match that a lexer takes.
+/// Appends the line that names the match that a lexer takes.
 fn push_winner(page: &mut Page, leaves: &[Leaf<'_>], matches: &[Match], found: Match)
     ensures { Gains (shown.winner_text leaves.now matches.now found) page.old page.new }
 {

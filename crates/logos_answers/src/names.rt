@@ -48,7 +48,7 @@ pub fn name_at<'l>(leaves: &'l [Leaf<'_>], leaf: usize) -> &'l str
     }
 }
 
-/// Pushes the name and the number of a leaf.
+/// Appends the name and the number of a leaf.
 pub fn push_leaf(page: &mut Page, leaves: &[Leaf<'_>], leaf: usize)
     ensures { Gains (leaf_text leaves.now leaf) page.old page.new }
 {

@@ -39,7 +39,7 @@ fn variant_at<'l>(leaves: &'l [CodeLeaf<'_>], counts: &Counts, number: usize) ->
     code_name_at(leaves, number)
 }
 
-/// Pushes a variant, unless it is the last one. Returns the last one that was pushed, or an empty
+/// Appends a variant, unless it is the last one. Returns the last one that was pushed, or an empty
 /// text if there is none.
 fn push_variant<'l>(page: &mut Page, variant: Option<&'l str>, last: &'l str) -> &'l str {
     let Some(variant) = variant else {

@@ -1,8 +1,7 @@
 //! The offset of a line and a column.
 
 ghost use Rattle.std.specs.Prelude.{◌≡◌, ◌↔◌, ℕ, IsTrue, MatchOption, false};
-ghost use Rattle.logos_answers.specs.Offsets.{IsOffsetOf};
-ghost use Rattle.logos_answers.specs.Quoting.{continues};
+ghost use Rattle.logos_answers.specs.Words.{IsOffsetOf, continues};
 
 use crate::quoting::continues;
 use logos_lines::{Cursor, Position};

@@ -1,8 +1,7 @@
 //! A line and a column in a word of the command line.
 
 ghost use Rattle.std.specs.Prelude.{◌≡◌, Some};
-ghost use Rattle.logos_answers.specs.Places.{digits_after, number_named, place_named};
-ghost use Rattle.logos_answers.specs.Places.{place_of, positive, with_digit};
+ghost use Rattle.logos_answers.specs.Places.{digits_after, number_named, place_named, place_of, positive, with_digit};
 
 use logos_lines::Position;
 

@@ -8,8 +8,8 @@ ghost use Rattle.logos_answers.specs.Words.{Gains};
 use logos_report::Page;
 use std::str;
 
-/// Pushes bytes in quotes: as a text if they are UTF-8, and with the other bytes escaped if not. Of
-/// more than sixty bytes the first ones are shown.
+/// Appends bytes in quotes: as a text if they are UTF-8, and with the other bytes escaped if not.
+/// Of more than sixty bytes the first ones are shown.
 pub fn push_quoted(page: &mut Page, bytes: &[u8])
     ensures { Gains (shown.quoted bytes.now) page.old page.new }
 {
@@ -18,7 +18,7 @@ pub fn push_quoted(page: &mut Page, bytes: &[u8])
     page.push(closing(bytes));
 }
 
-/// Pushes bytes as a literal of Rust: a string if they are UTF-8, and a byte string if not. It
+/// Appends bytes as a literal of Rust: a string if they are UTF-8, and a byte string if not. It
 /// stands on one line, and no byte is left out.
 pub(crate) fn push_literal(page: &mut Page, bytes: &[u8])
     ensures { Gains (shown.literal bytes.now) page.old page.new }
@@ -29,7 +29,7 @@ pub(crate) fn push_literal(page: &mut Page, bytes: &[u8])
     }
 }
 
-/// Pushes a text as a literal of Rust.
+/// Appends a text as a literal of Rust.
 fn push_string(page: &mut Page, text: &str)
     ensures { Gains (shown.string_literal text.now) page.old page.new }
 {
@@ -38,7 +38,7 @@ fn push_string(page: &mut Page, text: &str)
     page.push("\"");
 }
 
-/// Pushes bytes that are not UTF-8 as a literal of Rust.
+/// Appends bytes that are not UTF-8 as a literal of Rust.
 fn push_byte_string(page: &mut Page, bytes: &[u8])
     ensures { Gains (shown.byte_literal bytes.now) page.old page.new }
 {
@@ -89,7 +89,7 @@ fn closing(bytes: &[u8]) -> &'static str
     if bytes.len() > 60 { "\".." } else { "\"" }
 }
 
-/// Pushes what is shown of bytes between the quotes.
+/// Appends what is shown of bytes between the quotes.
 fn push_shown(page: &mut Page, bytes: &[u8])
     ensures { Gains (shown.shown_bytes bytes.now) page.old page.new }
 {
@@ -99,7 +99,7 @@ fn push_shown(page: &mut Page, bytes: &[u8])
     }
 }
 
-/// Pushes what is shown of a text.
+/// Appends what is shown of a text.
 fn push_text(page: &mut Page, text: &str)
     ensures { Gains (shown.shown_text text.now) page.old page.new }
 {
@@ -108,7 +108,7 @@ fn push_text(page: &mut Page, text: &str)
     }
 }
 
-/// Pushes what is shown of bytes that are not UTF-8.
+/// Appends what is shown of bytes that are not UTF-8.
 fn push_bytes(page: &mut Page, bytes: &[u8])
     ensures { Gains (shown.shown_others bytes.now) page.old page.new }
 {
@@ -117,7 +117,7 @@ fn push_bytes(page: &mut Page, bytes: &[u8])
     }
 }
 
-/// Pushes what is shown of a byte.
+/// Appends what is shown of a byte.
 fn push_byte(page: &mut Page, byte: u8)
     ensures { Gains (shown.shown_byte byte) page.old page.new }
 {
@@ -128,7 +128,7 @@ fn push_byte(page: &mut Page, byte: u8)
     }
 }
 
-/// Pushes the escape of a byte.
+/// Appends the escape of a byte.
 fn push_byte_escape(page: &mut Page, byte: u8)
     ensures { Gains (shown.byte_escape byte) page.old page.new }
 {
@@ -137,7 +137,7 @@ fn push_byte_escape(page: &mut Page, byte: u8)
     page.push_char(hex_digit(byte as u32));
 }
 
-/// Pushes what is shown of a character.
+/// Appends what is shown of a character.
 fn push_character(page: &mut Page, character: char)
     ensures { Gains (shown.shown_character character) page.old page.new }
 {
@@ -151,7 +151,7 @@ fn push_character(page: &mut Page, character: char)
     }
 }
 
-/// Pushes what is shown of a character that has no escape of two characters.
+/// Appends what is shown of a character that has no escape of two characters.
 fn push_other(page: &mut Page, character: char)
     ensures { Gains (shown.shown_other character) page.old page.new }
 {
@@ -162,7 +162,7 @@ fn push_other(page: &mut Page, character: char)
     }
 }
 
-/// Pushes the escape of a character that is not shown as it is.
+/// Appends the escape of a character that is not shown as it is.
 fn push_escape(page: &mut Page, number: u32)
     ensures { Gains (shown.hidden_escape number) page.old page.new }
 {
@@ -173,7 +173,7 @@ fn push_escape(page: &mut Page, number: u32)
     }
 }
 
-/// Pushes the escape of a character by its number.
+/// Appends the escape of a character by its number.
 fn push_number_escape(page: &mut Page, number: u32)
     ensures { Gains (shown.number_escape number) page.old page.new }
 {
@@ -182,7 +182,7 @@ fn push_number_escape(page: &mut Page, number: u32)
     page.push("}");
 }
 
-/// Pushes four digits of a number, or six.
+/// Appends four digits of a number, or six.
 fn push_number_digits(page: &mut Page, number: u32)
     ensures { Gains (shown.number_digits number) page.old page.new }
 {
@@ -194,7 +194,7 @@ fn push_number_digits(page: &mut Page, number: u32)
     }
 }
 
-/// Pushes the two digits in front of the last four.
+/// Appends the two digits in front of the last four.
 fn push_two_digits_before(page: &mut Page, number: u32)
     ensures { Gains (shown.two_digits_before number) page.old page.new }
 {
@@ -202,7 +202,7 @@ fn push_two_digits_before(page: &mut Page, number: u32)
     page.push_char(hex_digit(number / 65_536));
 }
 
-/// Pushes the last four digits of a number.
+/// Appends the last four digits of a number.
 fn push_four_digits(page: &mut Page, number: u32)
     ensures { Gains (shown.four_digits number) page.old page.new }
 {

@@ -15,7 +15,7 @@ struct Widths {
     callback: usize,
 }
 
-/// Pushes a table: the heads of its columns, and the rows of leaves with their numbers.
+/// Appends a table: the heads of its columns, and the rows of leaves with their numbers.
 pub fn push_rows(page: &mut Page, rows: &[LeafRow<'_>]) {
     let widths = widths_of(rows);
     push_heads(page, widths);
@@ -24,7 +24,7 @@ pub fn push_rows(page: &mut Page, rows: &[LeafRow<'_>]) {
     }
 }
 
-/// Pushes what a lexer costs.
+/// Appends what a lexer costs.
 pub fn push_costs(page: &mut Page, costs: Costs) {
     page.push("\n");
     push_cost(page, "states", costs.states);
@@ -98,7 +98,7 @@ fn columns_of(character: char) -> usize {
     if character == '\t' { TAB } else { 1 }
 }
 
-/// Pushes the heads of the columns.
+/// Appends the heads of the columns.
 fn push_heads(page: &mut Page, widths: Widths) {
     page.push("leaf  ");
     push_cell(page, "variant", widths.variant);
@@ -109,7 +109,7 @@ fn push_heads(page: &mut Page, widths: Widths) {
     page.push("line\n");
 }
 
-/// Pushes a row.
+/// Appends a row.
 fn push_row(page: &mut Page, number: usize, row: LeafRow<'_>, widths: Widths) {
     push_right(page, number, 4);
     push_cell(page, variant_cell(row), widths.variant);
@@ -122,20 +122,20 @@ fn push_row(page: &mut Page, number: usize, row: LeafRow<'_>, widths: Widths) {
     page.push("\n");
 }
 
-/// Pushes a text as a terminal can show it, with spaces up to a width and two more after it.
+/// Appends a text as a terminal can show it, with spaces up to a width and two more after it.
 fn push_cell(page: &mut Page, text: &str, width: usize) {
     page.push_shown(text);
     page.push_times(" ", width.saturating_sub(width_of(text)).saturating_add(2));
 }
 
-/// Pushes a number, with spaces in front of it up to a width, and two spaces after it.
+/// Appends a number, with spaces in front of it up to a width, and two spaces after it.
 fn push_right(page: &mut Page, number: usize, width: usize) {
     page.push_times(" ", width.saturating_sub(digits(number)));
     page.push_number(number);
     page.push("  ");
 }
 
-/// Pushes a line with a name and a number.
+/// Appends a line with a name and a number.
 fn push_cost(page: &mut Page, name: &str, count: usize) {
     push_cell(page, name, 11);
     page.push_number(count);

@@ -89,7 +89,7 @@ without_comma (also token rest) = if is_alone comma token then rest else also to
 
 -- The tokens that are left after a piece that begins with a name: those after the comma that ends
 -- the piece. After a group that is the lone comma that follows directly, if one does. A comma in
--- the place of `=` after two names does not end the piece. `rest` follows the name.
+-- place of `=` after two names does not end the piece. `rest` follows the name.
 abbrev pub rest_after_name : TokenList → TokenList
 rest_after_name none = none
 rest_after_name (also (group delimiter span inside) rest) = without_comma rest

@@ -1,8 +1,7 @@
 //! Reads callbacks in the arguments of attributes. Definitions and error types call it.
 
 ghost use Rattle.std.specs.Prelude.{◌≡◌, ◌++◌, ◌∷◌, [], IfOk, OnOk, OnErr, option_map};
-ghost use Rattle.logos_attribute.specs.Words.{run_span, tokens_of, ident_slice, IsReport, AddsFault, body_in, bar_in, parameter_in, callback_in, callback_report, callback_set, twice_at, view_span, callback_closure, callback_body, callback_no_value, callback_view};
-ghost use Rattle.logos_attribute.specs.Views.{run_view, callback_fault, read_view};
+ghost use Rattle.logos_attribute.specs.Views.{run_span, tokens_of, ident_slice, IsReport, AddsFault, body_in, bar_in, parameter_in, callback_in, callback_report, callback_set, twice_at, view_span, callback_closure, callback_body, callback_no_value, callback_view, run_view, callback_fault, read_view};
 
 use crate::nested::split;
 use logos_pattern::leaf::{Callback, InlineCallback};

@@ -1,8 +1,7 @@
 //! Reads the flags in `ignore(..)`.
 
 ghost use Rattle.std.specs.Prelude.{◌≡◌, OnOk, OnErr, IfOk, false, string_bytes};
-ghost use Rattle.logos_attribute.specs.Words.{also, none, tokens_of, tree_of, printed, Slice, ident_slice, IsReport, AddsFault, flags_report, ignore_ascii, other_flag, ignore_empty, ignore_token, GoesOn, HasCase};
-ghost use Rattle.logos_attribute.specs.Views.{IsSplit};
+ghost use Rattle.logos_attribute.specs.Views.{also, none, tokens_of, tree_of, printed, Slice, ident_slice, IsReport, AddsFault, flags_report, ignore_ascii, other_flag, ignore_empty, ignore_token, GoesOn, HasCase, IsSplit};
 
 use crate::nested::split;
 use crate::reporting::{report_form, report_named};

@@ -1,9 +1,8 @@
 //! Cuts the argument of an attribute into pieces: views of its tokens, which copy nothing.
 //! `logos_definition` takes the pieces one by one.
 
-ghost use Rattle.std.specs.Prelude.{◌≡◌, MatchOption, []};
-ghost use Rattle.logos_attribute.specs.Words.{Token, TokenList, none, also, append, rest_of, tokens_of, tree_of, ident_slice, literal_slice, up_to_comma, after_comma, pieces, after_name, after_group, after_keyword, through_comma, without_comma, rest_after_name, rest_after_piece, rest_after_group, name_token, named, assigned, beside, keyed, unnamed, unexpected, first_run, after_mark};
-ghost use Rattle.logos_attribute.specs.Views.{Cuts, IsSplit, piece_of, pieces_left};
+ghost use Rattle.std.specs.Prelude.{◌≡◌, MatchOption, [], ◌≢◌};
+ghost use Rattle.logos_attribute.specs.Views.{Token, TokenList, none, also, append, rest_of, tokens_of, tree_of, ident_slice, literal_slice, up_to_comma, after_comma, pieces, after_name, after_group, after_keyword, through_comma, without_comma, rest_after_name, rest_after_piece, rest_after_group, name_token, named, assigned, beside, keyed, unnamed, unexpected, first_run, after_mark, item_count, Cuts, IsSplit, piece_of, pieces_left, rest_after, GivesNext};
 
 use logos_token::token::{Ident, Literal, TokenTree, Tokens};
 use logos_token::util::is_punct;
@@ -295,10 +294,6 @@ fn piece_after_group<'t, 's>(
 }
 
 impl<'t, 's> AttributeParser<'t, 's> {
-    ghost use Rattle.std.specs.Prelude.{◌≡◌, ◌≢◌, MatchOption, []};
-    ghost use Rattle.logos_attribute.specs.Words.{none, tokens_of, up_to_comma, after_comma, pieces};
-    ghost use Rattle.logos_attribute.specs.Views.{Cuts, pieces_left, rest_after};
-
     /// Returns a parser of the pieces of a run.
     pub fn new(tokens: Tokens<'t, 's>) -> AttributeParser<'t, 's>
         ensures pieces { pieces_left result ≡ pieces (tokens_of tokens.entry) }
@@ -340,9 +335,6 @@ impl<'t, 's> AttributeParser<'t, 's> {
 
 impl<'t, 's> Iterator for AttributeParser<'t, 's> {
     type Item = Nested<'t, 's>;
-
-    ghost use Rattle.logos_attribute.specs.Words.{item_count};
-    ghost use Rattle.logos_attribute.specs.Views.{pieces_left, GivesNext};
 
     ghost next_gives = { GivesNext };
 

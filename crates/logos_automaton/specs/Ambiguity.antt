@@ -4,7 +4,7 @@ use Rattle.std.specs.List.Sorted.{IsStrictlyIncreasing}
 use Rattle.logos_hir.specs.Text.{IsBytes}
 use Rattle.logos_automaton.specs.Munch.{Rule, RuleMatches, priority_of}
 
--- the rule matches the span, and none that matches it has a higher priority
+-- The rule matches the span, and none that matches it has a higher priority.
 pub record IsHighest (rules : List Rule) (bytes : List ℕ) (from to leaf : ℕ) : Type 0 where
   pub matches : RuleMatches rules leaf bytes from to
   pub highest : (other : ℕ) → RuleMatches rules other bytes from to → priority_of rules other ≤ priority_of rules leaf

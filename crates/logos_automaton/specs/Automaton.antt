@@ -4,7 +4,8 @@ use Rattle.std.specs.List.Sorted.{IsStrictlyIncreasing}
 use Rattle.logos_hir.specs.Text.{IsBytes}
 use Rattle.logos_automaton.specs.Munch.{Rule, RuleMatches}
 
--- an automaton: for each state its targets by bytes, its target at the end, and the leaves that it lists
+-- An automaton: for each state its targets by bytes, its target at the end, and the leaves that it
+-- lists.
 pub record Automaton : Type 0 where
   pub start : ℕ
   pub by_byte : List (List ℕ)
@@ -15,7 +16,7 @@ module _ (dfa : Automaton) where
   abbrev pub dfa_next : Option ℕ → ℕ → Option ℕ
   dfa_next s b = option_and_then (λ t. option_and_then (λ row. slice_get row b) (slice_get dfa.by_byte t)) s
 
-  -- the state after the bytes
+  -- The state after the bytes.
   abbrev pub dfa_after : Option ℕ → List ℕ → Option ℕ
   dfa_after s [] = s
   dfa_after s (b ∷ bytes) = dfa_after (dfa_next s b) bytes
@@ -23,23 +24,24 @@ module _ (dfa : Automaton) where
   abbrev pub dfa_at_end : List ℕ → Option ℕ
   dfa_at_end bytes = option_and_then (slice_get dfa.at_end) (dfa_after (Some dfa.start) bytes)
 
-  -- the state lists exactly these leaves, in ascending order
+  -- The state lists exactly these leaves, in ascending order.
   pub record Lists (s : Option ℕ) (IsListed : ℕ → Type 0) : Type 0 where
     pub leaves : List ℕ
     pub listed : option_and_then (slice_get dfa.matches) s ≡ Some leaves
     pub ascending : IsStrictlyIncreasing leaves
     pub exactly : (leaf : ℕ) → Contains leaves leaf ↔ IsListed leaf
 
--- After some bytes and one more, the automaton lists the leaves that match all of the bytes before the last one. After some bytes
--- and the end, it lists the leaves that match all of the bytes.
+-- After some bytes and one more, the automaton lists the leaves that match all of the bytes before
+-- the last one. After some bytes and the end, it lists the leaves that match all of the bytes.
 pub record ReadsOneByteLate (rules : List Rule) (dfa : Automaton) : Type 0 where
   pub by_byte : (bytes : List ℕ) (b : ℕ) → IsBytes (bytes ++ b ∷ []) →
       Lists dfa (dfa_after dfa (Some dfa.start) (bytes ++ b ∷ [])) (λ leaf. RuleMatches rules leaf (bytes ++ b ∷ []) 0 (length bytes))
   pub at_end : (bytes : List ℕ) → IsBytes bytes →
       Lists dfa (dfa_at_end dfa bytes) (λ leaf. RuleMatches rules leaf bytes 0 (length bytes))
 
--- Each state has a target by each byte and by the end, and comes after some bytes, or after some bytes and the end. The start
--- lists nothing. After the end comes the dead state, which lists nothing and leads to itself alone.
+-- Each state has a target by each byte and by the end, and comes after some bytes, or after some
+-- bytes and the end. The start lists nothing. After the end comes the dead state, which lists
+-- nothing and leads to itself alone.
 pub record IsTotal (dfa : Automaton) : Type 0 where
   pub start_lists : slice_get dfa.matches dfa.start ≡ Some []
   pub rows : length dfa.by_byte ≡ length dfa.matches

@@ -8,7 +8,7 @@ use Rattle.logos_automaton.specs.declared.errors.BuildError.{BuildError}
 use Rattle.logos_automaton.specs.declared.errors.BuildError.TheVariants.{LimitSize, LimitStates, Memory}
 use Rattle.logos_automaton.specs.declared.key.Key.{Key}
 
--- the first states have their targets, and the states stay within the limit
+-- The first states have their targets, and the states stay within the limit.
 pub record IsUnderway (ts : List Core) (looks : Bool) (ks : List Key) (rows : List (List ℕ)) (ends : List ℕ) : Type 0 where
   pub start_is : IsAt ks 0 start_state
   pub rising : AreRising ks
@@ -19,20 +19,21 @@ pub record IsUnderway (ts : List Core) (looks : Bool) (ks : List Key) (rows : Li
   pub ends_count : length ends ≡ length rows
   pub rows_are : AreRows ts looks ks rows ends (length rows)
 
--- more states than the limit can be reached
+-- More states than the limit can be reached.
 pub record HasMoreStates (ts : List Core) (looks : Bool) (limit : ℕ) : Type 0 where
   pub keys : List Key
   pub distinct : AreDistinct keys
   pub reached : AreReached ts looks keys
   pub many : limit < length keys
 
--- why there is no automaton of the patterns
+-- Why there is no automaton of the patterns.
 abbrev pub FailsOn : List Core → Bool → BuildError → Type 0
 FailsOn ts looks LimitSize = ⊥
 FailsOn ts looks LimitStates = HasMoreStates ts looks 65536
 FailsOn ts looks Memory = Unit {0}
 
--- why there is no automaton of the rules: their byte strings have more keys than the limit, or there is no memory
+-- Why there is no automaton of the rules: their byte strings have more keys than the limit, or
+-- there is no memory.
 abbrev pub FailsFor : List Rule → BuildError → Type 0
 FailsFor rules LimitSize = ⊥
 FailsFor rules LimitStates = HasMoreKeys rules 65536

@@ -5,7 +5,7 @@ use Rattle.logos_automaton.specs.Faults.{Fault, no_universal_start, empty_match,
 use Rattle.logos_automaton.specs.declared.errors.GraphError.{GraphError}
 use Rattle.logos_automaton.specs.declared.errors.GraphError.TheVariants.{NoUniversalStart, EmptyMatch, Disambiguation}
 
--- the numbers of leaves
+-- The numbers of leaves.
 abbrev pub numbers : List LeafId → List ℕ
 numbers = map (λ leaf. leaf.0)
 

@@ -7,21 +7,21 @@ use Rattle.logos_automaton.specs.Munch.{Rule}
 use Rattle.logos_automaton.specs.Ambiguity.{IsAmbiguous}
 
 pub data Fault : Type 0 where
-  -- some tree can meet a look before its first byte
+  -- Some tree can meet a look before its first byte.
   no_universal_start : Fault
-  -- the leaf can match nothing
+  -- The leaf can match nothing.
   empty_match : ℕ → Fault
-  -- length and priority do not distinguish these leaves
+  -- Length and priority do not distinguish these leaves.
   disambiguation : List ℕ → Fault
 
--- the first list comes before the second, as lists of numbers are compared
+-- The first list comes before the second, as lists of numbers are compared.
 abbrev pub IsBefore : List ℕ → List ℕ → Type 0
 IsBefore [] [] = ⊥
 IsBefore [] (y ∷ ys) = Unit {0}
 IsBefore (x ∷ xs) [] = ⊥
 IsBefore (x ∷ xs) (y ∷ ys) = (x < y) ⊎ ((x ≡ y) × IsBefore xs ys)
 
--- each list comes before the next
+-- Each list comes before the next.
 abbrev pub Ascends : List (List ℕ) → Type 0
 Ascends [] = Unit {0}
 Ascends (xs ∷ []) = Unit {0}
@@ -33,21 +33,22 @@ some_leads rules = list_any (λ rule. leads rule.tree) rules
 abbrev pub some_passable : List Rule → Bool
 some_passable rules = list_any (λ rule. passable rule.tree) rules
 
--- no tree can be passed without a byte or meet a look before its first one
+-- No tree can be passed without a byte or meet a look before its first one.
 abbrev pub AllStart : List Rule → Type 0
 AllStart rules = IsFalse (some_leads rules) × IsFalse (some_passable rules)
 
--- the leaves whose trees can be passed without a byte, in ascending order
+-- The leaves whose trees can be passed without a byte, in ascending order.
 pub record ArePassable (rules : List Rule) (leaves : List ℕ) : Type 0 where
   pub ascending : IsStrictlyIncreasing leaves
   pub exactly : (leaf : ℕ) → Contains leaves leaf ↔ IsSomeAnd (slice_get rules leaf) (λ rule. IsTrue (passable rule.tree))
 
--- all ambiguous sets, in ascending order
+-- All ambiguous sets, in ascending order.
 pub record AreAmbiguous (rules : List Rule) (sets : List (List ℕ)) : Type 0 where
   pub ascending : Ascends sets
   pub exactly : (set : List ℕ) → Contains sets set ↔ IsAmbiguous rules set
 
--- The faults: a missing universal start alone, else the empty matches alone, else the ambiguous sets.
+-- The faults: a missing universal start alone, else the empty matches alone, else the ambiguous
+-- sets.
 abbrev pub AreFaults : List Rule → List Fault → Type 0
 AreFaults rules faults =
     MatchBool (some_leads rules) (faults ≡ no_universal_start ∷ [])

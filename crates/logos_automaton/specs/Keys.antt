@@ -10,7 +10,7 @@ use Rattle.logos_automaton.specs.declared.key.Key.{Key}
 use Rattle.logos_places.specs.declared.places.look.Kind.{Kind}
 use Rattle.logos_places.specs.declared.places.look.Kind.TheVariants as kind
 
--- what a key stands for
+-- What a key stands for.
 pub record State : Type 0 where
   pub places : List ℕ
   pub kind : Kind
@@ -19,7 +19,7 @@ pub record State : Type 0 where
 abbrev pub state_of : Key → State
 state_of k = record { places = k.places.items; kind = k.kind; matches = k.matches.items }
 
--- nothing was read
+-- Nothing was read.
 abbrev pub is_start : Kind → Bool
 is_start kind.Start = true
 is_start kind.Unseen = false
@@ -28,62 +28,63 @@ is_start kind.Cr = false
 is_start kind.Lf = false
 is_start kind.Other = false
 
--- the state before the first byte
+-- The state before the first byte.
 abbrev pub start_state : State
 start_state = record { places = []; kind = kind.Start; matches = [] }
 
--- the state from which nothing matches
+-- The state from which nothing matches.
 abbrev pub dead_state : State
 dead_state = record { places = []; kind = kind.Unseen; matches = [] }
 
--- what is remembered of the byte x, read at these places: its kind, if there are places and some tree has a look
+-- What is remembered of the byte x, read at these places: its kind, if there are places and some
+-- tree has a look.
 abbrev pub next_kind : Bool → List ℕ → ℕ → Kind
 next_kind looks [] x = kind.Unseen
 next_kind false (p ∷ places) x = kind.Unseen
 next_kind true (p ∷ places) x = kind_of_byte x
 
 module _ (ts : List Core) (looks : Bool) where
-  -- the byte x leads from one state to the next
+  -- The byte x leads from one state to the next.
   pub record IsNext (s : State) (x : ℕ) (next : State) : Type 0 where
     pub places : ReadBy ts (test_at (record { before = s.kind; after = Some x })) x (Has s.places) (IsTrue (is_start s.kind)) next.places
     pub matches : LeftBy ts (test_at (record { before = s.kind; after = Some x })) (Has s.places) (IsTrue (is_start s.kind)) next.matches
     pub kind : next.kind ≡ next_kind looks next.places x
 
--- the end leads from one state to the next
+-- The end leads from one state to the next.
 pub record IsLast (ts : List Core) (s next : State) : Type 0 where
   pub places : next.places ≡ []
   pub matches : LeftBy ts (test_at (record { before = s.kind; after = None })) (Has s.places) (IsTrue (is_start s.kind)) next.matches
   pub kind : next.kind ≡ kind.Unseen
 
--- the state i is s
+-- The state i is s.
 pub record IsAt (ks : List Key) (i : ℕ) (s : State) : Type 0 where
   pub key : Key
   pub is : slice_get ks i ≡ Some key
   pub same : state_of key ≡ s
 
--- states keep their numbers
+-- States keep their numbers.
 pub record Grows (old new : List Key) : Type 0 where
   pub keeps : (i : ℕ) (s : State) → IsAt old i s → IsAt new i s
 
--- each state's places rise
+-- Each state's places rise.
 pub record AreRising (ks : List Key) : Type 0 where
   pub rising : (i : ℕ) (s : State) → IsAt ks i s → IsRising s.places
 
--- no two numbers have one state
+-- No two numbers have one state.
 pub record AreDistinct (ks : List Key) : Type 0 where
   pub distinct : (i j : ℕ) (s : State) → IsAt ks i s → IsAt ks j s → i ≡ j
 
--- what can be reached from the start
+-- What can be reached from the start.
 pub data IsReached (ts : List Core) (looks : Bool) : State → Type 0 where
   at_start : IsReached ts looks start_state
   by_byte : (s next : State) (x : ℕ) → x < 256 → IsReached ts looks s → IsNext ts looks s x next → IsReached ts looks next
   by_end : (s next : State) → IsReached ts looks s → IsLast ts s next → IsReached ts looks next
 
--- each state can be reached
+-- Each state can be reached.
 pub record AreReached (ts : List Core) (looks : Bool) (ks : List Key) : Type 0 where
   pub reached : (i : ℕ) (s : State) → IsAt ks i s → IsReached ts looks s
 
--- at most n states are added, and the list stays as it should be
+-- At most n states are added, and the list stays as it should be.
 pub record Extends (ts : List Core) (looks : Bool) (old new : List Key) (n : ℕ) : Type 0 where
   pub grows : Grows old new
   pub rising : AreRising old → AreRising new
@@ -92,7 +93,7 @@ pub record Extends (ts : List Core) (looks : Bool) (old new : List Key) (n : ℕ
   pub longer : length old ≤ length new
   pub few : length new ≤ length old + n
 
--- the byte x leads from the state i to the state j
+-- The byte x leads from the state i to the state j.
 pub record LeadsTo (ts : List Core) (looks : Bool) (ks : List Key) (i x j : ℕ) : Type 0 where
   pub from : State
   pub to : State
@@ -100,13 +101,13 @@ pub record LeadsTo (ts : List Core) (looks : Bool) (ks : List Key) (i x j : ℕ)
   pub to_is : IsAt ks j to
   pub next : IsNext ts looks from x to
 
--- each byte that the state i distinguishes from the byte before is marked
+-- Each byte that the state i distinguishes from the byte before has its flag set.
 pub record AreFirstIn (ts : List Core) (ks : List Key) (i : ℕ) (first : List Bool) : Type 0 where
   pub state : State
   pub at : IsAt ks i state
   pub are : AreFirstBytes ts (Has state.places) (IsTrue (is_start state.kind)) first
 
--- the end leads from the state i to the state j
+-- The end leads from the state i to the state j.
 pub record EndsIn (ts : List Core) (ks : List Key) (i j : ℕ) : Type 0 where
   pub from : State
   pub to : State
@@ -114,17 +115,17 @@ pub record EndsIn (ts : List Core) (ks : List Key) (i j : ℕ) : Type 0 where
   pub to_is : IsAt ks j to
   pub last : IsLast ts from to
 
--- the first n cells of the row of the state i are right
+-- The first n cells of the row of the state i are right.
 abbrev pub IsRow : List Core → Bool → List Key → ℕ → List ℕ → ℕ → Type 0
 IsRow ts looks ks i row n = (x : ℕ) → x < n → LeadsTo ts looks ks i x (slice_index row x)
 
--- the first n states have their rows and their targets at the end
+-- The first n states have their rows and their targets at the end.
 pub record AreRows (ts : List Core) (looks : Bool) (ks : List Key) (rows : List (List ℕ)) (ends : List ℕ) (n : ℕ) : Type 0 where
   pub wide : (i : ℕ) → i < n → length (slice_index_or rows i []) ≡ 256
   pub rows_are : (i : ℕ) → i < n → IsRow ts looks ks i (slice_index_or rows i []) 256
   pub ends_are : (i : ℕ) → i < n → EndsIn ts ks i (slice_index ends i)
 
--- the automaton of these parts
+-- The automaton of these parts.
 abbrev pub automaton_of : ℕ → List Key → List (List ℕ) → List ℕ → Automaton
 automaton_of start ks rows ends = record {
   start = start;
@@ -133,7 +134,7 @@ automaton_of start ks rows ends = record {
   matches = map (λ k. k.matches.items) ks;
 }
 
--- the parts make the automaton of the patterns
+-- The parts make the automaton of the patterns.
 pub record IsBuilt (ts : List Core) (looks : Bool) (start : ℕ) (ks : List Key) (rows : List (List ℕ)) (ends : List ℕ) : Type 0 where
   pub start_is : IsAt ks start start_state
   pub rows_count : length rows ≡ length ks

@@ -3,10 +3,10 @@ use Rattle.std.specs.Prelude.{◌≡◌, ◌<◌, ◌≤◌, ◌^◌, ℕ, List,
 use Rattle.logos_places.specs.Size.{size}
 use Rattle.logos_automaton.specs.Munch.{Rule}
 
--- the number, if it is at most 1,048,576
+-- The number, if it is at most 1,048,576.
 abbrev pub IsWithinLimit : ℕ → Option ℕ → Type 0
 IsWithinLimit n limited = MatchOption limited (2 ^ 20 < n) (λ m. (m ≡ n) × (n ≤ 2 ^ 20))
 
--- the size of all trees
+-- The size of all trees.
 abbrev pub size_of : List Rule → ℕ
 size_of rules = sum_by (λ rule. size rule.tree) rules

@@ -13,11 +13,12 @@ pub data Kind : Type 0 where
   lf : Kind
   other : Kind
 
--- what looks see of a byte
+-- What looks see of a byte.
 abbrev pub kind_of : ℕ → Kind
 kind_of b = if is_word (Some b) then word else if b == 13 then cr else if b == 10 then lf else other
 
--- A byte string that the automaton has read: nothing, some bytes and a last one, or some bytes and the end.
+-- A byte string that the automaton has read: nothing, some bytes and a last one, or some bytes and
+-- the end.
 pub data Read : Type 0 where
   nothing : Read
   upto : List ℕ → ℕ → Read
@@ -27,12 +28,12 @@ module _ (rules : List Rule) where
   abbrev pub seen_kind : ℕ → Kind
   seen_kind b = if list_any (λ rule. has_look rule.tree) rules then kind_of b else unseen
 
-  -- the place of the rule can have read the last byte
+  -- The place of the rule can have read the last byte.
   abbrev pub HasRead : ℕ → Place → List ℕ → ℕ → Type 0
   HasRead leaf place before last =
       IsSomeAnd (slice_get rules leaf) (λ rule. Reads rule.tree (before ++ last ∷ []) 0 place (length before))
 
-  -- two byte strings have the same key
+  -- Two byte strings have the same key.
   pub record SameAfter (u : List ℕ) (b : ℕ) (v : List ℕ) (c : ℕ) : Type 0 where
     pub places : (leaf : ℕ) (place : Place) → HasRead leaf place u b ↔ HasRead leaf place v c
     pub kind : seen_kind b ≡ seen_kind c
@@ -54,7 +55,7 @@ module _ (rules : List Rule) where
   IsRead (upto u b) = IsBytes (u ++ b ∷ [])
   IsRead (whole u) = IsBytes u
 
-  -- there are more keys than the limit
+  -- There are more keys than the limit.
   pub record HasMoreKeys (limit : ℕ) : Type 0 where
     pub strings : List Read
     pub many : limit < length strings

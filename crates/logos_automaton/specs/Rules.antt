@@ -6,18 +6,18 @@ use Rattle.logos_places.specs.IsCore.{IsCoreOf}
 use Rattle.logos_automaton.specs.Munch.{Rule}
 use Rattle.logos_places.specs.Places.{has_look}
 
--- each pattern stands for the tree of its rule
+-- Each pattern stands for the tree of its rule.
 abbrev pub AreRuleCores : List Rule → List Core → Type 0
 AreRuleCores [] [] = Unit {0}
 AreRuleCores [] (t ∷ ts) = ⊥
 AreRuleCores (rule ∷ rules) [] = ⊥
 AreRuleCores (rule ∷ rules) (t ∷ ts) = IsCoreOf rule.tree t × AreRuleCores rules ts
 
--- no pattern asks a look
+-- No pattern asks a look.
 abbrev pub AreFree : List Core → Type 0
 AreFree [] = Unit {0}
 AreFree (t ∷ ts) = IsFree t × AreFree ts
 
--- some tree has a look
+-- Some tree has a look.
 abbrev pub some_look : List Rule → Bool
 some_look rules = list_any (λ rule. has_look rule.tree) rules

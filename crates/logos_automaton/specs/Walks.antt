@@ -5,19 +5,19 @@ use Rattle.logos_automaton.specs.declared.dfa.walks.Matches.{Matches}
 use Rattle.logos_automaton.specs.declared.dfa.walks.Children.{Children}
 use Rattle.logos_automaton.specs.declared.dfa.walks.States.{States}
 
--- the numbers of leaves
+-- The numbers of leaves.
 abbrev pub matches_left : Matches → List ℕ
 matches_left matches = matches.leaves.now
 
--- the one, if there is one
+-- The one, if there is one.
 abbrev pub at_most_one : Option ℕ → List ℕ
 at_most_one None = []
 at_most_one (Some n) = n ∷ []
 
--- the numbers of states, as targets by bytes and then by the end
+-- The numbers of states, as targets by bytes and then by the end.
 abbrev pub children_left : Children → List ℕ
 children_left children = children.row.now ++ at_most_one children.end
 
--- the numbers of states, ascending
+-- The numbers of states, ascending.
 abbrev pub states_left : States → List ℕ
 states_left states = range_with_len states.next (states.count - states.next)

@@ -1,16 +1,9 @@
-//! Bytes that no pattern distinguishes.
+//! Bytes that no pattern distinguishes. The rows of states and the steps of trees ask it which
+//! bytes to try; each other byte does what the byte before it does.
+
 ghost use Rattle.std.specs.Prelude.{◌≡◌, ◌≢◌, ◌∷◌, ◌++◌, ◌<◌, ℕ, [], IsTrue, IsFalse, IfOk, OnOk, false, length, slice_index_or, if◌then◌else◌};
-ghost use Rattle.logos_automaton.specs.inside.Alike.{IsAlike, MarksFor, AreStartsOf, AreClassStarts, AreKindBytes, AreFirstBytes};
-ghost use Rattle.logos_automaton.specs.inside.Prepared.{IsPrepared, cores_of};
-ghost use Rattle.logos_hir.specs.ByteRanges.{is_in};
-ghost use Rattle.logos_hir.specs.Hir.{pairs};
+ghost use Rattle.logos_automaton.specs.Views.{is_in, pairs, byte_in, kind_of_byte, IsRising, Has, core_of, spelled, reader_of, IsAlike, MarksFor, AreStartsOf, AreClassStarts, AreKindBytes, AreFirstBytes, IsPrepared, cores_of};
 ghost use Rattle.logos_places.specs.Core as core;
-ghost use Rattle.logos_places.specs.Core.{byte_in};
-ghost use Rattle.logos_places.specs.Kinds.{kind_of_byte};
-ghost use Rattle.logos_places.specs.Marks.{IsRising, Has};
-ghost use Rattle.logos_places.specs.Node.{core_of};
-ghost use Rattle.logos_places.specs.Repeat.{spelled};
-ghost use Rattle.logos_places.specs.Table.{reader_of};
 
 use crate::trees::Trees;
 use logos_hir::hir::Range;
@@ -64,7 +57,7 @@ fn mark_range(range: Range, marked: &mut [bool; 256])
     mark(range.last as usize + 1, marked);
 }
 
-/// Marks the bytes that a class of bytes distinguishes from the byte before.
+/// Sets the flags of the bytes that a class of bytes distinguishes from the byte before.
 fn mark_ranges(ranges: &[Range], marked: &mut [bool; 256])
     ensures { MarksFor (byte_in (is_in (pairs ranges.now))) marked.old marked.new }
 {
@@ -73,7 +66,7 @@ fn mark_ranges(ranges: &[Range], marked: &mut [bool; 256])
     }
 }
 
-/// Marks the bytes that a literal distinguishes from the byte before.
+/// Sets the flags of the bytes that a literal distinguishes from the byte before.
 fn mark_literal(text: &[u8], marked: &mut [bool; 256])
     ensures { MarksFor (spelled text.now) marked.old marked.new }
 {
@@ -83,7 +76,7 @@ fn mark_literal(text: &[u8], marked: &mut [bool; 256])
     }
 }
 
-/// Marks the bytes that a class of characters distinguishes from the byte before.
+/// Sets the flags of the bytes that a class of characters distinguishes from the byte before.
 fn mark_table(table: &Table, marked: &mut [bool; 256])
     ensures { MarksFor (core.character (reader_of table.now)) marked.old marked.new }
 {
@@ -93,7 +86,7 @@ fn mark_table(table: &Table, marked: &mut [bool; 256])
     }
 }
 
-/// Marks the bytes that a tree distinguishes from the byte before.
+/// Sets the flags of the bytes that a tree distinguishes from the byte before.
 #[cycle(mark_starts)]
 fn mark_starts(node: &Node, marked: &mut [bool; 256])
     ensures { MarksFor (core_of node.now) marked.old marked.new }
@@ -115,7 +108,8 @@ fn mark_starts(node: &Node, marked: &mut [bool; 256])
     }
 }
 
-/// The bytes that a tree distinguishes from the byte before: the first bytes of its classes of bytes, but for byte 0.
+/// The bytes that a tree distinguishes from the byte before: the first bytes of its classes of
+/// bytes, but for byte 0.
 #[derive(Drop)]
 pub struct ClassStarts {
     /// The bytes, ascending.
@@ -126,7 +120,7 @@ pub struct ClassStarts {
 ///
 /// # Errors
 ///
-/// Returns `AllocError` when memory runs out.
+/// Returns `AllocError` if memory runs out.
 pub fn note(bytes: &mut Vec<u8>, byte: u8, is_one: bool) -> Result<(), AllocError>
     ensures { OnOk result (bytes.new.items ≡
         (if is_one then bytes.old.items ++ byte ∷ [] else bytes.old.items)) }
@@ -141,7 +135,7 @@ pub fn note(bytes: &mut Vec<u8>, byte: u8, is_one: bool) -> Result<(), AllocErro
 ///
 /// # Errors
 ///
-/// Returns `AllocError` when memory runs out.
+/// Returns `AllocError` if memory runs out.
 fn class_starts_of(alloc: Global, node: &Node) -> Result<ClassStarts, AllocError>
     ensures { IfOk result (λ starts. AreStartsOf (core_of node.now) starts.bytes.items 256) }
 {
@@ -158,7 +152,7 @@ fn class_starts_of(alloc: Global, node: &Node) -> Result<ClassStarts, AllocError
 ///
 /// # Errors
 ///
-/// Returns `AllocError` when memory runs out.
+/// Returns `AllocError` if memory runs out.
 pub fn class_starts(alloc: Global, nodes: &[Node]) -> Result<Vec<ClassStarts>, AllocError>
     ensures { IfOk result (λ lists. AreClassStarts nodes.now lists.items (length nodes.now)) }
 {
@@ -178,7 +172,7 @@ fn kinds_differ(one: u8, other: u8) -> bool
     kind_of(one) != kind_of(other)
 }
 
-/// Marks the bytes that looks can distinguish from the byte before.
+/// Sets the flags of the bytes that looks can distinguish from the byte before.
 pub fn kind_bytes() -> [bool; 256]
     ensures { AreKindBytes result }
 {
@@ -189,7 +183,7 @@ pub fn kind_bytes() -> [bool; 256]
     first
 }
 
-/// Marks the bytes.
+/// Sets the flags of the bytes.
 pub fn add_bytes(bytes: &[u8], first: &mut [bool; 256])
     ensures { (byte : ℕ) → byte < 256 → slice_index_or first.new byte false ≡ false →
         (slice_index_or first.old byte false ≡ false) × ¬ (Has bytes.now byte) }
@@ -199,7 +193,8 @@ pub fn add_bytes(bytes: &[u8], first: &mut [bool; 256])
     }
 }
 
-/// Marks the bytes that looks, or the trees that are entered or have a mark, can distinguish from the byte before.
+/// Sets the flags of the bytes that looks, or the trees that are entered or have a place, can
+/// distinguish from the byte before.
 pub fn first_bytes(trees: &Trees<'_>, marks: &[usize], entered: bool) -> [bool; 256]
     requires prepared { IsPrepared trees.now }
     requires rising { IsRising marks.now }

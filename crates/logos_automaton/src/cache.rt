@@ -1,13 +1,8 @@
-//! The steps of trees, which are made once for each state of a tree.
+//! The steps of trees, which are made once for each state of a tree. `row` takes the steps from
+//! here while it fills the row of a state.
+
 ghost use Rattle.std.specs.Prelude.{◌≡◌, ◌∷◌, ◌++◌, ◌+◌, ◌<◌, ◌≤◌, ◌↔◌, List, ℕ, [], false, IfOk, IsTrue, OnOk, length, slice_index, slice_index_or, if◌then◌else◌};
-ghost use Rattle.logos_automaton.specs.Keys.{state_of};
-ghost use Rattle.logos_automaton.specs.declared.trees.Trees.{Trees};
-ghost use Rattle.logos_automaton.specs.inside.Alike.{AreKindBytes};
-ghost use Rattle.logos_automaton.specs.inside.Prepared.{IsPrepared, IsCacheOf};
-ghost use Rattle.logos_automaton.specs.inside.Steps.{AreAlmostCached, AreCached, AreLive, HasSteps, IsTreeState, Keeps, state_after, step_of, tree_view};
-ghost use Rattle.logos_places.specs.declared.node.Node.{Node};
-ghost use Rattle.logos_places.specs.Kinds.{kind_of_byte};
-ghost use Rattle.logos_places.specs.Marks.{Has, IsRising};
+ghost use Rattle.logos_automaton.specs.Views.{Node, kind_of_byte, Has, IsRising, state_of, Trees, AreKindBytes, IsPrepared, IsCacheOf, AreAlmostCached, AreCached, AreLive, HasSteps, IsTreeState, Keeps, state_after, step_of, tree_view};
 
 use crate::alike::add_bytes;
 use crate::key::{Key, next_kind};
@@ -19,7 +14,8 @@ use logos_places::places::all::next_tree;
 use logos_places::places::tree::marks_between;
 use std::alloc::{AllocError, Global};
 
-/// How many states of trees are stored. Before more are added, all are removed, so that they take little memory.
+/// How many states of trees are stored. Before more are added, all are removed, so that they take
+/// little memory.
 const MAX_TREE_STATES: usize = 32_768;
 
 /// The states of trees met so far, and the steps from each.
@@ -44,7 +40,7 @@ pub struct LiveTree {
 ///
 /// # Errors
 ///
-/// Returns `AllocError` when memory runs out.
+/// Returns `AllocError` if memory runs out.
 fn tree_state(trees: &Trees<'_>, key: &Key, tree: usize) -> Result<TreeState, AllocError>
     requires prepared { IsPrepared trees.now }
     requires rising { IsRising key.now.places.items }
@@ -94,7 +90,7 @@ impl StepCache {
     ///
     /// # Errors
     ///
-    /// Returns `AllocError` when memory runs out.
+    /// Returns `AllocError` if memory runs out.
     fn add_missing(&mut self, trees: &Trees<'_>) -> Result<(), AllocError>
         requires prepared { IsPrepared trees.now }
         requires missing { AreAlmostCached trees.now.nodes.now trees.now.starts.now
@@ -117,7 +113,7 @@ impl StepCache {
     ///
     /// # Errors
     ///
-    /// Returns `AllocError` when memory runs out.
+    /// Returns `AllocError` if memory runs out.
     fn index_of(&mut self, trees: &Trees<'_>, state: TreeState) -> Result<usize, AllocError>
         requires prepared { IsPrepared trees.now }
         requires state { IsTreeState trees.now.nodes.now trees.now.starts.now (tree_view state) }
@@ -136,7 +132,7 @@ impl StepCache {
     ///
     /// # Errors
     ///
-    /// Returns `AllocError` when memory runs out.
+    /// Returns `AllocError` if memory runs out.
     pub fn live_trees(&mut self, trees: &Trees<'_>, key: &Key) -> Result<Vec<LiveTree>, AllocError>
         requires prepared { IsPrepared trees.now }
         requires rising { IsRising key.now.places.items }
@@ -171,11 +167,12 @@ pub struct StateSteps<'c> {
     pub looks: bool,
 }
 
-/// Adds the places of a tree that read a byte, and returns whether the tree can be left before it.
+/// Appends the places of a tree that read a byte, and returns whether the tree can be left before
+/// it.
 ///
 /// # Errors
 ///
-/// Returns `AllocError` when memory runs out.
+/// Returns `AllocError` if memory runs out.
 fn push_places(
     steps: &[TreeSteps],
     live: LiveTree,
@@ -197,11 +194,11 @@ fn push_places(
     Ok(step.left)
 }
 
-/// Adds the number if `is_one` is true.
+/// Appends the number if `is_one` is true.
 ///
 /// # Errors
 ///
-/// Returns `AllocError` when memory runs out.
+/// Returns `AllocError` if memory runs out.
 fn push_if(numbers: &mut Vec<usize>, number: usize, is_one: bool) -> Result<(), AllocError>
     ensures { OnOk result (numbers.new.items ≡
         (if is_one then numbers.old.items ++ number ∷ [] else numbers.old.items)) }
@@ -212,7 +209,8 @@ fn push_if(numbers: &mut Vec<usize>, number: usize, is_one: bool) -> Result<(), 
     Ok(())
 }
 
-/// Marks the bytes that looks can distinguish from the byte before, if some tree has a look.
+/// Sets the flags of the bytes that looks can distinguish from the byte before, if some tree has a
+/// look.
 fn first_by_kind(looks: bool, kinds: &[bool; 256]) -> [bool; 256]
     requires kinds { AreKindBytes kinds.now }
     ensures { (x : ℕ) → x + 1 < 256 → slice_index_or result (x + 1) false ≡ false →
@@ -221,7 +219,7 @@ fn first_by_kind(looks: bool, kinds: &[bool; 256]) -> [bool; 256]
     if looks { *kinds } else { [false; 256] }
 }
 
-/// Marks the bytes whose step on a tree differs from that of the byte before.
+/// Sets the flags of the bytes whose step on a tree differs from that of the byte before.
 fn add_changes(steps: &[TreeSteps], live: LiveTree, first: &mut [bool; 256])
     ensures { (x : ℕ) → x + 1 < 256 → slice_index_or first.new (x + 1) false ≡ false →
         (slice_index_or first.old (x + 1) false ≡ false)
@@ -237,7 +235,7 @@ impl StateSteps<'_> {
     ///
     /// # Errors
     ///
-    /// Returns `AllocError` when memory runs out.
+    /// Returns `AllocError` if memory runs out.
     pub fn next_key(self, byte: u8) -> Result<Key, AllocError>
         ensures { IfOk result (λ made. state_of made ≡
             state_after self.entry.looks self.entry.steps.now self.entry.lives.now byte) }
@@ -255,7 +253,7 @@ impl StateSteps<'_> {
         })
     }
 
-    /// Marks the bytes that can lead to another state than the byte before.
+    /// Sets the flags of the bytes that can lead to another state than the byte before.
     pub fn changes(self, kinds: &[bool; 256]) -> [bool; 256]
         requires kinds { AreKindBytes kinds.now }
         ensures { (x : ℕ) → x + 1 < 256 → slice_index_or result (x + 1) false ≡ false →

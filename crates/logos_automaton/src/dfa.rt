@@ -1,8 +1,8 @@
 //! The automaton of rules, which lists each match one byte late.
+
 ghost use Rattle.std.specs.Prelude.{◌≡◌, ◌<◌, length, vec_len};
+ghost use Rattle.logos_automaton.specs.Words.{AreReachable, AreByteRows, LeadWithin, EndWithin};
 ghost use Rattle.logos_automaton.specs.Keys.{automaton_of};
-ghost use Rattle.logos_automaton.specs.Reach.{AreReachable};
-ghost use Rattle.logos_automaton.specs.Targets.{AreByteRows, LeadWithin, EndWithin};
 
 pub mod build;
 pub mod parts;
@@ -13,8 +13,9 @@ pub use crate::row::Row;
 use indexmap::IndexSet;
 pub use walks::{Children, Matches, StateId, States};
 
-/// An automaton that reads bytes and the end of the input. A state lists the leaves that match all bytes read but the last one,
-/// or all of them if the end was read. Each state has a target by each byte and by the end.
+/// An automaton that reads bytes and the end of the input. A state lists the leaves that match all
+/// bytes read but the last one, or all of them if the end was read. Each state has a target by each
+/// byte and by the end.
 #[derive(Drop)]
 pub struct Dfa {
     states: IndexSet<Key>,

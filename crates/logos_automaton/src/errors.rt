@@ -1,5 +1,8 @@
 //! Faults of rules, and the reasons for which an automaton is refused.
 
+ghost use Rattle.std.specs.Prelude.{◌≡◌};
+ghost use Rattle.logos_automaton.specs.declared.errors.BuildError.TheVariants.{Memory};
+
 use logos_hir::leaf::LeafId;
 use std::alloc::{AllocError, AllocFailed};
 
@@ -10,7 +13,8 @@ pub enum GraphError {
     NoUniversalStart,
     /// The leaf's pattern can match nothing.
     EmptyMatch(LeafId),
-    /// These leaves have the highest priority among all that match some text. There are two or more, in ascending order.
+    /// These leaves have the highest priority among all that match some text. There are two or
+    /// more, in ascending order.
     Disambiguation(Vec<LeafId>),
 }
 
@@ -26,9 +30,6 @@ pub enum BuildError {
 }
 
 impl From<AllocError> for BuildError {
-    ghost use Rattle.std.specs.Prelude.{◌≡◌};
-    ghost use Rattle.logos_automaton.specs.declared.errors.BuildError.TheVariants.{Memory};
-
     ghost from_gives = { λ _ e. e ≡ Memory };
 
     fn from(_error: AllocError) -> BuildError {
@@ -37,9 +38,6 @@ impl From<AllocError> for BuildError {
 }
 
 impl<T: Drop> From<AllocFailed<T>> for BuildError {
-    ghost use Rattle.std.specs.Prelude.{◌≡◌};
-    ghost use Rattle.logos_automaton.specs.declared.errors.BuildError.TheVariants.{Memory};
-
     ghost from_gives = { λ _ e. e ≡ Memory };
 
     fn from(_error: AllocFailed<T>) -> BuildError {

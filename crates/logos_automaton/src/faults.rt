@@ -1,12 +1,8 @@
-//! The faults of a list of rules.
+//! The faults of a list of rules. `Graph::new` of `logos_graph` asks for them once the automaton is
+//! built.
+
 ghost use Rattle.std.specs.Prelude.{◌≡◌, ℕ, ◌≤◌, ◌⊎◌, ◌↔◌, IfOk, OnOk, List, map, Contains, vec_len};
-ghost use Rattle.logos_automaton.specs.DfaView.{dfa_of};
-ghost use Rattle.logos_automaton.specs.Errors.{fault_of, numbers};
-ghost use Rattle.logos_automaton.specs.Faults.{AreFaults, ArePassable, AreAmbiguous, Ascends, empty_match, disambiguation, AllStart};
-ghost use Rattle.logos_automaton.specs.Munch.{priority_of};
-ghost use Rattle.logos_automaton.specs.inside.TopSets.{highest_of, with_priority, top_of, IsTopSet, IsTopIn, AreTopSets};
-ghost use Rattle.logos_automaton.specs.View.{rules_of};
-ghost use Rattle.logos_automaton.specs.Automaton.{IsTotal, ReadsOneByteLate};
+ghost use Rattle.logos_automaton.specs.Views.{AreFaults, ArePassable, AreAmbiguous, Ascends, empty_match, disambiguation, AllStart, priority_of, highest_of, with_priority, top_of, IsTopSet, IsTopIn, AreTopSets, IsTotal, ReadsOneByteLate, dfa_of, fault_of, numbers, rules_of};
 
 use crate::dfa::Dfa;
 use crate::dfa::parts::{leaves_at, state_count};
@@ -21,7 +17,7 @@ use std::collections::BTreeSet;
 ///
 /// # Errors
 ///
-/// Returns `AllocError` when memory runs out.
+/// Returns `AllocError` if memory runs out.
 pub fn passable_leaves(alloc: Global, rules: &[RuleView<'_>]) -> Result<Vec<LeafId>, AllocError>
     ensures { IfOk result (λ passed. ArePassable (rules_of rules.now) (numbers passed.items)) }
 {
@@ -59,7 +55,7 @@ fn highest(rules: &[RuleView<'_>], listed: &[usize]) -> usize
 ///
 /// # Errors
 ///
-/// Returns `AllocError` when memory runs out.
+/// Returns `AllocError` if memory runs out.
 fn with_priority(
     alloc: Global,
     rules: &[RuleView<'_>],
@@ -78,11 +74,12 @@ fn with_priority(
     Ok(chosen)
 }
 
-/// Adds the set of the leaves of highest priority among those listed, if there are two or more of them.
+/// Adds the set of the leaves of highest priority among those listed, if there are two or more of
+/// them.
 ///
 /// # Errors
 ///
-/// Returns `AllocError` when memory runs out.
+/// Returns `AllocError` if memory runs out.
 fn add_top_set(
     alloc: Global,
     rules: &[RuleView<'_>],
@@ -107,7 +104,7 @@ fn add_top_set(
 ///
 /// # Errors
 ///
-/// Returns `AllocError` when memory runs out.
+/// Returns `AllocError` if memory runs out.
 fn add_set(sets: &mut BTreeSet<Vec<usize>>, set: Vec<usize>) -> Result<(), AllocError>
     ensures { OnOk result ((other : List ℕ) → Contains (map (λ v. v.items) sets.new.keys) other
         ↔ (Contains (map (λ v. v.items) sets.old.keys) other ⊎ (other ≡ set.items))) }
@@ -116,11 +113,12 @@ fn add_set(sets: &mut BTreeSet<Vec<usize>>, set: Vec<usize>) -> Result<(), Alloc
     Ok(())
 }
 
-/// Returns the sets of two or more leaves that have the highest priority among all leaves that a state lists.
+/// Returns the sets of two or more leaves that have the highest priority among all leaves that a
+/// state lists.
 ///
 /// # Errors
 ///
-/// Returns `AllocError` when memory runs out.
+/// Returns `AllocError` if memory runs out.
 fn top_sets(
     alloc: Global,
     rules: &[RuleView<'_>],
@@ -141,7 +139,7 @@ fn top_sets(
 ///
 /// # Errors
 ///
-/// Returns `AllocError` when memory runs out.
+/// Returns `AllocError` if memory runs out.
 fn leaf_ids(alloc: Global, set: &[usize]) -> Result<Vec<LeafId>, AllocError>
     ensures { IfOk result (λ ids. numbers ids.items ≡ set.now) }
 {
@@ -156,7 +154,7 @@ fn leaf_ids(alloc: Global, set: &[usize]) -> Result<Vec<LeafId>, AllocError>
 ///
 /// # Errors
 ///
-/// Returns `AllocError` when memory runs out.
+/// Returns `AllocError` if memory runs out.
 fn in_order(alloc: Global, sets: &BTreeSet<Vec<usize>>) -> Result<Vec<Vec<LeafId>>, AllocError>
     ensures ascends { IfOk result (λ named. Ascends (map (λ set. numbers set.items) named.items)) }
     ensures same { IfOk result (λ named. map (λ set. numbers set.items) named.items ≡
@@ -170,11 +168,12 @@ fn in_order(alloc: Global, sets: &BTreeSet<Vec<usize>>) -> Result<Vec<Vec<LeafId
     Ok(named)
 }
 
-/// Returns the sets of leaves that length and priority do not distinguish, each once and in ascending order.
+/// Returns the sets of leaves that length and priority do not distinguish, each once and in
+/// ascending order.
 ///
 /// # Errors
 ///
-/// Returns `AllocError` when memory runs out.
+/// Returns `AllocError` if memory runs out.
 pub fn ambiguous_sets(
     alloc: Global,
     rules: &[RuleView<'_>],
@@ -193,7 +192,7 @@ pub fn ambiguous_sets(
 ///
 /// # Errors
 ///
-/// Returns `AllocError` when memory runs out.
+/// Returns `AllocError` if memory runs out.
 fn empty_matches(alloc: Global, passed: Vec<LeafId>) -> Result<Vec<GraphError>, AllocError>
     ensures { IfOk result (λ errors. map fault_of errors.items ≡
         map empty_match (numbers passed.items)) }
@@ -209,7 +208,7 @@ fn empty_matches(alloc: Global, passed: Vec<LeafId>) -> Result<Vec<GraphError>, 
 ///
 /// # Errors
 ///
-/// Returns `AllocError` when memory runs out.
+/// Returns `AllocError` if memory runs out.
 fn disambiguations(alloc: Global, sets: Vec<Vec<LeafId>>) -> Result<Vec<GraphError>, AllocError>
     ensures { IfOk result (λ errors. map fault_of errors.items ≡
         map disambiguation (map (λ set. numbers set.items) sets.items)) }
@@ -225,7 +224,7 @@ fn disambiguations(alloc: Global, sets: Vec<Vec<LeafId>>) -> Result<Vec<GraphErr
 ///
 /// # Errors
 ///
-/// Returns `AllocError` when memory runs out.
+/// Returns `AllocError` if memory runs out.
 pub fn graph_errors(
     alloc: Global,
     rules: &[RuleView<'_>],

@@ -1,9 +1,9 @@
-//! The keys of states, by which a state is found while the automaton is built.
+//! The keys of states, by which a state is found while the automaton is built. The loop of
+//! `dfa::build` begins with the key of the start, and `row` makes that of each target.
+
 ghost use Rattle.std.specs.Prelude.{◌≡◌, ◌<◌, ◌≤◌, ◌+◌, Bool, List, IfOk, OnOk, length};
-ghost use Rattle.logos_places.specs.Core.{Core};
+ghost use Rattle.logos_automaton.specs.Views.{Core, IsRising, IsPrepared, cores_of};
 ghost use Rattle.logos_automaton.specs.Keys as keys;
-ghost use Rattle.logos_places.specs.Marks.{IsRising};
-ghost use Rattle.logos_automaton.specs.inside.Prepared.{IsPrepared, cores_of};
 
 use crate::trees::Trees;
 use indexmap::IndexSet;
@@ -19,11 +19,13 @@ pub struct Key {
     pub places: Vec<usize>,
     /// The kind of that byte, if it is remembered.
     pub kind: Kind,
-    /// The numbers of the trees that match all bytes before that byte, or all bytes if the end was read, ascending.
+    /// The numbers of the trees that match all bytes before that byte, or all bytes if the end was
+    /// read, ascending.
     pub matches: Vec<usize>,
 }
 
-/// Returns what is remembered of a byte that is read at these places: its kind, if there are places and some tree has a look.
+/// Returns what is remembered of a byte that is read at these places: its kind, if there are places
+/// and some tree has a look.
 pub fn next_kind(looks: bool, places: &[usize], byte: u8) -> Kind
     ensures { result ≡ keys.next_kind looks places.now byte }
 {
@@ -56,7 +58,7 @@ pub fn start_key(alloc: Global) -> Key
 ///
 /// # Errors
 ///
-/// Returns `AllocError` when memory runs out.
+/// Returns `AllocError` if memory runs out.
 pub fn step_key(trees: &Trees<'_>, key: &Key, byte: u8) -> Result<Key, AllocError>
     requires prepared { IsPrepared trees.now }
     requires rising { IsRising key.now.places.items }
@@ -88,7 +90,7 @@ pub fn step_key(trees: &Trees<'_>, key: &Key, byte: u8) -> Result<Key, AllocErro
 ///
 /// # Errors
 ///
-/// Returns `AllocError` when memory runs out.
+/// Returns `AllocError` if memory runs out.
 pub fn end_key(trees: &Trees<'_>, key: &Key) -> Result<Key, AllocError>
     requires prepared { IsPrepared trees.now }
     requires rising { IsRising key.now.places.items }
@@ -115,7 +117,7 @@ pub fn end_key(trees: &Trees<'_>, key: &Key) -> Result<Key, AllocError>
 ///
 /// # Errors
 ///
-/// Returns `AllocError` when memory runs out.
+/// Returns `AllocError` if memory runs out.
 pub fn number_of(states: &mut IndexSet<Key>, key: Key) -> Result<usize, AllocError>
     ensures grows { OnOk result (keys.Grows states.old.keys states.new.keys) }
     ensures rising { keys.AreRising states.old.keys → IsRising key.places.items →

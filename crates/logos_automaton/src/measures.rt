@@ -1,11 +1,10 @@
-//! Measures of trees. None of them allocates memory.
+//! Measures of trees. None of them allocates memory. `rule` and `faults` ask whether a tree can be
+//! passed or looks, and `logos_graph` how large trees are.
+
 ghost use Rattle.std.specs.Prelude.{◌≡◌, ℕ, ◌+◌, ◌*◌, ◌^◌, ◌≤◌, ◌↔◌, IsTrue, length, max, map};
-ghost use Rattle.logos_hir.specs.Hir.{class_tree, tree_of};
+ghost use Rattle.logos_automaton.specs.Words.{class_tree, tree_of, trees, IsWithinLimit, size, sizes};
 ghost use Rattle.logos_hir.specs.Passable as tree;
-ghost use Rattle.logos_hir.specs.Tree.{trees};
-ghost use Rattle.logos_automaton.specs.Measures.{IsWithinLimit};
 ghost use Rattle.logos_places.specs.Places as places;
-ghost use Rattle.logos_places.specs.Size.{size, sizes};
 
 use logos_hir::hir::{Class, Hir};
 
@@ -68,7 +67,8 @@ pub fn leads(hir: &Hir) -> bool
     }
 }
 
-/// Returns whether one of the trees can meet a look before its first byte, and all trees before it can be passed.
+/// Returns whether one of the trees can meet a look before its first byte, and all trees before it
+/// can be passed.
 #[cycle(leads)]
 fn leads_in_order(parts: &[Hir]) -> bool
     ensures { result ≡ tree.leads_in_order (trees (map tree_of parts.now)) }

@@ -1,9 +1,7 @@
-//! The trees of rules, prepared for the automaton.
+//! The trees of rules, prepared for the automaton. `dfa::build` makes them before its loop.
+
 ghost use Rattle.std.specs.Prelude.{◌^◌, ◌≤◌, IfOk, map};
-ghost use Rattle.logos_places.specs.Node.{core_of, AreMeasured};
-ghost use Rattle.logos_automaton.specs.Rules.{AreRuleCores};
-ghost use Rattle.logos_automaton.specs.Measures.{size_of};
-ghost use Rattle.logos_automaton.specs.View.{rules_of};
+ghost use Rattle.logos_automaton.specs.Views.{core_of, AreMeasured, AreRuleCores, size_of, rules_of};
 
 use crate::rule::RuleView;
 use logos_places::node::Node;
@@ -14,7 +12,7 @@ use std::alloc::{AllocError, Global};
 ///
 /// # Errors
 ///
-/// Returns `AllocError` when memory runs out.
+/// Returns `AllocError` if memory runs out.
 pub fn nodes_of(alloc: Global, rules: &[RuleView<'_>]) -> Result<Vec<Node>, AllocError>
     requires { size_of (rules_of rules.now) ≤ 2 ^ 20 }
     ensures cores { IfOk result (λ nodes.

@@ -1,10 +1,8 @@
-//! The targets of states, while the automaton is built.
+//! The targets of states, while the automaton is built. The loop of `dfa::build` asks for those of
+//! each state in turn.
+
 ghost use Rattle.std.specs.Prelude.{Bool, List, ℕ, ◌≡◌, ◌^◌, ◌<◌, ◌≤◌, ◌+◌, IfOk, IfSome, IsFalse, OnOk, length, slice_index};
-ghost use Rattle.logos_automaton.specs.inside.Alike.{AreKindBytes};
-ghost use Rattle.logos_automaton.specs.inside.Prepared.{IsCacheOf, IsPrepared, cores_of};
-ghost use Rattle.logos_automaton.specs.inside.Steps.{Foresees, IsNotStart, state_after};
-ghost use Rattle.logos_automaton.specs.Keys.{AreRising, AreReached, AreFirstIn, Extends, Grows, IsAt, LeadsTo, EndsIn, IsRow};
-ghost use Rattle.logos_places.specs.Core.{Core};
+ghost use Rattle.logos_automaton.specs.Views.{Core, AreKindBytes, IsCacheOf, IsPrepared, cores_of, Foresees, IsNotStart, state_after, AreRising, AreReached, AreFirstIn, Extends, Grows, IsAt, LeadsTo, EndsIn, IsRow};
 
 use crate::alike::first_bytes;
 use crate::cache::{LiveTree, StateSteps, StepCache};
@@ -16,14 +14,18 @@ use std::alloc::AllocError;
 /// The targets of a state by bytes.
 pub type Row = [u16; 256];
 
-/// The targets of a state by bytes while the automaton is built, which may then have a few more states than the limit.
+/// The number of symbols: each byte, and after them the end of the input.
+pub const SYMBOLS: usize = 257;
+
+/// The targets of a state by bytes while the automaton is built, which may then have a few more
+/// states than the limit.
 pub type DraftRow = [u32; 256];
 
 /// Returns the target of a state by a byte. The target is added if it is new.
 ///
 /// # Errors
 ///
-/// Returns `AllocError` when memory runs out.
+/// Returns `AllocError` if memory runs out.
 fn target_of(
     trees: &Trees<'_>,
     states: &mut IndexSet<Key>,
@@ -52,7 +54,7 @@ fn target_of(
 ///
 /// # Errors
 ///
-/// Returns `AllocError` when memory runs out.
+/// Returns `AllocError` if memory runs out.
 pub fn end_of(
     trees: &Trees<'_>,
     states: &mut IndexSet<Key>,
@@ -79,7 +81,7 @@ pub fn end_of(
 ///
 /// # Errors
 ///
-/// Returns `AllocError` when memory runs out.
+/// Returns `AllocError` if memory runs out.
 fn next_target(
     trees: &Trees<'_>,
     states: &mut IndexSet<Key>,
@@ -105,7 +107,7 @@ fn next_target(
     }
 }
 
-/// Marks the bytes that a state distinguishes from the byte before.
+/// Sets the flags of the bytes that a state distinguishes from the byte before.
 fn first_in(trees: &Trees<'_>, states: &IndexSet<Key>, state: usize) -> [bool; 256]
     requires prepared { IsPrepared trees.now }
     requires within { state < length states.now.keys }
@@ -122,7 +124,7 @@ fn first_in(trees: &Trees<'_>, states: &IndexSet<Key>, state: usize) -> [bool; 2
 ///
 /// # Errors
 ///
-/// Returns `AllocError` when memory runs out.
+/// Returns `AllocError` if memory runs out.
 fn plain_row(
     trees: &Trees<'_>,
     states: &mut IndexSet<Key>,
@@ -134,7 +136,7 @@ fn plain_row(
     requires reached { AreReached (cores_of trees.now) trees.now.looks states.old.keys }
     requires few { length states.old.keys < 2 ^ 30 }
     ensures extends { OnOk result (Extends (cores_of trees.now)
-        trees.now.looks states.old.keys states.new.keys 257) }
+        trees.now.looks states.old.keys states.new.keys SYMBOLS) }
     ensures row { IfOk result (λ row.
         IsRow (cores_of trees.now) trees.now.looks states.new.keys state row 256) }
     ensures wide { IfOk result (λ row. length row ≡ 256) }
@@ -153,7 +155,7 @@ fn plain_row(
 ///
 /// # Errors
 ///
-/// Returns `AllocError` when memory runs out.
+/// Returns `AllocError` if memory runs out.
 fn target_by(steps: StateSteps<'_>, states: &mut IndexSet<Key>, byte: u8) -> Result<u32, AllocError>
     requires few { length states.old.keys < 2 ^ 31 }
     ensures extends { (ts : List Core) (i : ℕ) →
@@ -173,7 +175,7 @@ fn target_by(steps: StateSteps<'_>, states: &mut IndexSet<Key>, byte: u8) -> Res
 ///
 /// # Errors
 ///
-/// Returns `AllocError` when memory runs out.
+/// Returns `AllocError` if memory runs out.
 fn known_or_target_by(
     steps: StateSteps<'_>,
     states: &mut IndexSet<Key>,
@@ -201,7 +203,7 @@ fn known_or_target_by(
 ///
 /// # Errors
 ///
-/// Returns `AllocError` when memory runs out.
+/// Returns `AllocError` if memory runs out.
 fn row_by(
     steps: StateSteps<'_>,
     kinds: &[bool; 256],
@@ -211,7 +213,7 @@ fn row_by(
     requires kinds { AreKindBytes kinds.now }
     ensures extends { (ts : List Core) (i : ℕ) →
         Foresees ts steps.entry.looks states.old.keys i steps.entry.steps.now steps.entry.lives.now →
-        OnOk result (Extends ts steps.entry.looks states.old.keys states.new.keys 257) }
+        OnOk result (Extends ts steps.entry.looks states.old.keys states.new.keys SYMBOLS) }
     ensures row { (ts : List Core) (i : ℕ) →
         Foresees ts steps.entry.looks states.old.keys i steps.entry.steps.now steps.entry.lives.now →
         IfOk result (λ row. IsRow ts steps.entry.looks states.new.keys i row 256) }
@@ -231,7 +233,7 @@ fn row_by(
 ///
 /// # Errors
 ///
-/// Returns `AllocError` when memory runs out.
+/// Returns `AllocError` if memory runs out.
 fn live_in(
     trees: &Trees<'_>,
     cache: &mut StepCache,
@@ -264,12 +266,13 @@ fn is_start_at(states: &IndexSet<Key>, state: usize) -> bool
     }
 }
 
-/// Returns all targets of a state by bytes. The start enters each tree, and its steps serve no other state, so they are not
-/// stored; nor are those of a single tree, whose states seldom come twice.
+/// Returns all targets of a state by bytes. The start enters each tree, and its steps serve no
+/// other state, so they are not stored; nor are those of a single tree, whose states seldom come
+/// twice.
 ///
 /// # Errors
 ///
-/// Returns `AllocError` when memory runs out.
+/// Returns `AllocError` if memory runs out.
 pub fn row_of(
     trees: &Trees<'_>,
     cache: &mut StepCache,
@@ -284,7 +287,7 @@ pub fn row_of(
     requires few { length states.old.keys < 2 ^ 30 }
     ensures cached { OnOk result (IsCacheOf trees.now cache.new) }
     ensures extends { OnOk result (Extends (cores_of trees.now)
-        trees.now.looks states.old.keys states.new.keys 257) }
+        trees.now.looks states.old.keys states.new.keys SYMBOLS) }
     ensures row { IfOk result (λ row.
         IsRow (cores_of trees.now) trees.now.looks states.new.keys state row 256) }
     ensures wide { IfOk result (λ row. length row ≡ 256) }

@@ -1,4 +1,5 @@
-//! The parts of a leaf that an automaton needs.
+//! The parts of a leaf that an automaton needs. `logos_graph` makes one for each of its leaves.
+
 ghost use Rattle.std.specs.Prelude.{◌≡◌};
 ghost use Rattle.logos_automaton.specs.Faults as faults;
 ghost use Rattle.logos_automaton.specs.Rules as inner;

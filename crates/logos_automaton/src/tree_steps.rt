@@ -1,4 +1,5 @@
-//! The steps of one tree by each byte.
+//! The steps of one tree by each byte. `tree_steps::making` makes them, and `cache` stores them.
+
 ghost use Rattle.logos_automaton.specs.inside.Alike.{AreChangesOf};
 
 pub mod making;

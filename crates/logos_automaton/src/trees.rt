@@ -1,4 +1,5 @@
-//! The input of the building of states.
+//! The input of the building of states. `dfa::build` puts it together before its loop.
+
 use crate::alike::ClassStarts;
 use logos_places::node::Node;
 use std::alloc::Global;
@@ -16,6 +17,6 @@ pub struct Trees<'n> {
     pub looks: bool,
     /// The bytes that each tree distinguishes from the byte before.
     pub class_starts: &'n [ClassStarts],
-    /// Marks the bytes that looks can distinguish from the byte before.
+    /// Sets the flags of the bytes that looks can distinguish from the byte before.
     pub kinds: &'n [bool; 256],
 }

@@ -7,7 +7,7 @@ use Rattle.logos_hir.specs.ByteRanges.{is_in}
 use Rattle.logos_byte_class.specs.declared.byte_class.ByteClass.{ByteClass}
 use Rattle.logos_byte_class.specs.declared.byte_class.Comparisons.{Comparisons}
 
--- the first and the last byte of a range
+-- The first and the last byte of a range.
 abbrev pub bounds : RangeInclusive ℕ → ℕ × ℕ
 bounds r = (range_inclusive_start r, range_inclusive_end r)
 
@@ -18,7 +18,8 @@ ranges_of class = map bounds class.ranges.items
 abbrev pub has_byte : ByteClass → ℕ → Bool
 has_byte class b = is_in (ranges_of class) b
 
--- Each range holds a byte, the first starts at `least` or later, and before each other one lies a byte of neither.
+-- Each range holds a byte, the first starts at `least` or later, and before each other one lies a
+-- byte of neither.
 abbrev pub AreSeparatedFrom : ℕ → List (ℕ × ℕ) → Type 0
 AreSeparatedFrom least [] = Unit {0}
 AreSeparatedFrom least (r ∷ rest) = (least ≤ r.0) × (r.0 ≤ r.1) × AreSeparatedFrom (r.1 + 2) rest
@@ -26,7 +27,7 @@ AreSeparatedFrom least (r ∷ rest) = (least ≤ r.0) × (r.0 ≤ r.1) × AreSep
 abbrev pub AreSeparated : List (ℕ × ℕ) → Type 0
 AreSeparated = AreSeparatedFrom 0
 
--- a range of bytes, its last one included, without some of them
+-- A range of bytes, its last one included, without some of them.
 pub record Comparison : Type 0 where
   pub first : ℕ
   pub last : ℕ
@@ -46,19 +47,21 @@ compares c b = nat_le c.first b && nat_le b c.last && not (is_among c.except b)
 abbrev pub some_compares : List Comparison → ℕ → Bool
 some_compares cs b = list_any (λ c. compares c b) cs
 
--- A range before comparisons. The first comparison takes it in if just one byte lies between them, which becomes an exception.
+-- A range before comparisons. The first comparison takes it in if exactly one byte lies between
+-- them, which becomes an exception.
 abbrev pub join : ℕ × ℕ → List Comparison → List Comparison
 join r [] = record { first = r.0; last = r.1; except = [] } ∷ []
 join r (c ∷ cs) =
     if c.first == r.1 + 2 then record { first = r.0; last = c.last; except = (r.1 + 1) ∷ c.except } ∷ cs
     else record { first = r.0; last = r.1; except = [] } ∷ c ∷ cs
 
--- the comparisons for a list of ranges
+-- The comparisons for a list of ranges.
 abbrev pub joined : List (ℕ × ℕ) → List Comparison
 joined [] = []
 joined (r ∷ rest) = join r (joined rest)
 
--- the number of operations that test a byte: one for a single byte, else one for each end that a byte can pass; and one for each exception
+-- The number of operations that test a byte: one for a single byte, else one for each end that a
+-- byte can pass; and one for each exception.
 abbrev pub operations : Comparison → ℕ
 operations c =
     (if c.first == c.last then 1 else (if nat_lt 0 c.first then 1 else 0) + (if nat_lt c.last 255 then 1 else 0)) + length c.except

@@ -1,2 +1,4 @@
 pub mod Bytes
 pub mod ClassText
+pub mod Words
+pub mod Views

@@ -1,10 +1,7 @@
 //! Sets of bytes, and the comparisons that test for them.
 
-ghost use Rattle.std.specs.Prelude.{◌≡◌, ℕ, ◌<◌, ◌≤◌, ◌↔◌, ◌||◌, not, IsTrue, IfOk, OnOk};
-ghost use Rattle.std.specs.Prelude.{OnErr, false, [], ◌∷◌, length, map, drop, slice_index_or};
-ghost use Rattle.logos_hir.specs.ByteRanges.{is_in};
-ghost use Rattle.logos_byte_class.specs.Bytes.{bounds, ranges_of, has_byte, AreSeparated, comparison_of};
-ghost use Rattle.logos_byte_class.specs.Bytes.{compares, some_compares, joined, operations};
+ghost use Rattle.std.specs.Prelude.{◌≡◌, ℕ, ◌<◌, ◌≤◌, ◌↔◌, ◌||◌, not, IsTrue, IfOk, OnOk, OnErr, false, [], ◌∷◌, length, map, drop, slice_index_or};
+ghost use Rattle.logos_byte_class.specs.Views.{is_in, bounds, ranges_of, has_byte, AreSeparated, comparison_of, compares, some_compares, joined, operations};
 
 use logos_token::error::Memory;
 use std::alloc::{AllocError, Global};
@@ -30,7 +27,8 @@ impl ByteClass {
         false
     }
 
-    /// Returns whether each range holds a byte, and the ranges ascend with at least one byte between each two.
+    /// Returns whether each range holds a byte, and the ranges ascend with at least one byte
+    /// between each two.
     pub fn is_separated(&self) -> bool
         ensures { IsTrue result ↔ AreSeparated (ranges_of self.now) }
     {
@@ -59,11 +57,12 @@ impl ByteClass {
 }
 
 impl ByteClass {
-    /// Adds the bytes of the other class. Afterwards the ranges ascend with at least one byte between each two, whatever
-    /// they were before.
+    /// Adds the bytes of the other class. Afterwards the ranges ascend with at least one byte
+    /// between each two, whatever they were before.
     ///
     /// # Errors
-    /// Returns `Memory` when memory runs out. The class is then as it was.
+    ///
+    /// Returns `Memory` if memory runs out. The class is then as it was.
     pub fn merge(&mut self, alloc: Global, other: &ByteClass) -> Result<(), Memory>
         ensures union { OnOk result ((b : ℕ) → b < 256 →
             has_byte self.new b ≡ (has_byte self.old b || has_byte other.now b)) }
@@ -88,11 +87,13 @@ impl ByteClass {
         table
     }
 
-    /// Returns comparisons that hold for exactly the bytes of the class. Ranges with just one byte between them share a
-    /// comparison, and that byte is one of its exceptions. The class must be separated, as `is_separated` tests.
+    /// Returns comparisons that hold for exactly the bytes of the class. Ranges with exactly one
+    /// byte between them share a comparison, and that byte is one of its exceptions. The class must
+    /// be separated, as `is_separated` tests.
     ///
     /// # Errors
-    /// Returns `Memory` when memory runs out.
+    ///
+    /// Returns `Memory` if memory runs out.
     pub fn impl_with_cmp(&self, alloc: Global) -> Result<Vec<Comparisons>, Memory>
         requires { AreSeparated (ranges_of self.now) }
         ensures shape { IfOk result (λ made. map comparison_of made.items
@@ -112,7 +113,7 @@ impl ByteClass {
     }
 }
 
-/// Returns the first byte from `from` on whose mark is `wanted`, or 256 if there is none.
+/// Returns the first byte from `from` on whose flag is `wanted`, or 256 if there is none.
 fn first_where(table: &[bool], from: usize, wanted: bool) -> usize
     requires long { length table.now ≡ 256 }
     requires within { from ≤ 256 }
@@ -130,7 +131,7 @@ fn first_where(table: &[bool], from: usize, wanted: bool) -> usize
     256
 }
 
-/// Returns the ranges of the bytes that the table marks.
+/// Returns the ranges of the bytes whose flags are set.
 fn ranges_of_table(alloc: Global, table: &[bool]) -> Result<Vec<RangeInclusive<u8>>, AllocError>
     requires { length table.now ≡ 256 }
     ensures members { IfOk result (λ made. (b : ℕ) → b < 256 →
@@ -147,7 +148,8 @@ fn ranges_of_table(alloc: Global, table: &[bool]) -> Result<Vec<RangeInclusive<u
     Ok(made)
 }
 
-/// Returns the comparison for as many of the first ranges as it can take in, and the number of these ranges.
+/// Returns the comparison for as many of the first ranges as it can take in, and the number of
+/// these ranges.
 fn first_comparison(
     alloc: Global,
     ranges: &[RangeInclusive<u8>],
@@ -185,8 +187,8 @@ pub struct Comparisons {
 }
 
 impl Comparisons {
-    /// Returns the comparison for the whole range, with no exceptions. The list of exceptions takes its memory from `alloc`
-    /// when it grows; this call takes none.
+    /// Returns the comparison for the whole range, with no exceptions. The list of exceptions takes
+    /// its memory from `alloc` when it grows; this call takes none.
     pub fn new(alloc: Global, range: RangeInclusive<u8>) -> Comparisons
         ensures range { result.range ≡ range }
         ensures except { result.except.items ≡ [] }
@@ -197,8 +199,8 @@ impl Comparisons {
         }
     }
 
-    /// Returns the number of operations that test a byte: one for a single byte, else one for a start above 0 and one for an
-    /// end below 255; and one for each exception.
+    /// Returns the number of operations that test a byte: one for a single byte, else one for a
+    /// start above 0 and one for an end below 255; and one for each exception.
     pub fn count_ops(&self) -> usize
         ensures { result ≡ operations (comparison_of self.now) }
     {

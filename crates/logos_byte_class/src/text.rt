@@ -1,18 +1,22 @@
 //! How bytes and sets of bytes print.
 
 ghost use Rattle.std.specs.Prelude.{◌≡◌, ◌<◌, ◌≤◌, ◌↔◌, IsTrue, IsFalse, IfSome, Some, codes, map};
-ghost use Rattle.logos_byte_class.specs.Bytes.{bounds, ranges_of};
-ghost use Rattle.logos_byte_class.specs.ClassText.{letter_of, lower_digit, byte_text};
-ghost use Rattle.logos_byte_class.specs.ClassText.{range_text, next_ranges_text, class_text};
+ghost use Rattle.logos_byte_class.specs.Views.{letter_of, lower_digit, byte_text, range_text, next_ranges_text, class_text, bounds, ranges_of};
 
 use crate::byte_class::ByteClass;
 use std::fmt;
 use std::ops::RangeInclusive;
 
+/// The characters below this one are ASCII.
+const ASCII: u32 = 128;
+
+/// The control character after the last byte that prints as itself.
+const DELETE: u8 = 127;
+
 /// Returns the letter that follows `\` where the byte prints as an escape with a letter.
 pub fn letter_of(byte: u8) -> Option<char>
     ensures is { result ≡ letter_of byte }
-    ensures ascii { IfSome result (λ letter. letter < 128) }
+    ensures ascii { IfSome result (λ letter. letter < ASCII) }
 {
     match byte {
         b'\t' => Some('t'),
@@ -27,16 +31,16 @@ pub fn letter_of(byte: u8) -> Option<char>
 
 /// Returns whether the byte prints as itself.
 pub fn is_printable(byte: u8) -> bool
-    ensures { IsTrue result ↔ ((32 ≤ byte) × (byte < 127)) }
+    ensures { IsTrue result ↔ ((32 ≤ byte) × (byte < DELETE)) }
 {
-    (32..127).contains(&byte)
+    (32..DELETE).contains(&byte)
 }
 
 /// Returns a hexadecimal digit in lower case.
 pub fn lower_digit(value: u8) -> char
     requires { value < 16 }
     ensures is { result ≡ lower_digit value }
-    ensures ascii { result < 128 }
+    ensures ascii { result < ASCII }
 {
     if value < 10 {
         return char::from(b'0' + value);

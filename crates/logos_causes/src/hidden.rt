@@ -95,7 +95,7 @@ fn has_pattern(leaves: &[Leaf<'_>], number: usize, pattern: &str) -> bool {
     }
 }
 
-/// Returns which leaf is found in the place of another one, on what text, and whether their
+/// Returns which leaf is found in place of another one, on what text, and whether their
 /// patterns are the same.
 fn note_of(
     alloc: Global,

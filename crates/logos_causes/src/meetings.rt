@@ -112,7 +112,7 @@ fn priority_of(leaves: &[Leaf<'_>], set: &[usize]) -> usize {
     }
 }
 
-/// Pushes the priority of a set, and the least one that would decide.
+/// Appends the priority of a set, and the least one that would decide.
 fn push_priority(page: &mut Page, priority: usize) {
     page.push(" with priority ");
     page.push_number(priority);
@@ -121,7 +121,7 @@ fn push_priority(page: &mut Page, priority: usize) {
     page.push(" would decide");
 }
 
-/// Pushes a shortest text on which exactly the leaves of a set meet.
+/// Appends a shortest text on which exactly the leaves of a set meet.
 fn push_text(
     alloc: Global,
     page: &mut Page,
@@ -167,7 +167,7 @@ fn ascends(set: &[usize]) -> bool
     true
 }
 
-/// Pushes the text on which leaves meet, which is the beginning of an input up to an end, and what
+/// Appends the text on which leaves meet, which is the beginning of an input up to an end, and what
 /// follows it there, if something has to.
 fn push_found(page: &mut Page, input: &[u8], end: usize)
     requires { end ≤ length input.now }

@@ -6,7 +6,7 @@ use std::str;
 /// How many bytes of an input are shown.
 const MOST: usize = 60;
 
-/// Pushes bytes in quotes: as a text if they are UTF-8, and by their numbers if not.
+/// Appends bytes in quotes: as a text if they are UTF-8, and by their numbers if not.
 pub(crate) fn push_quoted(page: &mut Page, bytes: &[u8]) {
     page.push("\"");
     match str::from_utf8(bytes) {
@@ -16,7 +16,7 @@ pub(crate) fn push_quoted(page: &mut Page, bytes: &[u8]) {
     page.push("\"");
 }
 
-/// Pushes the beginning of a text as it is shown on a terminal.
+/// Appends the beginning of a text as it is shown on a terminal.
 fn push_text(page: &mut Page, text: &str) {
     if text.len() > MOST {
         page.push_shown(front_of(text));
@@ -38,7 +38,7 @@ fn front_of(text: &str) -> &str {
     ""
 }
 
-/// Pushes the beginning of some bytes, each by its number.
+/// Appends the beginning of some bytes, each by its number.
 fn push_bytes(page: &mut Page, bytes: &[u8]) {
     for byte in bytes.iter().take(MOST) {
         page.push("\\x");

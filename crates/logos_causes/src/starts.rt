@@ -1,8 +1,7 @@
 //! The patterns that can look at what stands before their first byte.
 
 ghost use Rattle.std.specs.Prelude.{◌≡◌, ◌∷◌, []};
-ghost use Rattle.logos_automaton.specs.Faults.{some_leads};
-ghost use Rattle.logos_graph.specs.View.{rule_of};
+ghost use Rattle.logos_causes.specs.Words.{some_leads, rule_of};
 
 use crate::names::text_with;
 use logos_automaton::rule::{RuleView, some_leads};

@@ -136,7 +136,7 @@ fn spans_of(alloc: Global, found: &[FoundEnum]) -> Result<Vec<Span>, AllocError>
     Ok(spans)
 }
 
-/// Pushes the warnings of a file.
+/// Appends the warnings of a file.
 pub fn push_warned(page: &mut Page, source: &Source<'_>, warned: &[Warning])
     ensures { Shows [] page.old page.new }
 {
@@ -162,7 +162,7 @@ pub fn warning_text(
     }
 }
 
-/// Pushes that no enum of a file derives `Logos`, if that is so.
+/// Appends that no enum of a file derives `Logos`, if that is so.
 fn push_missing(page: &mut Page, source: &Source<'_>, is_missing: bool) {
     if is_missing {
         page.push("warning: no enum in ");

@@ -31,7 +31,8 @@ pub record IsDerivedBy (shape : Shape) (code : CodeValue) (source : List ℕ) (a
   pub shown : IsShown shape code text
   pub is : IsAnswer source text answer
 
--- These are the line that names the protocol and the program, and a line of JSON for each fault, in order.
+-- These are the line that names the protocol and the program, and a line of JSON for each fault, in
+-- order.
 pub record AreFaultLines (source : SourceValue) (faults : List Fault) (lines : List ℕ) : Type 0 where
   pub version : List ℕ
   pub messages : List ℕ
@@ -39,8 +40,8 @@ pub record AreFaultLines (source : SourceValue) (faults : List Fault) (lines : L
   pub line : IsLine (version_tokens (codes "logos_cli 0.1.0")) version
   pub are : AreMessages source 0 faults messages
 
--- What is shown of the faults of an enum: a report of all of them, in order, with or without colors, where sets of ambiguous leaves
--- with these sizes have one report each, or lines of JSON.
+-- What is shown of the faults of an enum: a report of all of them, in order, with or without
+-- colors, where sets of ambiguous leaves with these sizes have one report each, or lines of JSON.
 abbrev pub ShowsErrors : MessageFormat → SourceValue → List Fault → List ℕ → Type 0
 ShowsErrors Human source faults shown = (is_colored : Bool) × (sizes : List ℕ) × StandInOrder (faults_texts is_colored source 0 sizes faults) shown
 ShowsErrors Json source faults shown = AreFaultLines source faults shown

@@ -22,12 +22,13 @@ use Rattle.logos_text.specs.Texts.{texts_of}
 use Rattle.logos_token.specs.Faults.{Fault}
 use Rattle.logos_token.specs.Tokens.{TokenList}
 
--- the shape of the code that a lexer is made of
+-- The shape of the code that a lexer is made of.
 abbrev pub config_of : Shape → Config
 config_of (Code config) = config
 config_of Tables = record { use_state_machine_codegen = true }
 
--- A code is shown in a shape: the texts of all its tables, and those of all its conditions, stand in the text, or tables that hold all that it does.
+-- A code is shown in a shape: the texts of all its tables, and those of all its conditions, stand
+-- in the text, or tables that hold all that it does.
 abbrev pub IsShown : Shape → CodeValue → List ℕ → Type 0
 IsShown (Code config) code shown = StandInOrder (texts_of code) shown
 IsShown Tables code shown = HoldsTables code shown
@@ -41,41 +42,42 @@ pub record IsLexerText (shape : Shape) (source shown : List ℕ) : Type 0 where
   pub given : IsGiven source (config_of shape) graph code name export
   pub stand : IsShown shape code shown
 
--- the attributes of an implementation: these lints of rustc and clippy do not look at it, and rustfmt leaves it as it is
+-- The attributes of an implementation: these lints of rustc and clippy do not look at it, and
+-- rustfmt leaves it as it is.
 abbrev pub attributes_text : List ℕ
 attributes_text = codes "#[allow(dead_code, deprecated, unused_assignments, unused_imports)]\n#[allow(unused_parens, unused_variables)]\n#[allow(clippy::large_const_arrays, clippy::let_unit_value, clippy::manual_is_ascii_check)]\n#[allow(clippy::manual_range_contains, clippy::needless_else, clippy::question_mark)]\n#[allow(clippy::redundant_locals, clippy::type_complexity, clippy::unit_arg)]\n#[allow(clippy::useless_asref, clippy::useless_conversion)]\n#[rustfmt::skip]\n"
 
--- the text of a lexer with its attributes: under the conditions of its enum
+-- The text of a lexer with its attributes: under the conditions of its enum.
 abbrev pub lexer_under : TokenList → List ℕ → List ℕ
 lexer_under left lexer = conditions_text left ++ (attributes_text ++ lexer)
 
--- the import of `Logos`, which counts as used then
+-- The import of `Logos`, which counts as used then.
 abbrev pub import_text : List ℕ
 import_text = codes "#[allow(unused_imports)]\nuse self::Logos as _;\n"
 
--- the same, if it is wanted: under the conditions of an enum
+-- The same, if it is wanted: under the conditions of an enum.
 abbrev pub import_under : Bool → TokenList → List ℕ
 import_under false left = []
 import_under true left = conditions_text left ++ import_text
 
--- the text of a lexer with its attributes, and perhaps with the import before it
+-- The text of a lexer with its attributes, and perhaps with the import before it.
 abbrev pub under : Bool → TokenList → List ℕ → List ℕ
 under by_name left lexer = import_under by_name left ++ lexer_under left lexer
 
--- all these bytes are blanks
+-- All these bytes are blanks.
 abbrev pub are_blanks : List ℕ → Bool
 are_blanks [] = true
 are_blanks (byte ∷ rest) = (byte == 32) && are_blanks rest
 
--- the line before an enum that rustfmt leaves as it is
+-- The line before an enum that rustfmt leaves as it is.
 abbrev pub guard_text : List ℕ
 guard_text = codes "#[rustfmt::skip]\n"
 
--- such a line with the blanks before the enum, or nothing
+-- Such a line with the blanks before the enum, or nothing.
 abbrev pub IsGuard : List ℕ → Type 0
 IsGuard guard = (guard ≡ []) ⊎ ((margin : List ℕ) × (are_blanks margin ≡ true) × (guard ≡ guard_text ++ margin))
 
--- the text of the tokens of an enum that stay, perhaps after such a line
+-- The text of the tokens of an enum that stay, perhaps after such a line.
 pub record IsGuarded (left : TokenList) (shown : List ℕ) : Type 0 where
   pub guard : List ℕ
   pub written : List ℕ
@@ -83,7 +85,8 @@ pub record IsGuarded (left : TokenList) (shown : List ℕ) : Type 0 where
   pub is_written : IsWrittenAs left written
   pub is : shown ≡ guard ++ written
 
--- this is an enum without what belongs to the derive, and after LF the text of its lexer with attributes, laid out
+-- This is an enum without what belongs to the derive, and after LF the text of its lexer with
+-- attributes, laid out.
 pub record IsExpansion (shape : Shape) (source shown : List ℕ) : Type 0 where
   pub left : TokenList
   pub written : List ℕ
@@ -96,23 +99,24 @@ pub record IsExpansion (shape : Shape) (source shown : List ℕ) : Type 0 where
   pub is_laid_out : IsLaidOut (under by_name left lexer) laid
   pub is : shown ≡ written ++ 10 ∷ laid
 
--- the text of an enum of a file
+-- The text of an enum of a file.
 abbrev pub text_at : List ℕ → FoundEnum → List ℕ
 text_at text found = slice_range text found.span.from found.span.to
 
--- each enum that derives `Logos` is replaced by its expansion, in order, and no other one
+-- Each enum that derives `Logos` is replaced by its expansion, in order, and no other one.
 pub data Replaces (shape : Shape) (text : List ℕ) : List FoundEnum → List Replacement → Type 0 where
   ended : Replaces shape text [] []
   stays : {one : FoundEnum} {rest : List FoundEnum} {parts : List Replacement} → one.derives ≡ false → Replaces shape text rest parts → Replaces shape text (one ∷ rest) parts
   gives : {one : FoundEnum} {part : Replacement} {rest : List FoundEnum} {parts : List Replacement} →
       one.derives ≡ true → part.span ≡ one.span → IsExpansion shape (text_at text one) (string_bytes part.text) → Replaces shape text rest parts → Replaces shape text (one ∷ rest) (part ∷ parts)
 
--- a file with parts replaced, which has no first line if there are none
+-- A file with parts replaced, which has no first line if there are none.
 abbrev pub IsFileOf : Shape → List ℕ → List Replacement → List ℕ → Type 0
 IsFileOf shape text [] bytes = bytes ≡ replaced text 0 []
 IsFileOf shape text (part ∷ parts) bytes = IsFileWith shape (replaced text 0 (part ∷ parts)) bytes
 
--- these bytes are the file with the derive of its lexers expanded, and all other bytes as they were, perhaps after a first line that says so
+-- These bytes are the file with the derive of its lexers expanded, and all other bytes as they
+-- were, perhaps after a first line that says so.
 pub record IsExpanded (shape : Shape) (text bytes : List ℕ) : Type 0 where
   pub found : List FoundEnum
   pub parts : List Replacement
@@ -120,6 +124,6 @@ pub record IsExpanded (shape : Shape) (text bytes : List ℕ) : Type 0 where
   pub replaces : Replaces shape text found parts
   pub is : IsFileOf shape text parts bytes
 
--- the file cannot be read into tokens, and this is its one fault
+-- The file cannot be read into tokens, and this is its one fault.
 abbrev pub IsUnreadable : List ℕ → List Fault → Type 0
 IsUnreadable text faults = (ending : Fault) × EndsReading text ending × (faults ≡ ending ∷ [])

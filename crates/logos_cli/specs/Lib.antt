@@ -5,3 +5,5 @@ pub mod Gathering
 pub mod Deriving
 pub mod Runs
 pub mod inside
+pub mod Words
+pub mod Views

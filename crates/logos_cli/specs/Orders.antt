@@ -20,7 +20,9 @@ use Rattle.logos_cli.specs.declared.options.Given.{Given}
 use Rattle.logos_cli.specs.declared.options.Answer.{Answer}
 use Rattle.logos_cli.specs.declared.options.Answer.TheVariants as answers
 
--- a file to expand: its path, the path of the file for the result, whether that is only compared, the shape of the lexers, how messages are written, whether warnings are denied, and when messages have colors
+-- A file to expand: its path, the path of the file for the result, whether that is only compared,
+-- the shape of the lexers, how messages are written, whether warnings are denied, and when messages
+-- have colors.
 pub record OrderValue : Type 0 where
   pub input : List ℕ
   pub output : Option (List ℕ)
@@ -30,14 +32,14 @@ pub record OrderValue : Type 0 where
   pub denies : Bool
   pub color : Color
 
--- what is asked for
+-- What is asked for.
 pub data Asked : Type 0 where
   asks_help : Asked
   asks_version : Asked
   asks_expansion : (order : OrderValue) → Asked
   asks_derive : (order : DeriveOrder) → Asked
 
--- the shapes of lexers, by their names
+-- The shapes of lexers, by their names.
 abbrev pub shape_named : List ℕ → Option Shape
 shape_named name =
     if bytes_eq name (codes "state_machine") then Some (Code (record { use_state_machine_codegen = true }))
@@ -58,24 +60,24 @@ pub record GivenValue : Type 0 where
   pub answer : Option Answer
   pub progress : Progress
 
--- what no words give
+-- What no words give.
 abbrev pub given_nothing : GivenValue
 given_nothing = record { input = None; output = None; is_check = false; shape = None; color = None; is_derive = false; denies = false; format = None; answer = None; progress = record { pending = None; is_over = false } }
 
--- what is given, or this
+-- What is given, or this.
 abbrev pub given_or : {A : Type 0} → A → Option A → A
 given_or other None = other
 given_or other (Some given) = given
 
--- the path that a word is: `-` is standard input
+-- The path that a word is: `-` is standard input.
 abbrev pub path_named : List ℕ → List ℕ
 path_named word = if bytes_eq word (codes "-") then codes "/dev/stdin" else word
 
--- the path of the input, of which there is one
+-- The path of the input, of which there is one.
 abbrev pub with_path : GivenValue → List ℕ → Option GivenValue
 with_path given word = if is_some given.input then None else Some (record given { input = Some (path_named word) })
 
--- an option without a value
+-- An option without a value.
 abbrev pub with_flag : GivenValue → OptionName → Option GivenValue
 with_flag given options.Help = Some (record given { answer = Some answers.Help })
 with_flag given options.Version = Some (record given { answer = Some answers.Version })
@@ -84,29 +86,29 @@ with_flag given options.DenyWarnings = if given.denies then None else Some (reco
 with_flag given options.Derive = if given.is_derive then None else Some (record given { is_derive = true })
 with_flag given option = None
 
--- the file for the result, of which there is one
+-- The file for the result, of which there is one.
 abbrev pub with_output : GivenValue → List ℕ → Option GivenValue
 with_output given word = if is_some given.output then None else Some (record given { output = Some word })
 
--- the shape, of which there is one
+-- The shape, of which there is one.
 abbrev pub with_shape : GivenValue → Option Shape → Option Shape → Option GivenValue
 with_shape given (Some shape) named = None
 with_shape given None None = None
 with_shape given None (Some shape) = Some (record given { shape = Some shape })
 
--- when messages have colors, which is given once
+-- When messages have colors, which is given once.
 abbrev pub with_color : GivenValue → Option Color → Option Color → Option GivenValue
 with_color given (Some color) named = None
 with_color given None None = None
 with_color given None (Some color) = Some (record given { color = Some color })
 
--- how messages are written, which is given once
+-- How messages are written, which is given once.
 abbrev pub with_format : GivenValue → Option MessageFormat → Option MessageFormat → Option GivenValue
 with_format given (Some format) named = None
 with_format given None None = None
 with_format given None (Some format) = Some (record given { format = Some format })
 
--- an option with its value
+-- An option with its value.
 abbrev pub with_value : GivenValue → OptionName → List ℕ → Option GivenValue
 with_value given options.Output word = with_output given word
 with_value given options.Shape word = with_shape given given.shape (shape_named word)
@@ -127,23 +129,23 @@ abbrev pub with_step : GivenValue → Option StepValue → Option GivenValue
 with_step given None = None
 with_step given (Some next) = with_found (record given { progress = next.progress }) next.found
 
--- one more word
+-- One more word.
 abbrev pub with_word : GivenValue → List ℕ → Option GivenValue
 with_word given word = if is_some given.answer then Some given else with_step given (step given.progress word)
 
--- all these words, one after another
+-- All these words, one after another.
 abbrev pub with_words : Option GivenValue → List (List ℕ) → Option GivenValue
 with_words given [] = given
 with_words None (word ∷ rest) = None
 with_words (Some given) (word ∷ rest) = with_words (with_word given word) rest
 
--- a file to expand; what is only compared needs a file for the result
+-- A file to expand; what is only compared needs a file for the result.
 abbrev pub file_given : GivenValue → List ℕ → Option Asked
 file_given given input =
     if given.is_check && not (is_some given.output) then None
     else Some (asks_expansion (record { input = input; output = given.output; is_check = given.is_check; shape = given_or Tables given.shape; format = given_or Human given.format; denies = given.denies; color = given_or Auto given.color }))
 
--- an enum to answer about, which is read from standard input; the answer is not for a file
+-- An enum to answer about, which is read from standard input; the answer is not for a file.
 abbrev pub enum_given : GivenValue → List ℕ → Option Asked
 enum_given given input =
     if given.is_check || is_some given.output then None
@@ -151,12 +153,12 @@ enum_given given input =
     else (if bytes_eq input (codes "/dev/stdin") then Some (asks_derive (record { shape = given_or Tables given.shape; format = given_or Human given.format; color = given_or Auto given.color }))
     else None))
 
--- what is asked of the input, if there is one
+-- What is asked of the input, if there is one.
 abbrev pub order_given : GivenValue → Option (List ℕ) → Option Asked
 order_given given None = None
 order_given given (Some input) = if given.is_derive then enum_given given input else file_given given input
 
--- no option waits for a value
+-- No option waits for a value.
 abbrev pub settled_given : GivenValue → Option OptionName → Option Asked
 settled_given given (Some option) = None
 settled_given given None = order_given given given.input
@@ -166,7 +168,7 @@ answer_given given (Some answers.Help) = Some asks_help
 answer_given given (Some answers.Version) = Some asks_version
 answer_given given None = settled_given given given.progress.pending
 
--- what the words ask for
+-- What the words ask for.
 abbrev pub asked_given : Option GivenValue → Option Asked
 asked_given None = None
 asked_given (Some given) = answer_given given given.answer
@@ -174,7 +176,7 @@ asked_given (Some given) = answer_given given given.answer
 abbrev pub asked : List (List ℕ) → Option Asked
 asked words = asked_given (with_words (Some given_nothing) words)
 
--- the same of what the program keeps
+-- The same of what the program keeps.
 abbrev pub given_value : Given → GivenValue
 given_value given = record {
   input = option_map (λ path. path.now) given.input;

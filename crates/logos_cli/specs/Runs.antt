@@ -1,5 +1,7 @@
--- What a run of the program does, by what its files give. `gives` holds of files, a path, all bytes that are read there, and the files after that; `makes` of files, a path,
--- the bytes of the file there from then on, and the files after that; `finds` of files, a path, some bytes, how the file there compares with them, and the files after that.
+-- What the program does, by what its files give. `gives` holds of files, a path, all bytes
+-- that are read there, and the files after that; `makes` of files, a path, the bytes of the file
+-- there from then on, and the files after that; `finds` of files, a path, some bytes, how the file
+-- there compares with them, and the files after that.
 use Rattle.std.specs.Prelude.{◌≡◌, ◌≢◌, ◌⊎◌, ℕ, List, Bool, true, false, IsTrue, Option, Some, None, IfSome, codes, string_bytes}
 use Rattle.std.specs.Io.KnownBytes.{Appends, Keeps}
 use Rattle.logos_host.specs.declared.comparing.Standing.{Standing}
@@ -14,75 +16,79 @@ use Rattle.logos_codegen.specs.Source.{IsRefused}
 use Rattle.logos_derive.specs.declared.answering.Answer.{Answer}
 use Rattle.logos_token.specs.Faults.{Fault}
 
--- a file has other bytes than these, or cannot be read
+-- A file has other bytes than these, or cannot be read.
 pub record IsOther {F : Type 0} (finds : F → List ℕ → List ℕ → Standing → F → Type 0) (path bytes : List ℕ) (files after : F) : Type 0 where
   pub standing : Standing
   pub found : finds files path bytes standing after
   pub other : standing ≢ Same
 
--- a file had other bytes, and these were written to it
+-- A file had other bytes, and these were written to it.
 pub record IsRewritten {F : Type 0} (makes : F → List ℕ → List ℕ → F → Type 0) (finds : F → List ℕ → List ℕ → Standing → F → Type 0) (path bytes : List ℕ) (files after : F) : Type 0 where
   pub between : F
   pub other : IsOther finds path bytes files between
   pub made : makes between path bytes after
 
--- the enum on standard input has no faults, and its implementation is at the end of standard output, with placeholders
+-- The enum on standard input has no faults, and its implementation is at the end of standard
+-- output, with placeholders.
 abbrev pub IsAnswered : {F : Type 0} → (F → List ℕ → List ℕ → F → Type 0) → DeriveOrder → F → F → Option (List ℕ) → Option (List ℕ) → Type 0
 IsAnswered gives order files after old new =
     Reads gives files (codes "/dev/stdin") (λ text read. (after ≡ read) × ((answer : Answer) × IsDerived order.shape text answer × Appends old new (string_bytes answer.text)))
 
--- the enum on standard input has faults, which this text shows
+-- The enum on standard input has faults, which this text shows.
 abbrev pub IsDeniedAnswer : {F : Type 0} → (F → List ℕ → List ℕ → F → Type 0) → DeriveOrder → F → F → List ℕ → Type 0
 IsDeniedAnswer gives order files after shown =
     Reads gives files (codes "/dev/stdin") (λ text read. (after ≡ read) × ((faults : List Fault) × IsRefused text faults × ShowsErrors order.format (standard_input text) faults shown))
 
 module _ {F : Type 0} (gives makes : F → List ℕ → List ℕ → F → Type 0) (finds : F → List ℕ → List ℕ → Standing → F → Type 0) where
-  -- a file has these bytes, and was not written
+  -- A file has these bytes, and was not written.
   abbrev pub IsThere : List ℕ → List ℕ → F → F → Type 0
   IsThere path bytes files after = finds files path bytes Same after × gives files path bytes after
 
-  -- the result is in a file: it was there, or it was written, and not only to be compared
+  -- The result is in a file: it was there, or it was written, and not only to be compared.
   abbrev pub IsSettled : OrderValue → List ℕ → List ℕ → F → F → Type 0
   IsSettled order path bytes files after = IsThere path bytes files after ⊎ ((order.is_check ≡ false) × IsRewritten makes finds path bytes files after)
 
-  -- The result is where it was asked for: in a file, or at the end of standard output. What goes to one leaves the other as it is.
+  -- The result is where it was asked for: in a file, or at the end of standard output. What goes to
+  -- one leaves the other as it is.
   abbrev pub IsDelivered : OrderValue → Option (List ℕ) → List ℕ → F → F → Option (List ℕ) → Option (List ℕ) → Type 0
   IsDelivered order None bytes files after old new = (after ≡ files) × Appends old new bytes
   IsDelivered order (Some path) bytes files after old new = IsSettled order path bytes files after × Keeps old new
 
-  -- the file is read and expanded, and the result is where it was asked for
+  -- The file is read and expanded, and the result is where it was asked for.
   abbrev pub IsCarriedOut : OrderValue → F → F → Option (List ℕ) → Option (List ℕ) → Type 0
   IsCarriedOut order files after old new =
       Reads gives files order.input (λ text read. (bytes : List ℕ) × IsExpanded order.shape text bytes × IsDelivered order order.output bytes read after old new)
 
-  -- what is asked for is done
+  -- What is asked for is done.
   abbrev pub IsDone : Asked → F → F → Option (List ℕ) → Option (List ℕ) → Type 0
   IsDone asks_help files after old new = after ≡ files
   IsDone asks_version files after old new = after ≡ files
   IsDone (asks_expansion order) files after old new = IsCarriedOut order files after old new
   IsDone (asks_derive order) files after old new = IsAnswered gives order files after old new
 
-  -- the file is read, and has faults, which this text shows, or warnings, which are denied; or its expansion was only to be compared, and is not what the other file has. No file is written.
+  -- The file is read, and has faults, which this text shows, or warnings, which are denied; or its
+  -- expansion was only to be compared, and is not what the other file has. No file is written.
   abbrev pub IsDeniedOrder : OrderValue → F → F → List ℕ → Type 0
   IsDeniedOrder order files after shown =
       Reads gives files order.input (λ text read. ((after ≡ read) × IsCause order.format order.denies order.shape (record { path = order.input; text = text }) shown)
       ⊎ (IsTrue order.is_check × ((bytes : List ℕ) × IsExpanded order.shape text bytes × IfSome order.output (λ path. IsOther finds path bytes read after))))
 
-  -- what is asked for is refused, for what this text says
+  -- What is asked for is refused, for what this text says.
   abbrev pub IsDenied : Asked → F → F → List ℕ → Type 0
   IsDenied asks_help files after shown = ⊥
   IsDenied asks_version files after shown = ⊥
   IsDenied (asks_expansion order) files after shown = IsDeniedOrder order files after shown
   IsDenied (asks_derive order) files after shown = IsDeniedAnswer gives order files after shown
 
--- the file for the result is the file that is read; `same` holds of files, two paths, and whether these lead to one file
+-- The file for the result is the file that is read; `same` holds of files, two paths, and whether
+-- these lead to one file.
 abbrev pub IsOwnOutput : {F : Type 0} → (F → List ℕ → List ℕ → Bool → Type 0) → Asked → F → Type 0
 IsOwnOutput same asks_help files = ⊥
 IsOwnOutput same asks_version files = ⊥
 IsOwnOutput same (asks_derive order) files = ⊥
 IsOwnOutput same (asks_expansion order) files = IfSome order.output (λ path. same files order.input path true)
 
--- it is another file
+-- It is another file.
 abbrev pub IsApart : {F : Type 0} → (F → List ℕ → List ℕ → Bool → Type 0) → Asked → F → Type 0
 IsApart same asks_help files = Unit {0}
 IsApart same asks_version files = Unit {0}

@@ -1,13 +1,8 @@
-//! A run that answers the derive macro: it reads an enum from standard input, prints its
+//! Answers the derive macro: reads an enum from standard input, prints its
 //! implementation to standard output, and writes messages to standard error.
 
 ghost use Rattle.std.specs.Prelude.{◌≡◌, ◌≢◌, ◌⊎◌, ◌≤◌, ◌++◌, ℕ, List, IfOk, IsTrue, string_bytes};
-ghost use Rattle.std.specs.Io.KnownBytes.{Appends, Keeps};
-ghost use Rattle.logos_token.specs.Faults.{Fault};
-ghost use Rattle.logos_codegen.specs.Source.{IsRefused};
-ghost use Rattle.logos_derive.specs.declared.answering.Answer.{Answer as AnswerValue};
-ghost use Rattle.logos_cli.specs.Deriving.{IsDerived, ShowsErrors, standard_input};
-ghost use Rattle.logos_cli.specs.Runs.{IsAnswered, IsDeniedAnswer};
+ghost use Rattle.logos_cli.specs.Views.{Appends, Keeps, Fault, IsRefused, Answer as AnswerValue, IsDerived, ShowsErrors, standard_input, IsAnswered, IsDeniedAnswer};
 
 use crate::implementation::{answer_lines, derived, refusal_lines};
 use crate::options::{DeriveOrder, STANDARD_INPUT};
@@ -129,7 +124,7 @@ fn lines_of(
     }
 }
 
-/// Ends a run with this status, and with these lines on standard error.
+/// Ends the program with this status, and with these lines on standard error.
 fn end_with<E: Write>(status: u8, lines: &[u8], err: &mut E) -> Ending
     ensures status { result.status ≡ status }
     ensures written { IsTrue result.is_written →

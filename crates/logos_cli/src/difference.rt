@@ -74,7 +74,7 @@ fn difference_text(
     page.finish()
 }
 
-/// Pushes the line that says what is wrong.
+/// Appends the line that says what is wrong.
 fn push_what(page: &mut Page, compared: &Compared<'_>) {
     page.push("error: ");
     page.push_shown(compared.path);
@@ -88,7 +88,7 @@ fn push_what(page: &mut Page, compared: &Compared<'_>) {
     }
 }
 
-/// Pushes the first lines of a file and of the result that differ, if there is a file.
+/// Appends the first lines of a file and of the result that differ, if there is a file.
 fn push_lines(page: &mut Page, found: &str, made: &str) {
     if found.is_empty() {
         return;
@@ -116,13 +116,13 @@ fn after_same<'t>(found: &'t str, made: &'t str) -> Option<(&'t str, &'t str)> {
     }
 }
 
-/// Pushes the first lines of two texts, from a line on.
+/// Appends the first lines of two texts, from a line on.
 fn push_both(page: &mut Page, number: usize, found: &str, made: &str) {
     push_side(page, " - ", number, found);
     push_side(page, " + ", number, made);
 }
 
-/// Pushes the first lines of a text.
+/// Appends the first lines of a text.
 fn push_side(page: &mut Page, sign: &str, number: usize, text: &str) {
     let mut rest = text;
     for line in 0..SHOWN_LINES {
@@ -147,7 +147,7 @@ fn first_line(text: &str) -> Option<(&str, &str)> {
     }
 }
 
-/// Pushes the front of a line, and a line end.
+/// Appends the front of a line, and a line end.
 fn push_cut(page: &mut Page, line: &str) {
     if let Some((front, rest)) = line.split_at_checked(line.floor_char_boundary(SHOWN_BYTES)) {
         page.push_shown(front);
@@ -158,7 +158,7 @@ fn push_cut(page: &mut Page, line: &str) {
     page.push("\n");
 }
 
-/// Pushes the shape of which a file's first line speaks, if that is not the one of the result.
+/// Appends the shape of which a file's first line speaks, if that is not the one of the result.
 fn push_shape(page: &mut Page, found: &str, compared: &Compared<'_>) {
     let wanted = shape_name(compared.shape);
     match named_shape(found) {

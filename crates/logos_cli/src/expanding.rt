@@ -1,16 +1,7 @@
 //! A file with the derive of its lexers expanded.
 
 ghost use Rattle.std.specs.Prelude.{◌≡◌, ◌≤◌, ◌++◌, All, IfErr, IfOk, IsTrue, OnOk, length, map, string_bytes};
-ghost use Rattle.logos_codegen.specs.Source.{IsRefused};
-ghost use Rattle.logos_rust_file.specs.Replacing.{AreInOrder, IsFoundCut, found_span, part_span};
-ghost use Rattle.logos_rust_file.specs.Files.{AreEnumsOf};
-ghost use Rattle.logos_report.specs.Pages.{Shows, StandInOrder};
-ghost use Rattle.logos_rust_file.specs.Handed.{Refuses};
-ghost use Rattle.logos_cli.specs.Expanding.{IsExpanded, IsExpansion, IsFileOf};
-ghost use Rattle.logos_cli.specs.Expanding.{IsShown, IsUnreadable, config_of};
-ghost use Rattle.logos_cli.specs.Gathering.{AreRefused, EndsWithLines, FailsFor, GathersAll, ShowsRefused, refused_texts};
-ghost use Rattle.logos_cli.specs.inside.Steps.{AddsRefusal, GathersOne};
-ghost use Rattle.logos_cli.specs.inside.Steps.{IsExpansionBy};
+ghost use Rattle.logos_cli.specs.Views.{IsRefused, AreInOrder, IsFoundCut, found_span, part_span, AreEnumsOf, Shows, StandInOrder, Refuses, IsExpanded, IsExpansion, IsFileOf, IsShown, IsUnreadable, config_of, AreRefused, EndsWithLines, FailsFor, GathersAll, ShowsRefused, refused_texts, AddsRefusal, GathersOne, IsExpansionBy};
 
 use crate::head::with_head;
 use crate::options::Shape;
@@ -172,8 +163,8 @@ fn expanded_file(
     with_head(alloc, source.path(), shape, &bytes)
 }
 
-/// Returns the replacements of these enums of a file, and the faults of those that are refused. Adds
-/// their warnings.
+/// Returns the replacements of these enums of a file, and the faults of those that are refused.
+/// Adds their warnings.
 fn gather(
     text: &str,
     site: Site<'_, '_>,
@@ -240,7 +231,7 @@ fn clues_of(text: &str, offset: usize, warned: &mut Vec<Warning>) -> Result<Clue
     Ok(clues)
 }
 
-/// Pushes the faults of what begins at an offset of the file, with what is known of them.
+/// Appends the faults of what begins at an offset of the file, with what is known of them.
 fn push_refusal(
     refused: &mut Vec<Refused>,
     offset: usize,
@@ -384,8 +375,8 @@ fn fault_lines(
 }
 
 /// Returns the text of all faults of a file, in order, with their number, after its warnings. For
-/// each, a line with the name of its code and the first line of its message, and one with its place
-/// in the file stand in it.
+/// each, a line with the name of its code and the first line of its message, and one with its
+/// position in the file stand in it.
 fn refusal_text(
     source: &Source<'_>,
     showing: Showing,
@@ -402,7 +393,7 @@ fn refusal_text(
     page.finish()
 }
 
-/// Pushes all these faults. Returns how many of them are errors.
+/// Appends all these faults. Returns how many of them are errors.
 fn push_refused(page: &mut Page, source: &Source<'_>, refused: &[Refused]) -> usize
     ensures { Shows (refused_texts page.old.is_colored source.now refused.now) page.old page.new }
 {

@@ -1,8 +1,7 @@
 //! The first line of a file with the derive of its lexers expanded.
 
 ghost use Rattle.std.specs.Prelude.{◌≡◌, ◌++◌, IfOk, OnOk, string_bytes};
-ghost use Rattle.logos_layout.specs.Inner.{IsWithoutInner};
-ghost use Rattle.logos_cli.specs.Heads.{IsFileWith, IsHead, code_name, head_text, is_plain, is_printable, line_text, shape_name, shown_name};
+ghost use Rattle.logos_cli.specs.Views.{IsWithoutInner, IsFileWith, IsHead, code_name, head_text, is_plain, is_printable, line_text, shape_name, shown_name};
 
 use crate::options::Shape;
 use logos_layout::without_inner;
@@ -12,7 +11,7 @@ use std::alloc::Global;
 /// Returns the text of a file after its first line, which says what the file was made from.
 /// Documentation and attributes of the file itself are plain comments, so another file can include
 /// it. A file
-/// whose first bytes mean something has no such line: that of `#!`, and the mark U+FEFF.
+/// whose first bytes mean something has no such line: that of `#!`, and U+FEFF.
 pub(crate) fn with_head(
     alloc: Global,
     path: &str,
@@ -63,14 +62,14 @@ fn is_headed(bytes: &[u8]) -> bool {
     }
 }
 
-/// Pushes the first line of a file that was made from the file with this name.
+/// Appends the first line of a file that was made from the file with this name.
 fn push_head(text: &mut String, name: &str, shape: Shape) -> Result<(), Memory>
     ensures { OnOk result (string_bytes text.new ≡ string_bytes text.old ++ head_text name.now shape) }
 {
     push_line(text, shown_name(name), shape_name(shape))
 }
 
-/// Pushes the first line of a file with these names of a file and a shape.
+/// Appends the first line of a file with these names of a file and a shape.
 fn push_line(text: &mut String, name: &str, shape: &str) -> Result<(), Memory>
     ensures { OnOk result (string_bytes text.new ≡ string_bytes text.old ++ line_text name.now shape.now) }
 {

@@ -2,12 +2,7 @@
 //! user wrote.
 
 ghost use Rattle.std.specs.Prelude.{IfErr, IfOk, List, ℕ, string_bytes};
-ghost use Rattle.logos_codegen.specs.Source.{IsRefused};
-ghost use Rattle.logos_report.specs.Faults.{faults_texts};
-ghost use Rattle.logos_report.specs.Pages.{StandInOrder};
-ghost use Rattle.logos_report.specs.Turns.{sizes_of};
-ghost use Rattle.logos_rust_file.specs.Handed.{Refuses};
-ghost use Rattle.logos_cli.specs.Deriving.{AreFaultLines, IsDerived, IsDerivedBy, ShowsErrors};
+ghost use Rattle.logos_cli.specs.Views.{IsRefused, faults_texts, StandInOrder, sizes_of, Refuses, AreFaultLines, IsDerived, IsDerivedBy, ShowsErrors};
 
 use crate::expanding::{config_of, lexer_text};
 use crate::options::Shape;

@@ -1,15 +1,7 @@
 //! What the words of a command line ask for.
 
 ghost use Rattle.std.specs.Prelude.{◌≡◌, IfErr, IfOk, None, Some, is_some, map, option_map, string_bytes};
-ghost use Rattle.logos_host.specs.Failures.{status_of};
-ghost use Rattle.logos_host.specs.WordSteps.{use_value};
-ghost use Rattle.logos_cli.specs.Orders.{asked, asked_given, given_nothing, given_value, order_given};
-ghost use Rattle.logos_cli.specs.Orders.{enum_given, file_given, with_format};
-ghost use Rattle.logos_cli.specs.Orders.{given_or, path_named, request_value, shape_named, with_flag};
-ghost use Rattle.logos_cli.specs.Orders.{with_found, with_output, with_path, with_shape, with_color};
-ghost use Rattle.logos_cli.specs.Orders.{with_value, with_word, with_words};
-ghost use Rattle.logos_host.specs.Colors.{color_named};
-ghost use Rattle.logos_host.specs.Formats.{format_named};
+ghost use Rattle.logos_cli.specs.Views.{status_of, use_value, color_named, format_named, asked, asked_given, given_nothing, given_value, order_given, enum_given, file_given, with_format, given_or, path_named, request_value, shape_named, with_flag, with_found, with_output, with_path, with_shape, with_color, with_value, with_word, with_words};
 
 use logos_codegen::generator::Config;
 use logos_host::{

@@ -1,11 +1,8 @@
-//! What stands in the place of an enum: the enum without what belongs to the derive, and the
+//! What stands in place of an enum: the enum without what belongs to the derive, and the
 //! implementation.
 
 ghost use Rattle.std.specs.Prelude.{◌≡◌, ◌++◌, true, IfOk, OnOk, string_bytes};
-ghost use Rattle.logos_token.specs.Views.{tokens_of};
-ghost use Rattle.logos_layout.specs.Layout.{IsLaidOut};
-ghost use Rattle.logos_cli.specs.Expanding.{IsGuard, IsGuarded, are_blanks, guard_text, import_under, lexer_under, under};
-ghost use Rattle.logos_cli.specs.inside.Steps.{IsPrintedWith};
+ghost use Rattle.logos_cli.specs.Views.{tokens_of, IsLaidOut, IsGuard, IsGuarded, are_blanks, guard_text, import_under, lexer_under, under, IsPrintedWith};
 
 use crate::expanding::lexer_text;
 use crate::options::Shape;
@@ -97,7 +94,7 @@ fn guard_of(alloc: Global, written: &str, site: Site<'_, '_>) -> Result<String, 
     Ok(guard)
 }
 
-/// Pushes the line that keeps rustfmt from an enum, and the blanks before the enum.
+/// Appends the line that keeps rustfmt from an enum, and the blanks before the enum.
 fn push_guard(text: &mut String, margin: &str) -> Result<(), Memory>
     ensures { OnOk result (string_bytes text.new
         ≡ string_bytes text.old ++ (guard_text ++ margin.now)) }
@@ -214,7 +211,7 @@ fn under(alloc: Global, by_name: bool, left: Tokens<'_, '_>, lexer: &str) -> Res
     Ok(text)
 }
 
-/// Pushes the import of `Logos`, if it is wanted, under the conditions of an enum.
+/// Appends the import of `Logos`, if it is wanted, under the conditions of an enum.
 fn push_import(
     alloc: Global,
     text: &mut String,
@@ -232,7 +229,7 @@ fn push_import(
     Ok(())
 }
 
-/// Pushes the text of a lexer with its attributes, under the conditions of an enum.
+/// Appends the text of a lexer with its attributes, under the conditions of an enum.
 fn push_lexer(
     alloc: Global,
     text: &mut String,

@@ -1,18 +1,7 @@
 //! From words to a status.
 
-ghost use Rattle.std.specs.Prelude.{◌≡◌, ◌≢◌, ◌≤◌, ◌++◌, ◌⊎◌, None, MatchOption, false, true, IfErr, IfOk, IfSome};
-ghost use Rattle.std.specs.Prelude.{OnOk, ℕ, List};
-ghost use Rattle.std.specs.Prelude.{IsTrue, map, string_bytes};
-ghost use Rattle.std.specs.Io.KnownBytes.{Appends, Keeps};
-ghost use Rattle.logos_host.specs.Failures.{status_of};
-ghost use Rattle.logos_host.specs.Messages.{message_of};
-ghost use Rattle.logos_cli.specs.Orders.{asked, order_value, request_value};
-ghost use Rattle.logos_cli.specs.Runs.{IsCarriedOut, IsDelivered, IsDenied, IsDeniedOrder, IsDone};
-ghost use Rattle.logos_cli.specs.Runs.{IsApart, IsOwnOutput, IsSettled};
-ghost use Rattle.logos_cli.specs.Expanding.{IsExpanded};
-ghost use Rattle.logos_cli.specs.Gathering.{FailsBy, IsRefusedFor};
-ghost use Rattle.logos_cli.specs.Runs.{IsOther};
-ghost use Rattle.logos_host.specs.Reading.{Reads};
+ghost use Rattle.std.specs.Prelude.{◌≡◌, ◌≢◌, ◌≤◌, ◌++◌, ◌⊎◌, None, MatchOption, false, true, IfErr, IfOk, IfSome, OnOk, ℕ, List, IsTrue, map, string_bytes};
+ghost use Rattle.logos_cli.specs.Views.{Appends, Keeps, status_of, message_of, Reads, asked, order_value, request_value, IsCarriedOut, IsDelivered, IsDenied, IsDeniedOrder, IsDone, IsApart, IsOwnOutput, IsSettled, IsExpanded, FailsBy, IsRefusedFor, IsOther};
 
 use crate::answering::run_derive;
 use crate::difference::{Compared, difference};
@@ -63,7 +52,7 @@ options:
 
 const VERSION: &str = "logos_cli 0.1.0 (for logos 0.16)\n";
 
-/// How a run ended.
+/// How the program ended.
 #[derive(Clone, Copy)]
 pub(crate) struct Ending {
     /// The exit status.
@@ -95,8 +84,9 @@ pub(crate) fn run<F: ComparableFiles, O: Write, E: Write + IsTerminal>(
     ensures done { result.status ≡ 0 → IfSome (asked (map string_bytes words.now))
         (λ order. IsDone F.read_gives F.write_makes F.compare_finds order files.old files.new
         (O.contents out.old) (O.contents out.new)) }
-    // A refusal stands: a lexer of the file has faults, or a file that is only compared is not the result. The
-    // text that says so is what standard error got last, and nothing was printed or written.
+    // A refusal stands: a lexer of the file has faults, or a file that is only compared is not the
+    // result. The text that says so is what standard error got last, and nothing was printed or
+    // written.
     ensures denied { result.status ≡ 1 → IfSome (asked (map string_bytes words.now))
         (λ order. (shown : List ℕ) × IsDenied F.read_gives F.write_makes F.compare_finds order
         files.old files.new shown × (IsTrue result.is_written → (front : List ℕ)
@@ -113,7 +103,7 @@ pub(crate) fn run<F: ComparableFiles, O: Write, E: Write + IsTerminal>(
     }
 }
 
-/// Ends a run that has no warnings.
+/// Ends the program where there are no warnings.
 fn ended<E: Write>(done: Result<(), Failure<'_>>, err: &mut E) -> Ending
     requires { IfErr done (λ failure. status_of failure ≡ 3) }
     ensures { (result.status ≡ 3) ⊎ (result.status ≡ 0) }
@@ -127,7 +117,7 @@ fn ended<E: Write>(done: Result<(), Failure<'_>>, err: &mut E) -> Ending
     }
 }
 
-/// Ends a run that failed: writes why.
+/// Ends the program where it failed: writes why.
 pub(crate) fn failed<E: Write>(failure: &Failure<'_>, err: &mut E) -> Ending
     ensures status { result.status ≡ status_of failure.now }
     ensures written { IsTrue result.is_written → (usage : List ℕ) × Appends (E.contents err.old)
@@ -245,7 +235,7 @@ fn deliver_and_end<F: ComparableFiles, O: Write, E: Write>(
     }
 }
 
-/// Ends a run that failed after a warning: writes why.
+/// Ends the program where it failed after a warning: writes why.
 fn failed_after<E: Write>(is_warned: bool, failure: &Failure<'_>, err: &mut E) -> Ending
     ensures status { result.status ≡ status_of failure.now }
     ensures written { IsTrue result.is_written → IsTrue is_warned × ((usage : List ℕ)

@@ -5,31 +5,31 @@ use Rattle.logos_byte_class.specs.Bytes.{Comparison}
 use Rattle.logos_code.specs.declared.code.CodeLeaf.{CodeLeaf}
 use Rattle.logos_code.specs.declared.code.Header.{Header}
 
--- a match of this leaf ends here, or one byte before where it is late
+-- A match of this leaf ends here, or one byte before where it is late.
 pub record Mark : Type 0 where
   pub leaf : ℕ
   pub late : Bool
 
--- what a byte is tested by
+-- What a byte is tested by.
 pub data Condition : Type 0 where
-  -- one of these holds
+  -- One of these holds.
   by_comparisons : List Comparison → Condition
-  -- the test with this number
+  -- The test with this number.
   by_test : ℕ → Condition
 
--- where a byte leads
+-- Where a byte leads.
 pub data Fork : Type 0 where
-  -- to the state of the first condition that holds
+  -- To the state of the first condition that holds.
   by_conditions : List (Condition × ℕ) → Fork
-  -- to its entry in a table
+  -- To its entry in a table.
   by_table : List (Option ℕ) → Fork
 
 pub record CodeState : Type 0 where
-  -- the test of the bytes that stay in the state
+  -- The test of the bytes that stay in the state.
   pub fast_loop : Option ℕ
   pub mark : Option Mark
   pub fork : Fork
-  -- where the end leads
+  -- Where the end leads.
   pub at_end : Option ℕ
 
 pub record CodeValue : Type 0 where
@@ -38,7 +38,7 @@ pub record CodeValue : Type 0 where
   pub leaves : List Use
   pub root : ℕ
   pub utf8 : Bool
-  -- no run reads these; a fork by a table holds the entries of its table
+  -- No run reads these; a fork by a table holds the entries of its table.
   pub jump_tables : List (List ℕ)
   pub header : Header
   pub code_leaves : List CodeLeaf

@@ -26,14 +26,14 @@ condition_of (Test k) = by_test k
 abbrev pub branch_of : TheCondition × ℕ → Condition × ℕ
 branch_of branch = (condition_of branch.0, branch.1)
 
--- an entry of a jump table is a state, or the number that stands for none
+-- An entry of a jump table is a state, or the number that stands for none.
 abbrev pub entry_of : ℕ → Option ℕ
 entry_of entry = if entry == 4294967295 then None else Some entry
 
 abbrev pub jumps_of : List ℕ → List (Option ℕ)
 jumps_of table = map entry_of table
 
--- a fork by the number of its jump table
+-- A fork by the number of its jump table.
 abbrev pub fork_of : List (List ℕ) → TheFork → Fork
 fork_of tables (Conditions all) = by_conditions (map branch_of all.items)
 fork_of tables (Table k) = by_table (jumps_of (slice_index_or tables k []))
@@ -61,30 +61,30 @@ code_of code = record {
   code_leaves = code.leaves.items;
 }
 
--- a state without anything, for the states that are not there
+-- A state without anything, for the states that are not there.
 abbrev pub no_state : CodeState
 no_state = record { fast_loop = None; mark = None; fork = by_conditions []; at_end = None }
 
 abbrev pub state_at : CodeValue → ℕ → CodeState
 state_at code s = slice_index_or code.states s no_state
 
--- a callback is asked for the matches of the leaf
+-- A callback is asked for the matches of the leaf.
 abbrev pub asks_for : CodeValue → ℕ → Bool
 asks_for code leaf = option_map_or (λ use_of. use_of.asks) (slice_get code.leaves leaf) false
 
--- the matches of the leaf are left out
+-- The matches of the leaf are left out.
 abbrev pub skips_over : CodeValue → ℕ → Bool
 skips_over code leaf = option_map_or (λ use_of. use_of.skips) (slice_get code.leaves leaf) false
 
--- one of the mask's bits stands in the table's entry for the byte
+-- One of the mask's bits stands in the table's entry for the byte.
 abbrev pub has_mask : List ℕ → ℕ → ℕ → Bool
 has_mask table mask b = not (bit_and (slice_index table b) mask == 0)
 
--- no two of the tables are equal
+-- No two of the tables are equal.
 abbrev pub AreDifferent : List (List ℕ) → Type 0
 AreDifferent tables = (i j : ℕ) → i < length tables → j < length tables → slice_get tables i ≡ slice_get tables j → i ≡ j
 
--- the parts that a code can have
+-- The parts that a code can have.
 pub record IsValid (code : CodeParts) : Type 0 where
   pub sound : IsSound (code_of code)
   pub once : AreDifferent code.jump_tables.items

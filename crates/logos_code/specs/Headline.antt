@@ -7,15 +7,15 @@ use Rattle.logos_code.specs.Code.{CodeValue, CodeState, Condition, by_comparison
 use Rattle.logos_code.specs.Runs.{Tries, CodeFinds, target}
 use Rattle.logos_code.specs.Items.{Item, token, error}
 
--- The headline: at each place of each input the code finds exactly what maximal munch finds there, and
--- its leaves are used as the rules say.
+-- The headline: at each point of each input the code finds exactly what maximal munch finds there,
+-- and its leaves are used as the rules say.
 pub record IsLexer (rules : List Rule) (utf8 : Bool) (code : CodeValue) : Type 0 where
   pub mode : code.utf8 ≡ utf8
   pub uses : code.leaves ≡ map (λ rule. rule.use_of) rules
   pub finds : (bytes : List ℕ) (from : ℕ) (found : Found) → IsInput utf8 bytes → CodeFinds code bytes from found ↔ Finds rules utf8 bytes from found
   pub steps : (bytes : List ℕ) (from n : ℕ) (found : Found) → IsBytes bytes → from ≤ length bytes → Tries code bytes from found n → n ≤ (length bytes - from) + 2
 
--- each name that a state has is there
+-- Each name that a state has is there.
 abbrev pub NamesState : CodeValue → ℕ → Type 0
 NamesState code s = s < length code.states
 
@@ -36,22 +36,22 @@ pub record NamesWhatIsThere (code : CodeValue) (state : CodeState) : Type 0 wher
   pub fork : NamesFork code state.fork
   pub at_end : IfSome state.at_end (NamesState code)
 
--- a span starts and ends between characters
+-- A span starts and ends between characters.
 abbrev pub IsCut : List ℕ → Item → Type 0
 IsCut bytes (token leaf from to slice) = IsCharBoundary bytes from × IsCharBoundary bytes to
 IsCut bytes (error leaf from to slice) = IsCharBoundary bytes from × IsCharBoundary bytes to
 
--- the state has a late mark
+-- The state has a late mark.
 abbrev pub IsLate : CodeValue → ℕ → Type 0
 IsLate code s = IsSomeAnd (slice_get code.states s) (λ state. IsSomeAnd state.mark (λ mark. IsTrue mark.late))
 
--- the root has no mark, and no state with a late mark is one step from it
+-- The root has no mark, and no state with a late mark is one step from it.
 pub record IsRoot (code : CodeValue) (state : CodeState) : Type 0 where
   pub mark : state.mark ≡ None
   pub fork : (b t : ℕ) → target code state.fork b ≡ Some t → ¬ IsLate code t
   pub at_end : (t : ℕ) → state.at_end ≡ Some t → ¬ IsLate code t
 
--- a state that the end leads to has a late mark, and the end leads no further
+-- A state that the end leads to has a late mark, and the end leads no further.
 abbrev pub IsEnd : CodeValue → Option ℕ → Type 0
 IsEnd code at_end = IfSome at_end (λ t. IsLate code t × IsSomeAnd (slice_get code.states t) (λ next. next.at_end ≡ None))
 

@@ -5,7 +5,7 @@ use Rattle.logos_code.specs.declared.action.Action.{Action}
 use Rattle.logos_code.specs.declared.action.Action.TheVariants.{Emit, Skip, Error}
 use Rattle.logos_automaton.specs.Munch.{Use, Rule, Found, ended, matched, failed, Finds}
 
--- an item, its span, and the input at its span
+-- An item, its span, and the input at its span.
 pub data Item : Type 0 where
   token : (leaf from to : ℕ) (slice : List ℕ) → Item
   error : (leaf : Option ℕ) (from to : ℕ) (slice : List ℕ) → Item
@@ -14,7 +14,7 @@ pub data Item : Type 0 where
 abbrev pub Callback : Type 1
 Callback = ℕ → List ℕ → Action → Type 0
 
--- from a place, what is found there
+-- From a point, what is found there.
 abbrev pub Search : Type 1
 Search = ℕ → Found → Type 0
 
@@ -26,17 +26,17 @@ module _ (uses : List Use) (callback : Callback) (bytes : List ℕ) where
   abbrev pub skips : ℕ → Bool
   skips leaf = option_map_or (λ use_of. use_of.skips) (slice_get uses leaf) false
 
-  -- what may be answered to a match; a leaf without a callback emits
+  -- What may be answered to a match; a leaf without a callback emits.
   abbrev pub MayAnswer : ℕ → List ℕ → Action → Type 0
   MayAnswer leaf slice answer = MatchBool (asks leaf) (callback leaf slice answer) (answer ≡ Emit)
 
-  -- the items that a match gives
+  -- The items that a match gives.
   abbrev pub items_of : Action → ℕ → ℕ → ℕ → List Item
   items_of Emit leaf from to = if skips leaf then [] else token leaf from to (slice_range bytes from to) ∷ []
   items_of Skip leaf from to = []
   items_of Error leaf from to = error (Some leaf) from to (slice_range bytes from to) ∷ []
 
-  -- The items from a place on, where a search says what is found at each.
+  -- The items from a point on, where a search says what is found at each.
   pub data Lexes (search : Search) : ℕ → List Item → Type 0 where
     over : (from : ℕ) → search from ended → Lexes search from []
     match : (from to leaf : ℕ) (answer : Action) (rest : List Item) →
@@ -46,7 +46,7 @@ module _ (uses : List Use) (callback : Callback) (bytes : List ℕ) where
         search from (failed to) → Lexes search to rest →
         Lexes search from (error None from to (slice_range bytes from to) ∷ rest)
 
-  -- The next item from a place on, and the place after it: matches that give none are passed.
+  -- The next item from a point on, and the point after it: matches that give none are passed.
   pub data NextItem (search : Search) : ℕ → Item → ℕ → Type 0 where
     passes : (from to leaf : ℕ) (answer : Action) (item : Item) (end : ℕ) →
         search from (matched leaf to) → MayAnswer leaf (slice_range bytes from to) answer → items_of answer leaf from to ≡ [] →
@@ -56,10 +56,10 @@ module _ (uses : List Use) (callback : Callback) (bytes : List ℕ) where
         NextItem search from item to
     fails : (from to : ℕ) → search from (failed to) → NextItem search from (error None from to (slice_range bytes from to)) to
 
--- the items of maximal munch, from a place on
+-- The items of maximal munch, from a point on.
 abbrev pub Items : List Rule → Callback → Bool → List ℕ → ℕ → List Item → Type 0
 Items rules callback utf8 bytes = Lexes (map (λ rule. rule.use_of) rules) callback bytes (Finds rules utf8 bytes)
 
--- the next item of maximal munch from a place on, and the place after it
+-- The next item of maximal munch from a point on, and the point after it.
 abbrev pub IsNext : List Rule → Callback → Bool → List ℕ → ℕ → Item → ℕ → Type 0
 IsNext rules callback utf8 bytes = NextItem (map (λ rule. rule.use_of) rules) callback bytes (Finds rules utf8 bytes)

@@ -7,7 +7,7 @@ use Rattle.logos_code.specs.Code.{CodeValue}
 abbrev pub IsMask : (ℕ → Bool) → List ℕ → Type 0
 IsMask test mask = (b : ℕ) → b < 256 → has_bit mask (b / 16 % 8) (16 * (b / 128) + b % 16) ≡ test b
 
--- the mask of each test
+-- The mask of each test.
 pub record AreMasks (code : CodeValue) (masks : List (List ℕ)) : Type 0 where
   pub count : length masks ≡ 8 * length code.bit_tables
   pub each : (k : ℕ) → k < 8 * length code.bit_tables → IsMask (passes_test code.bit_tables k) (slice_index_or masks k [])

@@ -4,14 +4,16 @@ use Rattle.logos_automaton.specs.Munch.{Use, Rule, IsBest}
 use Rattle.logos_code.specs.declared.action.Action.{Action}
 use Rattle.logos_code.specs.Items.{Callback, Item, token, error, MayAnswer, items_of}
 
--- The spans lie between the place and the end, none is empty, and each starts no earlier than the one before it ends.
+-- The spans lie between the point and the end, none is empty, and each starts no earlier than the
+-- one before it ends.
 abbrev pub AreInOrder : (end : ℕ) → (at : ℕ) → List Item → Type 0
 AreInOrder end at [] = at ≤ end
 AreInOrder end at (token leaf from to slice ∷ rest) = (at ≤ from) × (from < to) × AreInOrder end to rest
 AreInOrder end at (error leaf from to slice ∷ rest) = (at ≤ from) × (from < to) × AreInOrder end to rest
 
--- The spans of the items from a place on, together with those of the matches left out between them, part the input: each begins
--- where the one before it ends, none is empty, and the last one ends where the input does.
+-- The spans of the items from a point on, together with those of the matches left out between them,
+-- part the input: each begins where the one before it ends, none is empty, and the last one ends
+-- where the input does.
 pub data Parts (IsLeftOut : (from to : ℕ) → Type 0) (end : ℕ) : ℕ → List Item → Type 0 where
   all_parted : Parts IsLeftOut end end []
   token_part : (leaf from to : ℕ) (slice : List ℕ) (rest : List Item) → from < to →
@@ -21,7 +23,7 @@ pub data Parts (IsLeftOut : (from to : ℕ) → Type 0) (end : ℕ) : ℕ → Li
   part_left_out : (from to : ℕ) (rest : List Item) → from < to → IsLeftOut from to →
       Parts IsLeftOut end to rest → Parts IsLeftOut end from rest
 
--- the uses of the leaves of these rules
+-- The uses of the leaves of these rules.
 abbrev pub uses_of : List Rule → List Use
 uses_of rules = map (λ rule. rule.use_of) rules
 

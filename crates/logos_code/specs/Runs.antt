@@ -12,21 +12,21 @@ use Rattle.logos_code.specs.Items.{Callback, Item, Lexes, NextItem}
 pub record Stand : Type 0 where
   pub state : ℕ
   pub offset : ℕ
-  -- the last mark passed: its leaf, and where the match ends
+  -- The last mark passed: its leaf, and where the match ends.
   pub context : Option (ℕ × ℕ)
 
--- a try goes on in another state, or it is over
+-- A try goes on in another state, or it is over.
 pub data Turn : Type 0 where
   enters : Stand → Turn
   acts : Option (ℕ × ℕ) → (offset : ℕ) → Turn
   returns : Turn
 
--- the context after a mark at the offset
+-- The context after a mark at the offset.
 abbrev pub marked : Option Mark → ℕ → Option (ℕ × ℕ) → Option (ℕ × ℕ)
 marked None offset context = context
 marked (Some mark) offset context = Some (mark.leaf, if mark.late then offset - 1 else offset)
 
--- on to the target, if there is one
+-- On to the target, if there is one.
 abbrev pub led : Option ℕ → ℕ → Option (ℕ × ℕ) → Turn
 led target offset context = option_map_or (λ next. enters (record { state = next; offset = offset + 1; context = context })) target (acts context offset)
 
@@ -35,69 +35,70 @@ module _ (code : CodeValue) where
   passes (by_comparisons all) b = some_compares all b
   passes (by_test k) b = passes_test code.bit_tables k b
 
-  -- the state to which the byte leads
+  -- The state to which the byte leads.
   abbrev pub target : Fork → ℕ → Option ℕ
   target (by_conditions edges) b = option_map (λ edge. edge.1) (find (λ edge. passes edge.0 b) edges)
   target (by_table entries) b = slice_index_or entries b None
 
-  -- the fast loop takes the byte
+  -- The fast loop takes the byte.
   abbrev pub stays : Option ℕ → ℕ → Bool
   stays None b = false
   stays (Some k) b = passes_test code.bit_tables k b
 
-  -- the bytes that the fast loop takes: all at the front that pass its test
+  -- The bytes that the fast loop takes: all at the front that pass its test.
   abbrev pub looped : Option ℕ → List ℕ → ℕ
   looped None rest = 0
   looped (Some k) rest = length (take_while (passes_test code.bit_tables k) rest)
 
-  -- what the fork's byte does, if there is one, or the end of the input
+  -- What the fork's byte does, if there is one, or the end of the input.
   abbrev pub forked : CodeState → Option ℕ → Bool → ℕ → Option (ℕ × ℕ) → Turn
   forked state (Some b) fresh offset context = led (target state.fork b) offset context
   forked state None fresh offset context = if fresh then returns else led state.at_end offset context
 
   module _ (bytes : List ℕ) (start : ℕ) where
-    -- what a state does: its fast loop, its mark, and its fork
+    -- What a state does: its fast loop, its mark, and its fork.
     abbrev pub turn : CodeState → Stand → Turn
     turn state at =
         let offset = at.offset + looped state.fast_loop (drop at.offset bytes) in
         forked state (slice_get bytes offset) (at.state == code.root && offset == start) offset (marked state.mark offset at.context)
 
-    -- the state that is entered does this
+    -- The state that is entered does this.
     abbrev pub Does : Stand → Turn → Type 0
     Does at what = (state : CodeState) × (slice_get code.states at.state ≡ Some state) × (turn state at ≡ what)
 
-    -- where an error ends that has come to the offset: after one byte at least, and in UTF-8 mode between characters
+    -- Where an error ends that has come to the offset: after one byte at least, and in UTF-8 mode
+    -- between characters.
     pub record EndsError (offset to : ℕ) : Type 0 where
       pub past : max offset (start + 1) ≤ to
       pub boundary : IsTrue code.utf8 → IsCharBoundary bytes to
       pub least : (other : ℕ) → max offset (start + 1) ≤ other → (IsTrue code.utf8 → IsCharBoundary bytes other) → to ≤ other
 
-    -- the action of a context
+    -- The action of a context.
     abbrev pub Acts : Option (ℕ × ℕ) → ℕ → Found → Type 0
     Acts (Some context) offset found = found ≡ matched context.0 context.1
     Acts None offset ended = ⊥
     Acts None offset (matched leaf to) = ⊥
     Acts None offset (failed to) = EndsError offset to
 
-    -- from a stand on, the try finds this, and enters this many states
+    -- From a stand on, the try finds this, and enters this many states.
     pub data Goes : Stand → Found → ℕ → Type 0 where
       goes_on : (at next : Stand) (found : Found) (n : ℕ) → Does at (enters next) → Goes next found n → Goes at found (suc n)
       is_over : (at : Stand) → Does at returns → Goes at ended 1
       acts_on : (at : Stand) (context : Option (ℕ × ℕ)) (offset : ℕ) (found : Found) →
           Does at (acts context offset) → Acts context offset found → Goes at found 1
 
-    -- a try from the start finds this, and enters this many states
+    -- A try from the start finds this, and enters this many states.
     abbrev pub Tries : Found → ℕ → Type 0
     Tries = Goes (record { state = code.root; offset = start; context = None })
 
--- what a code value finds at a place
+-- What a code value finds at a point.
 abbrev pub CodeFinds : CodeValue → List ℕ → ℕ → Found → Type 0
 CodeFinds code bytes from found = (n : ℕ) × Tries code bytes from found n
 
--- the items of a run of the code value, from a place on
+-- The items of a run of the code value, from a point on.
 abbrev pub Runs : CodeValue → Callback → List ℕ → ℕ → List Item → Type 0
 Runs code callback bytes = Lexes code.leaves callback bytes (CodeFinds code bytes)
 
--- the next item of a run of the code value from a place on, and the place after it
+-- The next item of a run of the code value from a point on, and the point after it.
 abbrev pub RunsOn : CodeValue → Callback → List ℕ → ℕ → Item → ℕ → Type 0
 RunsOn code callback bytes = NextItem code.leaves callback bytes (CodeFinds code bytes)

@@ -2,7 +2,7 @@
 use Rattle.std.specs.Prelude.{ℕ, List, Option, Some, None, true, false, codes, bytes_eq, if◌then◌else◌}
 use Rattle.logos_code.specs.declared.code.Config.{Config}
 
--- the shape with this name
+-- The shape with this name.
 abbrev pub shape_named : List ℕ → Option Config
 shape_named name =
     if bytes_eq name (codes "state_machine") then Some (record { use_state_machine_codegen = true })

@@ -1,4 +1,5 @@
--- Definitions that clauses cite, and that name types of this crate.
+-- Definitions that clauses cite: those of `Words`, and those that name types of this crate.
+pub use Rattle.logos_code.specs.Words.{bit_at, codes, comparison_of, named, passes_test, some_compares}
 pub use Rattle.logos_code.specs.Code.{CodeValue, by_conditions}
 pub use Rattle.logos_code.specs.CodeView.{IsValid, asks_for, branch_of, code_of, condition_of, entry_of, fork_of, has_mask, jumps_of, mark_of, skips_over, state_at, state_of, use_of}
 pub use Rattle.logos_code.specs.Headline.{IsSound, NamesCondition, NamesFork, NamesState, NamesTest, NamesWhatIsThere}

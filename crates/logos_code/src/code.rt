@@ -1,7 +1,7 @@
 //! Code values: what a lexer does in each state.
+
 ghost use Rattle.std.specs.Prelude.{◌≡◌, ◌*◌, ◌<◌, ◌/◌, length, option_map, option_copied, IfSome};
-ghost use Rattle.logos_code.specs.Words.{passes_test};
-ghost use Rattle.logos_code.specs.Views.{IsSound, NamesTest, entry_of, state_at, asks_for, skips_over, code_of, IsValid, target, IsLastMark, IsMask, IsEntry, IsFirst, IsLastEntry, IsPlace, shape_named, mark_by};
+ghost use Rattle.logos_code.specs.Views.{passes_test, IsSound, NamesTest, entry_of, state_at, asks_for, skips_over, code_of, IsValid, target, IsLastMark, IsMask, IsEntry, IsFirst, IsLastEntry, IsPlace, shape_named, mark_by};
 
 pub mod last_marks;
 pub(crate) mod making;
@@ -49,8 +49,8 @@ pub enum Fork {
 /// The entry of a jump table for a byte that leads nowhere.
 pub const NOWHERE: u32 = u32::MAX;
 
-/// What is done in a state: first its fast loop, then its mark, then its fork or, at the end of the input, its end branch.
-/// States are named by their numbers.
+/// What is done in a state: first its fast loop, then its mark, then its fork or, at the end of the
+/// input, its end branch. States are named by their numbers.
 #[derive(Drop)]
 pub struct CodeState {
     /// The number of the test of the bytes that stay in the state.
@@ -72,7 +72,8 @@ pub struct CodeLeaf<'s> {
 /// The options of a generator.
 #[derive(Clone, Copy, Debug, PartialEq, Eq)]
 pub struct Config {
-    /// One loop over a state variable, in place of a function for each state. Both shapes give the same items.
+    /// One loop over a state variable, in place of a function for each state. Both shapes give the
+    /// same items.
     pub use_state_machine_codegen: bool,
 }
 
@@ -131,14 +132,15 @@ pub struct CodeParts<'s> {
     pub utf8: bool,
 }
 
-/// The code of a lexer. Each state, table, test and leaf that it names exists, and no two of its jump tables are equal.
-/// `Generator::generate` makes one.
+/// The code of a lexer. Each state, table, test and leaf that it names exists, and no two of its
+/// jump tables are equal. `Generator::generate` makes one.
 #[derive(Drop)]
 pub struct Code<'s> {
     parts: CodeParts<'s>,
     /// What each byte does at the start of a try.
     first: [u32; 256],
-    /// What each byte does in each state, so that running the code takes one look a byte. `rows` describes the layout.
+    /// What each byte does in each state, so that running the code takes one look a byte. `rows`
+    /// describes the layout.
     rows: Vec<u32>,
     /// The tests, for sixteen bytes at once.
     masks: Vec<[u8; 32]>,
@@ -152,8 +154,7 @@ pub struct Code<'s> {
 
 impl<'s> Model for Code<'s> {
     ghost use Rattle.std.specs.Prelude.{[]};
-    ghost use Rattle.logos_code.specs.Words.{codes, named};
-    ghost use Rattle.logos_code.specs.Views.{CodeValue};
+    ghost use Rattle.logos_code.specs.Views.{codes, named, CodeValue};
     ghost use Rattle.logos_type.specs.contracts.type_expr.Part as p;
 
     ghost Value = { CodeValue };
@@ -190,8 +191,8 @@ impl<'s> Code<'s> {
         &self.parts.header.this
     }
 
-    /// Returns the parts of the code: its nodes and its tables. Each state, table, test and leaf that they name exists, and no two jump
-    /// tables are equal.
+    /// Returns the parts of the code: its nodes and its tables. Each state, table, test and leaf
+    /// that they name exists, and no two jump tables are equal.
     pub fn parts(&self) -> &CodeParts<'s>
         ensures is { code_of result.now ≡ self.now }
         ensures valid { IsValid result.now }
@@ -230,7 +231,8 @@ impl Code<'_> {
         self.parts.utf8
     }
 
-    /// Returns the entry of the first byte of a try. It leads to a state, closes a match or says nothing.
+    /// Returns the entry of the first byte of a try. It leads to a state, closes a match or says
+    /// nothing.
     #[inline(always)]
     pub fn first_entry(&self, byte: u8) -> u32
         ensures first { IsFirst self.now byte result }
@@ -241,13 +243,15 @@ impl Code<'_> {
         self.first[byte as usize]
     }
 
-    /// Returns the entry of the byte in the state at the place, which is `WIDTH` times the number of the state.
+    /// Returns the entry of the byte in the state at the offset, which is `WIDTH` times the number
+    /// of the state.
     #[inline(always)]
     pub fn entry(&self, place: usize, byte: u8) -> u32
         requires { IsPlace self.now place }
-        ensures { IsEntry self.now (state_at self.now (place / 272)) byte result }
+        ensures { IsEntry self.now (state_at self.now (place / WIDTH)) byte result }
     {
-        // In this order the place, which comes from the entry before, need not be added before the load.
+        // In this order the offset, which comes from the entry before, need not be added before the
+        // load.
         let column = &self.rows[byte as usize..];
         column[place]
     }
@@ -260,7 +264,8 @@ impl Code<'_> {
         self.parts.passes_test(test, byte)
     }
 
-    /// Returns the mask of the test. Bit `b / 16 % 8` of entry `16 * (b / 128) + b % 16` is set where byte `b` passes it.
+    /// Returns the mask of the test. Bit `b / 16 % 8` of entry `16 * (b / 128) + b % 16` is set
+    /// where byte `b` passes it.
     #[inline(always)]
     pub fn mask(&self, test: usize) -> &[u8; 32]
         requires { NamesTest self.now test }
@@ -284,12 +289,12 @@ impl Code<'_> {
         self.parts.target(&self.parts.states[state].fork, byte)
     }
 
-    /// Returns the entry of the end of the input in the state at the place.
+    /// Returns the entry of the end of the input in the state at the offset.
     #[cold]
     #[inline(never)]
     pub fn last_entry(&self, place: usize) -> u32
         requires { IsPlace self.now place }
-        ensures { IsLastEntry self.now (state_at self.now (place / 272)) result }
+        ensures { IsLastEntry self.now (state_at self.now (place / WIDTH)) result }
     {
         let state = &self.parts.states[place / WIDTH];
         if state.at_end.is_some() {
@@ -316,21 +321,21 @@ impl Code<'_> {
         self.signs[state]
     }
 
-    /// Returns what is known of the last mark that a try has passed, where it ends in the state at the place. It spares a
-    /// lexer a second walk, and may be `Unseen` or `Varies` of any state.
+    /// Returns what is known of the last mark that a try has passed, where it ends in the state at
+    /// the offset. It spares a lexer a second walk, and may be `Unseen` or `Varies` of any state.
     #[cold]
     #[inline(never)]
     pub fn last_mark(&self, place: usize) -> LastMark
-        ensures { IsLastMark self.now (place / 272) result }
+        ensures { IsLastMark self.now (place / WIDTH) result }
     {
         last_mark_at(&self.last_marks, place / WIDTH)
     }
 
-    /// Returns the place of the state in which each try begins.
+    /// Returns the offset of the state in which each try begins.
     #[inline(always)]
     pub fn root_place(&self) -> usize
-        ensures place { result ≡ 272 * self.now.root }
-        ensures state { result / 272 ≡ self.now.root }
+        ensures place { result ≡ WIDTH * self.now.root }
+        ensures state { result / WIDTH ≡ self.now.root }
     {
         WIDTH * self.parts.root
     }

@@ -47,7 +47,8 @@ around_of options utf8 = record {
 abbrev pub around_made : Generated → AroundValue
 around_made made = around_of (parser_view made.options) made.graph.utf8
 
--- The text begins an implementation of `Logos` for the type of the enum: its head and the imports of its function.
+-- The text begins an implementation of `Logos` for the type of the enum: its head and the imports
+-- of its function.
 abbrev pub BeginsImplementation : Generated → List ℕ → Type 0
 BeginsImplementation made = BeginsWith (opening_text (around_made made) (printed_type (type_tree made.code.header.this)))
 

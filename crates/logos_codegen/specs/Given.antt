@@ -21,8 +21,9 @@ use Rattle.logos_code.specs.Code.{CodeValue}
 use Rattle.logos_generator.specs.GeneratorValue.{leaf_value, code_leaf_value}
 use Rattle.logos_code.specs.declared.code.Config.{Config}
 
--- The source spells an enum of this name without faults, with these options. The leaves of the graph are the enum's leaves, in order, its mode is the source's,
--- and it is the graph of these leaves, without faults.
+-- The source spells an enum of this name without faults, with these options. The leaves of the
+-- graph are the enum's leaves, in order, its mode is the source's, and it is the graph of these
+-- leaves, without faults.
 pub record IsGraphOfSource (source : List ℕ) (name : Slice) (options : OptionsView) (graph : GraphValue) : Type 0 where
   pub enum : EnumValue
   pub item : Span
@@ -37,7 +38,8 @@ pub record IsGraphOfSource (source : List ℕ) (name : Slice) (options : Options
 abbrev pub error_callback : OptionsView → Option CallbackView
 error_callback options = elim options.error_type [ None ↦ None | Some error ↦ error.callback ]
 
--- The code has the shape, the name of the enum, its type, the callback for errors, and for each leaf its kind and its callback.
+-- The code has the shape, the name of the enum, its type, the callback for errors, and for each
+-- leaf its kind and its callback.
 pub record KeepsEnum (config : Config) (name : Slice) (options : OptionsView) (graph : GraphValue) (code : CodeValue) : Type 0 where
   pub shape : code.header.shape ≡ config
   pub same_name : ident_slice code.header.name ≡ name
@@ -45,13 +47,15 @@ pub record KeepsEnum (config : Config) (name : Slice) (options : OptionsView) (g
   pub on_error : option_map callback_view code.header.error_callback ≡ error_callback options
   pub leaves : map code_leaf_value code.code_leaves ≡ map leaf_value graph.leaves
 
--- What a source without faults gives: its graph, a code in this shape, its name, and the path of its chart, if the options have one.
+-- What a source without faults gives: its graph, a code in this shape, its name, and the path of
+-- its chart, if the options have one.
 pub record IsGiven (source : List ℕ) (config : Config) (graph : GraphValue) (code : CodeValue) (name : Slice) (export : Option (List ℕ)) : Type 0 where
   pub options : OptionsView
   pub of_source : IsGraphOfSource source name options graph
   pub keeps : KeepsEnum config name options graph code
   pub exports : export ≡ option_map (λ e. e.path) options.export_path
 
--- The name of the variant of the leaf of this number. A skip has none, and where there is no such leaf there is none.
+-- The name of the variant of the leaf of this number. A skip has none, and where there is no such
+-- leaf there is none.
 abbrev pub variant_at : List Leaf → ℕ → Option Ident
 variant_at leaves number = elim (slice_get leaves number) [ None ↦ None | Some leaf ↦ variant_name (kind_value leaf.kind) ]

@@ -12,13 +12,13 @@ use Rattle.logos_automaton.specs.Faults.{Fault, no_universal_start, empty_match,
 
 -- A leaf as a message names it.
 pub record NamedLeaf : Type 0 where
-  -- its pattern and its variant
+  -- Its pattern and its variant.
   pub text : List ℕ
-  -- its literal
+  -- Its literal.
   pub source : List ℕ
-  -- its variant
+  -- Its variant.
   pub kind : List ℕ
-  -- the span of its literal
+  -- The span of its literal.
   pub span : Span
   pub priority : ℕ
 
@@ -28,7 +28,7 @@ named_leaf leaf = record { text = leaf_text leaf; source = source_of leaf.patter
 abbrev pub fault_at : FaultCode → List ℕ → Span → SourceFault
 fault_at code message span = record { code = code; message = message; span = span; also = None }
 
--- ---- faults of the graph
+-- ---- Faults of the graph
 
 abbrev pub size_text : List ℕ
 size_text = codes "limit LimitSize passed"
@@ -63,8 +63,8 @@ module _ (leaves : List NamedLeaf) where
   disambiguation_faults set number =
       option_map_or (λ leaf. fault_at Disambiguation (disambiguation_text set number leaf) leaf.span ∷ []) (slice_get leaves number) []
 
-  -- The faults that are reported for one of the graph: one for an empty match, and one for each leaf of an ambiguous set.
-  -- That of a missing universal start has the span of the enum.
+  -- The faults that are reported for one of the graph: one for an empty match, and one for each
+  -- leaf of an ambiguous set. That of a missing universal start has the span of the enum.
   abbrev pub reported_as : Span → Fault → List SourceFault
   reported_as item no_universal_start = fault_at NoUniversalStart start_text item ∷ []
   reported_as item (empty_match leaf) = option_map_or empty_match_faults (slice_get leaves leaf) []

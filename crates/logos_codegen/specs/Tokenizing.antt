@@ -68,7 +68,8 @@ in_front tokens (bad from to) = bad from to
 
 -- Kinds of leaves, by their numbers.
 module _ (kinds : List ExprKind) where
-  -- The outcome of items: where an error is among them, the span of the first; else the tokens in order, each of its leaf's kind.
+  -- The outcome of items: where an error is among them, the span of the first; else the tokens in
+  -- order, each of its leaf's kind.
   abbrev pub outcome_of : List Item → Outcome
   outcome_of [] = gives []
   outcome_of (token leaf from to slice ∷ items) =
@@ -84,8 +85,9 @@ abbrev pub IsErrorAt : Item → Span → Type 0
 IsErrorAt (token leaf from to slice) span = ⊥
 IsErrorAt (error leaf from to slice) span = (from ≡ span.from) × (to ≡ span.to)
 
--- Of the items of a text from an offset on, those that the outcome needs: all of them, where no error is among them, and else those
--- up to the first error. Each is the next one after the one before it.
+-- Of the items of a text from an offset on, those that the outcome needs: all of them, where no
+-- error is among them, and else those up to the first error. Each is the next one after the one
+-- before it.
 pub data AreRead (rules : List Rule) (utf8 : Bool) (text : List ℕ) : ℕ → List Item → Type 0 where
   all_read : (at : ℕ) → Items rules emits utf8 text at [] → AreRead rules utf8 text at []
   token_read : (at leaf from to : ℕ) (slice : List ℕ) (next : ℕ) (items : List Item) →
@@ -103,7 +105,8 @@ pub record Tokenizes (text : List ℕ) (outcome : Outcome) : Type 0 where
   pub read : AreRead rules utf8 text 0 items
   pub is : outcome ≡ outcome_of (kinds_of_views accepted.leaves) items
 
--- Whatever list of items the text has by the leaves of the enum, this is its outcome by the names of its variants.
+-- Whatever list of items the text has by the leaves of the enum, this is its outcome by the names
+-- of its variants.
 abbrev pub IsOutcome : List ℕ → Outcome → Type 0
 IsOutcome text outcome =
     (rules : List Rule) (utf8 : Bool) (items : List Item) (accepted : IsAccepted SOURCE.now rules utf8) → Items rules emits utf8 text 0 items → outcome ≡ outcome_of (kinds_of_views accepted.leaves) items

@@ -1,8 +1,7 @@
 //! The texts around the body of a lexer. `Generated` prints its text with them.
 
 ghost use Rattle.std.specs.Prelude.{◌≡◌, ◌++◌, IfOk, option_map, option_copied, string_bytes};
-ghost use Rattle.logos_codegen.specs.Words.{stream_tokens, error_view, run_in, parser_view, around_value};
-ghost use Rattle.logos_codegen.specs.Views.{around_of, error_type_text, extras_text, gap_after_run, input_text, library_text};
+ghost use Rattle.logos_codegen.specs.Views.{stream_tokens, error_view, run_in, parser_view, around_value, around_of, error_type_text, extras_text, gap_after_run, input_text, library_text};
 
 use logos_definition::error_type::ErrorType;
 use logos_definition::parser::Parser;

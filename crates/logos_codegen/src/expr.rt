@@ -2,8 +2,8 @@
 //! `Lexer`, by their contracts alone.
 
 ghost use Rattle.std.specs.Prelude.{◌≡◌, IfOk, IfErr, map};
-ghost use Rattle.logos_codegen.specs.Words.{item_of, kind_value};
-ghost use Rattle.logos_codegen.specs.Views.{IsLanguage, kind_at, kind_given, kind_named, IsToken, IsErrorAt, Tokenizes, IsOutcome, Answers, IsRefusalOf};
+ghost use Rattle.logos_codegen.specs.Views.{item_of, kind_value, IsLanguage, kind_at, kind_given, kind_named, IsToken, IsErrorAt, Tokenizes, IsOutcome, Answers, IsRefusalOf, IsThatError};
+ghost use Rattle.logos_codegen.specs.declared.expr.ExprError.TheVariants.{Memory as OutOfMemory};
 
 use crate::generation::{Generated, generate};
 use logos_generator::code::Code;
@@ -80,9 +80,6 @@ pub enum ExprError {
 }
 
 impl From<AllocError> for ExprError {
-    ghost use Rattle.std.specs.Prelude.{◌≡◌};
-    ghost use Rattle.logos_codegen.specs.declared.expr.ExprError.TheVariants.{Memory as OutOfMemory};
-
     ghost from_gives = { λ _ e. e ≡ OutOfMemory };
 
     fn from(_error: AllocError) -> ExprError {
@@ -91,9 +88,6 @@ impl From<AllocError> for ExprError {
 }
 
 impl<T: Drop> From<AllocFailed<T>> for ExprError {
-    ghost use Rattle.std.specs.Prelude.{◌≡◌};
-    ghost use Rattle.logos_codegen.specs.declared.expr.ExprError.TheVariants.{Memory as OutOfMemory};
-
     ghost from_gives = { λ _ e. e ≡ OutOfMemory };
 
     fn from(_error: AllocFailed<T>) -> ExprError {
@@ -102,8 +96,6 @@ impl<T: Drop> From<AllocFailed<T>> for ExprError {
 }
 
 impl From<Refusal> for ExprError {
-    ghost use Rattle.logos_codegen.specs.Views.{IsThatError};
-
     ghost from_gives = { IsThatError };
 
     fn from(error: Refusal) -> ExprError {
@@ -124,8 +116,7 @@ pub struct Language {
 
 impl Model for Language {
     ghost use Rattle.std.specs.Prelude.{[]};
-    ghost use Rattle.logos_codegen.specs.Words.{codes, named};
-    ghost use Rattle.logos_codegen.specs.Views.{LanguageValue, IsLanguage};
+    ghost use Rattle.logos_codegen.specs.Views.{codes, named, LanguageValue, IsLanguage};
     ghost use Rattle.logos_type.specs.contracts.type_expr.Part as p;
 
     ghost Value = { LanguageValue };
@@ -141,7 +132,8 @@ impl Language {
     /// Makes the tokenizer.
     ///
     /// # Errors
-    /// Returns `Memory` when memory runs out. `Refused` never comes.
+    ///
+    /// Returns `Memory` if memory runs out. `Refused` never comes.
     pub fn new(alloc: Global) -> Result<Language, ExprError>
         ensures ok { IfOk result IsLanguage }
         // It is refused only if the enum is refused, and no input is at fault.
@@ -159,6 +151,7 @@ impl Language {
     /// Returns the tokens of a text, in order, without the blanks between them.
     ///
     /// # Errors
+    ///
     /// Returns `Bad` with the span of the first error where no token begins: the span
     /// reaches over the longest beginning of a token, or over one character. Returns `Memory` when
     /// memory runs out.

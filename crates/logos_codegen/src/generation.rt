@@ -1,8 +1,7 @@
 //! From a source text to the code of its lexer.
 
 ghost use Rattle.std.specs.Prelude.{◌≡◌, ◌<◌, ◌↔◌, ◌∷◌, ◌++◌, Bool, List, [], length, map, flat_map, option_map, IfOk, IfErr, IsErrAnd, OnOk, IsTrue, string_bytes, option_copied};
-ghost use Rattle.logos_codegen.specs.Words.{Rule, fault_of, ident_slice, callback_view, parser_view, kind_value, utf8_mode, IsGraphOf, rules_of, KeepsGiven, IsLexer, HasItsType, analysis_view, too_long, Refuses, IsMemory, StandInOrder, texts_of, named_leaf, reported_as, IsGiven, KeepsEnum, error_callback, variant_at, RunsAreCut, IsAccepted, IsRefused, IsWithinSizes, IsWithinLimits, IsLimit, ReportsGraph, IsFaultless, AreGraphFaults, IsGraphMade, AreTakenOut};
-ghost use Rattle.logos_codegen.specs.Views.{BeginsImplementation, IsFrontOf};
+ghost use Rattle.logos_codegen.specs.Views.{Rule, fault_of, ident_slice, callback_view, parser_view, kind_value, utf8_mode, IsGraphOf, rules_of, KeepsGiven, IsLexer, HasItsType, analysis_view, too_long, Refuses, IsMemory, StandInOrder, texts_of, named_leaf, reported_as, IsGiven, KeepsEnum, error_callback, variant_at, RunsAreCut, IsAccepted, IsRefused, IsWithinSizes, IsWithinLimits, IsLimit, ReportsGraph, IsFaultless, AreGraphFaults, IsGraphMade, AreTakenOut, BeginsImplementation, IsFrontOf};
 
 use crate::around::around_texts;
 use crate::reporting::report_fault;
@@ -21,6 +20,9 @@ use logos_type::TypeExpr;
 use std::alloc::Global;
 use std::mem;
 
+/// The most bytes that a source may have.
+pub const MAX_SOURCE: usize = 16_777_216;
+
 /// What `generate` makes of a source.
 #[derive(Drop)]
 pub struct Generated<'s> {
@@ -37,12 +39,13 @@ pub struct Generated<'s> {
 }
 
 impl Generated<'_> {
-    /// Returns the whole Rust text of the lexer: the implementation of `Logos` for the enum, as printed
-    /// tokens. The texts of all bit tables, by number, and after them those of the conditions of all
-    /// forks, by states and by the fork's order, stand in it without overlap.
+    /// Returns the whole Rust text of the lexer: the implementation of `Logos` for the enum, as
+    /// printed tokens. The texts of all bit tables, by number, and after them those of the
+    /// conditions of all forks, by states and by the fork's order, stand in it without overlap.
     ///
     /// # Errors
-    /// Returns `Memory` when memory runs out.
+    ///
+    /// Returns `Memory` if memory runs out.
     pub fn text(&self, alloc: Global) -> Result<String, Memory>
         ensures stand { IfOk result (λ text.
             StandInOrder (texts_of self.now.code) (string_bytes text)) }
@@ -53,12 +56,13 @@ impl Generated<'_> {
         text_in(alloc, &self.code, texts.around(self.graph.utf8_mode()))
     }
 
-    /// Returns the beginning of the Rust text of the lexer: the implementation of `Logos` for the enum,
-    /// as printed tokens, up to the functions for matches and errors in the body of the function that
-    /// lexes. A shape of its own goes on from there.
+    /// Returns the beginning of the Rust text of the lexer: the implementation of `Logos` for the
+    /// enum, as printed tokens, up to the functions for matches and errors in the body of the
+    /// function that lexes. A shape of its own goes on from there.
     ///
     /// # Errors
-    /// Returns `Memory` when memory runs out.
+    ///
+    /// Returns `Memory` if memory runs out.
     pub fn front(&self, alloc: Global) -> Result<String, Memory>
         ensures { IfOk result (λ text. IsFrontOf self.now (string_bytes text)) }
     {
@@ -68,8 +72,8 @@ impl Generated<'_> {
 }
 
 impl<'s> Generated<'s> {
-    /// Returns the name of the variant that the matches of a leaf give, with its span in the source.
-    /// Returns `None` for a skip, and where no leaf has this number.
+    /// Returns the name of the variant that the matches of a leaf give, with its span in the
+    /// source. Returns `None` for a skip, and where no leaf has this number.
     ///
     /// An item of `Lexer` names its leaf by number, so `variant` leads from an item to the enum.
     pub fn variant(&self, leaf: LeafId) -> Option<Ident<'s>>
@@ -113,7 +117,8 @@ fn report_limit(error: BuildError, item: Span, errors: &mut Errors) -> Result<()
     }
 }
 
-/// Builds the graph of the leaves, if no limit is passed. Reports its faults, or the limit in their place.
+/// Builds the graph of the leaves, if no limit is passed. Reports its faults, or the limit in their
+/// place.
 fn graph_of<'s>(
     leaves: Vec<Leaf<'s>>,
     utf8_mode: bool,
@@ -233,13 +238,13 @@ fn code_of<'s>(
     code_for(alloc, config, name, &analysis.this, graph, callback)
 }
 
-/// Analyzes a source, and builds the graph of its leaves, which are taken out of the analysis. Fails
-/// if the source has faults.
+/// Analyzes a source, and builds the graph of its leaves, which are taken out of the analysis.
+/// Fails if the source has faults.
 fn accept<'s>(alloc: Global, src: &'s str) -> Result<(Graph<'s>, Analysis<'s>), Refusal>
     ensures ok { IfOk result (λ read. IsGraphMade src.now (analysis_view read.1) read.0) }
     ensures typed { IfOk result (λ read. HasItsType (analysis_view read.1)) }
     ensures err { IfErr result (Refuses (IsRefused src.now)) }
-    ensures long { 16777216 < length src.now → IsErrAnd result (Refuses (λ faults.
+    ensures long { MAX_SOURCE < length src.now → IsErrAnd result (Refuses (λ faults.
         faults ≡ too_long src.now ∷ [])) }
 {
     let mut analysis = match analyze(alloc, src) {
@@ -289,19 +294,20 @@ fn put_together<'s>(code: Code<'s>, graph: Graph<'s>, analysis: Analysis<'s>) ->
 /// `config` the code finds the same.
 ///
 /// # Errors
+///
 /// Returns `Errors` with all faults of the source, in order, or with the one that ends its reading:
-/// those of the generic parameters, of the attributes of the enum, of parameters that hold themselves,
-/// of subpatterns, of skips, of variants in source order, of leaves that can match invalid UTF-8 when
-/// inputs are UTF-8, of parameters without a type, and of the graph. Limits are among them: on the
-/// source's bytes, on the nesting of its delimiters, types and patterns, on the size of all trees,
-/// and on the number of states. Returns `Memory` when memory runs out.
+/// those of the generic parameters, of the attributes of the enum, of parameters that hold
+/// themselves, of subpatterns, of skips, of variants in source order, of leaves that can match
+/// invalid UTF-8 when inputs are UTF-8, of parameters without a type, and of the graph. Limits are
+/// among them: on the source's bytes, on the nesting of its delimiters, types and patterns, on the
+/// size of all trees, and on the number of states. Returns `Memory` if memory runs out.
 pub fn generate<'s>(alloc: Global, src: &'s str, config: Config) -> Result<Generated<'s>, Refusal>
     // The source has no faults, and these are its rules and its mode.
     ensures accepted { IfOk result (λ made. IsAccepted src.now
         (rules_of made.graph.leaves) made.graph.utf8) }
-    // The graph is that of the source's leaves. The code has the shape, the name and the type of the
-    // enum, the callback for errors, and the kind and the callback of each leaf. The name is the enum's,
-    // and the path is that of `export_dir`.
+    // The graph is that of the source's leaves. The code has the shape, the name and the type of
+    // the enum, the callback for errors, and the kind and the callback of each leaf. The name is
+    // the enum's, and the path is that of `export_dir`.
     ensures given { IfOk result (λ made. IsGiven src.now config made.graph made.code
         (ident_slice made.name) (option_map string_bytes made.export_path)) }
     // The length of the source, its nesting and the size of its trees are within their limits.
@@ -315,7 +321,7 @@ pub fn generate<'s>(alloc: Global, src: &'s str, config: Config) -> Result<Gener
     // A source that is refused has these faults.
     ensures refused { IfErr result (Refuses (IsRefused src.now)) }
     // A source that is longer than the limit has that one fault.
-    ensures long { 16777216 < length src.now → IsErrAnd result (Refuses (λ faults.
+    ensures long { MAX_SOURCE < length src.now → IsErrAnd result (Refuses (λ faults.
         faults ≡ too_long src.now ∷ [])) }
     // A source without faults, within the limits, is not refused.
     ensures complete { (rules : List Rule) (utf8 : Bool) → IsAccepted src.now rules utf8 →

@@ -1,5 +1,5 @@
-//! Laws of the definitions, with those of the crates below. The contract of each function is a law. To use one in a proof, call its function: the call does
-//! nothing.
+//! Laws of the definitions, with those of the crates below. The contract of each function is a law.
+//! To use one in a proof, call its function: the call does nothing.
 
 ghost use Rattle.std.specs.Prelude.{◌≡◌, ℕ, ◌↔◌, Bool, true, List};
 ghost use Rattle.logos_codegen.specs.Words.{All, Rule, IsInput, CodeValue, IsCut, IsLexer, Item, answers_of, Runs, IsAccepted};
@@ -27,7 +27,8 @@ pub fn a_source_has_one_list_of_rules()
         × (utf8 ≡ other) }
 {}
 
-/// In UTF-8 mode, the items of each run of a source's code on a text start and end between characters.
+/// In UTF-8 mode, the items of each run of a source's code on a text start and end between
+/// characters.
 pub fn runs_start_and_end_between_characters<C: Fn(LeafId, &[u8]) -> Action>(callback: &C)
     ensures { (source : List ℕ) (rules : List Rule) (code : CodeValue) (bytes : List ℕ)
         (items : List Item) → IsAccepted source rules true → IsLexer rules true code →

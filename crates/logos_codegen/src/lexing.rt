@@ -1,8 +1,7 @@
 //! Lexing of an input by a source.
 
 ghost use Rattle.std.specs.Prelude.{◌≡◌, List, Bool, map, length, true, IfOk, IfErr, IsTrue};
-ghost use Rattle.logos_codegen.specs.Words.{All, IsUtf8, Rule, CodeValue, IsCut, IsLexer, Items, answers_of, item_of, AreInOrder, Parts, IsLeftOut, Runs, IsAccepted, IsWithinLimits};
-ghost use Rattle.logos_codegen.specs.Views.{IsUnlexed, IsJust, IsNoRefusal};
+ghost use Rattle.logos_codegen.specs.Views.{All, IsUtf8, Rule, CodeValue, IsCut, IsLexer, Items, answers_of, item_of, AreInOrder, Parts, IsLeftOut, Runs, IsAccepted, IsWithinLimits, IsUnlexed, IsJust, IsNoRefusal, Memory as OutOfMemory, NotUtf8 as NoUtf8, IsThatRefusal};
 
 use crate::generation::generate;
 use logos_generator::code::Code;
@@ -18,16 +17,14 @@ use std::alloc::{AllocError, AllocFailed, Global};
 pub enum LexSourceError {
     /// The source has these faults, or passes a limit.
     Refused(Errors),
-    /// The input is not UTF-8. `valid_up_to` is the length in bytes of its longest beginning that is.
+    /// The input is not UTF-8. `valid_up_to` is the length in bytes of its longest beginning that
+    /// is.
     NotUtf8 { valid_up_to: usize },
     /// Memory ran out.
     Memory,
 }
 
 impl From<AllocError> for LexSourceError {
-    ghost use Rattle.std.specs.Prelude.{◌≡◌};
-    ghost use Rattle.logos_codegen.specs.Views.{Memory as OutOfMemory};
-
     ghost from_gives = { λ _ e. e ≡ OutOfMemory };
 
     fn from(_error: AllocError) -> LexSourceError {
@@ -36,9 +33,6 @@ impl From<AllocError> for LexSourceError {
 }
 
 impl<T: Drop> From<AllocFailed<T>> for LexSourceError {
-    ghost use Rattle.std.specs.Prelude.{◌≡◌};
-    ghost use Rattle.logos_codegen.specs.Views.{Memory as OutOfMemory};
-
     ghost from_gives = { λ _ e. e ≡ OutOfMemory };
 
     fn from(_error: AllocFailed<T>) -> LexSourceError {
@@ -47,9 +41,6 @@ impl<T: Drop> From<AllocFailed<T>> for LexSourceError {
 }
 
 impl From<NotUtf8> for LexSourceError {
-    ghost use Rattle.std.specs.Prelude.{◌≡◌};
-    ghost use Rattle.logos_codegen.specs.Views.{NotUtf8 as NoUtf8};
-
     ghost from_gives = { λ error e. e ≡ NoUtf8 error.valid_up_to };
 
     fn from(error: NotUtf8) -> LexSourceError {
@@ -60,8 +51,6 @@ impl From<NotUtf8> for LexSourceError {
 }
 
 impl From<Refusal> for LexSourceError {
-    ghost use Rattle.logos_codegen.specs.Views.{IsThatRefusal};
-
     ghost from_gives = { IsThatRefusal };
 
     fn from(error: Refusal) -> LexSourceError {
@@ -91,16 +80,18 @@ fn lex_input<'i, C: Fn(LeafId, &[u8]) -> Action + Drop>(
 
 /// Returns the items of an input, by the leaves of a source.
 ///
-/// The source is read as by `generate`. From each point of the input the longest match is taken, and of
-/// several matches of that length the one whose leaf has the highest priority. It gives a token of its
-/// leaf, or nothing if that is a `skip`. Where no leaf has a match, the item is an error, which reaches
-/// over the longest beginning that could still grow. For a match of a leaf with a callback, `callbacks`
-/// decides by the leaf and the slice; `Emit` for a `skip` means `Skip`. It is not asked about other
-/// leaves. Both shapes of `config` give the same items.
+/// The source is read as by `generate`. From each point of the input the longest match is taken,
+/// and of several matches of that length the one whose leaf has the highest priority. It gives a
+/// token of its leaf, or nothing if that is a `skip`. Where no leaf has a match, the item is an
+/// error, which reaches over the longest beginning that could still grow. For a match of a leaf
+/// with a callback, `callbacks` decides by the leaf and the slice; `Emit` for a `skip` means
+/// `Skip`. It is not asked about other leaves. Both shapes of `config` give the same items.
 ///
 /// # Errors
-/// Returns `Refused` if the source has faults, else `NotUtf8` if the source is in UTF-8 mode and the
-/// input is not UTF-8. Returns `Memory` when memory runs out. Nothing that the caller holds is changed.
+///
+/// Returns `Refused` if the source has faults, else `NotUtf8` if the source is in UTF-8 mode and
+/// the input is not UTF-8. Returns `Memory` if memory runs out. Nothing that the caller holds is
+/// changed.
 pub fn lex_source<'i, C: Fn(LeafId, &[u8]) -> Action + Drop>(
     alloc: Global,
     src: &str,
@@ -109,13 +100,15 @@ pub fn lex_source<'i, C: Fn(LeafId, &[u8]) -> Action + Drop>(
     callbacks: C,
 ) -> Result<Vec<Item<'i>>, LexSourceError>
     requires { C.IsAlwaysCallable callbacks }
-    // The items are those of maximal munch, by the rules of a source without faults; in UTF-8 mode, of UTF-8.
+    // The items are those of maximal munch, by the rules of a source without faults; in UTF-8 mode,
+    // of UTF-8.
     ensures items { IfOk result (λ items. (rules : List Rule) × (utf8 : Bool)
         × IsAccepted src.now rules utf8 × (IsTrue utf8 → IsUtf8 input.now)
         × Items rules (answers_of C.Fn callbacks) utf8 input.now 0 (map item_of items.items)) }
     ensures in_order { IfOk result (λ items.
         AreInOrder (length input.now) 0 (map item_of items.items)) }
-    // The items, together with the matches that a skip or an answer leaves out, divide the input in order.
+    // The items, together with the matches that a skip or an answer leaves out, divide the input in
+    // order.
     ensures parts { (rules : List Rule) (utf8 : Bool) → IsAccepted src.now rules utf8 →
         IfOk result (λ items. Parts (IsLeftOut rules (answers_of C.Fn callbacks) input.now)
         (length input.now) 0 (map item_of items.items)) }

@@ -1,4 +1,5 @@
-//! From a source to its code, and to the items of an input. Hands on the public modules of the crates below.
+//! From a source to its code, and to the items of an input. Hands on the public modules of the
+//! crates below.
 
 #![tactic(auto)]
 

@@ -18,7 +18,7 @@ fn leaf_at<'l, 's>(leaves: &'l [Leaf<'s>], number: LeafId) -> Option<&'l Leaf<'s
     leaves.get(number.0)
 }
 
-/// Adds the line of a leaf of an ambiguous set, unless it is `leaf`.
+/// Appends the line of a leaf of an ambiguous set, unless it is `leaf`.
 fn push_line(
     text: &mut String,
     leaves: &[Leaf<'_>],
@@ -38,7 +38,7 @@ fn push_line(
     }
 }
 
-/// Adds the lines of the leaves of an ambiguous set, without that of `leaf`.
+/// Appends the lines of the leaves of an ambiguous set, without that of `leaf`.
 fn push_lines(
     text: &mut String,
     leaves: &[Leaf<'_>],

@@ -10,38 +10,38 @@ pub data Destination : Type 0 where
   file_at : (path : List ℕ) → Destination
   refused : (why : ExportRefusal) → Destination
 
--- what follows the last slash of a path, or all of it: its split at that slash
+-- What follows the last slash of a path, or all of it: its split at that slash.
 abbrev pub name_of_split : List ℕ → Option (List ℕ × List ℕ) → List ℕ
 name_of_split path None = path
 name_of_split path (Some split) = split.1
 
--- the name at the end of a path
+-- The name at the end of a path.
 abbrev pub file_name : List ℕ → List ℕ
 file_name path = name_of_split path (rsplit_once slash path)
 
--- what follows the last dot of a name, if that is not its first byte; `..` has no extension
+-- What follows the last dot of a name, if that is not its first byte; `..` has no extension.
 abbrev pub extension : List ℕ → Option (List ℕ)
 extension name = if bytes_eq name parent_dir then None else extension_of_split (rsplit_once dot name)
 
--- the file of a chart in a folder: the enum's name, with its ASCII letters lowered
+-- The file of a chart in a folder: the enum's name, with its ASCII letters lowered.
 abbrev pub file_in : List ℕ → List ℕ → List ℕ
 file_in folder name = with_separator folder ++ (map to_ascii_lowercase name ++ codes ".mmd")
 
--- why a path with this extension is refused, which is not `mmd`
+-- Why a path with this extension is refused, which is not `mmd`.
 abbrev pub refusal_by : List ℕ → ExportRefusal
 refusal_by extension = if bytes_eq extension (codes "dot") then Dot else Extension
 
--- where the chart goes by a path with this extension: a path without one is that of a folder
+-- Where the chart goes by a path with this extension: a path without one is that of a folder.
 abbrev pub destination_by : Option (List ℕ) → List ℕ → List ℕ → Destination
 destination_by None path name = file_at (file_in path name)
 destination_by (Some extension) path name =
     if bytes_eq extension (codes "mmd") then file_at path else refused (refusal_by extension)
 
--- where the chart of an enum of this name goes, by the path of a file or of a folder
+-- Where the chart of an enum of this name goes, by the path of a file or of a folder.
 abbrev pub destination : List ℕ → List ℕ → Destination
 destination path name = destination_by (extension (file_name path)) path name
 
--- where the chart goes by the export path of a source, if it has one
+-- Where the chart goes by the export path of a source, if it has one.
 abbrev pub export_destination : Option (List ℕ) → List ℕ → Destination
 export_destination None name = refused NoPath
 export_destination (Some path) name = destination path name

@@ -8,8 +8,9 @@ use Rattle.logos_commands.specs.declared.command.Command.TheVariants.{Text, Item
 use Rattle.logos_commands.specs.declared.failure.Failure.{Failure}
 use Rattle.logos_commands.specs.declared.failure.Failure.TheVariants.{Read, Write, Output, Refused, NotUtf8, Alike, NotExported, Memory}
 
--- What the words ask for: the Rust text of the lexer in a file, the items of an input by it, the chart of its graph, here or in a file, or what is left
--- of the file without what belongs to the derive macro.
+-- What the words ask for: the Rust text of the lexer in a file, the items of an input by it, the
+-- chart of its graph, here or in a file, or what is left of the file without what belongs to the
+-- derive macro.
 pub data Asked : Type 0 where
   asks_text : (file : List ℕ) → (shape : Config) → Asked
   asks_items : (file input : List ℕ) → (shape : Config) → Asked
@@ -17,45 +18,45 @@ pub data Asked : Type 0 where
   asks_export : (file : List ℕ) → Asked
   asks_strip : (file : List ℕ) → Asked
 
--- the shape of a name
+-- The shape of a name.
 abbrev pub shape_named : List ℕ → Option Config
 shape_named name =
     if bytes_eq name (codes "state_machine") then Some (record { use_state_machine_codegen = true })
     else (if bytes_eq name (codes "tailcall") then Some (record { use_state_machine_codegen = false })
     else None)
 
--- the shape that the last words name: one loop over a state where there are none
+-- The shape that the last words name: one loop over a state where there are none.
 abbrev pub shape_in : List (List ℕ) → Option Config
 shape_in [] = Some (record { use_state_machine_codegen = true })
 shape_in (option ∷ name ∷ []) = if bytes_eq option (codes "--shape") then shape_named name else None
 shape_in words = None
 
--- after `gen`: a file, and perhaps a shape
+-- After `gen`: a file, and perhaps a shape.
 abbrev pub text_in : List (List ℕ) → Option Asked
 text_in (file ∷ rest) = option_map (asks_text file) (shape_in rest)
 text_in [] = None
 
--- after `lex`: a file, an input, and perhaps a shape
+-- After `lex`: a file, an input, and perhaps a shape.
 abbrev pub items_in : List (List ℕ) → Option Asked
 items_in (file ∷ input ∷ rest) = option_map (asks_items file input) (shape_in rest)
 items_in words = None
 
--- after `mermaid`: a file
+-- After `mermaid`: a file.
 abbrev pub chart_in : List (List ℕ) → Option Asked
 chart_in (file ∷ []) = Some (asks_chart file)
 chart_in words = None
 
--- after `export`: a file
+-- After `export`: a file.
 abbrev pub export_in : List (List ℕ) → Option Asked
 export_in (file ∷ []) = Some (asks_export file)
 export_in words = None
 
--- after `strip`: a file
+-- After `strip`: a file.
 abbrev pub strip_in : List (List ℕ) → Option Asked
 strip_in (file ∷ []) = Some (asks_strip file)
 strip_in words = None
 
--- what the words ask for, if they are a command
+-- What the words ask for, if they are a command.
 abbrev pub asked : List (List ℕ) → Option Asked
 asked [] = None
 asked (name ∷ rest) =
@@ -66,7 +67,7 @@ asked (name ∷ rest) =
     else (if bytes_eq name (codes "strip") then strip_in rest
     else None))))
 
--- what a command asks for
+-- What a command asks for.
 abbrev pub command_asked : Command → Asked
 command_asked (Text file config) = asks_text file.now config
 command_asked (Items request) = asks_items request.source.now request.input.now request.config
@@ -74,7 +75,8 @@ command_asked (Chart file) = asks_chart file.now
 command_asked (Export file) = asks_export file.now
 command_asked (Strip file) = asks_strip file.now
 
--- 1 where source, input, graph or the path of a chart are refused, 3 where a file or the memory fails
+-- 1 where source, input, graph or the path of a chart are refused, 3 where a file or the memory
+-- fails.
 abbrev pub status_of : Failure → ℕ
 status_of (Read path) = 3
 status_of (Write path) = 3
@@ -85,7 +87,7 @@ status_of (Alike s t) = 1
 status_of (NotExported why) = 1
 status_of Memory = 3
 
--- the failure of a refused source
+-- The failure of a refused source.
 abbrev pub refused_by : Refusal → Failure
 refused_by (refusals.Errors faults) = Refused faults
 refused_by refusals.Memory = Memory

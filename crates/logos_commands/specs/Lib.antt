@@ -3,3 +3,5 @@ pub mod Commands
 pub mod Lines
 pub mod Runs
 pub mod inside
+pub mod Words
+pub mod Views

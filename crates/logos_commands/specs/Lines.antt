@@ -7,24 +7,25 @@ use Rattle.logos_code.specs.Code.{CodeValue}
 use Rattle.logos_code.specs.Items.{Callback, Item, token, error}
 use Rattle.logos_code.specs.Runs.{Runs}
 
--- a span, and a line end
+-- A span, and a line end.
 abbrev pub span_line : (from to : ℕ) → List ℕ
 span_line from to = decimal from ++ (codes ".." ++ (decimal to ++ codes "\n"))
 
--- the line of an item: what it is, the number of its leaf, and its span
+-- The line of an item: what it is, the number of its leaf, and its span.
 abbrev pub line_of : Item → List ℕ
 line_of (token leaf from to slice) = codes "token " ++ (decimal leaf ++ (codes " " ++ span_line from to))
 line_of (error leaf from to slice) = codes "error " ++ span_line from to
 
--- the lines of these items, in order
+-- The lines of these items, in order.
 abbrev pub lines_of : List Item → List ℕ
 lines_of items = flat_map line_of items
 
--- a callback that answers `Emit` alone
+-- A callback that answers `Emit` alone.
 abbrev pub emits : Callback
 emits leaf slice answer = answer ≡ Emit
 
--- after these bytes, the lines of all items of a run of a code from a place of the input on were written
+-- After these bytes, the lines of all items of a run of a code from a point of the input on were
+-- written.
 pub record WritesLines (code : CodeValue) (callback : Callback) (bytes : List ℕ) (from : ℕ) (before : List ℕ) (old new : Option (List ℕ)) : Type 0 where
   pub items : List Item
   pub runs : Runs code callback bytes from items

@@ -1,4 +1,4 @@
--- What a run of the program does, by what its files give.
+-- What the program does, by what its files give.
 use Rattle.std.specs.Prelude.{◌≡◌, ◌∷◌, ◌++◌, [], ℕ, List, Bool, true, Option, IsTrue}
 use Rattle.std.specs.Str.{IsUtf8, IsValidUpTo}
 use Rattle.std.specs.Io.KnownBytes.{Appends, Keeps}
@@ -28,28 +28,29 @@ use Rattle.logos_commands.specs.Commands.{Asked, asks_text, asks_items, asks_cha
 use Rattle.logos_commands.specs.Charts.{Destination, file_at, refused, export_destination}
 use Rattle.logos_commands.specs.Lines.{emits, lines_of}
 
--- ---- what is done
+-- ---- What is done
 
 -- What a command does: it prints a text, or makes a file.
 pub data Effect : Type 0 where
   prints : (text : List ℕ) → Effect
   makes_file : (path text : List ℕ) → Effect
 
--- the shape of the code of which a part is made
+-- The shape of the code of which a part is made.
 abbrev pub shape_of : Part → Config
 shape_of (Text shape) = shape
 shape_of Chart = record { use_state_machine_codegen = true }
 shape_of Export = record { use_state_machine_codegen = true }
 
--- What a part of a lexer is: its text, and LF; the chart of its graph; or the same chart for the file that the source names. The texts of all tables
--- of the code, and those of all its conditions, stand in the text.
+-- What a part of a lexer is: its text, and LF; the chart of its graph; or the same chart for the
+-- file that the source names. The texts of all tables of the code, and those of all its conditions,
+-- stand in the text.
 abbrev pub IsPart : Part → GraphValue → CodeValue → Slice → Option (List ℕ) → Effect → Type 0
 IsPart (Text shape) graph code name export (prints shown) = (text : List ℕ) × StandInOrder (texts_of code) text × (shown ≡ text ++ 10 ∷ [])
 IsPart Chart graph code name export (prints shown) = shown ≡ mermaid_of graph.states
 IsPart Export graph code name export (makes_file path shown) = (file_at path ≡ export_destination export name.text) × (shown ≡ mermaid_of graph.states)
 IsPart part graph code name export effect = ⊥
 
--- the source has no faults, and this is a part of its lexer
+-- The source has no faults, and this is a part of its lexer.
 pub record IsPartOf (part : Part) (source : List ℕ) (effect : Effect) : Type 0 where
   pub rules : List Rule
   pub utf8 : Bool
@@ -61,13 +62,13 @@ pub record IsPartOf (part : Part) (source : List ℕ) (effect : Effect) : Type 0
   pub given : IsGiven source (shape_of part) graph code name export
   pub is : IsPart part graph code name export effect
 
--- the source spells an enum, and this is what is left of it, and LF
+-- The source spells an enum, and this is what is left of it, and LF.
 abbrev pub IsLeft : List ℕ → Effect → Type 0
 IsLeft source (prints shown) = (left : TokenList) × IsStripped source left × (shown ≡ printed left ++ 10 ∷ [])
 IsLeft source (makes_file path shown) = ⊥
 
--- The source has no faults, in UTF-8 mode the input is UTF-8, and the lines of the items of maximal munch are printed. A match of a leaf with a
--- callback is emitted.
+-- The source has no faults, in UTF-8 mode the input is UTF-8, and the lines of the items of maximal
+-- munch are printed. A match of a leaf with a callback is emitted.
 pub record PrintsItemsOf (source input : List ℕ) (old new : Option (List ℕ)) : Type 0 where
   pub rules : List Rule
   pub utf8 : Bool
@@ -77,9 +78,9 @@ pub record PrintsItemsOf (source input : List ℕ) (old new : Option (List ℕ))
   pub are : Items rules emits utf8 input 0 items
   pub appends : Appends old new (lines_of items)
 
--- ---- what is refused
+-- ---- What is refused
 
--- the source has no faults, and its export path, or that it has none, is refused for this reason
+-- The source has no faults, and its export path, or that it has none, is refused for this reason.
 pub record IsUnexported (source : List ℕ) (why : ExportRefusal) : Type 0 where
   pub config : Config
   pub graph : GraphValue
@@ -89,14 +90,15 @@ pub record IsUnexported (source : List ℕ) (why : ExportRefusal) : Type 0 where
   pub given : IsGiven source config graph code name export
   pub is : export_destination export name.text ≡ refused why
 
--- the source has no faults and is in UTF-8 mode, and the input is UTF-8 for so many bytes, and not as a whole
+-- The source has no faults and is in UTF-8 mode, and the input is UTF-8 for so many bytes, and not
+-- as a whole.
 pub record IsTorn (source input : List ℕ) (valid_up_to : ℕ) : Type 0 where
   pub rules : List Rule
   pub accepted : IsAccepted source rules true
   pub no_text : ¬ IsUtf8 input
   pub valid : IsValidUpTo input valid_up_to
 
--- the code is of UTF-8 mode, and the input is UTF-8 for so many bytes, and not as a whole
+-- The code is of UTF-8 mode, and the input is UTF-8 for so many bytes, and not as a whole.
 abbrev pub IsTornBy : CodeValue → List ℕ → Failure → Type 0
 IsTornBy code input (NotUtf8 valid_up_to) = IsTrue code.utf8 × (¬ IsUtf8 input) × IsValidUpTo input valid_up_to
 IsTornBy code input failure = ⊥
@@ -107,58 +109,60 @@ pub record IsUnread (source : List ℕ) (faults : List Fault) : Type 0 where
   pub ends : EndsReading source ending
   pub one : faults ≡ ending ∷ []
 
--- why a lexer is refused: the faults of its source, or, where its chart is to be exported, that this has no path
+-- Why a lexer is refused: the faults of its source, or, where its chart is to be exported, that
+-- this has no path.
 abbrev pub RefusesLexer : List ℕ → Part → Failure → Type 0
 RefusesLexer source part (Refused faults) = IsRefused source faults
 RefusesLexer source Export (NotExported why) = IsUnexported source why
 RefusesLexer source part failure = ⊥
 
--- why the items of an input are refused: the faults of the source, or that the input is not a text
+-- Why the items of an input are refused: the faults of the source, or that the input is not a text.
 abbrev pub RefusesInput : List ℕ → List ℕ → Failure → Type 0
 RefusesInput source input (Refused faults) = IsRefused source faults
 RefusesInput source input (NotUtf8 valid_up_to) = IsTorn source input valid_up_to
 RefusesInput source input failure = ⊥
 
--- why a source is not stripped: its one fault
+-- Why a source is not stripped: its one fault.
 abbrev pub RefusesStripping : List ℕ → Failure → Type 0
 RefusesStripping source (Refused faults) = IsUnread source faults
 RefusesStripping source failure = ⊥
 
--- why the chart of a lexer is not exported, which goes there
+-- Why the chart of a lexer is not exported, which goes there.
 abbrev pub RefusesExport : Destination → Failure → Type 0
 RefusesExport destination (NotExported why) = destination ≡ refused why
 RefusesExport destination failure = ⊥
 
--- ---- runs: `gives` holds of files, a path, all bytes that are read there, and the files after that; `makes` holds of files, a path, the bytes of the
--- file there from then on, and the files after that
+-- ---- Files: `gives` holds of files, a path, all bytes that are read there, and the files after
+-- that; `makes` holds of files, a path, the bytes of the file there from then on, and the files
+-- after that
 
--- what a command does to files and to standard output
+-- What a command does to files and to standard output.
 abbrev pub HasEffect : {F : Type 0} → (F → List ℕ → List ℕ → F → Type 0) → Effect → F → F → Option (List ℕ) → Option (List ℕ) → Type 0
 HasEffect makes (prints text) files after old new = (after ≡ files) × Appends old new text
 HasEffect makes (makes_file path text) files after old new = makes files path text after × Keeps old new
 
 module _ {F : Type 0} (gives : F → List ℕ → List ℕ → F → Type 0) where
-  -- a file is read, and then an input, and all items are printed
+  -- A file is read, and then an input, and all items are printed.
   abbrev pub PrintsItems : List ℕ → List ℕ → F → F → Option (List ℕ) → Option (List ℕ) → Type 0
   PrintsItems file input files after old new =
       Reads gives files file (λ source between. Reads gives between input (λ bytes read. (after ≡ read) × PrintsItemsOf source bytes old new))
 
-  -- a file is read, and then an input, which are refused so
+  -- A file is read, and then an input, which are refused so.
   abbrev pub RefusesItems : List ℕ → List ℕ → F → F → Failure → Type 0
   RefusesItems file input files after failure =
       Reads gives files file (λ source between. Reads gives between input (λ bytes read. (after ≡ read) × RefusesInput source bytes failure))
 
-  -- a file is read, and of its source this holds
+  -- A file is read, and of its source this holds.
   abbrev pub ReadsSource : List ℕ → F → F → (List ℕ → Type 0) → Type 0
   ReadsSource file files after Holds = Reads gives files file (λ source read. (after ≡ read) × Holds source)
 
   module _ (makes : F → List ℕ → List ℕ → F → Type 0) where
-    -- a file is read, and the command has an effect that its source gives
+    -- A file is read, and the command has an effect that its source gives.
     abbrev pub Carries : List ℕ → F → F → Option (List ℕ) → Option (List ℕ) → (List ℕ → Effect → Type 0) → Type 0
     Carries file files after old new Gives =
         Reads gives files file (λ source read. (effect : Effect) × Gives source effect × HasEffect makes effect read after old new)
 
-    -- what is asked for is done
+    -- What is asked for is done.
     abbrev pub IsDone : Asked → F → F → Option (List ℕ) → Option (List ℕ) → Type 0
     IsDone (asks_text file shape) files after old new = Carries file files after old new (IsPartOf (Text shape))
     IsDone (asks_items file input shape) files after old new = PrintsItems file input files after old new
@@ -166,7 +170,7 @@ module _ {F : Type 0} (gives : F → List ℕ → List ℕ → F → Type 0) whe
     IsDone (asks_export file) files after old new = Carries file files after old new (IsPartOf Export)
     IsDone (asks_strip file) files after old new = Carries file files after old new IsLeft
 
-  -- what is asked for cannot be had: the files give what is refused so, and stay as they are
+  -- What is asked for cannot be had: the files give what is refused so, and stay as they are.
   abbrev pub IsDenied : Asked → F → F → Failure → Type 0
   IsDenied (asks_text file shape) files after failure = ReadsSource file files after (λ source. RefusesLexer source (Text shape) failure)
   IsDenied (asks_items file input shape) files after failure = RefusesItems file input files after failure

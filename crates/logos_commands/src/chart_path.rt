@@ -1,19 +1,18 @@
 //! The path of the file that the chart of an enum is written to.
 
 ghost use Rattle.std.specs.Prelude.{◌≡◌, IfErr, IfOk, option_copied, string_bytes};
-ghost use Rattle.std.specs.Path.{with_separator};
-ghost use Rattle.logos_commands.specs.Charts.{destination, extension, file_at, file_in};
-ghost use Rattle.logos_commands.specs.Charts.{file_name, refusal_by};
-ghost use Rattle.logos_commands.specs.inside.Destinations.{FailsAt};
+ghost use Rattle.logos_commands.specs.Views.{with_separator, destination, extension, file_at, file_in, file_name, refusal_by, FailsAt};
 
 use crate::failure::{ExportRefusal, Failure};
 use std::alloc::{AllocError, Global};
 
-/// Returns the path of the file for the chart of an enum. `path` is the export path of its source: that of a file, or of a folder, in
-/// which the file has the enum's name.
+/// Returns the path of the file for the chart of an enum. `path` is the export path of its source:
+/// that of a file, or of a folder, in which the file has the enum's name.
 ///
 /// # Errors
-/// Returns `NotExported` if the path has an extension other than `mmd`, and `Memory` when memory runs out.
+///
+/// Returns `NotExported` if the path has an extension other than `mmd`, and `Memory` when memory
+/// runs out.
 pub(super) fn chart_path(alloc: Global, path: &str, name: &str) -> Result<String, Failure<'static>>
     ensures file { IfOk result (λ chart.
         file_at (string_bytes chart) ≡ destination path.now name.now) }
@@ -49,8 +48,8 @@ fn file_name(path: &str) -> &str
     }
 }
 
-/// Returns the extension of a name: what follows its last `.`. A `.` that is its first character begins no extension, and `..` has
-/// none.
+/// Returns the extension of a name: what follows its last `.`. A `.` that is its first character
+/// begins no extension, and `..` has none.
 fn extension_of(name: &str) -> Option<&str>
     ensures { option_copied result ≡ extension name.now }
 {

@@ -1,8 +1,7 @@
 //! Commands, read from the words of the command line.
 
 ghost use Rattle.std.specs.Prelude.{◌≡◌, bytes_eq, map, option_map, string_bytes};
-ghost use Rattle.logos_commands.specs.Commands.{asked, chart_in, command_asked, export_in, items_in, shape_in};
-ghost use Rattle.logos_commands.specs.Commands.{shape_named, strip_in, text_in};
+ghost use Rattle.logos_commands.specs.Commands.{asked, chart_in, command_asked, export_in, items_in, shape_in, shape_named, strip_in, text_in};
 
 use crate::lexing::LexRequest;
 use logos_codegen::generator::Config;
@@ -117,7 +116,8 @@ fn strip_of(words: &[String]) -> Option<Command<'_>>
     }
 }
 
-/// Returns the shape that the last words of a command ask for. Without such words it is one loop with a state.
+/// Returns the shape that the last words of a command ask for. Without such words it is one loop
+/// with a state.
 fn shape_of(words: &[String]) -> Option<Config>
     ensures { result ≡ shape_in (map string_bytes words.now) }
 {

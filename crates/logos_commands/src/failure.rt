@@ -1,7 +1,7 @@
 //! Failures of commands, their statuses and their messages.
 
 ghost use Rattle.std.specs.Prelude.{◌≡◌};
-ghost use Rattle.logos_commands.specs.Commands.{status_of};
+ghost use Rattle.logos_commands.specs.Views.{status_of, Memory as OutOfMemory, refused_by};
 
 use logos_codegen::Refusal;
 use logos_codegen::error::{Errors, Memory};
@@ -20,7 +20,8 @@ pub(super) enum Failure<'w> {
     Output,
     /// The source has these faults.
     Refused(Errors),
-    /// The input is not UTF-8. `valid_up_to` is the length in bytes of its longest beginning that is.
+    /// The input is not UTF-8. `valid_up_to` is the length in bytes of its longest beginning that
+    /// is.
     NotUtf8 { valid_up_to: usize },
     /// Two states of the graph find the same matches. A graph never has such states.
     Alike { s: usize, t: usize },
@@ -42,9 +43,6 @@ pub(super) enum ExportRefusal {
 }
 
 impl From<AllocError> for Failure<'_> {
-    ghost use Rattle.std.specs.Prelude.{◌≡◌};
-    ghost use Rattle.logos_commands.specs.declared.failure.Failure.TheVariants.{Memory as OutOfMemory};
-
     ghost from_gives = { λ _ failure. failure ≡ OutOfMemory };
 
     fn from(_error: AllocError) -> Self {
@@ -53,9 +51,6 @@ impl From<AllocError> for Failure<'_> {
 }
 
 impl From<Memory> for Failure<'_> {
-    ghost use Rattle.std.specs.Prelude.{◌≡◌};
-    ghost use Rattle.logos_commands.specs.declared.failure.Failure.TheVariants.{Memory as OutOfMemory};
-
     ghost from_gives = { λ _ failure. failure ≡ OutOfMemory };
 
     fn from(_error: Memory) -> Self {
@@ -64,9 +59,6 @@ impl From<Memory> for Failure<'_> {
 }
 
 impl From<Refusal> for Failure<'_> {
-    ghost use Rattle.std.specs.Prelude.{◌≡◌};
-    ghost use Rattle.logos_commands.specs.Commands.{refused_by};
-
     ghost from_gives = { λ refusal failure. failure ≡ refused_by refusal };
 
     fn from(refusal: Refusal) -> Self {
@@ -77,7 +69,8 @@ impl From<Refusal> for Failure<'_> {
     }
 }
 
-/// Writes the failure's message, flushes the writer, and returns the failure's status. Errors of the writer are ignored.
+/// Writes the failure's message, flushes the writer, and returns the failure's status. Errors of
+/// the writer are ignored.
 pub(super) fn report<E: Write>(failure: &Failure<'_>, err: &mut E) -> u8
     ensures { result ≡ status_of failure.now }
 {

@@ -1,15 +1,7 @@
 //! The command `lex`: a line for each item of an input, written in blocks while the input is lexed.
 
-ghost use Rattle.std.specs.Prelude.{◌≡◌, ◌++◌, ◌+◌, ◌<◌, ◌≤◌, ℕ, List, [], IfErr, OnOk, IsTrue, IsUtf8};
-ghost use Rattle.std.specs.Prelude.{vec_len, vec_capacity};
-ghost use Rattle.std.specs.Io.KnownBytes.{Appends, Keeps};
-ghost use Rattle.logos_code.specs.declared.action.Action.{Action as Answer};
-ghost use Rattle.logos_machine.specs.LexerValue.{answers_of, item_of};
-ghost use Rattle.logos_commands.specs.Commands.{status_of};
-ghost use Rattle.logos_commands.specs.Lines.{WritesLines, emits, line_of};
-ghost use Rattle.logos_commands.specs.declared.failure.Failure.TheVariants.{Output};
-ghost use Rattle.logos_host.specs.Writers.{AppendsFront};
-ghost use Rattle.logos_commands.specs.Runs.{IsTornBy, PrintsItems, PrintsItemsOf, RefusesInput, RefusesItems};
+ghost use Rattle.std.specs.Prelude.{◌≡◌, ◌++◌, ◌+◌, ◌<◌, ◌≤◌, ℕ, List, [], IfErr, OnOk, IsTrue, IsUtf8, vec_len, vec_capacity};
+ghost use Rattle.logos_commands.specs.Views.{Appends, Keeps, Action as Answer, answers_of, item_of, WritesLines, emits, line_of, AppendsFront, status_of, Output, IsTornBy, PrintsItems, PrintsItemsOf, RefusesInput, RefusesItems};
 
 use crate::failure::Failure;
 use crate::lines::{LONGEST, write_line};
@@ -26,7 +18,8 @@ use std::io::Write;
 /// The length in bytes from which a block is written.
 const BLOCK: usize = 65_536;
 
-/// What the command `lex` is given: the paths of the source and of the input, and the shape of the lexer's code.
+/// What the command `lex` is given: the paths of the source and of the input, and the shape of the
+/// lexer's code.
 #[derive(Clone, Copy)]
 pub(super) struct LexRequest<'w> {
     pub(super) source: &'w str,
@@ -110,8 +103,8 @@ fn lex_by_code<O: Write>(
     }
 }
 
-/// Writes a line for each further item of a lexer whose callback answers `Emit` alone, and flushes the
-/// writer.
+/// Writes a line for each further item of a lexer whose callback answers `Emit` alone, and flushes
+/// the writer.
 fn write_items<C: Fn(LeafId, &[u8]) -> Action, O: Write>(
     alloc: Global,
     lexer: &mut Lexer<'_, '_, '_, C>,
@@ -128,8 +121,8 @@ fn write_items<C: Fn(LeafId, &[u8]) -> Action, O: Write>(
     write_lines(lexer, &mut block, out)
 }
 
-/// Writes a line for each further item of a lexer, collected in a block, and flushes the writer. Only
-/// writing can fail.
+/// Writes a line for each further item of a lexer, collected in a block, and flushes the writer.
+/// Only writing can fail.
 fn write_lines<C: Fn(LeafId, &[u8]) -> Action, O: Write>(
     lexer: &mut Lexer<'_, '_, '_, C>,
     block: &mut Vec<u8>,
@@ -174,7 +167,7 @@ fn write_rest<O: Write>(block: &[u8], out: &mut O) -> Result<(), Failure<'static
     }
 }
 
-/// Adds the line of an item to a block that has room for it.
+/// Appends the line of an item to a block that has room for it.
 #[inline(always)]
 fn push_line(block: &mut Vec<u8>, item: Item<'_>)
     requires { vec_len block.old + LONGEST ≤ vec_capacity block.old }

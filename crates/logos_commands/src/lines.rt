@@ -1,14 +1,14 @@
 //! The lines of items.
 
 ghost use Rattle.std.specs.Prelude.{◌≡◌, ◌+◌, ◌≤◌, ◌++◌, length, drop};
-ghost use Rattle.logos_machine.specs.LexerValue.{item_of};
-ghost use Rattle.logos_commands.specs.Lines.{line_of, span_line};
+ghost use Rattle.logos_commands.specs.Words.{item_of, line_of, span_line};
 
 use itoa::write_digits;
 use logos_codegen::machine::Item;
 use logos_codegen::token::Span;
 
-/// The length in bytes of the longest line: a word, three numbers of 20 digits, and what stands between them.
+/// The length in bytes of the longest line: a word, three numbers of 20 digits, and what stands
+/// between them.
 pub(super) const LONGEST: usize = 70;
 
 /// Writes the line of an item at the end of the array, and returns where it begins.
@@ -42,7 +42,8 @@ fn write_span(line: &mut [u8; LONGEST], span: Span) -> usize
     write_digits(span.from as u64, line, at)
 }
 
-/// Writes a text in front of what stands in the line from an index on, and returns where the text begins.
+/// Writes a text in front of what stands in the line from an index on, and returns where the text
+/// begins.
 #[inline(always)]
 fn write_before(line: &mut [u8; LONGEST], end: usize, text: &[u8]) -> usize
     requires { (length text.now ≤ end) × (end ≤ LONGEST) }

@@ -1,15 +1,7 @@
 //! The outcomes of commands, each made as a whole before any of it is written.
 
 ghost use Rattle.std.specs.Prelude.{◌≡◌, ◌≢◌, ◌++◌, ◌∷◌, [], IfErr, IfOk, option_map, string_bytes};
-ghost use Rattle.logos_enum.specs.Values.{ident_slice};
-ghost use Rattle.logos_graph.specs.Mermaid.{mermaid_of};
-ghost use Rattle.logos_text.specs.Standing.{StandInOrder};
-ghost use Rattle.logos_text.specs.Texts.{texts_of};
-ghost use Rattle.logos_commands.specs.Charts.{export_destination, file_at};
-ghost use Rattle.logos_commands.specs.inside.Destinations.{EndsWithLine, FailsAt, effect_of};
-ghost use Rattle.logos_commands.specs.Commands.{status_of};
-ghost use Rattle.logos_commands.specs.Runs.{IsLeft, IsPart, IsPartOf, ReadsSource, prints, shape_of};
-ghost use Rattle.logos_commands.specs.Runs.{RefusesExport, RefusesLexer, RefusesStripping};
+ghost use Rattle.logos_commands.specs.Views.{ident_slice, mermaid_of, StandInOrder, texts_of, export_destination, file_at, EndsWithLine, FailsAt, effect_of, status_of, IsLeft, IsPart, IsPartOf, ReadsSource, prints, shape_of, RefusesExport, RefusesLexer, RefusesStripping};
 
 use crate::chart_path::chart_path;
 use crate::failure::{ExportRefusal, Failure};

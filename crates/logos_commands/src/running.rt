@@ -1,13 +1,7 @@
 //! Running commands: from words to a status.
 
-ghost use Rattle.std.specs.Prelude.{◌≡◌, ◌≤◌, ◌⊎◌, ◌↔◌, None, map, string_bytes};
-ghost use Rattle.std.specs.Prelude.{IfErr, IfSome, OnOk};
-ghost use Rattle.std.specs.Io.KnownBytes.{Appends, Keeps};
-ghost use Rattle.logos_commands.specs.Commands.{asked, command_asked, status_of};
-ghost use Rattle.logos_commands.specs.inside.Destinations.{effect_of};
-ghost use Rattle.logos_commands.specs.Runs.{Carries, HasEffect, IsDone, IsDenied, IsLeft, IsPartOf};
-ghost use Rattle.logos_commands.specs.Runs.{ReadsSource, RefusesLexer, RefusesStripping};
-ghost use Rattle.logos_commands.specs.declared.failure.Failure.{Failure as Why};
+ghost use Rattle.std.specs.Prelude.{◌≡◌, ◌≤◌, ◌⊎◌, ◌↔◌, None, map, string_bytes, IfErr, IfSome, OnOk};
+ghost use Rattle.logos_commands.specs.Views.{Appends, Keeps, asked, command_asked, status_of, effect_of, Carries, HasEffect, IsDone, IsDenied, IsLeft, IsPartOf, ReadsSource, RefusesLexer, RefusesStripping, Failure as Why};
 
 use crate::command::{Command, command_of};
 use crate::failure::{Failure, report};
@@ -17,10 +11,12 @@ use logos_host::{FileError, Files, write_through};
 use std::alloc::Global;
 use std::io::{ErrorKind, Write};
 
-/// Runs the command that the words name, and returns the exit status: 0 if it was carried out, 1 if the source or the input was
-/// refused, 2 if the words are not a command, 3 if a file, the output or the memory failed.
+/// Runs the command that the words name, and returns the exit status: 0 if it was carried out, 1 if
+/// the source or the input was refused, 2 if the words are not a command, 3 if a file, the output
+/// or the memory failed.
 ///
-/// Where the status is not 0, a message goes to `err`. Then nothing was written to `out`, unless writing to it failed.
+/// Where the status is not 0, a message goes to `err`. Then nothing was written to `out`, unless
+/// writing to it failed.
 pub fn run<F: Files, O: Write, E: Write>(
     alloc: Global,
     words: &[String],
@@ -29,7 +25,8 @@ pub fn run<F: Files, O: Write, E: Write>(
     err: &mut E,
 ) -> u8
     ensures usage { (result ≡ 2) ↔ (asked (map string_bytes words.now) ≡ None) }
-    // At status 0 the files gave a source that is accepted, and what the command gives was printed or written whole.
+    // At status 0 the files gave a source that is accepted, and what the command gives was printed
+    // or written whole.
     ensures done { result ≡ 0 → IfSome (asked (map string_bytes words.now))
         (λ command. IsDone F.read_gives F.write_makes command files.old files.new
         (O.contents out.old) (O.contents out.new)) }
@@ -51,7 +48,8 @@ pub fn run<F: Files, O: Write, E: Write>(
     }
 }
 
-/// Carries out a command. Texts and charts are written once they are made; the items of an input are written while it is lexed.
+/// Carries out a command. Texts and charts are written once they are made; the items of an input
+/// are written while it is lexed.
 fn carry_out<'w, F: Files, O: Write>(
     alloc: Global,
     command: Command<'w>,
@@ -158,8 +156,8 @@ fn write_file<F: Files>(path: String, text: &str, files: &mut F) -> Result<(), F
     }
 }
 
-/// Reports that the words of the command line could not be read, and returns the exit status: 3 when memory ran out, otherwise 2,
-/// since a word is not UTF-8.
+/// Reports that the words of the command line could not be read, and returns the exit status: 3
+/// when memory ran out, otherwise 2, since a word is not UTF-8.
 pub fn refuse_words<E: Write>(why: ErrorKind, err: &mut E) -> u8
     ensures memory { (result ≡ 3) ↔ (why ≡ ErrorKind.OutOfMemory) }
     ensures known { (result ≡ 2) ⊎ (result ≡ 3) }

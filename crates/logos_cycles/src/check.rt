@@ -1,8 +1,7 @@
 //! Checks the memberships of all nodes, and reads off them which nodes lie on a cycle.
 
 ghost use Rattle.std.specs.Prelude.{◌≡◌, ℕ, ◌<◌, ◌↔◌, Some, true, false, IfOk, IfSome, IsTrue, Contains, length, vec_len, slice_index_or};
-ghost use Rattle.logos_cycles.specs.Words.{slice_get, Leads};
-ghost use Rattle.logos_cycles.specs.Views.{graph, Edge, Follows, GoesToward, ComesFrom, FollowAll, HasRoot, HasInner, IsPlaced, IsEvidence};
+ghost use Rattle.logos_cycles.specs.Views.{slice_get, Leads, graph, Edge, Follows, GoesToward, ComesFrom, FollowAll, HasRoot, HasInner, IsPlaced, IsEvidence};
 
 use crate::evidence::Membership;
 use std::alloc::{AllocError, Global};

@@ -1,8 +1,7 @@
 //! Finds the nodes that lie on a cycle by a walk from each of them.
 
 ghost use Rattle.std.specs.Prelude.{◌≡◌, ℕ, ◌<◌, ◌↔◌, [], ◌∷◌, true, false, IfOk, OnOk, IsTrue, Contains, length, vec_len, slice_index_or};
-ghost use Rattle.logos_cycles.specs.Words.{Leads, targets_of, Reaches};
-ghost use Rattle.logos_cycles.specs.Views.{graph};
+ghost use Rattle.logos_cycles.specs.Views.{Leads, targets_of, Reaches, graph};
 
 use std::alloc::{AllocError, Global};
 

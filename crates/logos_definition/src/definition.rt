@@ -1,9 +1,8 @@
 //! Reads definitions: the literal of a `token`, `regex` or `skip(..)`, and the arguments after it.
 //! `logos_leaf` reads one for each `token` and `regex`, and the parser one for each `skip(..)`.
 
-ghost use Rattle.std.specs.Prelude.{◌≡◌, OnOk, OnErr, IfOk, option_map};
-ghost use Rattle.logos_definition.specs.Words.{tokens_of, ident_slice, IsReport, priority_set, greedy_set, definition_report};
-ghost use Rattle.logos_definition.specs.Views.{definition_view};
+ghost use Rattle.std.specs.Prelude.{◌≡◌, OnOk, OnErr, IfOk, option_map, true};
+ghost use Rattle.logos_definition.specs.Views.{tokens_of, ident_slice, IsReport, priority_set, greedy_set, definition_report, value_of, piece_of, pieces_left, literal_view, plain, priority_report, ignore_report, greedy_report, named_report, argument_report, arguments_report, definition_view};
 
 pub(crate) mod faults;
 
@@ -81,10 +80,6 @@ fn set_greedy(
 }
 
 impl<'s> Definition<'s> {
-    ghost use Rattle.std.specs.Prelude.{◌≡◌, OnOk, OnErr, true};
-    ghost use Rattle.logos_definition.specs.Words.{ident_slice, IsReport, value_of, piece_of, pieces_left, literal_view, plain, priority_report, ignore_report, greedy_report, named_report, argument_report, arguments_report};
-    ghost use Rattle.logos_definition.specs.Views.{definition_view};
-
     /// Returns the definition with this literal and no arguments.
     pub fn new(literal: Literal<'s>) -> Definition<'s>
         ensures { definition_view result ≡ plain (literal_view literal.entry) }

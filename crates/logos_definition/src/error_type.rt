@@ -1,8 +1,7 @@
 //! Reads error types and their callbacks. The parser reads it at `error` in `logos(..)`.
 
-ghost use Rattle.std.specs.Prelude.{OnOk, IfOk, option_map, true};
-ghost use Rattle.logos_definition.specs.Words.{type_tree, tokens_of, ident_slice, pieces_left, AddsFault, IsReport, unknown_error_argument, error_read, error_arguments_report, error_empty, ErrorGroup};
-ghost use Rattle.logos_definition.specs.Views.{error_view};
+ghost use Rattle.std.specs.Prelude.{OnOk, IfOk, option_map, true, ◌≡◌, OnErr, string_bytes};
+ghost use Rattle.logos_definition.specs.Views.{type_tree, tokens_of, ident_slice, pieces_left, AddsFault, IsReport, unknown_error_argument, error_read, error_arguments_report, error_empty, ErrorGroup, stream_tokens, value_of, piece_of, error_alone, no_error, error_span, error_text, error_named_report, error_argument_report, error_view};
 
 use crate::arguments::{add_callback, add_unnamed};
 use crate::definition::faults::report_unexpected;
@@ -42,10 +41,6 @@ fn report_unknown(name: Ident<'_>, errors: &mut Errors) -> Result<(), Memory>
 }
 
 impl<'s> ErrorType<'s> {
-    ghost use Rattle.std.specs.Prelude.{◌≡◌, IfOk, OnOk, OnErr, true, string_bytes};
-    ghost use Rattle.logos_definition.specs.Words.{stream_tokens, ident_slice, IsReport, value_of, piece_of, pieces_left, error_alone, no_error, error_span, error_text, error_named_report, error_argument_report, error_arguments_report};
-    ghost use Rattle.logos_definition.specs.Views.{error_view};
-
     /// Returns the error type of these tokens, without a callback.
     pub fn new(ty: TokenStream<'s>) -> ErrorType<'s>
         ensures { error_view result ≡ error_alone (stream_tokens ty.entry) }

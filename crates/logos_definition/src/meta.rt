@@ -2,8 +2,7 @@
 //! are distinguished by it.
 
 ghost use Rattle.std.specs.Prelude.{◌≡◌, MatchOption, None, Some};
-ghost use Rattle.logos_definition.specs.Words.{tokens_of, ident_slice, attribute_value};
-ghost use Rattle.logos_definition.specs.Views.{after_name, meta_of, meta_view};
+ghost use Rattle.logos_definition.specs.Views.{tokens_of, ident_slice, attribute_value, after_name, meta_of, meta_view};
 
 use logos_attribute::nested::split;
 use logos_enum::Attribute;

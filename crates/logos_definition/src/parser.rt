@@ -1,5 +1,8 @@
 //! Reads the attributes of an enum. `logos_leaf` fills one for each enum.
 
+ghost use Rattle.std.specs.Prelude.{◌≡◌, IfOk, OnOk, OnErr, option_map, true, false, []};
+ghost use Rattle.logos_definition.specs.Views.{tokens_of, literal_slice, IsReport, AddsFault, fault, pieces, text_report, literal_view, definition_report, no_options, utf8_mode, ReadsPieces, ident_slice, value_of, named_report, error_named_report, flags_report, definition_view, parser_view, HasNotFailed, error_view};
+
 /// Makes a call that changes a parser, unless the parser has failed. It has failed after an error.
 macro_rules! unless_failed {
     ($parser:expr, $call:expr) => {{
@@ -70,10 +73,6 @@ pub struct Parser<'s> {
 }
 
 impl<'s> Parser<'s> {
-    ghost use Rattle.std.specs.Prelude.{◌≡◌, IfOk, OnOk, OnErr, option_map, true, false, []};
-    ghost use Rattle.logos_definition.specs.Words.{tokens_of, literal_slice, IsReport, AddsFault, fault, pieces, text_report, literal_view, definition_report, no_options, utf8_mode, ReadsPieces};
-    ghost use Rattle.logos_definition.specs.Views.{definition_view, parser_view, HasNotFailed};
-
     /// Returns a parser without options. It takes its memory from `alloc`.
     pub fn new(alloc: Global) -> Parser<'s>
         ensures options { parser_view result ≡ no_options }
@@ -177,10 +176,6 @@ impl<'s> Parser<'s> {
 }
 
 impl<'s> Definition<'s> {
-    ghost use Rattle.std.specs.Prelude.{◌≡◌, OnOk, OnErr, true};
-    ghost use Rattle.logos_definition.specs.Words.{ident_slice, IsReport, value_of, named_report};
-    ghost use Rattle.logos_definition.specs.Views.{definition_view, parser_view, HasNotFailed};
-
     /// Adds a named argument, and reports its faults in `parser`, of which nothing else changes.
     /// Memory is taken from the allocator of `parser`.
     ///
@@ -209,10 +204,6 @@ impl<'s> Definition<'s> {
 }
 
 impl<'s> ErrorType<'s> {
-    ghost use Rattle.std.specs.Prelude.{◌≡◌, OnOk, OnErr, true};
-    ghost use Rattle.logos_definition.specs.Words.{ident_slice, IsReport, value_of, error_named_report};
-    ghost use Rattle.logos_definition.specs.Views.{error_view, parser_view, HasNotFailed};
-
     /// Adds a named argument, and reports its faults in `parser`, of which nothing else changes.
     /// Memory is taken from the allocator of `parser`.
     ///
@@ -240,10 +231,6 @@ impl<'s> ErrorType<'s> {
 }
 
 impl IgnoreFlags {
-    ghost use Rattle.std.specs.Prelude.{◌≡◌, OnOk, OnErr, true, false};
-    ghost use Rattle.logos_definition.specs.Words.{tokens_of, ident_slice, IsReport, flags_report};
-    ghost use Rattle.logos_definition.specs.Views.{parser_view, HasNotFailed};
-
     /// Sets the flags in the group after `ignore`, and reports the first fault among them in
     /// `parser`, of which nothing else changes. `name` is the word `ignore`. Memory is taken from
     /// the allocator of `parser`.

@@ -2,8 +2,7 @@
 //! back. So nothing has to be believed of how the placeholders came into it.
 
 ghost use Rattle.std.specs.Prelude.{◌≡◌, ◌<◌, ◌+◌, IfSome, IsTrue, length, string_bytes};
-ghost use Rattle.logos_derive.specs.Words.{IsCharBoundary, StandsAt};
-ghost use Rattle.logos_derive.specs.Views.{IsPutBack, GoesOn};
+ghost use Rattle.logos_derive.specs.Views.{IsCharBoundary, StandsAt, IsPutBack, GoesOn};
 
 use crate::parts::after_part;
 use crate::piece::Piece;
@@ -78,7 +77,7 @@ fn stay(text: &str, lexeme: &str, end: usize, progress: Progress) -> Option<Prog
     })
 }
 
-/// Puts a piece back in the place of a placeholder that ends at `end`.
+/// Puts a piece back in place of a placeholder that ends at `end`.
 fn put_back(text: &str, piece: &Piece, end: usize, progress: Progress) -> Option<Progress>
     ensures { IfSome result (λ next. (next.shown ≡ end) × (next.count ≡ progress.count + 1)
         × StandsAt text.now progress.text (string_bytes piece.now.text) next.text) }

@@ -4,7 +4,7 @@ use crate::piece::Piece;
 use logos_token::error::Memory;
 use std::alloc::Global;
 
-/// Returns an implementation with a placeholder in the place of each piece.
+/// Returns an implementation with a placeholder in place of each piece.
 pub(crate) fn filled(alloc: Global, text: &str, pieces: &[Piece]) -> Result<String, Memory> {
     let mut shown = String::new(alloc);
     let mut from = 0;
@@ -17,7 +17,7 @@ pub(crate) fn filled(alloc: Global, text: &str, pieces: &[Piece]) -> Result<Stri
     Ok(shown)
 }
 
-/// Pushes what stands between two offsets of a text.
+/// Appends what stands between two offsets of a text.
 fn push_between(shown: &mut String, text: &str, from: usize, to: usize) -> Result<(), Memory> {
     if let Some(part) = text.get(from..to) {
         shown.push_str(part)?;

@@ -49,8 +49,8 @@ pub(crate) fn spots_of(alloc: Global, source: &str, code: &Code<'_>) -> Result<V
     Ok(spots)
 }
 
-/// Pushes the spot of the path of the library where tables import what `scan` reads. The first spot
-/// is of that path, too.
+/// Appends the spot of the path of the library where tables import what `scan` reads. The first
+/// spot is of that path, too.
 fn push_scanned(spots: &mut Vec<Spot>) -> Result<(), Memory> {
     match spots.first() {
         Some(library) => {
@@ -61,13 +61,13 @@ fn push_scanned(spots: &mut Vec<Spot>) -> Result<(), Memory> {
     }
 }
 
-/// Pushes a spot.
+/// Appends a spot.
 fn push(front: &'static str, span: Span, spots: &mut Vec<Spot>) -> Result<(), Memory> {
     spots.push(Spot { front, span })?;
     Ok(())
 }
 
-/// Pushes the spots of what options set, with that of the name of the enum.
+/// Appends the spots of what options set, with that of the name of the enum.
 fn push_options(
     alloc: Global,
     source: &str,
@@ -81,7 +81,7 @@ fn push_options(
     }
 }
 
-/// Pushes the spots of options that are written there, and of the name of the enum.
+/// Appends the spots of options that are written there, and of the name of the enum.
 fn push_spans(spans: OptionSpans, name: Span, spots: &mut Vec<Spot>) -> Result<(), Memory> {
     push("impl < 's > ", spans.library, spots)?;
     push("< 's > for ", name, spots)?;
@@ -94,7 +94,7 @@ fn push_spans(spans: OptionSpans, name: Span, spots: &mut Vec<Spot>) -> Result<(
     push("type _Lexer < 's > = ", spans.library, spots)
 }
 
-/// Pushes the spots of a leaf: its callback, and the name of its variant after that of the enum.
+/// Appends the spots of a leaf: its callback, and the name of its variant after that of the enum.
 fn push_leaf(leaf: &CodeLeaf<'_>, name: Span, spots: &mut Vec<Spot>) -> Result<(), Memory> {
     if let Some(callback) = &leaf.callback {
         push_callback(callback, OF_LEAF, spots)?;
@@ -117,7 +117,7 @@ fn front_of(leaf: &CodeLeaf<'_>) -> &'static str {
     }
 }
 
-/// Pushes the spots of a callback.
+/// Appends the spots of a callback.
 fn push_callback(
     callback: &Callback<'_>,
     fronts: Fronts,

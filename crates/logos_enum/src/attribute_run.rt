@@ -2,8 +2,7 @@
 //! calls it, here and in the crates above.
 
 ghost use Rattle.std.specs.Prelude.{◌≡◌, ◌<◌, Some, None, MatchOption};
-ghost use Rattle.logos_enum.specs.Words.{count_of, tokens_of};
-ghost use Rattle.logos_enum.specs.Views.{attribute_in, split_value};
+ghost use Rattle.logos_enum.specs.Views.{count_of, tokens_of, attribute_in, split_value};
 
 use crate::groups::open_bracket;
 use crate::tokens::split;

@@ -1,8 +1,7 @@
 //! Reads attributes and visibilities.
 
 ghost use Rattle.std.specs.Prelude.{◌≡◌, ◌<◌, ◌≤◌, List, Ok, Err, Some, None, MatchOption, MatchResult, IfSome, IfOk, IfErr};
-ghost use Rattle.logos_enum.specs.Words.{none, also, punctuation, count_of, IsRestOf, tokens_of, tree_of};
-ghost use Rattle.logos_enum.specs.Views.{Grammar, end_mismatch, value_mismatch, path_mismatch, colon_mismatch, segment_mismatch, attribute_mismatch, IsPathStep, after_attributes, after_hash, Attributes, after_parenthesis, after_visibility, after_keyword};
+ghost use Rattle.logos_enum.specs.Views.{none, also, punctuation, count_of, IsRestOf, tokens_of, tree_of, Grammar, end_mismatch, value_mismatch, path_mismatch, colon_mismatch, segment_mismatch, attribute_mismatch, IsPathStep, after_attributes, after_hash, Attributes, after_parenthesis, after_visibility, after_keyword};
 
 use crate::error::{Mismatch, ReadError};
 use crate::tokens::{grammar_at, is_outer, mismatch_at, split};

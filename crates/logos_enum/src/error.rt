@@ -1,5 +1,8 @@
 //! The reasons why a run of tokens is not an enum.
 
+ghost use Rattle.std.specs.Prelude.{◌≡◌};
+ghost use Rattle.logos_enum.specs.Views.{Memory};
+
 use logos_token::token::Span;
 use std::alloc::{AllocError, AllocFailed};
 
@@ -23,9 +26,6 @@ pub enum ReadError {
 }
 
 impl From<AllocError> for ReadError {
-    ghost use Rattle.std.specs.Prelude.{◌≡◌};
-    ghost use Rattle.logos_enum.specs.Views.{Memory};
-
     ghost from_gives = { λ _ error. error ≡ Memory };
 
     fn from(_error: AllocError) -> ReadError {
@@ -34,9 +34,6 @@ impl From<AllocError> for ReadError {
 }
 
 impl<T: Drop> From<AllocFailed<T>> for ReadError {
-    ghost use Rattle.std.specs.Prelude.{◌≡◌};
-    ghost use Rattle.logos_enum.specs.Views.{Memory};
-
     ghost from_gives = { λ _ error. error ≡ Memory };
 
     fn from(_error: AllocFailed<T>) -> ReadError {

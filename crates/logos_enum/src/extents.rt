@@ -2,11 +2,13 @@
 //! their types are read.
 
 ghost use Rattle.std.specs.Prelude.{◌≡◌, ◌+◌, ◌<◌, ◌≤◌, MatchOption};
-ghost use Rattle.logos_enum.specs.Words.{TokenList, also, punctuation, count_of, append, IsRestOf, tokens_of};
-ghost use Rattle.logos_enum.specs.Views.{ends, begins_arrow, depth_after, is_end, after_from, after_extent, after_generics, IsStep};
+ghost use Rattle.logos_enum.specs.Views.{TokenList, also, punctuation, count_of, append, IsRestOf, tokens_of, ends, begins_arrow, depth_after, is_end, after_from, after_extent, after_generics, IsStep};
 
 use crate::tokens::{after_mark, split};
 use logos_token::token::{Punct, Spacing, TokenTree, Tokens};
+
+/// The most angle brackets that can be open.
+const MOST: usize = usize::MAX;
 
 /// The things that have an extent.
 #[derive(Clone, Copy)]
@@ -59,7 +61,7 @@ fn is_end(end: End, angles: Angles, character: char) -> bool
 
 /// Returns how many angle brackets are open after a character.
 fn depth_after(angles: Angles, character: char) -> usize
-    requires { angles.depth < 18446744073709551615 }
+    requires { angles.depth < MOST }
     ensures value { result ≡ depth_after angles.arrow angles.depth character }
     ensures bound { result ≤ angles.depth + 1 }
 {
@@ -79,7 +81,7 @@ fn skip_token<'t, 's>(
     angles: Angles,
     tokens: Tokens<'t, 's>,
 ) -> Option<(Angles, Tokens<'t, 's>)>
-    requires { angles.depth + count_of (tokens_of tokens) < 18446744073709551616 }
+    requires { angles.depth + count_of (tokens_of tokens) ≤ MOST }
     ensures { MatchOption result
         (after_from end angles.arrow angles.depth (tokens_of tokens.entry)
         ≡ tokens_of tokens.entry)

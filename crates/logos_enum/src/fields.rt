@@ -1,8 +1,7 @@
 //! Reads the fields of variants.
 
 ghost use Rattle.std.specs.Prelude.{◌≡◌, ◌<◌, ◌≤◌, List, map, Ok, Err, None, MatchOption, IfSome, MatchResult, IfOk, IfErr};
-ghost use Rattle.logos_enum.specs.Words.{none, count_of, tokens_of};
-ghost use Rattle.logos_enum.specs.Views.{error_is, FieldType, colon_in, label, field, fields, Holding, typed_value, field_value, fields_value, parenthesis_in, Stands};
+ghost use Rattle.logos_enum.specs.Views.{none, count_of, tokens_of, error_is, FieldType, colon_in, label, field, fields, Holding, typed_value, field_value, fields_value, parenthesis_in, Stands};
 
 use crate::attributes::{read_attributes, skip_visibility};
 use crate::error::ReadError;

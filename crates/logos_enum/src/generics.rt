@@ -1,8 +1,7 @@
 //! Reads generic parameters.
 
 ghost use Rattle.std.specs.Prelude.{◌≡◌, ◌<◌, ◌≤◌, List, map, Ok, Err, MatchResult, IfOk, IfErr};
-ghost use Rattle.logos_enum.specs.Words.{also, identifier, count_of, tokens_of, begins_with, greater};
-ghost use Rattle.logos_enum.specs.Views.{head_of, head_in, some_in, bounds_in, constant_in, default_in, tail, shape, OneParameter, closing_in, parameters, Generics, Listed, Stands, ident_slice, head_value, parameter_value};
+ghost use Rattle.logos_enum.specs.Views.{also, identifier, count_of, tokens_of, begins_with, greater, head_of, head_in, some_in, bounds_in, constant_in, default_in, tail, shape, OneParameter, closing_in, parameters, Generics, Listed, Stands, ident_slice, head_value, parameter_value};
 
 use crate::attributes::read_attributes;
 use crate::error::ReadError;

@@ -1,8 +1,7 @@
 //! Opens the group that comes first.
 
 ghost use Rattle.std.specs.Prelude.{◌≡◌, ◌<◌, Some, None, MatchOption};
-ghost use Rattle.logos_enum.specs.Words.{count_of, tokens_of};
-ghost use Rattle.logos_enum.specs.Views.{parenthesis_in, bracket_in, brace_in, opened_value};
+ghost use Rattle.logos_enum.specs.Views.{count_of, tokens_of, parenthesis_in, bracket_in, brace_in, opened_value};
 
 use crate::tokens::split;
 use logos_token::token::{Delimiter, Span, TokenTree, Tokens};

@@ -1,8 +1,7 @@
 //! Reads a whole enum. `logos_parser`, `logos_strip` and the finder of enums in files call it.
 
 ghost use Rattle.std.specs.Prelude.{◌≡◌, ◌<◌, ◌≤◌, List, map, Ok, Err, Result, Some, None, MatchOption, MatchResult, IfOk, IfErr};
-ghost use Rattle.logos_enum.specs.Words.{TokenList, none, count_of, tokens_of};
-ghost use Rattle.logos_enum.specs.Views.{ReadError as ReadErrorValue, Memory, announced_in, IsFront, from_brace, where_in, Body, end_in, NoFront, item, Reads, EnumValue, variant_value, enum_value, Stands};
+ghost use Rattle.logos_enum.specs.Views.{TokenList, none, count_of, tokens_of, ReadError as ReadErrorValue, Memory, announced_in, IsFront, from_brace, where_in, Body, end_in, NoFront, item, Reads, EnumValue, variant_value, enum_value, Stands};
 
 use crate::attributes::{read_attributes, skip_keyword, skip_visibility};
 use crate::error::ReadError;

@@ -1,8 +1,7 @@
 //! Takes single tokens from the front of a run.
 
 ghost use Rattle.std.specs.Prelude.{◌≡◌, ◌<◌, ◌≤◌, true, false, List, Ok, Err, MatchOption, MatchResult};
-ghost use Rattle.logos_enum.specs.Words.{Span, Spacing, none, also, punctuation, count_of, rest_of, tokens_of, tree_of, first_span, greater, begins_with, is_none, is_outer};
-ghost use Rattle.logos_enum.specs.Views.{Grammar, after_item, name_in, ident_slice};
+ghost use Rattle.logos_enum.specs.Views.{Span, Spacing, none, also, punctuation, count_of, rest_of, tokens_of, tree_of, first_span, greater, begins_with, is_none, is_outer, Grammar, after_item, name_in, ident_slice};
 
 use crate::error::{Mismatch, ReadError};
 use logos_token::token::{Ident, Span, TokenTree, Tokens};
@@ -81,7 +80,7 @@ pub(crate) fn read_name<'t, 's>(
     }
 }
 
-/// Returns the tokens after an item of a list that reaches to the end of its group.
+/// Returns the tokens after an element of a list that reaches to the end of its group.
 pub(crate) fn skip_comma<'t, 's>(tokens: Tokens<'t, 's>) -> Result<Tokens<'t, 's>, ReadError>
     ensures { MatchResult result
         (λ rest. (after_item is_none (tokens_of tokens.entry) ≡ Ok (tt, tokens_of rest))
@@ -95,7 +94,7 @@ pub(crate) fn skip_comma<'t, 's>(tokens: Tokens<'t, 's>) -> Result<Tokens<'t, 's
     }
 }
 
-/// Returns the tokens after an item of a list that reaches to `>`.
+/// Returns the tokens after an element of a list that reaches to `>`.
 pub(crate) fn skip_comma_or_angle<'t, 's>(
     tokens: Tokens<'t, 's>,
 ) -> Result<Tokens<'t, 's>, ReadError>

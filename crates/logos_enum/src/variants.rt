@@ -1,8 +1,7 @@
 //! Reads the variants of an enum.
 
 ghost use Rattle.std.specs.Prelude.{◌≡◌, ◌<◌, ◌≤◌, List, map, Ok, Err, MatchOption, MatchResult, IfOk, IfErr};
-ghost use Rattle.logos_enum.specs.Words.{none, count_of, tokens_of};
-ghost use Rattle.logos_enum.specs.Views.{from_comma, value_in, discriminant_in, variant, variants, variant_value, Stands};
+ghost use Rattle.logos_enum.specs.Views.{none, count_of, tokens_of, from_comma, value_in, discriminant_in, variant, variants, variant_value, Stands};
 
 use crate::attributes::read_attributes;
 use crate::error::ReadError;

@@ -88,7 +88,8 @@ module _ (one other : List GraphState) (names others : List ℕ) (utf8 : Bool) w
   abbrev pub IsAfter : Bool → ℕ → Type 0
   IsAfter begun at = (begun ≡ true) ⊎ (0 < at)
 
-  -- where the errors do not part, both can be followed as far at each place at which a character can begin
+  -- where the errors do not part, both can be followed as far at each place at which a character
+  -- can begin
   pub together : (bytes : List ℕ) (s t : ℕ) (begun : Bool) → parts s t begun bytes ≡ false → (at : ℕ) → at < length bytes → IsAfter begun at →
       is_cut utf8 (slice_index bytes at) ≡ true → alive one s bytes (suc at) ≡ alive other t bytes (suc at)
   together [] s t begun e at l p q = absurd (omega arith)

@@ -1,10 +1,7 @@
 //! Compares two lexers.
 
 ghost use Rattle.std.specs.Prelude.{◌≡◌, ℕ, List, [], IfOk, Option, is_some, slice_get};
-ghost use Rattle.logos_graph.specs.GraphOf.{IsGraphOf};
-ghost use Rattle.logos_graph.specs.View.{rules_of};
-ghost use Rattle.logos_evidence.specs.Comparing.{IsShortestDifference, FindTheSame};
-ghost use Rattle.logos_evidence.specs.inside.Compared.{IsAnswer};
+ghost use Rattle.logos_evidence.specs.Views.{IsGraphOf, rules_of, IsShortestDifference, FindTheSame, pair_next, pair_goal, shown, IsAnswer};
 ghost use Rattle.logos_evidence.specs.inside.Machines as machines;
 
 use crate::examples::point_from;
@@ -90,9 +87,6 @@ impl Pair<'_> {
 }
 
 impl Machine for Pair<'_> {
-    ghost use Rattle.logos_evidence.specs.inside.Machines.{pair_next, pair_goal};
-    ghost use Rattle.logos_evidence.specs.inside.Shown.{shown};
-
     ghost leads = { λ it. pair_next (shown it.one.now) (shown it.other.now) it.names.now it.others.now it.utf8 };
 
     ghost goal = { λ it. pair_goal (shown it.one.now) (shown it.other.now) it.names.now it.others.now it.utf8 };

@@ -1,7 +1,7 @@
 //! Inputs that together pass all edges of a graph.
 
 ghost use Rattle.std.specs.Prelude.{◌≡◌, IfOk, map};
-ghost use Rattle.logos_evidence.specs.Covering.{AreCoveringInputs};
+ghost use Rattle.logos_evidence.specs.Words.{AreCoveringInputs, edge_next, edge_goal, shown};
 
 use crate::examples::point_from;
 use crate::walking::{next_at_end, next_by, states_of};
@@ -16,9 +16,6 @@ struct Edges<'g> {
 }
 
 impl Machine for Edges<'_> {
-    ghost use Rattle.logos_evidence.specs.inside.Machines.{edge_next, edge_goal};
-    ghost use Rattle.logos_evidence.specs.inside.Shown.{shown};
-
     ghost leads = { λ it. edge_next (shown it.states.now) };
 
     ghost goal = { λ it. edge_goal (shown it.states.now) };

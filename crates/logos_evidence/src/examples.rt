@@ -1,9 +1,7 @@
 //! What a leaf finds.
 
 ghost use Rattle.std.specs.Prelude.{◌≡◌, [], IfOk, MatchOption};
-ghost use Rattle.logos_graph.specs.GraphOf.{IsGraphOf};
-ghost use Rattle.logos_graph.specs.View.{rules_of};
-ghost use Rattle.logos_evidence.specs.Examples.{HasNoExample, IsShortestExample};
+ghost use Rattle.logos_evidence.specs.Words.{IsGraphOf, rules_of, HasNoExample, IsShortestExample, example_next, example_goal, shown};
 ghost use Rattle.logos_evidence.specs.inside.Machines as machines;
 
 use crate::walking::{next_at_end, next_by, seen_by, states_of};
@@ -43,9 +41,6 @@ pub(crate) fn point_from(here: usize) -> Point
 }
 
 impl Machine for Examples<'_> {
-    ghost use Rattle.logos_evidence.specs.inside.Machines.{example_next, example_goal};
-    ghost use Rattle.logos_evidence.specs.inside.Shown.{shown};
-
     ghost leads = { λ it. example_next (shown it.states.now) it.leaf };
 
     ghost goal = { λ it. example_goal (shown it.states.now) it.leaf };

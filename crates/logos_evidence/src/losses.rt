@@ -1,10 +1,7 @@
 //! Where a leaf matches and another one takes the match.
 
 ghost use Rattle.std.specs.Prelude.{◌≡◌, ◌==◌, [], IfOk, MatchOption, option_map};
-ghost use Rattle.std.specs.List.{list_any};
-ghost use Rattle.logos_graph.specs.GraphOf.{IsGraphOf};
-ghost use Rattle.logos_graph.specs.View.{rules_of};
-ghost use Rattle.logos_evidence.specs.Losses.{IsShortestLoss, NeverLoses};
+ghost use Rattle.logos_evidence.specs.Words.{list_any, IsGraphOf, rules_of, IsShortestLoss, NeverLoses, dfa_of, loss_next, loss_goal, shown};
 ghost use Rattle.logos_evidence.specs.inside.Machines as machines;
 
 use crate::examples::{is_last, point_from};
@@ -42,10 +39,6 @@ fn lists(leaf: usize, leaves: Option<&[usize]>) -> bool
 }
 
 impl Machine for Losses<'_> {
-    ghost use Rattle.logos_automaton.specs.DfaView.{dfa_of};
-    ghost use Rattle.logos_evidence.specs.inside.Machines.{loss_next, loss_goal};
-    ghost use Rattle.logos_evidence.specs.inside.Shown.{shown};
-
     ghost leads = { λ it. loss_next (dfa_of it.dfa.now) (shown it.states.now) it.leaf };
 
     ghost goal = { λ it. loss_goal (dfa_of it.dfa.now) (shown it.states.now) it.leaf };

@@ -1,13 +1,8 @@
 //! The matches from an offset of an input.
 
 ghost use Rattle.std.specs.Prelude.{◌≡◌, ◌≤◌, ◌⊎◌, ◌++◌, [], IfOk, MatchOption, OnOk, length, map};
-ghost use Rattle.logos_automaton.specs.Faults.{AllStart};
+ghost use Rattle.logos_evidence.specs.Views.{AllStart, IsGraphOf, rules_of, IsBytes, AreMatches, IsAtMost, IsWinner, match_to};
 ghost use Rattle.logos_automaton.specs.Munch as munch;
-ghost use Rattle.logos_graph.specs.GraphOf.{IsGraphOf};
-ghost use Rattle.logos_graph.specs.View.{rules_of};
-ghost use Rattle.logos_hir.specs.Text.{IsBytes};
-ghost use Rattle.logos_evidence.specs.Matching.{AreMatches, IsAtMost, IsWinner};
-ghost use Rattle.logos_evidence.specs.inside.Listed.{match_to};
 
 use logos_automaton::dfa::parts::leaves_at;
 use logos_graph::graph::Graph;

@@ -1,13 +1,7 @@
 //! Where leaves meet.
 
-ghost use Rattle.std.specs.Prelude.{◌≡◌, ◌<◌, ◌∷◌, ℕ, List, IfOk, IsTrue, MatchOption, false, length, if◌then◌else◌};
-ghost use Rattle.std.specs.Prelude.{option_map, bytes_eq};
-ghost use Rattle.std.specs.List.Sorted.{IsStrictlyIncreasing};
-ghost use Rattle.logos_automaton.specs.Faults.{AllStart};
-ghost use Rattle.logos_automaton.specs.inside.TopSets.{highest_of, top_of};
-ghost use Rattle.logos_graph.specs.GraphOf.{IsGraphOf};
-ghost use Rattle.logos_graph.specs.View.{rules_of};
-ghost use Rattle.logos_evidence.specs.Meetings.{IsShortestMeeting, NeverMeet};
+ghost use Rattle.std.specs.Prelude.{◌≡◌, ◌<◌, ◌∷◌, ℕ, List, IfOk, IsTrue, MatchOption, false, length, if◌then◌else◌, option_map, bytes_eq};
+ghost use Rattle.logos_evidence.specs.Words.{IsStrictlyIncreasing, AllStart, highest_of, top_of, IsGraphOf, rules_of, IsShortestMeeting, NeverMeet, meeting_next, meeting_goal};
 ghost use Rattle.logos_evidence.specs.inside.Machines as machines;
 
 use crate::matching::priority_of;
@@ -90,9 +84,6 @@ fn point_at(state: usize, met: bool) -> Point
 }
 
 impl Machine for Meetings<'_, '_> {
-    ghost use Rattle.logos_graph.specs.View.{rules_of};
-    ghost use Rattle.logos_evidence.specs.inside.Machines.{meeting_next, meeting_goal};
-
     ghost leads = { λ it. meeting_next it.graph.now.automaton (rules_of it.graph.now.leaves) it.set.now };
 
     ghost goal = { λ it. meeting_goal it.graph.now.automaton (rules_of it.graph.now.leaves) it.set.now };

@@ -1,13 +1,9 @@
 //! Steps of a graph, and the matches that end on them.
 
 ghost use Rattle.std.specs.Prelude.{◌≡◌, [], IfOk, find, length, map, option_map};
-ghost use Rattle.logos_byte_class.specs.Bytes.{has_byte};
-ghost use Rattle.logos_graph.specs.FinishedGraph.{IsFinished};
+ghost use Rattle.logos_evidence.specs.Words.{has_byte, IsFinished, edge_of, graph_state_of, is_in, shown};
 ghost use Rattle.logos_graph.specs.Graph as graphs;
-ghost use Rattle.logos_graph.specs.GraphView.{edge_of, graph_state_of};
-ghost use Rattle.logos_hir.specs.ByteRanges.{is_in};
 ghost use Rattle.logos_evidence.specs.inside.Lasts as lasts;
-ghost use Rattle.logos_evidence.specs.inside.Shown.{shown};
 
 use logos_byte_class::byte_class::ByteClass;
 use logos_graph::graph::{Graph, State, StateData};

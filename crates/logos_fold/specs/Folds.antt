@@ -27,7 +27,7 @@ TakesTo code s b next =
     let loop = (state_at code s).fast_loop in
     ((stays code loop b ≡ true) × (next ≡ s)) ⊎ ((stays code loop b ≡ false) × (target code (state_at code s).fork b ≡ Some next))
 
--- The place is that of the state in which a try stands after the byte.
+-- The offset is that of the state in which a try stands after the byte.
 pub record Goes (code : CodeValue) (s b place : ℕ) : Type 0 where
   pub next : ℕ
   pub there : next < length code.states
@@ -51,7 +51,7 @@ HasUse entry Skips = bit_at entry 30 ≡ 0
 HasUse entry Asks = (bit_at entry 30 ≡ 1) × (bit_at entry 29 ≡ 1)
 
 -- The entry of a byte before which a match of the leaf ends, and after which the next try stands at
--- the place.
+-- the offset.
 pub record IsEnded (entry leaf : ℕ) (used : MatchUse) (place : ℕ) : Type 0 where
   pub ended : bit_at entry 31 ≡ 1
   pub has_use : HasUse entry used
@@ -64,14 +64,15 @@ pub record EndsAs (code : CodeValue) (s b entry : ℕ) : Type 0 where
   pub has_use : HasUse entry used
   pub says : Says code (state_at code s) b (Halts (record { 0 = leaf_of entry }) used) ⊎ Says code (state_at code s) b (Looks (record { 0 = leaf_of entry }) used)
 
--- The folded entry of a byte in a state. Without flags it names the place after the byte. With the
--- flag of an end, a match of its leaf ends before the byte, and it names the place after the byte
--- in the try that begins there. With the other flag alone it says nothing.
+-- The folded entry of a byte in a state. Without flags it names the offset of the state after the
+-- byte. With the flag of an end, a match of its leaf ends before the byte, and it names the offset
+-- of the state after the byte in the try that begins there. With the other flag alone it says
+-- nothing.
 pub record IsFolded (code : CodeValue) (s b entry : ℕ) : Type 0 where
   pub goes : bit_at entry 31 ≡ 0 → bit_at entry 30 ≡ 0 → Goes code s b (place_of entry)
   pub ends : bit_at entry 31 ≡ 1 → EndsAs code s b entry × Goes code code.root b (place_of entry)
 
--- A row begins at the place.
+-- A row begins at the offset.
 abbrev pub IsWithin : CodeValue → ℕ → Type 0
 IsWithin code place = place + 255 < 272 * length code.states
 

@@ -60,7 +60,7 @@ fn step_at(code: &Code, state: usize, byte: u8) -> Step
     step_of(code.entry(WIDTH * state, byte))
 }
 
-/// Returns the place of the state in which a try stands after the byte, if it is known that the
+/// Returns the offset of the state in which a try stands after the byte, if it is known that the
 /// byte keeps the try going.
 fn place_after(code: &Code, state: usize, byte: u8) -> Option<usize>
     requires few { IsFew code.now }
@@ -76,7 +76,7 @@ fn place_after(code: &Code, state: usize, byte: u8) -> Option<usize>
     }
 }
 
-/// Returns the place of the state to which the byte leads.
+/// Returns the offset of the state to which the byte leads.
 fn place_of_target(code: &Code, state: usize, byte: u8) -> Option<usize>
     requires few { IsFew code.now }
     requires sound { IsSound code.now }
@@ -102,7 +102,7 @@ fn flags(used: MatchUse) -> u32
 }
 
 /// Returns the entry of a byte before which a match ends, and after which the next try stands at
-/// the place.
+/// the offset.
 fn ended(leaf: LeafId, used: MatchUse, place: usize) -> u32
     requires leaf { leaf.0 < 512 }
     requires place { place < 1048576 }
@@ -111,8 +111,8 @@ fn ended(leaf: LeafId, used: MatchUse, place: usize) -> u32
     flags(used) + LEAF * leaf.0 as u32 + place as u32
 }
 
-/// Returns the entry of a byte that does not keep the try going, from the place after the byte in a
-/// new try.
+/// Returns the entry of a byte that does not keep the try going, from the offset after the byte in
+/// a new try.
 fn fold_end(code: &Code, state: usize, byte: u8, place: usize) -> u32
     requires few { IsFew code.now }
     requires state { state < length code.now.states }

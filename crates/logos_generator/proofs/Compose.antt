@@ -45,7 +45,8 @@ lexes_by uses callback bytes search other h (match from to leaf answer rest s a 
 lexes_by uses callback bytes search other h (fault from to rest s l) =
     fault from to rest (h from (failed to) s) (lexes_by uses callback bytes search other h l)
 
--- each run of such a code gives the items of maximal munch, and each such list of items is a run of it
+-- each run of such a code gives the items of maximal munch, and each such list of items is a run of
+-- it
 pub runs_iff : (rules : List Rule) (utf8 : Bool) (code : CodeValue) (callback : Callback) (bytes : List ℕ) (from : ℕ) (items : List Item) →
     IsLexer rules utf8 code → IsInput utf8 bytes →
     Runs code callback bytes from items ↔ Items rules callback utf8 bytes from items

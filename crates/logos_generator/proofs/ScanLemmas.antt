@@ -1,4 +1,5 @@
--- The last mark on the way through a graph, and how far it can be followed, by one walk over the rest of the input.
+-- The last mark on the way through a graph, and how far it can be followed, by one walk over the
+-- rest of the input.
 use Rattle.std.proofs.Common.{◌≡◌, ℕ, zero, suc, ◌+◌, ◌<◌, ◌≤◌, ◌↔◌, ◌⊎◌, inl, inr, ⊎_elim, true, false, List, [], ◌∷◌, length, take, Option, Some, None, IsSome, option_map, option_and_then, slice_get, nat_lt, refl, ◌∙◌, arith, rules}
 use Rattle.std.specs.Option.{option_map_or}
 use Rattle.logos_code.specs.Code.{Mark}
@@ -14,7 +15,8 @@ module _ (graph : List GraphState) where
   abbrev pub passed : ℕ → ℕ → Option (ℕ × ℕ) → Option (ℕ × ℕ)
   passed s at context = marked (mark_at s) at context
 
-  -- the context behind the whole way: state s is entered at the place `at`, with this rest and this context
+  -- the context behind the whole way: state s is entered at the place `at`, with this rest and this
+  -- context
   abbrev pub last_of : ℕ → List ℕ → ℕ → Option (ℕ × ℕ) → Option (ℕ × ℕ)
   last_of s [] at context = option_map_or (λ t. passed t (at + 1) (passed s at context)) (next_at_end graph s) (passed s at context)
   last_of s (b ∷ rest) at context = option_map_or (λ t. last_of t rest (at + 1) (passed s at context)) (next_by graph s b) (passed s at context)

@@ -11,15 +11,16 @@ use Rattle.logos_code.specs.declared.code.Header.{Header}
 pub record GeneratorValue : Type 0 where
   pub given : Header
   pub graph : GraphValue
-  -- the byte sets that nodes test by bits, and the jump tables of nodes, each by its number
+  -- The byte sets that nodes test by bits, and the jump tables of nodes, each by its number.
   pub tests : List (List Bool)
   pub jumps : List (List ℕ)
 
--- a generator that was given this, and has made no node yet
+-- A generator that was given this, and has made no node yet.
 abbrev pub fresh : Header → GraphValue → GeneratorValue
 fresh given graph = record { given = given; graph = graph; tests = []; jumps = [] }
 
--- what the lexer does with the matches of a leaf: its kind, with a type by its parts, and its callback by its tokens
+-- What the lexer does with the matches of a leaf: its kind, with a type by its parts, and its
+-- callback by its tokens.
 pub record LeafValue : Type 0 where
   pub kind : KindValue
   pub callback : Option CallbackValue
@@ -30,14 +31,16 @@ leaf_value leaf = record { kind = kind_value leaf.kind; callback = option_map ca
 abbrev pub code_leaf_value : CodeLeaf → LeafValue
 code_leaf_value leaf = record { kind = kind_value leaf.kind; callback = option_map callback_value leaf.callback }
 
--- The shape and the name are the same, the type has the same parts, and the error callback the same tokens.
+-- The shape and the name are the same, the type has the same parts, and the error callback the same
+-- tokens.
 pub record IsCopy (given header : Header) : Type 0 where
   pub shape : header.shape ≡ given.shape
   pub name : header.name ≡ given.name
   pub this : type_tree header.this ≡ type_tree given.this
   pub error_callback : option_map callback_value header.error_callback ≡ option_map callback_value given.error_callback
 
--- The code has copies of what its generator was given, and of the kind and the callback of each leaf of the graph.
+-- The code has copies of what its generator was given, and of the kind and the callback of each
+-- leaf of the graph.
 pub record KeepsGiven (given : Header) (graph : GraphValue) (code : CodeValue) : Type 0 where
   pub copy : IsCopy given code.header
   pub leaves : map code_leaf_value code.code_leaves ≡ map leaf_value graph.leaves

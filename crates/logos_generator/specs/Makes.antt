@@ -6,7 +6,7 @@ use Rattle.logos_reduce.specs.Edges.{StateType}
 use Rattle.logos_graph.specs.Graph.{GraphState}
 use Rattle.logos_hir.specs.ByteRanges.{is_in}
 
--- an early mark wins over a late one
+-- An early mark wins over a late one.
 abbrev pub mark_by : Option ℕ → Option ℕ → Option Mark
 mark_by (Some leaf) accept = Some (record { leaf = leaf; late = false })
 mark_by None (Some leaf) = Some (record { leaf = leaf; late = true })
@@ -15,11 +15,11 @@ mark_by None None = None
 abbrev pub mark_made : StateType → Option Mark
 mark_made type = mark_by type.early type.accept
 
--- where a byte leads in the graph
+-- Where a byte leads in the graph.
 abbrev pub led_by : GraphState → ℕ → Option ℕ
 led_by state b = option_map (λ edge. edge.1) (find (λ edge. is_in edge.0 b) state.normal)
 
--- where a byte leads in the code, the fast loop of state s counted
+-- Where a byte leads in the code, the fast loop of state s counted.
 abbrev pub leads : CodeValue → ℕ → CodeState → ℕ → Option ℕ
 leads code s made b = if stays code made.fast_loop b then Some s else target code made.fork b
 

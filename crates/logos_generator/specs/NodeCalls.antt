@@ -18,19 +18,19 @@ pub record Continues (old new : GeneratorValue) : Type 0 where
   pub tests : Extends old.tests new.tests
   pub jumps : Extends old.jumps new.jumps
 
--- the fork of a state by its data, without the edge back to it or with it
+-- The fork of a state by its data, without the edge back to it or with it.
 pub record MakesFork (old new : GeneratorValue) (state : State) (state_data : StateData) (ignore_self : Bool) (made : Fork) : Type 0 where
   pub is : IsForkOf new.tests (left_out ignore_self (state_number state)) (graph_state_of state_data).normal (fork_of new.jumps made)
   pub numbers : new.tests ≡ numbered old.tests (fork_uses (left_out ignore_self (state_number state)) (graph_state_of state_data).normal)
   pub jumps : new.jumps ≡ with_tables old.jumps (fork_tables (left_out ignore_self (state_number state)) (graph_state_of state_data).normal)
 
--- the fast loop of a state of the graph, if an edge leads back to it
+-- The fast loop of a state of the graph, if an edge leads back to it.
 pub record MakesLoop (old new : GeneratorValue) (state : State) (made : Option FastLoop) : Type 0 where
   pub is : (at : GraphState) → slice_get old.graph.states (state_number state) ≡ Some at → IsLoopOf new.tests (state_number state) at.normal (option_map (λ node. node.test) made)
   pub numbers : (at : GraphState) → slice_get old.graph.states (state_number state) ≡ Some at → new.tests ≡ numbered old.tests (loop_uses (state_number state) at.normal)
   pub jumps : new.jumps ≡ old.jumps
 
--- the fast loop over these bytes
+-- The fast loop over these bytes.
 pub record MakesLoopOver (old new : GeneratorValue) (ranges : List (ℕ × ℕ)) (made : FastLoop) : Type 0 where
   pub is : IsTest new.tests ranges made.test
   pub numbers : new.tests ≡ numbered old.tests (ranges ∷ [])

@@ -1,4 +1,5 @@
--- The tests that a code makes by bits, its jump tables, the numbers of both, and the nodes that name them.
+-- The tests that a code makes by bits, its jump tables, the numbers of both, and the nodes that
+-- name them.
 use Rattle.std.specs.Prelude.{◌≡◌, ℕ, zero, suc, ◌+◌, ◌*◌, Bool, ◌==◌, nat_le, List, [], ◌∷◌, ◌++◌, map, length, fold, find, Option, Some, None, option_map, IsSomeAnd, if◌then◌else◌, slice_get}
 use Rattle.std.specs.Bool.{beq}
 use Rattle.std.specs.Int.{div_ceil}
@@ -13,15 +14,16 @@ use Rattle.logos_byte_class.specs.Bytes.{joined}
 use Rattle.logos_code.specs.Code.{CodeValue}
 use Rattle.logos_generator.specs.Nodes.{cost, leads_beside, tests_byte, IsStateOf}
 
--- for each byte, whether it is in the ranges
+-- For each byte, whether it is in the ranges.
 abbrev pub set_of : List (ℕ × ℕ) → List Bool
 set_of ranges = map (is_in ranges) (range_with_len 0 256)
 
--- The tests after one more use: a set of bytes that has a number keeps it, and another takes the next one.
+-- The tests after one more use: a set of bytes that has a number keeps it, and another takes the
+-- next one.
 abbrev pub with_use : List (List Bool) → List (ℕ × ℕ) → List (List Bool)
 with_use tests ranges = insert_key (pointwise beq) tests (set_of ranges)
 
--- the tests after these uses, in their order
+-- The tests after these uses, in their order.
 abbrev pub numbered : List (List Bool) → List (List (ℕ × ℕ)) → List (List Bool)
 numbered tests uses = fold with_use tests uses
 
@@ -50,16 +52,17 @@ abbrev pub uses_from : ℕ → List GraphState → List (List (ℕ × ℕ))
 uses_from s [] = []
 uses_from s (state ∷ states) = state_uses s state.normal ++ uses_from (s + 1) states
 
--- The tests of a graph's code, by their numbers: numbered by first use, and equal ones share a number.
+-- The tests of a graph's code, by their numbers: numbered by first use, and equal ones share a
+-- number.
 abbrev pub tests_of : List GraphState → List (List Bool)
 tests_of graph = numbered [] (uses_from 0 graph)
 
--- an entry of a jump table: the state that a byte leads to, or the number that stands for none
+-- An entry of a jump table: the state that a byte leads to, or the number that stands for none.
 abbrev pub jump_entry : Option ℕ → ℕ
 jump_entry None = 4294967295
 jump_entry (Some target) = target
 
--- the jump table of a state's edges, without the edge back to s: an entry for each byte
+-- The jump table of a state's edges, without the edge back to s: an entry for each byte.
 abbrev pub jump_table : ℕ → List Edge → List ℕ
 jump_table s edges = map (λ b. jump_entry (leads_beside s edges b)) (range_with_len 0 256)
 
@@ -67,29 +70,31 @@ jump_table s edges = map (λ b. jump_entry (leads_beside s edges b)) (range_with
 abbrev pub fork_tables : ℕ → List Edge → List (List ℕ)
 fork_tables s edges = if nat_le (length edges) 2 then [] else jump_table s edges ∷ []
 
--- The jump tables after these uses: a table that has a number keeps it, and another takes the next one.
+-- The jump tables after these uses: a table that has a number keeps it, and another takes the next
+-- one.
 abbrev pub with_tables : List (List ℕ) → List (List ℕ) → List (List ℕ)
 with_tables tables uses = fold (insert_key (pointwise ◌==◌)) tables uses
 
--- the jump tables that the forks of states use, ascending from number s on
+-- The jump tables that the forks of states use, ascending from number s on.
 abbrev pub tables_from : ℕ → List GraphState → List (List ℕ)
 tables_from s [] = []
 tables_from s (state ∷ states) = fork_tables s state.normal ++ tables_from (s + 1) states
 
--- The jump tables of a graph's code, by their numbers: numbered by first use, and equal ones share a number.
+-- The jump tables of a graph's code, by their numbers: numbered by first use, and equal ones share
+-- a number.
 abbrev pub jump_tables_of : List GraphState → List (List ℕ)
 jump_tables_of graph = with_tables [] (tables_from 0 graph)
 
--- n tests from number k on at a byte, as the bits of a number, the first one being the lowest
+-- So many tests, from number k on, at a byte, as the bits of a number: the first is the lowest.
 abbrev pub bits_from : List (List Bool) → ℕ → ℕ → ℕ → ℕ
 bits_from tests b k zero = 0
 bits_from tests b k (suc n) = bits_from tests b (k + 1) n * 2 + (if tests_byte tests k b then 1 else 0)
 
--- table j has an entry for each byte, of the eight tests from number 8 j on
+-- Table j has an entry for each byte, of the eight tests from number 8 j on.
 abbrev pub bit_table : List (List Bool) → ℕ → List ℕ
 bit_table tests j = map (λ b. bits_from tests b (8 * j) 8) (range_with_len 0 256)
 
--- as many tables as hold all tests
+-- As many tables as hold all tests.
 abbrev pub bit_tables_of : List (List Bool) → List (List ℕ)
 bit_tables_of tests = map (bit_table tests) (range_with_len 0 (div_ceil (length tests) 8))
 
@@ -98,7 +103,7 @@ pub record HasNodesOf (graph : List GraphState) (code : CodeValue) : Type 0 wher
   pub root : code.root ≡ 0
   pub count : length code.states ≡ length graph
   pub states : (s : ℕ) (state : GraphState) → slice_get graph s ≡ Some state → IsSomeAnd (slice_get code.states s) (IsStateOf (tests_of graph) s state)
-  -- test k is bit k mod 8 of table k / 8
+  -- Test k is bit k mod 8 of table k / 8.
   pub tables : code.bit_tables ≡ bit_tables_of (tests_of graph)
-  -- the jump tables, each by its number
+  -- The jump tables, each by its number.
   pub jumps : code.jump_tables ≡ jump_tables_of graph

@@ -16,7 +16,7 @@ use Rattle.logos_code.specs.Bytes.{passes_test}
 use Rattle.logos_generator.specs.Numbering.{tests_of, bit_tables_of, jump_tables_of}
 use Rattle.logos_generator.specs.Nodes.{tests_byte, IsBranchOf, IsStateOf}
 
--- what the lexer does with the matches of a leaf
+-- What the lexer does with the matches of a leaf.
 abbrev pub leaf_use : Leaf → Use
 leaf_use leaf = (rule_of leaf).use_of
 
@@ -36,7 +36,8 @@ pub record AreStatesOf (tests : List (List Bool)) (jumps : List (List ℕ)) (gra
   pub count : length states ≡ length graph
   pub each : (s : ℕ) (state : GraphState) → slice_get graph s ≡ Some state → IsSomeAnd (slice_get states s) (λ made. IsStateOf tests s state (state_of jumps made))
 
--- They are made so, with the graph's tests in the bit tables and with its jump tables, no two of which are equal.
+-- They are made so, with the graph's tests in the bit tables and with its jump tables, no two of
+-- which are equal.
 pub record AreTablesOf (graph : List GraphState) (states : List TheState) (bit_tables jump_tables : List (List ℕ)) : Type 0 where
   pub are : AreStatesOf (tests_of graph) jump_tables graph states
   pub hold : (k b : ℕ) → b < 256 → passes_test bit_tables k b ≡ tests_byte (tests_of graph) k b

@@ -65,9 +65,10 @@ impl<'g, 's> Model for Generator<'g, 's> {
 }
 
 impl<'g, 's> Generator<'g, 's> {
-    /// Returns a generator for a graph without faults, of the enum with this name and type. Where no leaf matches, the code calls the
-    /// error callback. The generator has made no node yet. This call takes no memory; the tests and jump tables take theirs from `alloc`
-    /// when nodes are made.
+    /// Returns a generator for a graph without faults, of the enum with this name and type. Where
+    /// no leaf matches, the code calls the error callback. The generator has made no node yet. This
+    /// call takes no memory; the tests and jump tables take theirs from `alloc` when nodes are
+    /// made.
     pub fn new(
         alloc: Global,
         config: Config,
@@ -94,15 +95,17 @@ impl<'g, 's> Generator<'g, 's> {
         }
     }
 
-    /// Makes the code: from each point of each input it finds what the graph finds, and each try enters at
-    /// most two states more than there are bytes left. It keeps copies of what the generator was given,
-    /// and of the kinds and callbacks of the graph's leaves. Its tests and its jump tables are numbered by
-    /// first use, states ascending and the fast loop before the fork; equal ones share a number. The
-    /// generator's tests and jump tables are those of the code then, whatever nodes it made before, so
-    /// `render_luts` and `render_jump_tables` give the code's tables.
+    /// Makes the code: from each point of each input it finds what the graph finds, and each try
+    /// enters at most two states more than there are bytes left. It keeps copies of what the
+    /// generator was given, and of the kinds and callbacks of the graph's leaves. Its tests and its
+    /// jump tables are numbered by first use, states ascending and the fast loop before the fork;
+    /// equal ones share a number. The generator's tests and jump tables are those of the code then,
+    /// whatever nodes it made before, so `render_luts` and `render_jump_tables` give the code's
+    /// tables.
     ///
     /// # Errors
-    /// Returns `Memory` when memory runs out. The generator is then as it was.
+    ///
+    /// Returns `Memory` if memory runs out. The generator is then as it was.
     pub fn generate(&mut self, alloc: Global) -> Result<Code<'s>, Memory>
         ensures runs { IfOk result (λ code. RunsAs self.old.graph.states self.old.graph.utf8 code) }
         ensures mode { IfOk result (λ code. code.utf8 ≡ self.old.graph.utf8) }

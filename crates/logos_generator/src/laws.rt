@@ -1,4 +1,5 @@
-//! Laws of the definitions. The contract of each function is a law. To use one in a proof, call its function: the call does nothing.
+//! Laws of the definitions. The contract of each function is a law. To use one in a proof, call its
+//! function: the call does nothing.
 
 ghost use Rattle.std.specs.Prelude.{ℕ, ◌≤◌, Bool, false, List, length};
 ghost use Rattle.logos_generator.specs.Words.{IsInput, Rule, Item, Items, AreInOrder, Parts, IsLeftOut, answers_of, GraphsGiveLexers, RunsAreItems, NextIsTheNext, ItemsAreOnce, ItemsGoOver, LexersAgree, RunsAreCut};
@@ -14,16 +15,16 @@ pub fn items_are_in_order<C: Fn(LeafId, &[u8]) -> Action>(callback: &C)
         AreInOrder (length bytes) from items }
 {}
 
-/// The spans of the items of maximal munch, together with those of the matches that a skip or an answer leaves
-/// out, divide the input in order, and none is empty.
+/// The spans of the items of maximal munch, together with those of the matches that a skip or an
+/// answer leaves out, divide the input in order, and none is empty.
 pub fn items_part_the_input<C: Fn(LeafId, &[u8]) -> Action>(callback: &C)
     ensures { (rules : List Rule) (utf8 : Bool) (bytes : List ℕ) (from : ℕ) (items : List Item) →
         from ≤ length bytes → Items rules (answers_of C.Fn callback.now) utf8 bytes from items →
         Parts (IsLeftOut rules (answers_of C.Fn callback.now) bytes) (length bytes) from items }
 {}
 
-/// A code that runs as a graph does, whose leaves are used as the graph's, is a lexer of the graph's
-/// rules if the graph finds what maximal munch finds.
+/// A code that runs as a graph does, whose leaves are used as the graph's, is a lexer of the
+/// graph's rules if the graph finds what maximal munch finds.
 pub fn code_of_a_graph_is_a_lexer()
     ensures { GraphsGiveLexers }
 {}
@@ -33,7 +34,8 @@ pub fn runs_are_the_items<C: Fn(LeafId, &[u8]) -> Action>(callback: &C)
     ensures { RunsAreItems (answers_of C.Fn callback.now) }
 {}
 
-/// The next item of a lexer's code from a point on is the next one of maximal munch, and ends where that does.
+/// The next item of a lexer's code from a point on is the next one of maximal munch, and ends where
+/// that does.
 pub fn next_items_are_the_next<C: Fn(LeafId, &[u8]) -> Action>(callback: &C)
     ensures { NextIsTheNext (answers_of C.Fn callback.now) }
 {}
@@ -49,7 +51,8 @@ pub fn items_are_cut_between_characters<C: Fn(LeafId, &[u8]) -> Action>(callback
     ensures { RunsAreCut (answers_of C.Fn callback.now) }
 {}
 
-/// By a callback that gives at most one answer to each match, an input has at most one list of items.
+/// By a callback that gives at most one answer to each match, an input has at most one list of
+/// items.
 pub fn an_input_has_one_list_of_items<C: Fn(LeafId, &[u8]) -> Action>(callback: &C)
     ensures { ItemsAreOnce (answers_of C.Fn callback.now) }
 {}

@@ -4,7 +4,7 @@ use Rattle.logos_hir.specs.Text.{IsBytes}
 use Rattle.logos_reduce.specs.Table.{size, to, mark, type_of}
 use Rattle.logos_reduce.specs.Evidence as of_table
 use Rattle.logos_reduce.specs.Evidence.{mark_with_end, mark_after}
-use Rattle.logos_reduce.specs.Words.{state_after}
+use Rattle.logos_reduce.specs.SymbolWords.{state_after}
 use Rattle.logos_reduce.specs.declared.table.Mark.{Mark}
 use Rattle.logos_reduce.specs.declared.table.Table.{Table}
 use Rattle.logos_graph.specs.Graph.{GraphState, type_after, Distinguishes}

@@ -378,7 +378,8 @@ module _ (raw : Table) (root : ℕ) (reduction : Reduction) (made : table.IsRedu
           go None q x ih = absurd (cc)
           go (Some r) q x ih = ih r t (edge_within final s b r (sym (shows.next s b l (first_byte b bytes ok)) ∙ q)).1 x
 
-      -- a state reached by bytes alone is early for the leaf that is settled there, and for no other
+      -- a state reached by bytes alone is early for the leaf that is settled there, and for no
+      -- other
       pub early : (bytes : List ℕ) (s leaf : ℕ) → IsBytes bytes → walk graph 0 bytes false ≡ Some s → reduced.HasType graph s (λ type. (type.early ≡ Some leaf) ↔ reduced.IsSettled rules bytes leaf)
       early bytes s leaf ok w =
           let way : reach (edges_of graph) 0 bytes ≡ Some s = sym (walk_reach graph bytes 0) ∙ w in

@@ -1,4 +1,5 @@
--- Where no sets are ambiguous, the leaf of highest priority that is listed is the first by priority of those that match.
+-- Where no sets are ambiguous, the leaf of highest priority that is listed is the first by priority
+-- of those that match.
 use Rattle.std.proofs.Common.{◌≡◌, ◌≢◌, ◌↔◌, ℕ, zero, suc, ◌<◌, ◌≤◌, ◌⊎◌, inl, inr, Bool, true, false, cond, List, [], ◌∷◌, length, Contains, filter, nat_lt, eqb, MatchOption, Option, Some, None, refl, sym, ◌∙◌, ap, subst, arith, eqb-true, eq-eqb}
 use Rattle.std.proofs.lemmas.Bool.{cases_lt}
 use Rattle.std.proofs.lemmas.Bool.Decides.{nat_tests}

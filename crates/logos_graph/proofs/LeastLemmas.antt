@@ -1,10 +1,11 @@
--- A word of symbols that distinguishes two states of a table gives bytes, with the end after them or not, that distinguish the states of the graph.
+-- A word of symbols that distinguishes two states of a table gives bytes, with the end after them
+-- or not, that distinguish the states of the graph.
 use Rattle.std.proofs.Common.{◌≡◌, ◌≢◌, ℕ, ◌<◌, ◌≤◌, ◌⊎◌, inl, inr, Bool, true, false, List, [], ◌∷◌, length, Option, Some, None, option_map, refl, sym, ◌∙◌, ap, arith}
 use Rattle.std.proofs.lemmas.Bool.{cases_lt}
 use Rattle.std.proofs.lemmas.List.Elements.{All-cons, All-nil}
 use Rattle.logos_hir.specs.Text.{IsBytes}
 use Rattle.logos_graph.specs.Graph.{GraphState, type_after, Distinguishes}
-use Rattle.logos_reduce.specs.Words.{state_after, WordDistinguishes}
+use Rattle.logos_reduce.specs.SymbolWords.{state_after, WordDistinguishes}
 use Rattle.logos_reduce.specs.Table.{size, to, mark, type_of}
 use Rattle.logos_graph.specs.ReduceShown.{Shows}
 use Rattle.logos_reduce.specs.declared.table.Mark.{Mark}

@@ -1,4 +1,5 @@
--- An automaton that marks one byte late, without reductions: its last mark is the longest match, and its states lead on just where the bytes read can still grow.
+-- An automaton that marks one byte late, without reductions: its last mark is the longest match,
+-- and its states lead on just where the bytes read can still grow.
 use Rattle.std.proofs.Common.{◌≡◌, ◌↔◌, ℕ, zero, suc, ◌+◌, ◌<◌, ◌≤◌, ◌⊎◌, inl, inr, List, [], ◌∷◌, ◌++◌, length, take, Option, Some, None, IsSome, IsFalse, MatchOption, refl, sym, ◌∙◌, ap, subst, option_and_then, arith, length-append, append_assoc, append-nil}
 use Rattle.std.proofs.lemmas.List.Elements.{All-append, All-cons, All-nil, All-take}
 use Rattle.std.proofs.lemmas.Bool.{cases_lt}

@@ -17,7 +17,8 @@ module _ {S : Type 0} (next : S → ℕ → Option S) (at_end : S → Option S) 
     pub by_byte : (b : ℕ) → b < 256 → (t : S) × (next s b ≡ Some t) × ((types t).accept ≡ Some leaf)
     pub by_end : (t : S) × (at_end s ≡ Some t) × ((types t).accept ≡ Some leaf)
 
-  -- the late mark of a state is kept, or each step into it comes from a state that is early for the same leaf
+  -- the late mark of a state is kept, or each step into it comes from a state that is early for the
+  -- same leaf
   abbrev pub IsKept : (S → StateType) → (S → StateType) → S → Type 0
   IsKept old new t =
       ((new t).accept ≡ (old t).accept) ⊎ ((leaf : ℕ) × ((old t).accept ≡ Some leaf) × ((new t).accept ≡ None) × ((s : S) → IsStep s t → (new s).early ≡ Some leaf))

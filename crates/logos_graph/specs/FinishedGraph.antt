@@ -8,23 +8,23 @@ use Rattle.logos_reduce.specs.Edges.{StateType}
 use Rattle.logos_reduce.specs.Table.{size, to, mark, type_of}
 use Rattle.logos_reduce.specs.declared.table.Table.{Table}
 
--- a late mark alone
+-- A late mark alone.
 abbrev pub IsLate : StateType → Type 0
 IsLate type = (type.early ≡ None) × IsSome type.accept
 
--- no mark
+-- No mark.
 abbrev pub IsUnmarked : StateType → Type 0
 IsUnmarked type = (type.early ≡ None) × (type.accept ≡ None)
 
--- each mark names one of so many leaves
+-- Each mark names one of so many leaves.
 abbrev pub NamesLeaves : ℕ → StateType → Type 0
 NamesLeaves leaves type = IfSome type.accept (λ leaf. leaf < leaves) × IfSome type.early (λ leaf. leaf < leaves)
 
--- the ranges of the bytes that lead to a state, and the state
+-- The ranges of the bytes that lead to a state, and the state.
 abbrev pub Edge : Type 0
 Edge = List (ℕ × ℕ) × ℕ
 
--- where a byte leads
+-- Where a byte leads.
 abbrev pub edge_leads : List Edge → ℕ → Option ℕ
 edge_leads edges b = option_map (λ e. e.1) (find (λ e. is_in e.0 b) edges)
 
@@ -34,8 +34,8 @@ pub record AreNeat (edges : List Edge) : Type 0 where
   pub leads : All (λ edge. (b : ℕ) → b < 256 → is_in edge.0 b ≡ true → edge_leads edges b ≡ Some edge.1) edges
   pub apart : AllPairs (λ edge other. edge.1 ≢ other.1) edges
 
--- A table that code can be made of: its marks name leaves, a state that the end leads to has a late mark and no end edge, and
--- the first state has no mark, no end edge, and no edge to a late mark.
+-- A table that code can be made of: its marks name leaves, a state that the end leads to has a late
+-- mark and no end edge, and the first state has no mark, no end edge, and no edge to a late mark.
 pub record IsFit (table : Table) (leaves : ℕ) : Type 0 where
   pub some : 0 < size table
   pub marks : (s : ℕ) → s < size table → NamesLeaves leaves (type_of (mark table s))

@@ -16,22 +16,23 @@ use Rattle.logos_automaton.specs.declared.errors.BuildError.TheVariants.{LimitSi
 pub record IsGraphOf (leaves : List Leaf) (utf8 : Bool) (graph : GraphValue) : Type 0 where
   pub leaves_are : graph.leaves ≡ leaves
   pub mode : graph.utf8 ≡ utf8
-  -- the errors are exactly the faults of the leaves
+  -- The errors are exactly the faults of the leaves.
   pub faults_are : AreFaults (rules_of leaves) graph.faults
-  -- where each pattern takes a byte before it looks or matches, the automaton lists each match one byte late
+  -- Where each pattern takes a byte before it looks or matches, the automaton lists each match one
+  -- byte late.
   pub late : AllStart (rules_of leaves) → ReadsOneByteLate (rules_of leaves) graph.automaton
-  -- without a fault the graph finds at each place of each input what maximal munch finds
+  -- Without a fault the graph finds at each point of each input what maximal munch finds.
   pub finds : graph.faults ≡ [] → FindsTheLongest (rules_of leaves) utf8 graph.states
   pub reduced : graph.faults ≡ [] → IsReduced (rules_of leaves) graph.states
   pub least : graph.faults ≡ [] → IsLeast graph.states
 
--- why there is no graph of the rules
+-- Why there is no graph of the rules.
 abbrev pub Refuses : List Rule → BuildError → Type 0
 Refuses rules LimitSize = 2 ^ 20 < size_of rules
 Refuses rules LimitStates = AllStart rules × HasMoreKeys rules 65536
 Refuses rules Memory = Unit {0}
 
--- an automaton and the faults that were found of the rules
+-- An automaton and the faults that were found of the rules.
 pub record AreFindings (rules : List Rule) (dfa : Automaton) (faults : List Fault) : Type 0 where
   pub total : IsTotal dfa
   pub few : length dfa.matches ≤ 65536

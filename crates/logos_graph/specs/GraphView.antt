@@ -18,7 +18,7 @@ state_number state = state.0
 abbrev pub state_type_of : TheStateType → StateType
 state_type_of type = record { accept = option_map leaf_number type.accept; early = option_map leaf_number type.early }
 
--- the ranges of the bytes that lead to a state, and the state
+-- The ranges of the bytes that lead to a state, and the state.
 abbrev pub edge_of : ByteClass × State → List (ℕ × ℕ) × ℕ
 edge_of edge = (ranges_of edge.0, state_number edge.1)
 

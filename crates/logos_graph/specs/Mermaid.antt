@@ -6,22 +6,22 @@ use Rattle.logos_byte_class.specs.ClassText.{range_text}
 use Rattle.logos_reduce.specs.Edges.{StateType}
 use Rattle.logos_graph.specs.Graph.{GraphState}
 
--- a character in a label
+-- A character in a label.
 abbrev pub label_character : ℕ → List ℕ
 label_character c = if c == 34 then codes "&quot" else (if c == 92 then codes "\\\\" else (if c == 10 then codes "<br>" else c ∷ []))
 
 abbrev pub label_text : List ℕ → List ℕ
 label_text text = flat_map label_character text
 
--- a range of bytes in a label, as it prints
+-- A range of bytes in a label, as it prints.
 abbrev pub range_label : ℕ × ℕ → List ℕ
 range_label range = label_text (range_text range)
 
--- the same, below a former one
+-- The same, below a former one.
 abbrev pub next_label : ℕ × ℕ → List ℕ
 next_label range = label_character 10 ++ range_label range
 
--- the ranges of an edge, one below another
+-- The ranges of an edge, one below another.
 abbrev pub class_label : List (ℕ × ℕ) → List ℕ
 class_label ranges = join_by range_label (label_character 10) ranges
 
@@ -40,7 +40,7 @@ black = codes "#000000"
 abbrev pub green : List ℕ
 green = codes "#00C853"
 
--- a state with a mark is green
+-- A state with a mark is green.
 abbrev pub mark_colour : Option ℕ → Option ℕ → List ℕ
 mark_colour (Some leaf) accept = green
 mark_colour None (Some leaf) = green
@@ -49,7 +49,7 @@ mark_colour None None = black
 abbrev pub state_colour : StateType → List ℕ
 state_colour type = mark_colour type.early type.accept
 
--- the names of the nodes of a state, and of an edge
+-- The names of the nodes of a state, and of an edge.
 abbrev pub node_name : ℕ → List ℕ
 node_name s = codes "n" ++ decimal s
 
@@ -62,11 +62,11 @@ style_line name colour = codes "style " ++ name ++ codes " stroke:" ++ colour ++
 abbrev pub link_line : List ℕ → List ℕ → List ℕ
 link_line from to = from ++ codes "-->" ++ to ++ 10 ∷ []
 
--- the lines of a state: its node and its style
+-- The lines of a state: its node and its style.
 abbrev pub node_lines : List ℕ → List ℕ → List ℕ → List ℕ
 node_lines name label colour = name ++ codes "[\"" ++ label ++ codes "\"]" ++ 10 ∷ [] ++ style_line name colour
 
--- the lines of an edge: its node, its style and two links
+-- The lines of an edge: its node, its style and two links.
 abbrev pub edge_lines : List ℕ → List ℕ → List ℕ → List ℕ
 edge_lines from to label =
     edge_name from to ++ codes "{\"" ++ label ++ codes "\"}" ++ 10 ∷ [] ++ style_line (edge_name from to) black ++ link_line from (edge_name from to) ++ link_line (edge_name from to) to
@@ -74,7 +74,7 @@ edge_lines from to label =
 abbrev pub byte_edge_lines : List ℕ → List (ℕ × ℕ) × ℕ → List ℕ
 byte_edge_lines from edge = edge_lines from (node_name edge.1) (class_label edge.0)
 
--- the edge by the end
+-- The edge by the end.
 abbrev pub end_edge_lines : List ℕ → Option ℕ → List ℕ
 end_edge_lines from None = []
 end_edge_lines from (Some t) = edge_lines from (node_name t) (codes "EOI")
@@ -84,7 +84,7 @@ state_lines s state =
     node_lines (node_name s) (state_label s state.state_type) (state_colour state.state_type)
     ++ flat_map (byte_edge_lines (node_name s)) state.normal ++ end_edge_lines (node_name s) state.eoi
 
--- the lines of the states from the number s on
+-- The lines of the states from the number s on.
 abbrev pub lines_from : ℕ → List GraphState → List ℕ
 lines_from s [] = []
 lines_from s (state ∷ states) = state_lines s state ++ lines_from (s + 1) states

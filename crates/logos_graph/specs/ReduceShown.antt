@@ -6,7 +6,8 @@ use Rattle.logos_graph.specs.Graph.{GraphState, next_by, next_at_end}
 use Rattle.logos_reduce.specs.Table.{size, to, mark, type_of}
 use Rattle.logos_reduce.specs.declared.table.Table.{Table}
 
--- The graph has the states of the table, with their types and edges; byte edges stand by target number.
+-- The graph has the states of the table, with their types and edges; byte edges stand by target
+-- number.
 pub record Shows (table : Table) (graph : List GraphState) : Type 0 where
   pub states : length graph ≡ size table
   pub types : (s : ℕ) → s < size table → option_map (λ state. state.state_type) (slice_get graph s) ≡ Some (type_of (mark table s))

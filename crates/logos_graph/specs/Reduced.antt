@@ -7,12 +7,12 @@ use Rattle.logos_automaton.specs.Munch.{Rule, IsFirst}
 use Rattle.logos_graph.specs.Graph.{GraphState, walk, next_by, next_at_end, type_after}
 use Rattle.logos_reduce.specs.Edges.{StateType, IsMarked}
 
--- it is the one that matches all the bytes, whatever byte follows and also at the end
+-- It is the one that matches all the bytes, whatever byte follows and also at the end.
 pub record IsSettled (rules : List Rule) (bytes : List ℕ) (leaf : ℕ) : Type 0 where
   pub before : (b : ℕ) → b < 256 → IsFirst rules (bytes ++ b ∷ []) 0 (length bytes) leaf
   pub at_end : IsFirst rules bytes 0 (length bytes) leaf
 
--- the state has this type
+-- The state has this type.
 abbrev pub HasType : List GraphState → ℕ → (StateType → Type 0) → Type 0
 HasType graph s P = IsSomeAnd (slice_get graph s) (λ state. P state.state_type)
 
@@ -20,24 +20,24 @@ HasType graph s P = IsSomeAnd (slice_get graph s) (λ state. P state.state_type)
 abbrev pub HasEdge : List GraphState → ℕ → ℕ → ℕ → Type 0
 HasEdge graph s label t = ((label < 256) × (next_by graph s label ≡ Some t)) ⊎ ((label ≡ 256) × (next_at_end graph s ≡ Some t))
 
--- the first edge into a state, by source number, then bytes ascending, then the end
+-- The first edge into a state, by source number, then bytes ascending, then the end.
 pub record IsFirstEdge (graph : List GraphState) (t s label : ℕ) : Type 0 where
   pub edge : HasEdge graph s label t
   pub first : (other at : ℕ) → HasEdge graph other at t → (s < other) ⊎ ((s ≡ other) × (label ≤ at))
 
 pub record IsReduced (rules : List Rule) (graph : List GraphState) : Type 0 where
-  -- a state reached by bytes alone is early for the leaf that is settled there, and for no other
+  -- A state reached by bytes alone is early for the leaf that is settled there, and for no other.
   pub early : (bytes : List ℕ) (s leaf : ℕ) → IsBytes bytes → walk graph 0 bytes false ≡ Some s →
       HasType graph s (λ type. (type.early ≡ Some leaf) ↔ IsSettled rules bytes leaf)
-  -- each state but the root has a mark or leads to one
+  -- Each state but the root has a mark or leads to one.
   pub useful : (s : ℕ) → 0 < s → s < length graph → (bytes : List ℕ) × (ends : Bool) × IsBytes bytes × IsSomeAnd (type_after graph s bytes ends) IsMarked
-  -- a late mark is needed on some way in
+  -- A late mark is needed on some way in.
   pub late : (t leaf : ℕ) → HasType graph t (λ type. type.accept ≡ Some leaf) →
       (s label : ℕ) × HasEdge graph s label t × HasType graph s (λ type. type.early ≢ Some leaf)
-  -- no two states are equal
+  -- No two states are equal.
   pub distinct : (s t : ℕ) → s < length graph → slice_get graph s ≡ slice_get graph t → s ≡ t
-  -- the first edges into 1, 2, 3 and on come in this order, each from a lower number
+  -- The first edges into 1, 2, 3 and on come in this order, each from a lower number.
   pub numbered : (t : ℕ) → 0 < t → t < length graph → (s label : ℕ) × (s < t) × IsFirstEdge graph t s label
   pub ordered : (t u s label r at : ℕ) → 0 < t → t < u → IsFirstEdge graph t s label → IsFirstEdge graph u r at → (s < r) ⊎ ((s ≡ r) × (label < at))
-  -- byte edges stand by target number, and no two have the same
+  -- Byte edges stand by target number, and no two have the same.
   pub by_target : All (λ state. IsStrictlyIncreasing (map (λ edge. edge.1) state.normal)) graph

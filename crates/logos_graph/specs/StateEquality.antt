@@ -14,17 +14,17 @@ use Rattle.logos_byte_class.specs.declared.byte_class.ByteClass.{ByteClass}
 use Rattle.logos_graph.specs.declared.graph.State.{State}
 use Rattle.logos_graph.specs.declared.graph.StateData.{StateData}
 
--- the same bytes lead to the same state
+-- The same bytes lead to the same state.
 abbrev pub same_edge : ByteClass × State → ByteClass × State → Bool
 same_edge = eq_of_both (on (λ edge. edge.0) (class_eq.ghosts).eq) (on (λ edge. edge.1) (number_eq.ghosts).eq)
 
--- the same type, edges and target at the end
+-- The same type, edges and target at the end.
 abbrev pub same_state : StateData → StateData → Bool
 same_state =
     eq_of_both (on (λ state. state.state_type) (type_eq.ghosts).eq)
     (eq_of_both (on (λ state. state.normal.items) (pointwise same_edge)) (on (λ state. state.eoi) (option_eq (number_eq.ghosts).eq)))
 
--- it holds both ways round, and along a chain
+-- It holds both ways round, and along a chain.
 pub same_state_laws : IsPartialEquivalence same_state
 same_state_laws =
     and_per (on_per (λ (state : StateData). state.state_type) type_laws.laws-law)

@@ -7,7 +7,7 @@ use Rattle.logos_automaton.specs.Faults.{Fault}
 use Rattle.logos_pattern.specs.declared.leaf.Leaf.{Leaf}
 use Rattle.logos_automaton.specs.Automaton.{Automaton}
 
--- the rule that a leaf stands for
+-- The rule that a leaf stands for.
 abbrev pub rule_of : Leaf → Rule
 rule_of leaf = record { tree = pattern_tree leaf.pattern; priority = leaf.priority; use_of = record { skips = is_skip leaf.kind; asks = asks leaf } }
 

@@ -1,6 +1,7 @@
 //! Graphs of a lexer.
 
 ghost use Rattle.std.specs.Prelude.{◌≡◌};
+ghost use Rattle.logos_graph.specs.StateEquality.{same_state, same_state_laws};
 
 mod evidence;
 mod making;
@@ -54,14 +55,13 @@ pub struct StateData {
     pub normal: Vec<(ByteClass, State)>,
     /// Where the end of the input leads.
     pub eoi: Option<State>,
-    /// The states from which a byte or the end leads here, ascending and each once. No equality looks at them.
+    /// The states from which a byte or the end leads here, ascending and each once. No equality
+    /// looks at them.
     pub backward: Vec<State>,
 }
 
 /// States are equal whatever leads to them.
 impl PartialEq for StateData {
-    ghost use Rattle.logos_graph.specs.StateEquality.{same_state, same_state_laws};
-
     ghost eq = { same_state };
 
     ghost laws = { same_state_laws };

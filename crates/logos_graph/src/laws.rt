@@ -1,9 +1,10 @@
-//! Laws of the definitions. The contract of each function is a law. To use one in a proof, call its function: the call does nothing.
+//! Laws of the definitions. The contract of each function is a law. To use one in a proof, call its
+//! function: the call does nothing.
 
 ghost use Rattle.std.specs.Prelude.{◌≡◌, ℕ, ◌<◌, ◌≤◌, Bool, false, List, Some, length};
 ghost use Rattle.logos_graph.specs.Words.{IsBytes, Rule, Found, Finds, matched, Fault, AreFaults, GraphState, walk, HasType, IsReduced};
 
-/// At a place of an input, maximal munch finds one thing.
+/// At a point of an input, maximal munch finds one thing.
 pub fn one_is_found()
     ensures { (rules : List Rule) (utf8 : Bool) (bytes : List ℕ) (from : ℕ) (f g : Found) →
         from ≤ length bytes → Finds rules utf8 bytes from f →
@@ -17,8 +18,8 @@ pub fn one_list_of_faults()
 {}
 
 /// Where a state of a reduced graph that bytes lead to marks a leaf early, maximal munch finds the
-/// leaf in these bytes. A late mark promises no such input: another match may end after it, whatever
-/// follows.
+/// leaf in these bytes. A late mark promises no such input: another match may end after it,
+/// whatever follows.
 pub fn early_marks_are_found()
     ensures { (rules : List Rule) (utf8 : Bool) (graph : List GraphState) (bytes : List ℕ)
         (s leaf : ℕ) → IsReduced rules graph → IsBytes bytes → 0 < length bytes →

@@ -1,4 +1,5 @@
-//! Leaves as rules of an automaton.
+//! Leaves as rules of an automaton. `graph::making` calls it before it builds the automaton.
+
 ghost use Rattle.std.specs.Prelude.{◌≡◌, ◌^◌, ◌≤◌, ◌↔◌, IsTrue, IfOk};
 ghost use Rattle.logos_graph.specs.Words.{size_of, rule_of, rules_of};
 ghost use Rattle.logos_automaton.specs.View as views;

@@ -1,4 +1,6 @@
-//! Makes the table of an automaton, with late marks alone.
+//! Makes the table of an automaton, with late marks alone. `graph::making` calls it between the
+//! automaton and the reduction.
+
 ghost use Rattle.std.specs.Prelude.{◌≡◌, ℕ, ◌+◌, ◌<◌, ◌^◌, Some, IfOk, IfSome, List, [], length, vec_len, slice_index, slice_get};
 ghost use Rattle.logos_graph.specs.Words.{All, dfa_of, AreFaults, NamesLeaves, priority_of, first_of, best_with, IsRawMark, IsMarkOf, AreRawRows, rules_of, IsTotal, ReadsOneByteLate, MarksOneByteLate, size, mark, type_of, edges, mark_in, IsRaw, target_by, IsClosed, rows_of};
 
@@ -102,8 +104,8 @@ fn raw_rows(alloc: Global, dfa: &Dfa) -> Result<Rows, AllocError>
     Ok(rows)
 }
 
-/// Returns the table of the automaton: each state accepts the leaf of highest priority that it lists. Its states have their
-/// numbers, and the first is the start.
+/// Returns the table of the automaton: each state accepts the leaf of highest priority that it
+/// lists. Its states have their numbers, and the first is the start.
 pub(crate) fn raw_table(alloc: Global, leaves: &[Leaf<'_>], dfa: &Dfa) -> Result<Table, AllocError>
     requires total { IsTotal (dfa_of dfa.now) }
     requires few { length (dfa_of dfa.now).matches + 1 < 2 ^ 32 }

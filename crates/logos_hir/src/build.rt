@@ -154,7 +154,7 @@ pub fn repetition(
     times(alloc, min, max, greedy, body)
 }
 
-/// Adds a part, and bytes after it. A literal takes the bytes in.
+/// Appends a part, and bytes after it. A literal takes the bytes in.
 fn push_after(parts: &mut Vec<Hir>, last: Hir, bytes: Vec<u8>) -> Result<(), AllocError>
     ensures { OnOk result (map tree_of parts.new.items ≡
         map tree_of parts.old.items ++ part_text (tree_of last) bytes.items) }
@@ -171,7 +171,7 @@ fn push_after(parts: &mut Vec<Hir>, last: Hir, bytes: Vec<u8>) -> Result<(), All
     }
 }
 
-/// Adds bytes after all parts.
+/// Appends bytes after all parts.
 fn push_literal(parts: &mut Vec<Hir>, bytes: Vec<u8>) -> Result<(), AllocError>
     ensures { OnOk result (map tree_of parts.new.items ≡
         add_text (map tree_of parts.old.items) bytes.items) }
@@ -182,7 +182,7 @@ fn push_literal(parts: &mut Vec<Hir>, bytes: Vec<u8>) -> Result<(), AllocError>
     }
 }
 
-/// Adds a part after the others. Neighbouring literals become one.
+/// Appends a part after the others. Neighbouring literals become one.
 fn push_part(parts: &mut Vec<Hir>, part: Hir) -> Result<(), AllocError>
     ensures { OnOk result (map tree_of parts.new.items ≡
         add_part (map tree_of parts.old.items) (tree_of part)) }
@@ -193,7 +193,7 @@ fn push_part(parts: &mut Vec<Hir>, part: Hir) -> Result<(), AllocError>
     }
 }
 
-/// Adds parts one by one after the others.
+/// Appends parts one by one after the others.
 fn push_parts(parts: &mut Vec<Hir>, inner: Vec<Hir>) -> Result<(), AllocError>
     ensures { OnOk result (map tree_of parts.new.items ≡
         add_parts (map tree_of parts.old.items) (map tree_of inner.items)) }
@@ -226,7 +226,7 @@ fn are_apart(parts: &[Hir]) -> bool
     true
 }
 
-/// Adds parts after the others. Where there are no others yet and no two literals stand side by
+/// Appends parts after the others. Where there are no others yet and no two literals stand side by
 /// side, the vector of the parts is taken over as it is.
 fn push_all(parts: &mut Vec<Hir>, inner: Vec<Hir>) -> Result<(), AllocError>
     ensures { OnOk result (map tree_of parts.new.items ≡
@@ -239,7 +239,7 @@ fn push_all(parts: &mut Vec<Hir>, inner: Vec<Hir>) -> Result<(), AllocError>
     push_parts(parts, inner)
 }
 
-/// Adds the parts that a tree brings into a concatenation.
+/// Appends the parts that a tree brings into a concatenation.
 pub(crate) fn push_flat(parts: &mut Vec<Hir>, part: Hir) -> Result<(), AllocError>
     ensures { OnOk result (map tree_of parts.new.items ≡
         add_parts (map tree_of parts.old.items) (parts_of (tree_of part))) }

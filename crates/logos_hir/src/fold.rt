@@ -1,13 +1,21 @@
 //! Sets closed under a change of case. `logos_syntax` calls it where letters match in either case.
 
 ghost use Rattle.std.specs.Prelude.{◌≡◌, ℕ, ◌+◌, ◌<◌, ◌≤◌, ◌^◌, ◌||◌, length, IfOk, OnOk};
-ghost use Rattle.logos_hir.specs.Words.{IsNonDecreasingBy, fold_pairs, in_range, in_ranges, fold_case, fold_ascii, Adds, in_values, in_image, shift};
-ghost use Rattle.logos_hir.specs.Views.{pairs, set_of};
+ghost use Rattle.logos_hir.specs.Views.{IsNonDecreasingBy, fold_pairs, in_range, in_ranges, fold_case, fold_ascii, Adds, in_values, in_image, shift, pairs, set_of};
 
 use crate::hir::Range;
 use crate::sets::RangeSet;
 use std::alloc::{AllocError, Global};
 use unicode::case;
+
+/// The first and the last capital letter of ASCII, and those of the small ones.
+const CAPITAL_A: u32 = 65;
+
+const CAPITAL_Z: u32 = 90;
+
+const SMALL_A: u32 = 97;
+
+const SMALL_Z: u32 = 122;
 
 /// Returns the pairs of a sorted table whose first number is in the range.
 fn within(table: &[(u32, u32)], range: Range) -> &[(u32, u32)]
@@ -19,7 +27,7 @@ fn within(table: &[(u32, u32)], range: Range) -> &[(u32, u32)]
     &rest[..rest.partition_point(|pair| pair.0 <= range.last)]
 }
 
-/// Adds what the pairs end with.
+/// Appends what the pairs end with.
 fn push_values(out: &mut Vec<Range>, table: &[(u32, u32)]) -> Result<(), AllocError>
     ensures { OnOk result (Adds (pairs out.old.items) (pairs out.new.items) (in_values table.now)) }
 {
@@ -32,7 +40,7 @@ fn push_values(out: &mut Vec<Range>, table: &[(u32, u32)]) -> Result<(), AllocEr
     Ok(())
 }
 
-/// Adds the other characters that share a simple folding with one in the ranges.
+/// Appends the other characters that share a simple folding with one in the ranges.
 fn push_folds(out: &mut Vec<Range>, ranges: &[Range]) -> Result<(), AllocError>
     ensures { OnOk result (Adds (pairs out.old.items) (pairs out.new.items)
         (in_image fold_pairs (in_ranges (pairs ranges.now)))) }
@@ -53,7 +61,7 @@ pub fn fold_case(alloc: Global, set: &RangeSet) -> Result<RangeSet, AllocError>
     RangeSet::from_ranges(alloc, &ranges)
 }
 
-/// Adds the numbers of the range from `first` to `last`, moved so that `first` becomes `to`.
+/// Appends the numbers of the range from `first` to `last`, moved so that `first` becomes `to`.
 fn push_shift(
     out: &mut Vec<Range>,
     range: Range,
@@ -79,15 +87,15 @@ fn push_shift(
     Ok(())
 }
 
-/// Adds the other case of each ASCII letter in the ranges.
+/// Appends the other case of each ASCII letter in the ranges.
 fn push_cases(out: &mut Vec<Range>, ranges: &[Range]) -> Result<(), AllocError>
     ensures { OnOk result (Adds (pairs out.old.items) (pairs out.new.items) (λ c.
-        shift 65 90 97 (in_ranges (pairs ranges.now)) c ||
-        shift 97 122 65 (in_ranges (pairs ranges.now)) c)) }
+        shift CAPITAL_A CAPITAL_Z SMALL_A (in_ranges (pairs ranges.now)) c ||
+        shift SMALL_A SMALL_Z CAPITAL_A (in_ranges (pairs ranges.now)) c)) }
 {
     for range in ranges {
-        push_shift(out, *range, 65, 90, 97)?;
-        push_shift(out, *range, 97, 122, 65)?;
+        push_shift(out, *range, CAPITAL_A, CAPITAL_Z, SMALL_A)?;
+        push_shift(out, *range, SMALL_A, SMALL_Z, CAPITAL_A)?;
     }
     Ok(())
 }

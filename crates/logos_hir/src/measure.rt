@@ -2,11 +2,13 @@
 //! read; leaves get their default priority from them.
 
 ghost use Rattle.std.specs.Prelude.{◌≡◌, ℕ, ◌+◌, ◌*◌, min, nat_lt, length, map};
-ghost use Rattle.logos_hir.specs.Words.{list_all, chars, is_utf8, pointwise};
-ghost use Rattle.logos_hir.specs.Views.{trees, pairs, tree_of, class_tree, value, sum_of_values, least_value, text_size, fitted, is_same, is_text, all_text, is_all, is_dot, has_greedy_dot, some_greedy_dot};
+ghost use Rattle.logos_hir.specs.Views.{list_all, chars, is_utf8, pointwise, trees, pairs, tree_of, class_tree, value, sum_of_values, least_value, text_size, fitted, is_same, is_text, all_text, is_all, is_dot, has_greedy_dot, some_greedy_dot};
 
 use crate::hir::{Class, Hir, Range};
 use crate::sets::LAST_CHAR;
+
+/// The characters below this one are ASCII.
+const ASCII: u32 = 128;
 
 /// Returns the number of characters of a text.
 fn char_count(text: &str) -> usize
@@ -130,10 +132,10 @@ fn are_utf8(bytes: &[u8]) -> bool
 
 /// Returns whether all numbers in the ranges are ASCII.
 fn are_ascii(ranges: &[Range]) -> bool
-    ensures { result ≡ list_all (λ r. nat_lt r.1 128) (pairs ranges.now) }
+    ensures { result ≡ list_all (λ r. nat_lt r.1 ASCII) (pairs ranges.now) }
 {
     for range in ranges {
-        if range.last >= 128 {
+        if range.last >= ASCII {
             return false;
         }
     }

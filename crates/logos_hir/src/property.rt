@@ -2,8 +2,7 @@
 //! `[:name:]` and `\d` here.
 
 ghost use Rattle.std.specs.Prelude.{◌≡◌, ℕ, Bool, IfOk, bytes_eq};
-ghost use Rattle.logos_hir.specs.Words.{only_chars, in_ranges, HasExactly, in_set};
-ghost use Rattle.logos_hir.specs.Views.{pairs, set_of, ascii_set, ascii_named, perl_set, property_named, property_normalized};
+ghost use Rattle.logos_hir.specs.Views.{only_chars, in_ranges, HasExactly, in_set, pairs, set_of, ascii_set, ascii_named, perl_set, property_named, property_normalized};
 
 use crate::hir::Range;
 use crate::sets::RangeSet;
@@ -38,7 +37,7 @@ pub enum PerlKind {
     Word,
 }
 
-/// Returns the first and the last member of each run of an ASCII class.
+/// Returns the first and the last member of each range of an ASCII class.
 #[tactic(auto, using(std::proofs::lemmas::Bool::Decides::nat_tests))]
 fn ascii_runs(kind: AsciiKind) -> &'static [(u32, u32)]
     ensures { (c : ℕ) → in_ranges result.now c ≡ ascii_set kind c }
@@ -120,7 +119,7 @@ pub fn ascii_set(alloc: Global, kind: AsciiKind) -> Result<RangeSet, AllocError>
     RangeSet::from_ranges(alloc, &ranges_of(alloc, ascii_runs(kind))?)
 }
 
-/// Returns the runs as ranges.
+/// Returns ranges from their first and last members.
 fn ranges_of(alloc: Global, runs: &[(u32, u32)]) -> Result<Vec<Range>, AllocError>
     ensures { IfOk result (λ v. pairs v.items ≡ runs.now) }
 {
@@ -131,7 +130,7 @@ fn ranges_of(alloc: Global, runs: &[(u32, u32)]) -> Result<Vec<Range>, AllocErro
     Ok(ranges)
 }
 
-/// Returns the characters of the runs, which may hold surrogates.
+/// Returns the characters of the ranges, which may hold surrogates.
 fn from_runs(alloc: Global, runs: &[(u32, u32)]) -> Result<RangeSet, AllocError>
     ensures { (p : ℕ → Bool) → HasExactly runs.now p →
         IfOk result (λ set. set_of set ≡ only_chars p) }

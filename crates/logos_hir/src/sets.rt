@@ -7,6 +7,9 @@ ghost use Rattle.logos_hir.specs.Hir.{pairs};
 use crate::hir::Range;
 use std::alloc::{AllocError, Global};
 
+/// The greatest byte.
+pub const LAST_BYTE: u32 = 0xFF;
+
 /// The greatest character.
 pub const LAST_CHAR: u32 = 0x10_FFFF;
 
@@ -37,7 +40,7 @@ fn before(place: u32) -> u32
     if place == 0xE000 { 0xD7FF } else { place - 1 }
 }
 
-/// Adds the characters from `first` up to `end`, which is left out, and up to `last`.
+/// Appends the characters from `first` up to `end`, which is left out, and up to `last`.
 fn push_gap(out: &mut Vec<Range>, first: u32, end: u32, last: u32) -> Result<(), AllocError>
     requires first { IsPlace first }
     requires end { IsPlace end }
@@ -104,7 +107,7 @@ fn last_char(c: u32) -> u32
     }
 }
 
-/// Adds the characters of a range.
+/// Appends the characters of a range.
 fn push_chars(out: &mut Vec<Range>, range: Range) -> Result<(), AllocError>
     requires { AreRanges (pairs out.old.items) }
     ensures ranges { OnOk result (AreRanges (pairs out.new.items)) }
@@ -136,8 +139,7 @@ fn chars_of(alloc: Global, ranges: &[Range]) -> Result<Vec<Range>, AllocError>
 
 impl RangeSet {
     ghost use Rattle.std.specs.Prelude.{◌≡◌, ℕ, ◌≤◌, true, IfOk, MatchBool};
-    ghost use Rattle.logos_hir.specs.Words.{scalar, Set, members, union, intersection, difference, symmetric_difference, complement, in_range};
-    ghost use Rattle.logos_hir.specs.Views.{pairs, sole_member, set_of};
+    ghost use Rattle.logos_hir.specs.Views.{scalar, Set, members, union, intersection, difference, symmetric_difference, complement, in_range, pairs, sole_member, set_of};
 
     /// Returns the characters in the ranges. These may come in any order, overlap, and hold numbers
     /// that are no characters; a range whose first number is above its last is empty.
@@ -162,7 +164,7 @@ impl RangeSet {
     /// Returns the members up to U+00FF, which are bytes.
     pub fn bytes(&self) -> Result<RangeSet, AllocError>
         ensures { IfOk result (λ set. set_of set ≡
-            intersection (set_of self.now) (in_range (0, 255))) }
+            intersection (set_of self.now) (in_range (0, LAST_BYTE))) }
     {
         self.complement(char::MAX)?.complement('\u{FF}')
     }

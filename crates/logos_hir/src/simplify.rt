@@ -64,7 +64,7 @@ pub fn captured(alloc: Global, body: Hir) -> Result<Hir, AllocError>
     Ok(Hir::Capture(Box::new(alloc, body)?))
 }
 
-/// Simplifies a tree and adds the parts that it brings into a concatenation.
+/// Appends the parts that a tree, once simplified, brings into a concatenation.
 #[cycle(simplify)]
 fn push_simplified(alloc: Global, tree: Hir, parts: &mut Vec<Hir>) -> Result<(), AllocError>
     ensures { OnOk result (map tree_of parts.new.items ≡
@@ -76,7 +76,7 @@ fn push_simplified(alloc: Global, tree: Hir, parts: &mut Vec<Hir>) -> Result<(),
     }
 }
 
-/// Simplifies trees and adds the parts that they bring into a concatenation.
+/// Appends the parts that trees, once simplified, bring into a concatenation.
 #[cycle(simplify)]
 fn push_all_simplified(
     alloc: Global,
@@ -93,7 +93,7 @@ fn push_all_simplified(
     Ok(())
 }
 
-/// Simplifies a tree and adds the branches that it brings into an alternation. Returns which
+/// Appends the branches that a tree, once simplified, brings into an alternation. Returns which
 /// classes these fit.
 #[cycle(simplify)]
 fn push_simplified_branch(
@@ -116,7 +116,7 @@ fn push_simplified_branch(
     }
 }
 
-/// Simplifies trees and adds the branches that they bring into an alternation. Returns which
+/// Appends the branches that trees, once simplified, bring into an alternation. Returns which
 /// classes these fit.
 #[cycle(simplify)]
 fn push_all_branches(

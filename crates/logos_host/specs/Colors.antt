@@ -3,13 +3,13 @@ use Rattle.std.specs.Prelude.{ℕ, List, Bool, true, false, Option, Some, None, 
 use Rattle.logos_host.specs.declared.color.Color.{Color}
 use Rattle.logos_host.specs.declared.color.Color.TheVariants.{Always, Never, Auto}
 
--- whether there are colors, on a terminal or not
+-- Whether there are colors, on a terminal or not.
 abbrev pub has_colors : Color → Bool → Bool
 has_colors Always is_terminal = true
 has_colors Never is_terminal = false
 has_colors Auto is_terminal = is_terminal
 
--- what a value of `--color` stands for
+-- What a value of `--color` stands for.
 abbrev pub color_named : List ℕ → Option Color
 color_named name =
     if bytes_eq name (codes "always") then Some Always

@@ -3,6 +3,6 @@ use Rattle.std.specs.Prelude.{ℕ, List, Option, Some, None, if◌then◌else◌
 use Rattle.logos_host.specs.declared.message_format.MessageFormat.{MessageFormat}
 use Rattle.logos_host.specs.declared.message_format.MessageFormat.TheVariants.{Human, Json}
 
--- what a value of `--message-format` stands for
+-- What a value of `--message-format` stands for.
 abbrev pub format_named : List ℕ → Option MessageFormat
 format_named name = if bytes_eq name (codes "human") then Some Human else (if bytes_eq name (codes "json") then Some Json else None)

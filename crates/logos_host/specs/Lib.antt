@@ -6,3 +6,5 @@ pub mod Options
 pub mod Reading
 pub mod WordSteps
 pub mod Writers
+pub mod Words
+pub mod Views

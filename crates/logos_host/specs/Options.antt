@@ -3,7 +3,7 @@ use Rattle.std.specs.Prelude.{ℕ, List, Bool, true, false, Option, Some, None, 
 use Rattle.logos_host.specs.declared.options.OptionName.{OptionName}
 use Rattle.logos_host.specs.declared.options.OptionName.TheVariants.{At, Check, Color, Compare, DenyWarnings, Derive, Enum, Examples, Expect, Help, Inputs, Json, MessageFormat, Output, Shape, Version}
 
--- the options with a word of one letter
+-- The options with a word of one letter.
 abbrev pub letter_named : List ℕ → Option OptionName
 letter_named word =
     if bytes_eq word (codes "-c") then Some Check
@@ -12,7 +12,7 @@ letter_named word =
     else (if bytes_eq word (codes "-V") then Some Version
     else None)))
 
--- the options that ask something of a lexer
+-- The options that ask something of a lexer.
 abbrev pub question_named : List ℕ → Option OptionName
 question_named word =
     if bytes_eq word (codes "--at") then Some At
@@ -23,7 +23,7 @@ question_named word =
     else (if bytes_eq word (codes "--json") then Some Json
     else None)))))
 
--- the last other options of the alphabet
+-- The last other options of the alphabet.
 abbrev pub later_named : List ℕ → Option OptionName
 later_named word =
     if bytes_eq word (codes "--output") then Some Output
@@ -31,7 +31,7 @@ later_named word =
     else (if bytes_eq word (codes "--version") then Some Version
     else question_named word))
 
--- the options, by their long words
+-- The options, by their long words.
 abbrev pub long_named : List ℕ → Option OptionName
 long_named word =
     if bytes_eq word (codes "--check") then Some Check
@@ -47,11 +47,11 @@ abbrev pub first_named : Option OptionName → List ℕ → Option OptionName
 first_named (Some option) word = Some option
 first_named None word = long_named word
 
--- the option with a word, as `--output` or `-o`
+-- The option with a word, as `--output` or `-o`.
 abbrev pub option_named : List ℕ → Option OptionName
 option_named word = first_named (letter_named word) word
 
--- whether an option has a value
+-- Whether an option has a value.
 abbrev pub takes_value : OptionName → Bool
 takes_value At = true
 takes_value Check = false

@@ -14,7 +14,7 @@ pub data UseValue : Type 0 where
   flag : (option : OptionName) → UseValue
   value : (option : OptionName) → (word : List ℕ) → UseValue
 
--- what one more word gives, and how far the words are read then
+-- What one more word gives, and how far the words are read then.
 pub record StepValue : Type 0 where
   pub progress : Progress
   pub found : Option UseValue
@@ -22,7 +22,7 @@ pub record StepValue : Type 0 where
 abbrev pub gives : Progress → UseValue → Option StepValue
 gives progress one = Some (record { progress = progress; found = Some one })
 
--- whether a word begins with `-` and is more than that
+-- Whether a word begins with `-` and is more than that.
 abbrev pub begins_option : List ℕ → Bool
 begins_option (byte ∷ next ∷ rest) = byte == 45
 begins_option word = false
@@ -30,13 +30,13 @@ begins_option word = false
 abbrev pub is_equals : ℕ → Bool
 is_equals byte = byte == 61
 
--- what stands around the first `=` of a word, if it has one
+-- What stands around the first `=` of a word, if it has one.
 abbrev pub split_at_equals : List ℕ → Option (List ℕ × List ℕ)
 split_at_equals word =
     if position_or_len is_equals word == length word then None
     else Some (before_first is_equals word, after_first is_equals word)
 
--- an option in front of `=`, which has this value
+-- An option in front of `=`, which has this value.
 abbrev pub with_value : Progress → Option OptionName → List ℕ → Option StepValue
 with_value progress None word = None
 with_value progress (Some option) word = if takes_value option then gives progress (value option word) else None
@@ -45,18 +45,18 @@ abbrev pub with_split : Progress → Option (List ℕ × List ℕ) → Option St
 with_split progress None = None
 with_split progress (Some parts) = with_value progress (option_named parts.0) parts.1
 
--- a word that begins with `-` and is no option
+-- A word that begins with `-` and is no option.
 abbrev pub with_assigned : Progress → List ℕ → Option StepValue
 with_assigned progress word = with_split progress (split_at_equals word)
 
--- a word that may be an option; one with a value waits for the next word
+-- A word that may be an option; one with a value waits for the next word.
 abbrev pub with_option : Progress → Option OptionName → List ℕ → Option StepValue
 with_option progress (Some option) word =
     if takes_value option then Some (record { progress = record { pending = Some option; is_over = false }; found = None })
     else gives progress (flag option)
 with_option progress None word = if begins_option word then with_assigned progress word else gives progress (path word)
 
--- a word that is not the value of an option; `--` is the last one that is no path
+-- A word that is not the value of an option; `--` is the last one that is no path.
 abbrev pub with_written : Progress → List ℕ → Option StepValue
 with_written progress word =
     if bytes_eq word (codes "--") then Some (record { progress = record { pending = None; is_over = true }; found = None })
@@ -66,11 +66,11 @@ abbrev pub with_pending : Progress → Option OptionName → List ℕ → Option
 with_pending progress (Some option) word = gives (record { pending = None; is_over = progress.is_over }) (value option word)
 with_pending progress None word = if progress.is_over then gives progress (path word) else with_written progress word
 
--- what one more word gives, if it fits
+-- What one more word gives, if it fits.
 abbrev pub step : Progress → List ℕ → Option StepValue
 step progress word = with_pending progress progress.pending word
 
--- the same of what the program keeps
+-- The same of what the program keeps.
 abbrev pub use_value : Use → UseValue
 use_value (uses.Path word) = path word.now
 use_value (uses.Flag option) = flag option

@@ -2,7 +2,7 @@
 use Rattle.std.specs.Prelude.{◌≡◌, ℕ, List, ◌++◌, Option}
 use Rattle.std.specs.Io.KnownBytes.{Appends}
 
--- the front of a block was written, and the rest is left
+-- The front of a block was written, and the rest is left.
 pub record AppendsFront (old new : Option (List ℕ)) (block left : List ℕ) : Type 0 where
   pub front : List ℕ
   pub parts : block ≡ front ++ left

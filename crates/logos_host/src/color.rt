@@ -1,4 +1,5 @@
 //! When a text has colors.
+
 ghost use Rattle.std.specs.Prelude.{◌≡◌};
 ghost use Rattle.logos_host.specs.Colors.{color_named, has_colors};
 

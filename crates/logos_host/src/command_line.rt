@@ -8,8 +8,8 @@ use std::{env, io};
 ///
 /// # Errors
 ///
-/// Returns an error of the kind `OutOfMemory` if memory runs out, and of another kind if a word is not
-/// UTF-8.
+/// Returns an error of the kind `OutOfMemory` if memory runs out, and of another kind if a word is
+/// not UTF-8.
 pub fn words<R: Env + AllocGlobal>(rt: &R) -> io::Result<Vec<String>> {
     let mut words = Vec::new(rt.alloc());
     for word in env::args(rt)?.skip(1) {

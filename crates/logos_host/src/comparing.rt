@@ -19,8 +19,8 @@ pub enum Standing {
 
 /// Files that can be compared.
 pub trait ComparableFiles: Files {
-    // Holds of the files before a comparison, the path, the bytes, how the file compares with them, and the files
-    // after it.
+    // Holds of the files before a comparison, the path, the bytes, how the file compares with them,
+    // and the files after it.
     ghost compare_finds: { Self → List ℕ → List ℕ → StandingValue → Self → Type 0 } = { λ _ _ _ _ _. ⊤ };
 
     // Holds of files, two paths, and whether these lead to one file.

@@ -1,7 +1,7 @@
 //! The ways in which a program fails.
 
 ghost use Rattle.std.specs.Prelude.{◌≡◌};
-ghost use Rattle.logos_host.specs.Failures.{status_of};
+ghost use Rattle.logos_host.specs.Views.{status_of, Memory as OutOfMemory};
 
 use crate::files::FileError;
 use crate::reason::Reason;
@@ -18,7 +18,8 @@ pub enum Failure<'w> {
         what: &'static str,
         word: &'w str,
     },
-    /// A word is no option of the program. The option that may be meant stands with it, if there is one.
+    /// A word is no option of the program. The option that may be meant stands with it, if there is
+    /// one.
     UnknownOption {
         word: &'w str,
         nearest: &'static str,
@@ -49,9 +50,6 @@ pub enum Failure<'w> {
 }
 
 impl From<AllocError> for Failure<'_> {
-    ghost use Rattle.std.specs.Prelude.{◌≡◌};
-    ghost use Rattle.logos_host.specs.declared.failure.Failure.TheVariants.{Memory as OutOfMemory};
-
     ghost from_gives = { λ _ failure. failure ≡ OutOfMemory };
 
     fn from(_error: AllocError) -> Self {
@@ -60,9 +58,6 @@ impl From<AllocError> for Failure<'_> {
 }
 
 impl<T: Drop> From<AllocFailed<T>> for Failure<'_> {
-    ghost use Rattle.std.specs.Prelude.{◌≡◌};
-    ghost use Rattle.logos_host.specs.declared.failure.Failure.TheVariants.{Memory as OutOfMemory};
-
     ghost from_gives = { λ _ failure. failure ≡ OutOfMemory };
 
     fn from(_error: AllocFailed<T>) -> Self {
@@ -71,9 +66,6 @@ impl<T: Drop> From<AllocFailed<T>> for Failure<'_> {
 }
 
 impl From<Memory> for Failure<'_> {
-    ghost use Rattle.std.specs.Prelude.{◌≡◌};
-    ghost use Rattle.logos_host.specs.declared.failure.Failure.TheVariants.{Memory as OutOfMemory};
-
     ghost from_gives = { λ _ failure. failure ≡ OutOfMemory };
 
     fn from(_error: Memory) -> Self {
@@ -82,11 +74,8 @@ impl From<Memory> for Failure<'_> {
 }
 
 impl Failure<'_> {
-    ghost use Rattle.std.specs.Prelude.{◌≡◌};
-    ghost use Rattle.logos_host.specs.Failures.{status_of};
-
-    /// Returns the exit status: 1 if something is refused, 2 if the words are no command or name the
-    /// input as the output, 3 if a file or memory fails.
+    /// Returns the exit status: 1 if something is refused, 2 if the words are no command or name
+    /// the input as the output, 3 if a file or memory fails.
     pub fn status(&self) -> u8
         ensures { result ≡ status_of self.now }
     {

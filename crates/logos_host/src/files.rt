@@ -20,7 +20,8 @@ pub trait Files {
     // Holds of the files before a read, the path, all bytes that are read, and the files after it.
     ghost read_gives: { Self → List ℕ → List ℕ → Self → Type 0 } = { λ _ _ _ _. ⊤ };
 
-    // Holds of the files before a write, the path, all bytes of the file there from then on, and the files after it.
+    // Holds of the files before a write, the path, all bytes of the file there from then on, and
+    // the files after it.
     ghost write_makes: { Self → List ℕ → List ℕ → Self → Type 0 } = { λ _ _ _ _. ⊤ };
 
     /// Returns all bytes of the file at this path.
@@ -36,8 +37,8 @@ pub trait Files {
     ///
     /// # Errors
     ///
-    /// Returns `Failed` if a folder or the file cannot be made or written, and `Memory` if memory runs
-    /// out. The folders that were made stay.
+    /// Returns `Failed` if a folder or the file cannot be made or written, and `Memory` if memory
+    /// runs out. The folders that were made stay.
     fn write(&mut self, path: &str, bytes: &[u8]) -> Result<(), FileError>
         ensures { OnOk result (write_makes self.old path.now bytes.now self.new) };
 }

@@ -1,16 +1,14 @@
 //! The messages of failures.
 
 ghost use Rattle.std.specs.Prelude.{◌≡◌, ◌++◌, ◌↔◌, ◌⊎◌, OnOk, codes, decimal};
-ghost use Rattle.std.specs.Io.KnownBytes.{Appends};
-ghost use Rattle.logos_host.specs.Failures.{status_of};
-ghost use Rattle.logos_host.specs.Messages.{hint_line, message_of, misuse_line};
+ghost use Rattle.logos_host.specs.Views.{Appends, status_of, hint_line, message_of, misuse_line};
 
 use crate::failure::Failure;
 use std::io;
 use std::io::{ErrorKind, Write};
 
-/// Writes the message of a failure, and flushes the writer. Words that are no command are followed by
-/// `usage`.
+/// Writes the message of a failure, and flushes the writer. Words that are no command are followed
+/// by `usage`.
 ///
 /// # Errors
 ///
@@ -102,8 +100,8 @@ fn write_hint<E: Write>(nearest: &str, err: &mut E) -> io::Result<()>
     writeln!(err, "help: is `{nearest}` meant?")
 }
 
-/// Writes why the words of a command line cannot be read, and returns the exit status: 3 if memory ran
-/// out, and else 2, since a word is not UTF-8.
+/// Writes why the words of a command line cannot be read, and returns the exit status: 3 if memory
+/// ran out, and else 2, since a word is not UTF-8.
 pub fn refuse_words<E: Write>(why: ErrorKind, usage: &str, err: &mut E) -> u8
     ensures memory { (result ≡ 3) ↔ (why ≡ ErrorKind.OutOfMemory) }
     ensures known { (result ≡ 2) ⊎ (result ≡ 3) }

@@ -1,4 +1,5 @@
 //! How messages are written.
+
 ghost use Rattle.std.specs.Prelude.{◌≡◌};
 ghost use Rattle.logos_host.specs.Formats.{format_named};
 

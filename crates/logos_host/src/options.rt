@@ -1,7 +1,7 @@
 //! The options of a command line. A program takes some of them.
 
-ghost use Rattle.std.specs.Prelude.{◌≡◌};
-ghost use Rattle.logos_host.specs.Options.{later_named, letter_named, long_named, question_named};
+ghost use Rattle.std.specs.Prelude.{◌≡◌, Some};
+ghost use Rattle.logos_host.specs.Options.{later_named, letter_named, long_named, question_named, option_named, takes_value};
 
 /// An option, by its name.
 #[derive(Clone, Copy, Debug, PartialEq, Eq)]
@@ -25,9 +25,6 @@ pub enum OptionName {
 }
 
 impl OptionName {
-    ghost use Rattle.std.specs.Prelude.{◌≡◌, Some};
-    ghost use Rattle.logos_host.specs.Options.{option_named, takes_value};
-
     /// Returns the option with this word, as `--output` or `-o`.
     pub fn by_word(word: &str) -> Option<OptionName>
         ensures { result ≡ option_named word.now }

@@ -8,8 +8,8 @@ use crate::files::{FileError, Files};
 ///
 /// # Errors
 ///
-/// Returns `Failed` if the file cannot be read, `NotText` if it is not UTF-8, and `Memory` if memory
-/// runs out.
+/// Returns `Failed` if the file cannot be read, `NotText` if it is not UTF-8, and `Memory` if
+/// memory runs out.
 pub fn read_text<F: Files>(path: &str, files: &mut F) -> Result<String, FileError>
     ensures { IfOk result (λ text.
         F.read_gives files.old path.now (string_bytes text) files.new) }

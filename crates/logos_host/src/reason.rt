@@ -33,9 +33,6 @@ pub enum Reason {
 }
 
 impl Reason {
-    ghost use Rattle.std.specs.Prelude.{◌≡◌};
-    ghost use Rattle.logos_host.specs.Messages.{reason_text};
-
     /// Returns the reason that the system gives.
     pub fn of_kind(kind: ErrorKind) -> Reason {
         match kind {

@@ -15,8 +15,8 @@ const RIGHTS: u32 = 0o777;
 
 /// Writes a file whole or not at all, and first makes the folders on the way to it.
 ///
-/// Where links lead to a file, that file is replaced; where they lead to none, it is made. A device or
-/// a pipe is written in place.
+/// Where links lead to a file, that file is replaced; where they lead to none, it is made. A device
+/// or a pipe is written in place.
 pub(crate) fn write_whole<R: Files + AllocGlobal + Clone + Drop>(
     rt: &R,
     path: &str,
@@ -72,8 +72,8 @@ fn replace_file<R: Files + AllocGlobal + Clone + Drop>(
     remove_after_error(rt, beside.as_str(), done)
 }
 
-/// Gives a file the owner, the group and the mode of another one. Where the system does not allow the
-/// owner, the file runs as nobody else.
+/// Gives a file the owner, the group and the mode of another one. Where the system does not allow
+/// the owner, the file runs as nobody else.
 fn keep_owner<R: Files>(rt: &R, path: &str, old: &Metadata) -> io::Result<()> {
     let mut permissions = old.permissions();
     let new = fs::metadata(rt, path)?;
@@ -96,8 +96,8 @@ fn create_file<R: Files + AllocGlobal + Clone + Drop>(
     remove_after_error(rt, beside.as_str(), done)
 }
 
-/// Writes a new file beside another one, and returns its path. Its name has the number of the process.
-/// What processes that have ended left beside the file is removed first.
+/// Writes a new file beside another one, and returns its path. Its name has the number of the
+/// process. What processes that have ended left beside the file is removed first.
 fn write_beside<R: Files + AllocGlobal + Clone + Drop>(
     rt: &R,
     path: &str,
@@ -154,7 +154,8 @@ fn remove_leftover<R: Files + AllocGlobal>(
     Ok(())
 }
 
-/// Returns the number of the process that made a new file beside the file `name`, by the new one's name.
+/// Returns the number of the process that made a new file beside the file `name`, by the new one's
+/// name.
 fn process_of<'n>(name: &str, other: &'n str) -> Option<&'n str> {
     let process = other
         .strip_prefix(name)?

@@ -1,10 +1,7 @@
 //! The words of a command line, one after another.
 
 ghost use Rattle.std.specs.Prelude.{◌≡◌, IfErr, IfOk, None, Some, option_map};
-ghost use Rattle.logos_host.specs.Failures.{status_of};
-ghost use Rattle.logos_host.specs.Options.{option_named};
-ghost use Rattle.logos_host.specs.WordSteps.{begins_option, split_at_equals, step, step_value};
-ghost use Rattle.logos_host.specs.WordSteps.{with_assigned, with_option, with_written};
+ghost use Rattle.logos_host.specs.Views.{status_of, option_named, begins_option, split_at_equals, step, step_value, with_assigned, with_option, with_written};
 
 use crate::failure::Failure;
 use crate::options::OptionName;
@@ -40,8 +37,8 @@ pub struct Step<'w> {
 ///
 /// # Errors
 ///
-/// Returns `UnknownOption` for a word that begins with `-` and is no option, and `Misuse` if an option
-/// that has no value gets one.
+/// Returns `UnknownOption` for a word that begins with `-` and is no option, and `Misuse` if an
+/// option that has no value gets one.
 pub fn next_step<'w>(progress: Progress, word: &'w str) -> Result<Step<'w>, Failure<'w>>
     ensures step { IfOk result (λ next. step progress word.now ≡ Some (step_value next)) }
     ensures misuse { IfErr result (λ failure.

@@ -1,8 +1,7 @@
 //! Writing, at once or by blocks.
 
 ghost use Rattle.std.specs.Prelude.{◌≡◌, ◌<◌, [], OnOk, vec_capacity, vec_len};
-ghost use Rattle.std.specs.Io.KnownBytes.{Appends};
-ghost use Rattle.logos_host.specs.Writers.{AppendsFront};
+ghost use Rattle.logos_host.specs.Words.{Appends, AppendsFront};
 
 use std::io;
 use std::io::Write;

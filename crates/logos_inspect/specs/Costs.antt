@@ -3,7 +3,7 @@ use Rattle.std.specs.Prelude.{length}
 use Rattle.logos_code.specs.Code.{CodeValue}
 use Rattle.logos_inspect.specs.declared.costs.Costs.{Costs}
 
--- the numbers of states, of tables of bits and of jump tables of a code
+-- The numbers of states, of tables of bits and of jump tables of a code.
 abbrev pub costs : CodeValue → Costs
 costs code = record {
   states = length code.states;

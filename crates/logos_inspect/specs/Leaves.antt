@@ -14,36 +14,39 @@ use Rattle.logos_inspect.specs.declared.leaves.LeafRow.{LeafRow}
 use Rattle.logos_token.specs.Held.{Held, of_text, of_bytes, held}
 use Rattle.logos_token.specs.Spans.{IsSpanOf}
 
--- the name of the variant of a leaf; a skip has none
+-- The name of the variant of a leaf; a skip has none.
 abbrev pub variant_name : VariantKind → Option (List ℕ)
 variant_name (UnitVariant name) = Some name.text.now
 variant_name (Value name type) = Some name.text.now
 variant_name Skip = None
 
--- the priority of a token of this literal when none is given: twice the number of bytes that it holds
+-- The priority of a token of this literal when none is given: twice the number of bytes that it
+-- holds.
 abbrev pub held_priority : Held → ℕ
 held_priority (of_text value) = 2 * length value
 held_priority (of_bytes value) = 2 * length value
 
--- the priority of a leaf with this pattern when none is given: that of its literal for a `token`, else the value of its tree, if that fits
+-- The priority of a leaf with this pattern when none is given: that of its literal for a `token`,
+-- else the value of its tree, if that fits.
 abbrev pub default_priority : Pattern → Option ℕ
 default_priority pattern = if is_token pattern then option_map held_priority (held (source_of pattern)) else fitted (value (pattern_tree pattern))
 
--- this is the text at a span, if it is a span of the text
+-- This is the text at a span, if it is a span of the text.
 abbrev pub IsTextAt : List ℕ → Span → List ℕ → Type 0
 IsTextAt text span shown = IsSpanOf text span → shown ≡ slice_range text span.from span.to
 
--- this is the callback of a leaf as it is written, if it has one
+-- This is the callback of a leaf as it is written, if it has one.
 abbrev pub ShowsCallback : List ℕ → Option Callback → Option (List ℕ) → Type 0
 ShowsCallback text None shown = shown ≡ None
 ShowsCallback text (Some callback) None = ⊥
 ShowsCallback text (Some callback) (Some shown) = IsTextAt text (callback_span callback) shown
 
--- an offset that counts from another one, or the largest number of a `usize` where it passes that
+-- An offset that counts from another one, or the largest number of a `usize` where it passes that.
 abbrev pub moved : (offset from : ℕ) → ℕ
 moved offset from = min (offset + from) (2 ^ 64 - 1)
 
--- The row of a leaf of an enum, whose text begins at this offset of a file. The spans of the leaf count from there.
+-- The row of a leaf of an enum, whose text begins at this offset of a file. The spans of the leaf
+-- count from there.
 pub record IsRowOf (file : List ℕ) (offset : ℕ) (text : List ℕ) (leaf : Leaf) (row : LeafRow) : Type 0 where
   pub variant : option_copied row.variant ≡ variant_name leaf.kind
   pub token : row.is_token ≡ is_token leaf.pattern

@@ -1,4 +1,5 @@
--- The leaves that the states of a graph mark. A match of a leaf ends where a state marks it, or one byte before.
+-- The leaves that the states of a graph mark. A match of a leaf ends where a state marks it, or one
+-- byte before.
 use Rattle.std.specs.Prelude.{◌≡◌, ◌<◌, ◌⊎◌, ◌↔◌, ℕ, Bool, false, IsTrue, List, [], length, slice_get, slice_index_or, Some}
 use Rattle.logos_automaton.specs.Munch.{Rule, IsInput, Finds, matched}
 use Rattle.logos_graph.specs.Graph.{GraphState}
@@ -6,11 +7,11 @@ use Rattle.logos_graph.specs.GraphOf.{IsGraphOf}
 use Rattle.logos_graph.specs.View.{GraphValue, rules_of}
 use Rattle.logos_reduce.specs.Edges.{StateType}
 
--- a state type marks a leaf
+-- A state type marks a leaf.
 abbrev pub Marks : StateType → ℕ → Type 0
 Marks type leaf = (type.accept ≡ Some leaf) ⊎ (type.early ≡ Some leaf)
 
--- one of the states with the lowest numbers, of which there are so many, marks a leaf
+-- One of the states with the lowest numbers, of which there are so many, marks a leaf.
 pub record IsMarkedBelow (states : List GraphState) (count leaf : ℕ) : Type 0 where
   pub number : ℕ
   pub below : number < count
@@ -18,11 +19,11 @@ pub record IsMarkedBelow (states : List GraphState) (count leaf : ℕ) : Type 0 
   pub stands : slice_get states number ≡ Some state
   pub marks : Marks state.state_type leaf
 
--- a state marks a leaf
+-- A state marks a leaf.
 abbrev pub IsMarked : List GraphState → ℕ → Type 0
 IsMarked states leaf = IsMarkedBelow states (length states) leaf
 
--- a flag is set for a leaf
+-- A flag is set for a leaf.
 abbrev pub IsSet : List Bool → ℕ → Type 0
 IsSet flags leaf = IsTrue (slice_index_or flags leaf false)
 
@@ -30,10 +31,10 @@ IsSet flags leaf = IsTrue (slice_index_or flags leaf false)
 abbrev pub IsNeverFound : List Rule → Bool → ℕ → Type 0
 IsNeverFound rules utf8 leaf = (bytes : List ℕ) (from to : ℕ) → IsInput utf8 bytes → ¬ Finds rules utf8 bytes from (matched leaf to)
 
--- these flags, one for each leaf of a graph, say which leaves it marks
+-- These flags, one for each leaf of a graph, say which leaves it marks.
 pub record AreMarks (graph : GraphValue) (flags : List Bool) : Type 0 where
   pub count : length flags ≡ length graph.leaves
   pub marked : (leaf : ℕ) → leaf < length graph.leaves → IsSet flags leaf ↔ IsMarked graph.states leaf
-  -- a leaf that a graph without faults does not mark is never found
+  -- A leaf that a graph without faults does not mark is never found.
   pub never : IsGraphOf graph.leaves graph.utf8 graph → graph.faults ≡ [] →
       (leaf : ℕ) → leaf < length graph.leaves → ¬ IsSet flags leaf → IsNeverFound (rules_of graph.leaves) graph.utf8 leaf

@@ -1,4 +1,5 @@
 //! What a lexer costs.
+
 ghost use Rattle.std.specs.Prelude.{◌≡◌};
 ghost use Rattle.logos_inspect.specs.Views.{costs};
 

@@ -1,7 +1,7 @@
 //! The rows of leaves in a table.
+
 ghost use Rattle.std.specs.Prelude.{◌≡◌, ◌↔◌, IsTrue, IfOk, Some, option_map, option_copied};
-ghost use Rattle.logos_inspect.specs.Words.{place_at, held};
-ghost use Rattle.logos_inspect.specs.Views.{IsRowOf, IsTextAt, ShowsCallback, default_priority, held_priority, moved, variant_name};
+ghost use Rattle.logos_inspect.specs.Views.{place_at, held, IsRowOf, IsTextAt, ShowsCallback, default_priority, held_priority, moved, variant_name};
 
 use logos_lines::LineIndex;
 use logos_pattern::leaf::{Callback, Leaf, VariantKind};
@@ -34,7 +34,8 @@ pub struct LeafRow<'l> {
 /// its text. The spans of the leaf count from there.
 ///
 /// # Errors
-/// Returns `Memory` when memory runs out.
+///
+/// Returns `Memory` if memory runs out.
 pub fn row_of<'l>(
     alloc: Global,
     lines: &LineIndex<'_>,

@@ -1,4 +1,5 @@
 //! The leaves that a graph marks.
+
 ghost use Rattle.std.specs.Prelude.{◌≡◌, ℕ, ◌<◌, ◌⊎◌, ◌↔◌, IfOk, length, option_map};
 ghost use Rattle.logos_inspect.specs.Words.{leaf_number, state_type_of, AreMarks, IsSet, Marks, AddsMark};
 
@@ -9,11 +10,13 @@ use std::alloc::{AllocError, Global};
 /// Returns for each leaf of a graph, by its number, whether a state marks it.
 ///
 /// Where a graph without faults does not mark a leaf, maximal munch never finds it, in no input:
-/// wherever it matches, another leaf matches more, or as much with a higher priority. A leaf that is
-/// marked, but late alone, may never be found either: wherever its match ends, a longer one follows.
+/// wherever it matches, another leaf matches more, or as much with a higher priority. A leaf that
+/// is marked, but late alone, may never be found either: wherever its match ends, a longer one
+/// follows.
 ///
 /// # Errors
-/// Returns `AllocError` when memory runs out.
+///
+/// Returns `AllocError` if memory runs out.
 pub fn marked_leaves(alloc: Global, graph: &Graph<'_>) -> Result<Vec<bool>, AllocError>
     ensures { IfOk result (λ flags. AreMarks graph.now flags.items) }
 {

@@ -1,9 +1,7 @@
 //! Lines of JSON that grow.
 
 ghost use Rattle.std.specs.Prelude.{◌≡◌, ◌↔◌, ◌∷◌, [], true, IfOk, IsOk, IsTrue, decimal, option_map};
-ghost use Rattle.logos_json.specs.Words.{Ends, Finishes, Gains, bool_member, byte_tokens, bytes_member, flat_map, list_member, maybe_bytes};
-ghost use Rattle.logos_json.specs.Words.{maybe_number, maybe_text, null_member, number_member, text_member};
-ghost use Rattle.logos_json.specs.Words.{begin_array, begin_object, boolean, end_array, end_object, key, null, number, string};
+ghost use Rattle.logos_json.specs.Words.{Ends, Finishes, Gains, bool_member, byte_tokens, bytes_member, flat_map, list_member, maybe_bytes, maybe_number, maybe_text, null_member, number_member, text_member, begin_array, begin_object, boolean, end_array, end_object, key, null, number, string};
 
 use json::Writer;
 use std::alloc::{AllocError, Global};
@@ -78,7 +76,7 @@ impl JsonLines {
         }
     }
 
-    /// Pushes the name of a member, whose value is pushed next.
+    /// Appends the name of a member, whose value is pushed next.
     pub fn push_name(&mut self, name: &str)
         ensures { Gains (key name.now ∷ []) self.old self.new }
     {
@@ -87,7 +85,7 @@ impl JsonLines {
         }
     }
 
-    /// Pushes a text, as the value of a member.
+    /// Appends a text, as the value of a member.
     fn string(&mut self, text: &str)
         ensures { Gains (string text.now ∷ []) self.old self.new }
     {
@@ -96,7 +94,7 @@ impl JsonLines {
         }
     }
 
-    /// Pushes a number, as the value of a member or an element of a list.
+    /// Appends a number, as the value of a member or an element of a list.
     fn number(&mut self, value: usize)
         ensures { Gains (number (decimal value) ∷ []) self.old self.new }
     {
@@ -105,7 +103,7 @@ impl JsonLines {
         }
     }
 
-    /// Pushes true or false, as the value of a member.
+    /// Appends true or false, as the value of a member.
     fn boolean(&mut self, value: bool)
         ensures { Gains (boolean value ∷ []) self.old self.new }
     {
@@ -114,7 +112,7 @@ impl JsonLines {
         }
     }
 
-    /// Pushes null, as the value of a member.
+    /// Appends null, as the value of a member.
     fn null(&mut self)
         ensures { Gains (null ∷ []) self.old self.new }
     {
@@ -123,7 +121,7 @@ impl JsonLines {
         }
     }
 
-    /// Pushes a member with a text.
+    /// Appends a member with a text.
     pub fn push_text(&mut self, name: &str, text: &str)
         ensures { Gains (text_member name.now text.now) self.old self.new }
     {
@@ -131,7 +129,7 @@ impl JsonLines {
         self.string(text);
     }
 
-    /// Pushes a member with a number.
+    /// Appends a member with a number.
     pub fn push_number(&mut self, name: &str, value: usize)
         ensures { Gains (number_member name.now value) self.old self.new }
     {
@@ -139,7 +137,7 @@ impl JsonLines {
         self.number(value);
     }
 
-    /// Pushes a member that is true or false.
+    /// Appends a member that is true or false.
     pub fn push_bool(&mut self, name: &str, value: bool)
         ensures { Gains (bool_member name.now value) self.old self.new }
     {
@@ -147,7 +145,7 @@ impl JsonLines {
         self.boolean(value);
     }
 
-    /// Pushes a member with null.
+    /// Appends a member with null.
     pub fn push_null(&mut self, name: &str)
         ensures { Gains (null_member name.now) self.old self.new }
     {
@@ -155,7 +153,7 @@ impl JsonLines {
         self.null();
     }
 
-    /// Pushes a member with a text, or with null.
+    /// Appends a member with a text, or with null.
     pub fn push_maybe_text(&mut self, name: &str, text: Option<&str>)
         ensures { Gains (maybe_text name.now (option_map (λ t. t.now) text.entry)) self.old self.new }
     {
@@ -165,7 +163,7 @@ impl JsonLines {
         }
     }
 
-    /// Pushes a member with a number, or with null.
+    /// Appends a member with a number, or with null.
     pub fn push_maybe_number(&mut self, name: &str, value: Option<usize>)
         ensures { Gains (maybe_number name.now value) self.old self.new }
     {
@@ -175,7 +173,7 @@ impl JsonLines {
         }
     }
 
-    /// Pushes a member with bytes: a text, or a list of numbers where they are not UTF-8.
+    /// Appends a member with bytes: a text, or a list of numbers where they are not UTF-8.
     pub fn push_bytes(&mut self, name: &str, bytes: &[u8])
         ensures { Gains (bytes_member name.now bytes.now) self.old self.new }
     {
@@ -185,7 +183,7 @@ impl JsonLines {
         }
     }
 
-    /// Pushes a member with bytes, or with null.
+    /// Appends a member with bytes, or with null.
     pub fn push_maybe_bytes(&mut self, name: &str, bytes: Option<&[u8]>)
         ensures { Gains (maybe_bytes name.now (option_map (λ b. b.now) bytes.entry)) self.old
             self.new }
@@ -196,7 +194,7 @@ impl JsonLines {
         }
     }
 
-    /// Pushes a member with a list of numbers.
+    /// Appends a member with a list of numbers.
     fn push_list(&mut self, name: &str, bytes: &[u8])
         ensures { Gains (list_member name.now (flat_map byte_tokens bytes.now)) self.old self.new }
     {
@@ -206,7 +204,7 @@ impl JsonLines {
         self.end_array();
     }
 
-    /// Pushes numbers, as elements of a list.
+    /// Appends numbers, as elements of a list.
     fn push_elements(&mut self, bytes: &[u8])
         ensures { Gains (flat_map byte_tokens bytes.now) self.old self.new }
     {

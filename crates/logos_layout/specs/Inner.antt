@@ -19,7 +19,8 @@ abbrev pub after_mark : TokenList → Option TokenList
 after_mark (also (punctuation character spacing span) rest) = if character == 33 then after_brackets rest else None
 after_mark run = None
 
--- What follows the documentation comment or the attribute that comes first, if it is an inner one: `//! ..`, `/*! .. */` or `#![..]`.
+-- What follows the documentation comment or the attribute that comes first, if it is an inner one:
+-- `//! ..`, `/*! .. */` or `#![..]`.
 abbrev pub after_inner : TokenList → Option TokenList
 after_inner (also (doc text span) rest) = if is_inner text then Some rest else None
 after_inner (also (punctuation character spacing span) rest) = if character == 35 then after_mark rest else None
@@ -36,7 +37,8 @@ pub record IsInnerText (text : List ℕ) : Type 0 where
   pub spelled : Spells text tokens
   pub are : AreInner tokens
 
--- The second text is the first one, where a front that spells inner documentation comments and attributes alone gave way to one that spells nothing.
+-- The second text is the first one, where a front that spells inner documentation comments and
+-- attributes alone gave way to one that spells nothing.
 pub record IsPlainly (text made : List ℕ) : Type 0 where
   pub front : List ℕ
   pub plain : List ℕ

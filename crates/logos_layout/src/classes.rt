@@ -154,7 +154,7 @@ pub(crate) fn role_of(sign: Sign) -> Role {
     }
 }
 
-/// Returns what a `:` does: the second of two ends the mark of a path.
+/// Returns what a `:` does: the second of two ends the `::` of a path.
 fn colon_role(last: Class) -> Role {
     match last {
         Class::Sign(Role::Colon) => Role::PathMark,
@@ -162,8 +162,8 @@ fn colon_role(last: Class) -> Role {
     }
 }
 
-/// Returns what a `<` does: after the name of a type or the mark of a path it opens a list of types,
-/// and where an operand can stand too.
+/// Returns what a `<` does: after the name of a type or the `::` of a path it opens a list of
+/// types, and where an operand can stand too.
 fn less_role(last: Class, is_second: bool) -> Role {
     match last {
         Class::TypeName | Class::Declaring | Class::Sign(Role::PathMark) => Role::OpensTypes,

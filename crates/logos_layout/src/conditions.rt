@@ -8,7 +8,7 @@ use logos_token::token::{Delimiter, TokenTree, Tokens, print};
 use logos_token::util::after_word;
 use std::alloc::Global;
 
-/// Pushes the `cfg` attributes of an item, each on a line of its own.
+/// Appends the `cfg` attributes of an item, each on a line of its own.
 ///
 /// # Errors
 ///
@@ -25,7 +25,7 @@ pub fn push_conditions(alloc: Global, text: &mut String, item: Tokens<'_, '_>) -
     Ok(())
 }
 
-/// Pushes the attribute with these brackets, if it is a condition.
+/// Appends the attribute with these brackets, if it is a condition.
 fn push_condition(alloc: Global, text: &mut String, tree: TokenTree<'_, '_>) -> Result<(), Memory>
     ensures { OnOk result (string_bytes text.new
         ≡ string_bytes text.old ++ condition_text (tree_of tree.entry)) }
@@ -39,7 +39,7 @@ fn push_condition(alloc: Global, text: &mut String, tree: TokenTree<'_, '_>) -> 
     }
 }
 
-/// Pushes the attribute with this run between its brackets, if it is a condition.
+/// Appends the attribute with this run between its brackets, if it is a condition.
 fn push_if_condition(alloc: Global, text: &mut String, run: Tokens<'_, '_>) -> Result<(), Memory>
     ensures { OnOk result (string_bytes text.new ≡ string_bytes text.old
         ++ text_if (after_word (codes "cfg") (tokens_of run.entry)) (tokens_of run.entry)) }
@@ -50,7 +50,7 @@ fn push_if_condition(alloc: Global, text: &mut String, run: Tokens<'_, '_>) -> R
     }
 }
 
-/// Pushes the attribute with this run between its brackets.
+/// Appends the attribute with this run between its brackets.
 fn push_attribute(alloc: Global, text: &mut String, run: Tokens<'_, '_>) -> Result<(), Memory>
     ensures { OnOk result (string_bytes text.new
         ≡ string_bytes text.old ++ attribute_text (tokens_of run.entry)) }

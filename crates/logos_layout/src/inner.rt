@@ -9,8 +9,8 @@ use logos_token::token::{Delimiter, TokenError, TokenTree, Tokens, tokenize};
 use std::alloc::Global;
 
 /// Returns a Rust text in which the inner documentation and the inner attributes that come first
-/// are plain comments: `//!` is `//`, `/*!` is `/*`, and `#![..]` stands in `/* */`. So another file
-/// can include it. All other bytes stay.
+/// are plain comments: `//!` is `//`, `/*!` is `/*`, and `#![..]` stands in `/* */`. So another
+/// file can include it. All other bytes stay.
 ///
 /// A text that cannot be read into tokens stays as it is, and so does one whose attributes would
 /// end these comments.

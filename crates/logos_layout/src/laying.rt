@@ -28,8 +28,9 @@ pub struct Setting<'n> {
 
 /// Returns a Rust text laid out in lines, with the same tokens and the same comments, and with
 /// those that the setting puts in. The margin and four blanks for each level of braces stand before
-/// a line, and a line has at most 100 bytes where a blank allows it. Lines end after `;`, after the braces of blocks, after commas between braces, after
-/// attributes and comments, and where the text has a line end. Short braces stay on one line.
+/// a line, and a line has at most 100 bytes where a blank allows it. Lines end after `;`, after the
+/// braces of blocks, after commas between braces, after attributes and comments, and where the text
+/// has a line end. Short braces stay on one line.
 ///
 /// A text that cannot be read into tokens, or is longer than 16,777,216 bytes in lines, stays as it
 /// is.

@@ -32,7 +32,7 @@ fn depth_after(kind: Kind, depth: usize) -> usize {
     }
 }
 
-/// Pushes a lexeme or a gap, inside so many delimiters. An attribute is put into a comment.
+/// Appends a lexeme or a gap, inside so many delimiters. An attribute is put into a comment.
 fn push_piece(plain: &mut String, kind: Kind, piece: &str, depth: usize) -> Result<(), Memory> {
     match (kind, depth) {
         (Kind::Doc, 0) => push_comment(plain, piece),
@@ -42,14 +42,14 @@ fn push_piece(plain: &mut String, kind: Kind, piece: &str, depth: usize) -> Resu
     }
 }
 
-/// Pushes two texts.
+/// Appends two texts.
 fn push(plain: &mut String, one: &str, other: &str) -> Result<(), Memory> {
     plain.push_str(one)?;
     plain.push_str(other)?;
     Ok(())
 }
 
-/// Pushes an inner documentation comment as a plain one.
+/// Appends an inner documentation comment as a plain one.
 fn push_comment(plain: &mut String, comment: &str) -> Result<(), Memory> {
     if let Some(rest) = comment.strip_prefix("//!") {
         return push(plain, opening("//", rest), rest);

@@ -28,18 +28,18 @@ pub(crate) fn text_without(
     source: &str,
     left: Tokens<'_, '_>,
 ) -> Result<String, Memory> {
-    let mut kept = Rest::new(alloc);
+    let mut thinned = Rest::new(alloc);
     let mut staying = Staying::new(alloc, left);
     let mut from = 0;
     while from < source.len() {
         let Ok((kind, to)) = lexeme_at(source, from) else {
-            return Ok(kept.text);
+            return Ok(thinned.text);
         };
         let stays = stays(&mut staying, kind, Span { from, to })?;
-        kept.add_piece(kind, &source[from..to], stays)?;
+        thinned.add_piece(kind, &source[from..to], stays)?;
         from = to;
     }
-    Ok(kept.text)
+    Ok(thinned.text)
 }
 
 /// Returns whether a lexeme stays. A gap is none.
@@ -119,7 +119,7 @@ impl Rest {
         self.push_gap(space)
     }
 
-    /// Adds a piece to the end of the gap.
+    /// Appends a piece to the end of the gap.
     fn push_gap(&mut self, piece: &str) -> Result<(), Memory> {
         self.gap.push_str(piece)?;
         self.has_line = self.has_line | has_line(piece.as_bytes());

@@ -156,7 +156,7 @@ fn read_attribute<'s>(
     Ok(None)
 }
 
-/// Adds a leaf, if there is one.
+/// Appends a leaf, if there is one.
 pub(crate) fn push_leaf<'s>(
     leaves: &mut Vec<Leaf<'s>>,
     leaf: Option<Leaf<'s>>,

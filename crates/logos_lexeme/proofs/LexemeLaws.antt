@@ -1,4 +1,5 @@
--- The laws of lexemes: what stands at a place ends behind it, between characters, and is one; a fault stands where none does.
+-- The laws of lexemes: what stands at a place ends behind it, between characters, and is one; a
+-- fault stands where none does.
 use Rattle.std.proofs.Common.{◌≡◌, ℕ, ◌<◌, ◌≤◌, List, length, IsUtf8, refl, sym, ◌∙◌, subst, arith}
 use Rattle.std.specs.Str.{IsCharBoundary}
 use Rattle.logos_lexeme.specs.LexemeOpenings.{opening_at}

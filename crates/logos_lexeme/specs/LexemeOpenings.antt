@@ -94,7 +94,7 @@ delimiter_kind c =
     else (if c == 125 then Some (Closing Brace)
     else None)))))
 
--- A lexeme of one character: punctuation, the `'` of a lifetime, a delimiter, or the mark U+FEFF
+-- A lexeme of one character: punctuation, the `'` of a lifetime, a delimiter, or U+FEFF
 -- that a text may begin with.
 unfoldable pub single_kind : List ℕ → ℕ → Option Kind
 single_kind bytes at =

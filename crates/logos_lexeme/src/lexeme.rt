@@ -6,8 +6,7 @@
 //! `logos_token` asks `lexeme_at` at each offset at which a lexeme or a gap begins.
 
 ghost use Rattle.std.specs.Prelude.{◌<◌, length, IfOk, IfErr};
-ghost use Rattle.logos_lexeme.specs.Words.{IsCharBoundary};
-ghost use Rattle.logos_lexeme.specs.Views.{IsNext, IsStuck};
+ghost use Rattle.logos_lexeme.specs.Views.{IsCharBoundary, IsNext, IsStuck};
 
 pub mod bodies;
 pub mod characters;
@@ -51,7 +50,7 @@ pub enum Delimiter {
 /// The kinds of lexemes and gaps.
 #[derive(Clone, Copy, Debug, PartialEq, Eq)]
 pub enum Kind {
-    /// White space, a comment that is not documentation, or the mark U+FEFF at the start of the
+    /// White space, a comment that is not documentation, or U+FEFF at the start of the
     /// text.
     Gap,
     /// An identifier, with its `r#` if it has one.
@@ -83,7 +82,7 @@ pub enum LexicalKind {
 
 /// Returns the kind of the lexeme or gap at the byte offset `from`, and the byte offset after it.
 ///
-/// A run of white space is one gap; each comment is a gap of its own.
+/// Neighboring white space is one gap; each comment is a gap of its own.
 ///
 /// # Errors
 ///

@@ -19,8 +19,7 @@ pub struct Cursor<'t> {
 
 impl<'t> Model for Cursor<'t> {
     ghost use Rattle.std.specs.Prelude.{◌≡◌, ◌≤◌, length};
-    ghost use Rattle.logos_lines.specs.Words.{CursorValue};
-    ghost use Rattle.logos_lines.specs.Views.{place_at};
+    ghost use Rattle.logos_lines.specs.Views.{CursorValue, place_at};
 
     ghost Value = { CursorValue };
 

@@ -97,7 +97,7 @@ fn line_starts(alloc: Global, text: &str) -> Result<Vec<usize>, AllocError>
     Ok(starts)
 }
 
-/// Pushes the offset after a byte if the byte is LF.
+/// Appends the offset after a byte if the byte is LF.
 fn push_start(starts: &mut Vec<usize>, at: usize, byte: u8) -> Result<(), AllocError>
     requires { at + 1 < 2 ^ 64 }
     ensures { OnOk result (starts.new.items ≡ (if byte == 10 then starts.old.items ++ (at + 1) ∷ []

@@ -20,15 +20,15 @@ pub record LexerValue (C : Type 0) : Type 0 where
   pub to : ℕ
   pub steps : ℕ
 
--- a lexer before its first item
+-- A lexer before its first item.
 abbrev pub begun : {C : Type 0} → CodeValue → List ℕ → C → LexerValue C
 begun code input callback = record { code = code; input = input; callback = callback; from = 0; to = 0; steps = 0 }
 
--- what the closure may answer to a leaf and a slice
+-- What the closure may answer to a leaf and a slice.
 abbrev pub answers_of : {C : Type 0} → Shared C (LeafId × (Bor (List ℕ) × Unit {0})) Action → C → Callback
 answers_of g f leaf slice answer = (shown : Bor (List ℕ)) × (shown.now ≡ slice) × g.post f (record { 0 = leaf }, (shown, tt)) answer
 
--- the closure may be called on a leaf and a slice
+-- The closure may be called on a leaf and a slice.
 abbrev pub Takes : {C : Type 0} → Shared C (LeafId × (Bor (List ℕ) × Unit {0})) Action → C → LeafId → List ℕ → Type 0
 Takes g f leaf slice = (shown : Bor (List ℕ)) → shown.now ≡ slice → g.pre f (leaf, (shown, tt))
 
@@ -45,22 +45,22 @@ item_of (Error leaf span slice) = error (option_map (λ l. l.0) leaf) span.from 
 -- What a call of `next` does: it gives the next item of the run, and stands after it.
 pub record Gives {C : Type 0} (callback : Callback) (old new : LexerValue C) (item : Item) : Type 0 where
   pub span : HasSpan new item
-  -- the item lies after the last one, is nonempty, and ends in the input
+  -- The item lies after the last one, is nonempty, and ends in the input.
   pub after : old.to ≤ new.from
   pub nonempty : new.from < new.to
   pub within : new.to ≤ length new.input
-  -- it is the next one from the old place on, whatever comes after it
+  -- It is the next one from the old point on, whatever comes after it.
   pub is : RunsOn old.code callback old.input old.to item new.to
   pub next : (rest : List Item) → Runs new.code callback new.input new.to rest → Runs old.code callback old.input old.to (item ∷ rest)
 
--- or it is over, and stands at the end of the input
+-- Or it is over, and stands at the end of the input.
 pub record Ends {C : Type 0} (callback : Callback) (old new : LexerValue C) : Type 0 where
   pub from : new.from ≡ length new.input
   pub to : new.to ≡ length new.input
   pub over : Runs old.code callback old.input old.to []
 
--- Code, input and callback stay. The last try entered as many states as are counted, at most two more than there are bytes
--- from the span's start on.
+-- Code, input and callback stay. The last try entered as many states as are counted, at most two
+-- more than there are bytes from the span's start on.
 pub record Keeps {C : Type 0} (old new : LexerValue C) : Type 0 where
   pub code : new.code ≡ old.code
   pub input : new.input ≡ old.input
@@ -68,7 +68,7 @@ pub record Keeps {C : Type 0} (old new : LexerValue C) : Type 0 where
   pub steps : (found : Found) × Tries new.code new.input new.from found new.steps
   pub few : new.steps ≤ (length new.input - new.from) + 2
 
--- what a match gives: the item, if the answer gives one
+-- What a match gives: the item, if the answer gives one.
 pub record MatchGives (code : CodeValue) (callback : Callback) (bytes : List ℕ) (leaf from to : ℕ) (item : Option Item) : Type 0 where
   pub answer : Action
   pub may : MayAnswer code.leaves callback bytes leaf (slice_range bytes from to) answer

@@ -13,13 +13,15 @@ use Rattle.logos_machine.specs.LexerValue.{LexerValue, Ends, Gives, Keeps, answe
 abbrev pub AnswersAmong : Callback → Callback → Type 0
 AnswersAmong callback other = (leaf : ℕ) (slice : List ℕ) (answer : Action) → callback leaf slice answer → other leaf slice answer
 
--- The runs by the one callback are runs by the other one, if its answers are among those of that one.
+-- The runs by the one callback are runs by the other one, if its answers are among those of that
+-- one.
 abbrev pub RunsGoOver : Callback → Callback → Type 0
 RunsGoOver callback other = AnswersAmong callback other →
     (code : CodeValue) (input : List ℕ) (from : ℕ) (items : List Item) → Runs code callback input from items → Runs code other input from items
 
 module _ {C : Type 0} (calls : Shared C (LeafId × (Bor (List ℕ) × Unit {0})) Action) where
-  -- A lexer has given these items: what completes the run from its place on completes, after them, the whole run.
+  -- A lexer has given these items: what completes the run from its point on completes, after them,
+  -- the whole run.
   abbrev pub HasGiven : LexerValue C → List Item → Type 0
   HasGiven lexer items = (rest : List Item) → Runs lexer.code (answers_of calls lexer.callback) lexer.input lexer.to rest →
       Runs lexer.code (answers_of calls lexer.callback) lexer.input 0 (items ++ rest)

@@ -26,7 +26,8 @@ module _ (code : CodeValue) (bytes : List ℕ) (start seen : ℕ) where
   EndsWithin (matched leaf to) = Unit {0}
   EndsWithin (failed to) = IsTrue code.utf8 → to < seen
 
-  -- From a stand on, the try finds this in so many states, and looks at none but the first `seen` bytes.
+  -- From a stand on, the try finds this in so many states, and looks at none but the first `seen`
+  -- bytes.
   pub data GoesWithin : Stand → Found → ℕ → Type 0 where
     leads_within : (at next : Stand) (found : Found) (n : ℕ) → StopsWithin at →
         Does code bytes start at (enters next) → GoesWithin next found n → GoesWithin at found (suc n)
@@ -37,7 +38,8 @@ module _ (code : CodeValue) (bytes : List ℕ) (start seen : ℕ) where
   abbrev pub TriesWithin : Found → ℕ → Type 0
   TriesWithin = GoesWithin (first_stand code start)
 
--- The try looks at the end of the bytes: a fast loop comes to it, or an error in UTF-8 mode ends there.
+-- The try looks at the end of the bytes: a fast loop comes to it, or an error in UTF-8 mode ends
+-- there.
 pub data LooksPast (code : CodeValue) (bytes : List ℕ) (start : ℕ) : Stand → Type 0 where
   looks_here : (at : Stand) (state : CodeState) → slice_get code.states at.state ≡ Some state →
       length bytes ≤ stop_at code bytes state at.offset → LooksPast code bytes start at
@@ -45,7 +47,8 @@ pub data LooksPast (code : CodeValue) (bytes : List ℕ) (start : ℕ) : Stand �
   looks_last : (at : Stand) (offset to : ℕ) → Does code bytes start at (acts None offset) → IsTrue code.utf8 →
       EndsError code bytes start offset to → length bytes ≤ to → LooksPast code bytes start at
 
--- What a try that looks at none but the first bytes finds is what a try finds in each input that has these bytes.
+-- What a try that looks at none but the first bytes finds is what a try finds in each input that
+-- has these bytes.
 abbrev pub TriesAgree : Type 0
 TriesAgree = (code : CodeValue) (bytes others : List ℕ) (start seen n : ℕ) (found : Found) → seen ≤ length bytes →
     take seen bytes ≡ take seen others → TriesWithin code bytes start seen found n → TriesWithin code others start seen found n × Tries code others start found n
@@ -72,7 +75,8 @@ pub data PassesOver (uses : List Use) (callback : Callback) (bytes : List ℕ) (
 abbrev pub RunsOver : CodeValue → Callback → List ℕ → ℕ → ℕ → Type 0
 RunsOver code callback bytes = PassesOver code.leaves callback bytes (CodeFinds code bytes)
 
--- Runs do not depend on what is before them: with other bytes in front, each gives the same items, so many bytes later.
+-- Runs do not depend on what is before them: with other bytes in front, each gives the same items,
+-- so many bytes later.
 pub record RunsGoLater (callback : Callback) : Type 0 where
   pub tries : (code : CodeValue) (front bytes : List ℕ) (start n : ℕ) (found : Found) → IsSound code → Tries code bytes start found n →
       Tries code (front ++ bytes) (length front + start) (found_later (length front) found) n
@@ -83,14 +87,14 @@ pub record RunsGoLater (callback : Callback) : Type 0 where
   pub over : (code : CodeValue) (front bytes : List ℕ) (from end : ℕ) → IsSound code → RunsOver code callback bytes from end →
       RunsOver code callback (front ++ bytes) (length front + from) (length front + end)
 
--- These items were found in the beginning of an input, up to a point: what completes a run from there on completes, after them, the whole run,
--- whatever follows the beginning.
+-- These items were found in the beginning of an input, up to a point: what completes a run from
+-- there on completes, after them, the whole run, whatever follows the beginning.
 abbrev pub AreBegun : CodeValue → Callback → List ℕ → List Item → ℕ → Type 0
 AreBegun code callback begun items to = (rest : List ℕ) (later : List Item) → Runs code callback (begun ++ rest) to later →
     Runs code callback (begun ++ rest) 0 (items ++ later)
 
--- The items of parts are items of the whole. A part stands after so many bytes of the beginning, and what is found in the part, whatever follows it,
--- is found there in the whole.
+-- The items of parts are items of the whole. A part stands after so many bytes of the beginning,
+-- and what is found in the part, whatever follows it, is found there in the whole.
 pub record PartsAreOfTheWhole (callback : Callback) : Type 0 where
   pub none : (code : CodeValue) (begun : List ℕ) → AreBegun code callback begun [] 0
   pub grown : (code : CodeValue) (begun added : List ℕ) (items : List Item) (to : ℕ) → AreBegun code callback begun items to →

@@ -14,9 +14,9 @@ pub record GivesWithin {C : Type 0} (callback : Callback) (old new : LexerValue 
   pub after : old.to ≤ new.from
   pub nonempty : new.from < new.to
   pub within : new.to ≤ length new.input
-  -- it is the next one, whatever follows the part
+  -- It is the next one, whatever follows the part.
   pub is : (rest : List ℕ) → RunsOn old.code callback (old.input ++ rest) old.to item new.to
-  -- the last try looked at the part alone
+  -- The last try looked at the part alone.
   pub tries : (found : Found) × TriesWithin new.code new.input new.from (length new.input) found new.steps
 
 -- No item is given: what comes next depends on what follows.
@@ -25,9 +25,9 @@ pub record Waits {C : Type 0} (callback : Callback) (old new : LexerValue C) : T
   pub after : old.to ≤ new.to
   pub within : new.to ≤ length new.input
   pub steps : new.steps ≡ old.steps
-  -- what was passed gives no item, whatever follows the part
+  -- What was passed gives no item, whatever follows the part.
   pub passed : (rest : List ℕ) → RunsOver old.code callback (old.input ++ rest) old.to new.to
-  -- the next try looks at the end of the part
+  -- The next try looks at the end of the part.
   pub looks : LooksPast new.code new.input new.to (first_stand new.code new.to)
 
 -- Code, input and callback stay.
@@ -36,7 +36,8 @@ pub record KeepsGiven {C : Type 0} (old new : LexerValue C) : Type 0 where
   pub input : new.input ≡ old.input
   pub callback : new.callback ≡ old.callback
 
--- What a call of `next_within` does: on the last part what `next` does, on another one only what holds for every continuation.
+-- What a call of `next_within` does: on the last part what `next` does, on another one only what
+-- holds for every continuation.
 abbrev pub DoesWithin : {C : Type 0} → Bool → Callback → LexerValue C → LexerValue C → Within → Type 0
 DoesWithin true callback old new (Given item) = Gives callback old new (item_of item)
 DoesWithin true callback old new More = ⊥

@@ -1,4 +1,5 @@
-//! Laws of the definitions. The contract of each function is a law. To use one in a proof, call its function: the call does nothing.
+//! Laws of the definitions. The contract of each function is a law. To use one in a proof, call its
+//! function: the call does nothing.
 
 ghost use Rattle.logos_machine.specs.Views.{answers_of, EndIsRun, NextAddsItem, PartsAreOfTheWhole, RunsGoLater, RunsGoOver, TriesAgree};
 
@@ -23,17 +24,20 @@ pub fn runs_go_over<C: Fn(LeafId, &[u8]) -> Action, D: Fn(LeafId, &[u8]) -> Acti
     ensures { RunsGoOver (answers_of C.Fn callback.now) (answers_of D.Fn other.now) }
 {}
 
-/// A try that looks at none but the first bytes of an input finds the same in each input that has these bytes.
+/// A try that looks at none but the first bytes of an input finds the same in each input that has
+/// these bytes.
 pub fn tries_agree()
     ensures { TriesAgree }
 {}
 
-/// Runs do not depend on what is before them: with more bytes in front each gives the same items, so many bytes later.
+/// Runs do not depend on what is before them: with more bytes in front each gives the same items,
+/// so many bytes later.
 pub fn runs_go_later<C: Fn(LeafId, &[u8]) -> Action>(callback: &C)
     ensures { RunsGoLater (answers_of C.Fn callback.now) }
 {}
 
-/// The items that are found in parts of an input, whatever follows them, are the items of the whole input.
+/// The items that are found in parts of an input, whatever follows them, are the items of the whole
+/// input.
 pub fn parts_are_of_the_whole<C: Fn(LeafId, &[u8]) -> Action>(callback: &C)
     ensures { PartsAreOfTheWhole (answers_of C.Fn callback.now) }
 {}

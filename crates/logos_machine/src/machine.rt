@@ -1,8 +1,7 @@
 //! Lexers: runs of a code value on an input.
 
 ghost use Rattle.std.specs.Prelude.{◌≡◌, ◌<◌, ◌≤◌, length, option_map, slice_range, MatchBool, MatchOption, IfOk, IfErr, IsTrue, IsUtf8, drop, None};
-ghost use Rattle.logos_machine.specs.Words.{IsValidUpTo, asks_for, token, error};
-ghost use Rattle.logos_machine.specs.Views.{answers_of, begun, item_of, Gives, Ends, Keeps, MatchGives, Takes};
+ghost use Rattle.logos_machine.specs.Views.{IsValidUpTo, asks_for, token, error, answers_of, begun, item_of, Gives, Ends, Keeps, MatchGives, Takes};
 
 mod attempt;
 mod fast_loop;
@@ -26,7 +25,8 @@ pub enum Item<'i> {
         span: Span,
         slice: &'i [u8],
     },
-    /// Bytes that no leaf matches, if `leaf` is `None`, or a match that the callback of its leaf refused.
+    /// Bytes that no leaf matches, if `leaf` is `None`, or a match that the callback of its leaf
+    /// refused.
     Error {
         leaf: Option<LeafId>,
         span: Span,
@@ -54,8 +54,7 @@ pub struct Lexer<'c, 's, 'i, C> {
 
 impl<'c, 's, 'i, C> Model for Lexer<'c, 's, 'i, C> {
     ghost use Rattle.std.specs.Prelude.{◌≤◌, [], length};
-    ghost use Rattle.logos_machine.specs.Words.{codes, named};
-    ghost use Rattle.logos_machine.specs.Views.{LexerValue};
+    ghost use Rattle.logos_machine.specs.Views.{codes, named, LexerValue};
     ghost use Rattle.logos_type.specs.contracts.type_expr.Part as p;
 
     ghost Value = { LexerValue C };
@@ -75,7 +74,8 @@ impl<'c, 's, 'i, C> Model for Lexer<'c, 's, 'i, C> {
 }
 
 impl<'c, 's, 'i, C: Fn(LeafId, &[u8]) -> Action> Lexer<'c, 's, 'i, C> {
-    /// Makes a lexer at the start of a text. It calls the callback for each match of a leaf that has one.
+    /// Makes a lexer at the start of a text. It calls the callback for each match of a leaf that
+    /// has one.
     pub fn new_str(code: &'c Code<'s>, input: &'i str, callback: C) -> Lexer<'c, 's, 'i, C>
         requires { C.IsAlwaysCallable callback }
         ensures { result ≡ begun code.now input.now callback }
@@ -86,6 +86,7 @@ impl<'c, 's, 'i, C: Fn(LeafId, &[u8]) -> Action> Lexer<'c, 's, 'i, C> {
     /// Makes a lexer at the start of some bytes.
     ///
     /// # Errors
+    ///
     /// Returns `NotUtf8` if the code is in UTF-8 mode and the bytes are not UTF-8.
     pub fn new_bytes(
         code: &'c Code<'s>,
@@ -176,7 +177,8 @@ impl<'c, 's, 'i, C: Fn(LeafId, &[u8]) -> Action> Lexer<'c, 's, 'i, C> {
         self.steps = steps;
     }
 
-    /// Returns the span of the last item: 0..0 before the first, and the empty span at the end of the input after `None`.
+    /// Returns the span of the last item: 0..0 before the first, and the empty span at the end of
+    /// the input after `None`.
     pub fn span(&self) -> Span
         ensures { result ≡ record { from = self.now.from; to = self.now.to } }
     {
@@ -232,6 +234,7 @@ impl<'c, 's, 'i, C: Fn(LeafId, &[u8]) -> Action> Lexer<'c, 's, 'i, C> {
 /// Checks that the bytes are UTF-8.
 ///
 /// # Errors
+///
 /// Returns the length of the longest beginning that is UTF-8.
 fn check_utf8(input: &[u8]) -> Result<(), NotUtf8>
     ensures accepted { IfOk result (λ _. IsUtf8 input.now) }

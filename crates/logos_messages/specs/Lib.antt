@@ -5,3 +5,5 @@ pub mod Growing
 pub mod Messages
 pub mod Answers
 pub mod Warnings
+pub mod Words
+pub mod Views

@@ -5,7 +5,8 @@ use Rattle.json.specs.Token.{Token, number}
 use Rattle.json.specs.Lex.{tokens}
 use Rattle.json.specs.Print.{print}
 
--- A line as a value: what stands in front of it, its tokens, and whether it has all that was pushed.
+-- A line as a value: what stands in front of it, its tokens, and whether it has all that was
+-- pushed.
 pub record LineValue : Type 0 where
   pub before : List ℕ
   pub tokens : List Token
@@ -31,14 +32,16 @@ pub record Gains (tokens : List Token) (old new : LineValue) : Type 0 where
   pub whole : IsTrue new.is_whole → IsTrue old.is_whole × (new.tokens ≡ old.tokens ++ tokens)
   pub quiet : AreQuiet tokens
 
--- A whole line was finished: these bytes are what stood in front of it, its tokens as JSON without blanks, and LF.
+-- A whole line was finished: these bytes are what stood in front of it, its tokens as JSON without
+-- blanks, and LF.
 pub record Finishes (line : LineValue) (bytes : List ℕ) : Type 0 where
   pub whole : IsTrue line.is_whole
   pub is : bytes ≡ line.before ++ (print line.tokens ++ 10 ∷ [])
   pub reads : tokens (print line.tokens) ≡ line.tokens
   pub utf8 : IsUtf8 (print line.tokens)
 
--- These bytes are a line of JSON: LF ends it and stands nowhere else in it, and what it reads as is these tokens.
+-- These bytes are a line of JSON: LF ends it and stands nowhere else in it, and what it reads as is
+-- these tokens.
 pub record IsLine (shown : List Token) (line : List ℕ) : Type 0 where
   pub is : line ≡ print shown ++ 10 ∷ []
   pub reads : tokens (print shown) ≡ shown

@@ -34,7 +34,7 @@ maybe_member name None = null_member name
 abbrev pub list_member : List ℕ → List Token → List Token
 list_member name items = key name ∷ begin_array ∷ (items ++ end_array ∷ [])
 
--- A line of a file with what is marked in it.
+-- A line of a file with the columns of a span in it.
 abbrev pub marked_tokens : Marked → List Token
 marked_tokens line =
     begin_object ∷ (text_member (codes "text") line.text ++ (number_member (codes "highlight_start") line.from ++ (number_member (codes "highlight_end") line.to ++ end_object ∷ [])))

@@ -26,8 +26,9 @@ warning_tokens source begin warning shown =
     begin_object ∷ (head_tokens (string_bytes warning.message) ++ (spans_tokens source begin warning shown.lines shown.other_lines ++
     (list_member (codes "children") (flat_map note_tokens shown.notes) ++ (maybe_member (codes "rendered") shown.rendered ++ end_object ∷ []))))
 
--- This may be shown of a warning of the part of a file that begins at an offset: the lines are lines of the file, and the report has the line
--- of the warning and the one that names its place.
+-- This may be shown of a warning of the part of a file that begins at an offset: the lines are
+-- lines of the file, and the report has the line of the warning and the one that names its
+-- position.
 pub record IsShown (source : SourceValue) (begin : ℕ) (warning : Warning) (shown : Shown) : Type 0 where
   pub lines : AreLines source.text shown.lines
   pub other_lines : AreLines source.text shown.other_lines

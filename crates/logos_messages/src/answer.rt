@@ -1,9 +1,7 @@
 //! The lines of an answer that are no faults: its version, and its pieces.
 
 ghost use Rattle.std.specs.Prelude.{◌≡◌, ◌++◌, ℕ, List, IfOk, OnErr, OnOk, decimal, string_bytes};
-ghost use Rattle.std.specs.List.{flat_map};
-ghost use Rattle.logos_messages.specs.Answers.{named_piece_tokens, piece_tokens, pieces_tokens, version_tokens};
-ghost use Rattle.logos_messages.specs.Lines.{Gains, IsLine};
+ghost use Rattle.logos_messages.specs.Views.{flat_map, Gains, IsLine, named_piece_tokens, piece_tokens, pieces_tokens, version_tokens};
 
 use crate::line::Line;
 use logos_token::error::Memory;
@@ -18,7 +16,7 @@ pub struct Piece {
     pub to: usize,
 }
 
-/// Pushes the line that names the protocol and the program.
+/// Appends the line that names the protocol and the program.
 ///
 /// # Errors
 ///
@@ -43,7 +41,7 @@ fn version_line(alloc: Global, program: &str) -> Result<Vec<u8>, AllocError>
     Ok(out)
 }
 
-/// Pushes the protocol and the program.
+/// Appends the protocol and the program.
 fn push_version_object(line: &mut Line, program: &str)
     ensures { Gains (version_tokens program.now) line.old line.new }
 {
@@ -54,7 +52,7 @@ fn push_version_object(line: &mut Line, program: &str)
     line.end_object();
 }
 
-/// Pushes the line that lists the pieces. The name of a piece is `prefix` and its number.
+/// Appends the line that lists the pieces. The name of a piece is `prefix` and its number.
 ///
 /// # Errors
 ///
@@ -89,7 +87,7 @@ fn pieces_line(alloc: Global, prefix: &str, pieces: &[Piece]) -> Result<Vec<u8>,
     Ok(out)
 }
 
-/// Pushes each piece.
+/// Appends each piece.
 fn push_each_piece(
     line: &mut Line,
     alloc: Global,
@@ -118,7 +116,7 @@ fn set_name(name: &mut String, prefix: &str, number: usize) -> Result<(), AllocE
     }
 }
 
-/// Pushes a piece with this name.
+/// Appends a piece with this name.
 fn push_piece(line: &mut Line, name: &str, piece: Piece)
     ensures { Gains (named_piece_tokens name.now piece) line.old line.new }
 {

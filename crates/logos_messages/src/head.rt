@@ -1,16 +1,13 @@
 //! What the line of a fault begins with.
 
 ghost use Rattle.std.specs.Prelude.{◌≡◌, ◌++◌, [], ◌∷◌, codes};
-ghost use Rattle.logos_token.specs.FaultNames.{name_of};
-ghost use Rattle.logos_token.specs.FaultView.{fault_of};
-ghost use Rattle.logos_messages.specs.Lines.{Gains};
-ghost use Rattle.logos_messages.specs.Tokens.{code_tokens, error_tokens, head_tokens};
+ghost use Rattle.logos_messages.specs.Words.{name_of, fault_of, Gains, code_tokens, error_tokens, head_tokens};
 
 use crate::line::Line;
 use logos_report::{first_line, is_error};
 use logos_token::error::{FaultCode, SpannedError};
 
-/// Pushes that a line is a diagnostic, and the message, the code and the level of its fault.
+/// Appends that a line is a diagnostic, and the message, the code and the level of its fault.
 pub(crate) fn push_head(line: &mut Line, fault: &SpannedError)
     ensures { Gains (head_tokens (fault_of fault.now)) line.old line.new }
 {
@@ -19,7 +16,7 @@ pub(crate) fn push_head(line: &mut Line, fault: &SpannedError)
     push_code(line, fault.code);
 }
 
-/// Pushes the code and the level of a fault.
+/// Appends the code and the level of a fault.
 fn push_code(line: &mut Line, code: FaultCode)
     ensures { Gains (code_tokens code) line.old line.new }
 {
@@ -32,7 +29,7 @@ fn push_code(line: &mut Line, code: FaultCode)
     }
 }
 
-/// Pushes the code of a fault that is an error.
+/// Appends the code of a fault that is an error.
 fn push_error_code(line: &mut Line, code: FaultCode)
     ensures { Gains (error_tokens code) line.old line.new }
 {

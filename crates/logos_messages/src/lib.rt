@@ -1,5 +1,5 @@
-//! Faults and warnings as lines of JSON in rustc's schema of diagnostics, for editors, for CI and for the derive
-//! macro.
+//! Faults and warnings as lines of JSON in rustc's schema of diagnostics, for editors, for CI and
+//! for the derive macro.
 
 #![tactic(auto)]
 

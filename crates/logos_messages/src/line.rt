@@ -1,9 +1,7 @@
 //! A line of JSON that grows.
 
 ghost use Rattle.std.specs.Prelude.{◌≡◌, ◌∷◌, [], true, IfOk, decimal, option_map};
-ghost use Rattle.json.specs.Token.{begin_array, begin_object, boolean, end_array, end_object, key, null, number, string};
-ghost use Rattle.logos_messages.specs.Lines.{Finishes, Gains};
-ghost use Rattle.logos_messages.specs.Tokens.{bool_member, maybe_member, null_member, number_member, text_member};
+ghost use Rattle.logos_messages.specs.Words.{begin_array, begin_object, boolean, end_array, end_object, key, null, number, string, Finishes, Gains, bool_member, maybe_member, null_member, number_member, text_member};
 
 use json::Writer;
 use std::alloc::AllocError;
@@ -75,7 +73,7 @@ impl Line {
         }
     }
 
-    /// Pushes the name of a member.
+    /// Appends the name of a member.
     pub(crate) fn push_name(&mut self, name: &str)
         ensures { Gains (key name.now ∷ []) self.old self.new }
     {
@@ -92,7 +90,7 @@ impl Line {
         self.begin_array();
     }
 
-    /// Pushes a text, as what a member has.
+    /// Appends a text, as what a member has.
     fn string(&mut self, text: &str)
         ensures { Gains (string text.now ∷ []) self.old self.new }
     {
@@ -101,7 +99,7 @@ impl Line {
         }
     }
 
-    /// Pushes a number, as what a member has.
+    /// Appends a number, as what a member has.
     fn number(&mut self, value: usize)
         ensures { Gains (number (decimal value) ∷ []) self.old self.new }
     {
@@ -110,7 +108,7 @@ impl Line {
         }
     }
 
-    /// Pushes true or false, as what a member has.
+    /// Appends true or false, as what a member has.
     fn boolean(&mut self, value: bool)
         ensures { Gains (boolean value ∷ []) self.old self.new }
     {
@@ -119,7 +117,7 @@ impl Line {
         }
     }
 
-    /// Pushes null, as what a member has.
+    /// Appends null, as what a member has.
     fn null(&mut self)
         ensures { Gains (null ∷ []) self.old self.new }
     {
@@ -128,7 +126,7 @@ impl Line {
         }
     }
 
-    /// Pushes a member with a text.
+    /// Appends a member with a text.
     pub(crate) fn push_text(&mut self, name: &str, text: &str)
         ensures { Gains (text_member name.now text.now) self.old self.new }
     {
@@ -136,7 +134,7 @@ impl Line {
         self.string(text);
     }
 
-    /// Pushes a member with a number.
+    /// Appends a member with a number.
     pub(crate) fn push_number(&mut self, name: &str, value: usize)
         ensures { Gains (number_member name.now value) self.old self.new }
     {
@@ -144,7 +142,7 @@ impl Line {
         self.number(value);
     }
 
-    /// Pushes a member that is true or false.
+    /// Appends a member that is true or false.
     pub(crate) fn push_bool(&mut self, name: &str, value: bool)
         ensures { Gains (bool_member name.now value) self.old self.new }
     {
@@ -152,7 +150,7 @@ impl Line {
         self.boolean(value);
     }
 
-    /// Pushes a member with null.
+    /// Appends a member with null.
     pub(crate) fn push_null(&mut self, name: &str)
         ensures { Gains (null_member name.now) self.old self.new }
     {
@@ -160,7 +158,7 @@ impl Line {
         self.null();
     }
 
-    /// Pushes a member with a text, or with null.
+    /// Appends a member with a text, or with null.
     pub(crate) fn push_maybe(&mut self, name: &str, text: Option<&str>)
         ensures { Gains (maybe_member name.now (option_map (λ t. t.now) text.entry)) self.old self.new }
     {

@@ -1,10 +1,7 @@
-//! Lines of a file with what is marked in them.
+//! Lines of a file, and the columns of a span in them.
 
 ghost use Rattle.std.specs.Prelude.{◌≡◌, [], ◌∷◌};
-ghost use Rattle.logos_report.specs.Places.{IsShownLine};
-ghost use Rattle.logos_messages.specs.Lines.{Gains};
-ghost use Rattle.logos_messages.specs.Growing.{GivesLineList, GivesLines};
-ghost use Rattle.logos_messages.specs.Tokens.{marked_tokens};
+ghost use Rattle.logos_messages.specs.Words.{IsShownLine, Gains, GivesLineList, GivesLines, marked_tokens};
 
 use crate::line::Line;
 use logos_lines::Position;
@@ -23,7 +20,7 @@ pub(crate) struct Reach {
     pub(crate) last: Position,
 }
 
-/// Pushes the lines of a span, as a member. Lines that are long are left out, and so are all lines
+/// Appends the lines of a span, as a member. Lines that are long are left out, and so are all lines
 /// of a span that has many.
 pub(crate) fn push_lines(line: &mut Line, source: &Source<'_>, reach: Reach)
     ensures { GivesLineList source.now.text line.old line.new }
@@ -33,7 +30,7 @@ pub(crate) fn push_lines(line: &mut Line, source: &Source<'_>, reach: Reach)
     line.end_list();
 }
 
-/// Pushes the lines of a span that are not long, if there are few.
+/// Appends the lines of a span that are not long, if there are few.
 fn push_each_line(line: &mut Line, source: &Source<'_>, reach: Reach)
     ensures { GivesLines source.now.text line.old line.new }
 {
@@ -45,7 +42,7 @@ fn push_each_line(line: &mut Line, source: &Source<'_>, reach: Reach)
     }
 }
 
-/// Pushes a line, unless it is long.
+/// Appends a line, unless it is long.
 fn push_line(line: &mut Line, source: &Source<'_>, reach: Reach, number: usize)
     ensures { GivesLines source.now.text line.old line.new }
 {
@@ -78,7 +75,7 @@ fn last_column(reach: Reach, number: usize, text: &str) -> usize {
     }
 }
 
-/// Pushes a line with the columns of what is marked in it.
+/// Appends a line with the columns of a span in it.
 fn push_marked(line: &mut Line, text: &str, from: usize, to: usize)
     ensures { Gains (marked_tokens (record { text = text.now; from = from; to = to })) line.old
         line.new }

@@ -1,12 +1,7 @@
 //! The faults of a source, one line for each.
 
-ghost use Rattle.std.specs.Prelude.{◌≡◌, ◌++◌, List, ℕ, false, IfOk, IfSome, OnErr, OnOk, string_bytes};
-ghost use Rattle.std.specs.Prelude.{option_map};
-ghost use Rattle.logos_token.specs.FaultView.{fault_of, faults_of};
-ghost use Rattle.logos_report.specs.Faults.{fault_texts};
-ghost use Rattle.logos_report.specs.Pages.{StandInOrder};
-ghost use Rattle.logos_messages.specs.Growing.{GivesMessage, GivesSpanList};
-ghost use Rattle.logos_messages.specs.Messages.{AreMessages, IsMessage};
+ghost use Rattle.std.specs.Prelude.{◌≡◌, ◌++◌, List, ℕ, false, IfOk, IfSome, OnErr, OnOk, string_bytes, option_map};
+ghost use Rattle.logos_messages.specs.Words.{fault_of, faults_of, fault_texts, StandInOrder, GivesMessage, GivesSpanList, AreMessages, IsMessage};
 
 use crate::head::push_head;
 use crate::line::Line;
@@ -18,7 +13,7 @@ use logos_token::error::{Errors, Memory, SpannedError};
 use logos_token::token::Span;
 use std::alloc::{AllocError, Global};
 
-/// Pushes a line of JSON for each fault of a part of a file, in order. A line has the members of
+/// Appends a line of JSON for each fault of a part of a file, in order. A line has the members of
 /// rustc's diagnostics, of which `rendered` is what `push_faults` shows of the fault, without
 /// colors. What is known of faults beyond what they say is among its notes.
 ///
@@ -114,7 +109,7 @@ pub(crate) fn text_of(text: &Option<String>) -> Option<&str>
     }
 }
 
-/// Pushes a fault, and this report of it.
+/// Appends a fault, and this report of it.
 fn push_message(line: &mut Line, shown: Shown<'_, '_, '_>, rendered: Option<&str>)
     ensures { GivesMessage shown.entry.part.source.now shown.entry.part.offset
         (fault_of shown.entry.fault.now) (option_map (λ t. t.now) rendered.entry) line.old line.new }
@@ -127,7 +122,7 @@ fn push_message(line: &mut Line, shown: Shown<'_, '_, '_>, rendered: Option<&str
     line.end_object();
 }
 
-/// Pushes the spans of a fault, as a member.
+/// Appends the spans of a fault, as a member.
 fn push_spans(line: &mut Line, part: Part<'_, '_>, fault: &SpannedError)
     ensures { GivesSpanList part.entry.source.now part.entry.offset (fault_of fault.now) line.old
         line.new }

@@ -1,16 +1,14 @@
 //! The notes and the help of a fault.
 
 ghost use Rattle.std.specs.Prelude.{◌≡◌, [], ◌∷◌};
-ghost use Rattle.logos_messages.specs.Lines.{Gains};
-ghost use Rattle.logos_messages.specs.Growing.{GivesNoteList, GivesNotes};
-ghost use Rattle.logos_messages.specs.Tokens.{list_member, note_tokens, nothing_tokens};
+ghost use Rattle.logos_messages.specs.Words.{Gains, GivesNoteList, GivesNotes, list_member, note_tokens, nothing_tokens};
 
 use crate::line::Line;
 use crate::messages::Shown;
 use logos_report::{Member, Part, Start, help_of};
 use logos_token::error::SpannedError;
 
-/// Pushes the notes and the help of a fault, as a member.
+/// Appends the notes and the help of a fault, as a member.
 pub(crate) fn push_notes(line: &mut Line, shown: Shown<'_, '_, '_>)
     ensures { GivesNoteList line.old line.new }
 {
@@ -21,7 +19,7 @@ pub(crate) fn push_notes(line: &mut Line, shown: Shown<'_, '_, '_>)
     line.end_list();
 }
 
-/// Pushes a note for each pattern that can look at what stands before its first byte.
+/// Appends a note for each pattern that can look at what stands before its first byte.
 fn push_starts(line: &mut Line, starts: &[Start])
     ensures { GivesNotes line.old line.new }
 {
@@ -30,7 +28,7 @@ fn push_starts(line: &mut Line, starts: &[Start])
     }
 }
 
-/// Pushes what is known of a set of ambiguous leaves, and what to do about a fault.
+/// Appends what is known of a set of ambiguous leaves, and what to do about a fault.
 fn push_advice(line: &mut Line, shown: Shown<'_, '_, '_>)
     ensures { GivesNotes line.old line.new }
 {
@@ -38,7 +36,7 @@ fn push_advice(line: &mut Line, shown: Shown<'_, '_, '_>)
     push_help(line, shown.part, shown.fault);
 }
 
-/// Pushes what is known of a set of ambiguous leaves, if this is one of its faults.
+/// Appends what is known of a set of ambiguous leaves, if this is one of its faults.
 fn push_known(line: &mut Line, member: Option<Member<'_>>)
     ensures { GivesNotes line.old line.new }
 {
@@ -47,14 +45,14 @@ fn push_known(line: &mut Line, member: Option<Member<'_>>)
     }
 }
 
-/// Pushes a note or a help.
+/// Appends a note or a help.
 pub(crate) fn push_one(line: &mut Line, level: &str, text: &str)
     ensures { GivesNotes line.old line.new }
 {
     push_note(line, level, text);
 }
 
-/// Pushes a note for each line of a message after its first one.
+/// Appends a note for each line of a message after its first one.
 fn push_other_lines(line: &mut Line, message: &str)
     ensures { GivesNotes line.old line.new }
 {
@@ -63,7 +61,7 @@ fn push_other_lines(line: &mut Line, message: &str)
     }
 }
 
-/// Pushes a note for a line of a message, unless it is empty.
+/// Appends a note for a line of a message, unless it is empty.
 fn push_other_line(line: &mut Line, text: &str)
     ensures { GivesNotes line.old line.new }
 {
@@ -80,7 +78,7 @@ fn without_margin(text: &str) -> &str {
     }
 }
 
-/// Pushes what to do about a fault, if there is something to say.
+/// Appends what to do about a fault, if there is something to say.
 fn push_help(line: &mut Line, part: Part<'_, '_>, fault: &SpannedError)
     ensures { GivesNotes line.old line.new }
 {
@@ -89,7 +87,7 @@ fn push_help(line: &mut Line, part: Part<'_, '_>, fault: &SpannedError)
     }
 }
 
-/// Pushes a note or a help.
+/// Appends a note or a help.
 fn push_note(line: &mut Line, level: &str, text: &str)
     ensures { Gains (note_tokens (record { level = level.now; text = text.now })) line.old line.new }
 {
@@ -101,7 +99,7 @@ fn push_note(line: &mut Line, level: &str, text: &str)
     line.end_object();
 }
 
-/// Pushes that a note has no spans, no notes and no report of its own.
+/// Appends that a note has no spans, no notes and no report of its own.
 fn push_nothing_else(line: &mut Line)
     ensures { Gains nothing_tokens line.old line.new }
 {
@@ -110,7 +108,7 @@ fn push_nothing_else(line: &mut Line)
     line.push_null("rendered");
 }
 
-/// Pushes a member with an empty list.
+/// Appends a member with an empty list.
 fn push_empty_list(line: &mut Line, name: &str)
     ensures { Gains (list_member name.now []) line.old line.new }
 {

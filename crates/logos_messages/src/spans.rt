@@ -1,16 +1,14 @@
 //! The spans of a fault.
 
 ghost use Rattle.std.specs.Prelude.{◌≡◌, [], ◌∷◌, List, Some, None, codes, option_map};
-ghost use Rattle.logos_messages.specs.Lines.{Gains};
-ghost use Rattle.logos_messages.specs.Growing.{GivesOther, GivesSpan};
-ghost use Rattle.logos_messages.specs.Tokens.{bytes_tokens, label_tokens, positions_tokens};
+ghost use Rattle.logos_messages.specs.Words.{Gains, GivesOther, GivesSpan, bytes_tokens, label_tokens, positions_tokens};
 
 use crate::line::Line;
 use crate::marked::{Reach, push_lines};
 use logos_report::Part;
 use logos_token::token::Span;
 
-/// Pushes a span of a part of a file. Without a label it is the one that its fault is about.
+/// Appends a span of a part of a file. Without a label it is the one that its fault is about.
 pub(crate) fn push_span(line: &mut Line, part: Part<'_, '_>, span: Span, label: Option<&str>)
     ensures { GivesSpan part.entry.source.now part.entry.offset span (option_map (λ t. t.now) label.entry)
         line.old line.new }
@@ -27,7 +25,7 @@ pub(crate) fn push_span(line: &mut Line, part: Part<'_, '_>, span: Span, label: 
     line.end_object();
 }
 
-/// Pushes the second span of a fault, if it has one.
+/// Appends the second span of a fault, if it has one.
 pub(crate) fn push_other(line: &mut Line, part: Part<'_, '_>, also: Option<Span>)
     ensures { GivesOther part.entry.source.now part.entry.offset also line.old line.new }
 {
@@ -36,7 +34,7 @@ pub(crate) fn push_other(line: &mut Line, part: Part<'_, '_>, also: Option<Span>
     }
 }
 
-/// Pushes the file of a span, and its bytes.
+/// Appends the file of a span, and its bytes.
 fn push_bytes(line: &mut Line, part: Part<'_, '_>, span: Span)
     ensures { Gains (bytes_tokens part.entry.source.now part.entry.offset span) line.old line.new }
 {
@@ -45,7 +43,7 @@ fn push_bytes(line: &mut Line, part: Part<'_, '_>, span: Span)
     line.push_number("byte_end", span.to.saturating_add(part.offset));
 }
 
-/// Pushes the lines and the columns of a span.
+/// Appends the lines and the columns of a span.
 fn push_positions(line: &mut Line, reach: Reach)
     ensures { Gains (positions_tokens reach.first reach.last) line.old line.new }
 {
@@ -55,7 +53,7 @@ fn push_positions(line: &mut Line, reach: Reach)
     line.push_number("column_end", reach.last.column);
 }
 
-/// Pushes whether a span is the one that its fault is about, and its label.
+/// Appends whether a span is the one that its fault is about, and its label.
 fn push_label(line: &mut Line, label: Option<&str>)
     ensures { Gains (label_tokens (option_map (λ t. t.now) label.entry)) line.old line.new }
 {
@@ -65,7 +63,7 @@ fn push_label(line: &mut Line, label: Option<&str>)
     }
 }
 
-/// Pushes the label of a second span.
+/// Appends the label of a second span.
 fn push_other_label(line: &mut Line, label: &str)
     ensures { Gains (label_tokens (Some label.now)) line.old line.new }
 {
@@ -73,7 +71,7 @@ fn push_other_label(line: &mut Line, label: &str)
     line.push_text("label", label);
 }
 
-/// Pushes that a span is the one that its fault is about.
+/// Appends that a span is the one that its fault is about.
 fn push_primary(line: &mut Line)
     ensures { Gains (label_tokens None) line.old line.new }
 {

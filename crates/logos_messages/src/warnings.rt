@@ -1,11 +1,8 @@
 //! The warnings of a part of a file, one line for each.
 
 ghost use Rattle.std.specs.Prelude.{◌≡◌, ◌++◌, ℕ, List, false, IfOk, IfSome, OnErr, OnOk, option_map, string_bytes};
-ghost use Rattle.logos_report.specs.Pages.{StandInOrder};
-ghost use Rattle.logos_report.specs.Warnings.{shown_of, warning_texts};
-ghost use Rattle.logos_messages.specs.Growing.{GivesNoteList, GivesNotes};
-ghost use Rattle.logos_messages.specs.Lines.{Gains};
-ghost use Rattle.logos_messages.specs.Warnings.{AreWarnings, GivesSpans, GivesWarning, IsWarning, head_tokens};
+ghost use Rattle.logos_messages.specs.Words.{StandInOrder, shown_of, warning_texts, GivesNoteList, GivesNotes, Gains, AreWarnings, GivesSpans, GivesWarning, IsWarning};
+ghost use Rattle.logos_messages.specs.Warnings.{head_tokens};
 
 use crate::line::Line;
 use crate::messages::{has_long_line, text_of};
@@ -18,7 +15,7 @@ use std::alloc::{AllocError, Global};
 /// How many warnings of a part of a file have a line.
 const MOST: usize = 50;
 
-/// Pushes a line of JSON for each warning of a part of a file, in order, but no more than 50. A
+/// Appends a line of JSON for each warning of a part of a file, in order, but no more than 50. A
 /// line has the members of rustc's diagnostics, of which `rendered` is the report of the warning,
 /// without colors, or null where its lines are long.
 ///
@@ -84,7 +81,7 @@ fn with_warning(
     Ok(all)
 }
 
-/// Pushes a warning, and this report of it.
+/// Appends a warning, and this report of it.
 fn push_object(line: &mut Line, part: Part<'_, '_>, warning: &Warning, rendered: Option<&str>)
     ensures { GivesWarning part.entry.source.now part.entry.offset warning.now
         (option_map (λ t. t.now) rendered.entry) line.old line.new }
@@ -97,7 +94,7 @@ fn push_object(line: &mut Line, part: Part<'_, '_>, warning: &Warning, rendered:
     line.end_object();
 }
 
-/// Pushes that a line is a diagnostic, and the message and the level of its warning.
+/// Appends that a line is a diagnostic, and the message and the level of its warning.
 fn push_head(line: &mut Line, message: &str)
     ensures { Gains (head_tokens message.now) line.old line.new }
 {
@@ -107,7 +104,7 @@ fn push_head(line: &mut Line, message: &str)
     line.push_text("level", "warning");
 }
 
-/// Pushes the spans of a warning, as a member.
+/// Appends the spans of a warning, as a member.
 fn push_spans(line: &mut Line, part: Part<'_, '_>, warning: &Warning)
     ensures { GivesSpans part.entry.source.now part.entry.offset warning.now line.old line.new }
 {
@@ -117,7 +114,7 @@ fn push_spans(line: &mut Line, part: Part<'_, '_>, warning: &Warning)
     line.end_list();
 }
 
-/// Pushes the note and the help of a warning, as a member.
+/// Appends the note and the help of a warning, as a member.
 fn push_notes(line: &mut Line, warning: &Warning)
     ensures { GivesNoteList line.old line.new }
 {
@@ -127,7 +124,7 @@ fn push_notes(line: &mut Line, warning: &Warning)
     line.end_list();
 }
 
-/// Pushes a note or a help, if there is one.
+/// Appends a note or a help, if there is one.
 fn push_text(line: &mut Line, level: &str, text: Option<&str>)
     ensures { GivesNotes line.old line.new }
 {

@@ -1,8 +1,7 @@
 //! The analysis of a source. `generate` of `logos_codegen` calls `analyze` first.
 
 ghost use Rattle.std.specs.Prelude.{◌≡◌, ◌<◌, ◌≤◌, ◌∷◌, ◌++◌, [], length, map, option_map, IfOk, IfErr, IsErrAnd, OnOk};
-ghost use Rattle.logos_parser.specs.Words.{source_limit, Fault, run_span, stream_tokens, tokens_of, enum_value, generics_of, generics, parser_view, leaf_view, utf8_mode, IsShallow, too_long, EndsReading, EndsTokens, type_faults, IsEnumAnalysis, IsTokenAnalysis, IsAnalysis, utf8_faults};
-ghost use Rattle.logos_parser.specs.Views.{Refuses, analysis_view};
+ghost use Rattle.logos_parser.specs.Views.{source_limit, Fault, run_span, stream_tokens, tokens_of, enum_value, generics_of, generics, parser_view, leaf_view, utf8_mode, IsShallow, too_long, EndsReading, EndsTokens, type_faults, IsEnumAnalysis, IsTokenAnalysis, IsAnalysis, utf8_faults, Refuses, analysis_view};
 
 use crate::enum_type::enum_type;
 use crate::mode::report_not_utf8;

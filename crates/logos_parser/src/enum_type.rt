@@ -7,7 +7,7 @@ use logos_type::{Leaf, Part, TypeExpr};
 use logos_type_params::Generics;
 use std::alloc::{AllocError, Global};
 
-/// Adds a part at the end.
+/// Appends a part at the end.
 fn push_part<'s>(parts: &mut Vec<Part<'s>>, part: Part<'s>) -> Result<(), AllocError>
     ensures { OnOk result (map tree_of parts.new.items
         ≡ map tree_of parts.old.items ++ tree_of part.entry ∷ []) }
@@ -16,7 +16,7 @@ fn push_part<'s>(parts: &mut Vec<Part<'s>>, part: Part<'s>) -> Result<(), AllocE
     Ok(())
 }
 
-/// Adds an argument of a type, with a comma before it unless it is the first one.
+/// Appends an argument of a type, with a comma before it unless it is the first one.
 fn push_argument<'s>(
     parts: &mut Vec<Part<'s>>,
     is_first: bool,
@@ -32,7 +32,7 @@ fn push_argument<'s>(
     Ok(())
 }
 
-/// Adds types as arguments, with a comma before each unless it is the first one.
+/// Appends types as arguments, with a comma before each unless it is the first one.
 fn push_arguments<'s>(
     parts: &mut Vec<Part<'s>>,
     is_first: bool,
@@ -49,7 +49,7 @@ fn push_arguments<'s>(
     Ok(())
 }
 
-/// Adds the lifetime `'s`, if the enum has one.
+/// Appends the lifetime `'s`, if the enum has one.
 fn push_lifetime<'s>(parts: &mut Vec<Part<'s>>, lifetime: bool) -> Result<(), AllocError>
     ensures { OnOk result (map tree_of parts.new.items
         ≡ map tree_of parts.old.items ++ lifetime_argument lifetime) }

@@ -2,8 +2,7 @@
 //! the fault that ends a reading with it.
 
 ghost use Rattle.std.specs.Prelude.{◌≡◌, ◌∷◌, []};
-ghost use Rattle.logos_parser.specs.Words.{Fault, IsRefusal, fault, only, EndsReading, lexical_text, IsMisread, too_long};
-ghost use Rattle.logos_parser.specs.Views.{Refuses};
+ghost use Rattle.logos_parser.specs.Views.{Fault, IsRefusal, fault, only, EndsReading, lexical_text, IsMisread, too_long, Refuses};
 
 use crate::refusal::Refusal;
 use logos_enum::ReadError;

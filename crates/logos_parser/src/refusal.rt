@@ -1,5 +1,8 @@
 //! The refusal of a source.
 
+ghost use Rattle.std.specs.Prelude.{◌≡◌};
+ghost use Rattle.logos_parser.specs.Views.{Memory as OutOfMemory};
+
 use logos_token::error::{Errors, Memory};
 use std::alloc::{AllocError, AllocFailed};
 
@@ -13,9 +16,6 @@ pub enum Refusal {
 }
 
 impl From<AllocError> for Refusal {
-    ghost use Rattle.std.specs.Prelude.{◌≡◌};
-    ghost use Rattle.logos_parser.specs.Views.{Memory as OutOfMemory};
-
     ghost from_gives = { λ _ e. e ≡ OutOfMemory };
 
     fn from(_error: AllocError) -> Refusal {
@@ -24,9 +24,6 @@ impl From<AllocError> for Refusal {
 }
 
 impl<T: Drop> From<AllocFailed<T>> for Refusal {
-    ghost use Rattle.std.specs.Prelude.{◌≡◌};
-    ghost use Rattle.logos_parser.specs.Views.{Memory as OutOfMemory};
-
     ghost from_gives = { λ _ e. e ≡ OutOfMemory };
 
     fn from(_error: AllocFailed<T>) -> Refusal {
@@ -35,9 +32,6 @@ impl<T: Drop> From<AllocFailed<T>> for Refusal {
 }
 
 impl From<Memory> for Refusal {
-    ghost use Rattle.std.specs.Prelude.{◌≡◌};
-    ghost use Rattle.logos_parser.specs.Views.{Memory as OutOfMemory};
-
     ghost from_gives = { λ _ e. e ≡ OutOfMemory };
 
     fn from(_error: Memory) -> Refusal {

@@ -4,11 +4,11 @@ use Rattle.std.specs.Io.KnownBytes.{Consumes, IsAtEnd, Keeps}
 
 pub record PartsValue (R : Type 0) : Type 0 where
   pub reader : R
-  -- The bytes that were read and not passed
+  -- The bytes that were read and not passed.
   pub part : List ℕ
-  -- How many bytes may be in memory
+  -- How many bytes may be in memory.
   pub bound : ℕ
-  -- How many bytes were passed
+  -- How many bytes were passed.
   pub before : ℕ
   pub is_over : Bool
 

@@ -4,8 +4,8 @@ use Rattle.std.specs.List.{list_any, flat_map}
 use Rattle.std.specs.Char.{encode_utf8}
 use Rattle.std.specs.Str.{chars}
 
--- The characters that need a `\` before them to mean themselves: \ . + * ? ( ) | [ ] { } ^ $ # & -
--- ~
+-- The characters that need a `\` before them to mean themselves:
+-- `\ . + * ? ( ) | [ ] { } ^ $ # & - ~`.
 abbrev pub is_metacharacter : ℕ → Bool
 is_metacharacter c = list_any (λ meta. meta == c) (codes "\\.+*?()|[]{}^$#&-~")
 

@@ -2,7 +2,7 @@
 //! `logos_leaf` makes leaves; graphs and codes keep them.
 
 ghost use Rattle.std.specs.Prelude.{◌≡◌, Some};
-ghost use Rattle.logos_pattern.specs.Views.{kind_text, leaf_text, kind_value, callback_span, callback_value, inline_value};
+ghost use Rattle.logos_pattern.specs.Views.{kind_text, leaf_text, kind_value, callback_span, callback_value, inline_value, variant_name};
 ghost use Rattle.logos_pattern.specs.declared.leaf.Callback.TheVariants as callbacks;
 
 use crate::pattern::Pattern;
@@ -43,9 +43,6 @@ pub struct InlineCallback<'s> {
 }
 
 impl<'s> VariantKind<'s> {
-    ghost use Rattle.std.specs.Prelude.{◌≡◌};
-    ghost use Rattle.logos_pattern.specs.Views.{kind_value, variant_name};
-
     /// Returns the name of the variant; `None` for a skip.
     pub fn name(&self) -> Option<Ident<'s>>
         ensures { result ≡ variant_name (kind_value self.now) }

@@ -2,8 +2,7 @@
 //! `logos_subpattern` one for each subpattern.
 
 ghost use Rattle.std.specs.Prelude.{◌≡◌, ◌≤◌, ◌++◌, ℕ, chars, IfOk, IfErr, IsTrue, Some};
-ghost use Rattle.logos_pattern.specs.Words.{tree_of, literal_tree, value, fitted, is_text, has_greedy_dot, IsTooDeep, IsSpelled, IsFound, Refuses, first_flags};
-ghost use Rattle.logos_pattern.specs.Views.{pattern_tree, source_of, is_token, pattern_text, token_of, held_bytes, literal_value};
+ghost use Rattle.logos_pattern.specs.Views.{tree_of, literal_tree, value, fitted, is_text, has_greedy_dot, IsTooDeep, IsSpelled, IsFound, Refuses, first_flags, pattern_tree, source_of, is_token, pattern_text, token_of, held_bytes, literal_value};
 ghost use Rattle.logos_pattern_tokens.specs.declared.error.PatternError.TheVariants as errors;
 
 pub mod error;
@@ -21,6 +20,9 @@ use logos_syntax::parser::parse;
 use logos_token::error::Memory;
 use std::alloc::{AllocError, Global};
 use std::fmt;
+
+/// How deep groups, brackets and operators may nest in a pattern.
+pub const MAX_NESTING: usize = 250;
 
 /// A pattern: its tree, and the literal that it was read from.
 #[derive(Drop)]
@@ -60,7 +62,7 @@ impl<'s> Pattern<'s> {
         ensures deep { IfErr result (λ e. e ≡ errors.LimitPatternNesting →
             IsTooDeep (first_flags unicode ignore_case) (chars regex.now)) }
         // A text that has a tree within the limit is read.
-        ensures complete { (depth : ℕ) → depth ≤ 250 →
+        ensures complete { (depth : ℕ) → depth ≤ MAX_NESTING →
             IsSpelled (first_flags unicode ignore_case) (chars regex.now) depth →
             IfErr result (λ e. e ≡ errors.Memory) }
         ensures same { IfOk result (λ p. (p.is_literal ≡ is_literal) ×

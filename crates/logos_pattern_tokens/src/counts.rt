@@ -1,5 +1,5 @@
 //! Reads the numbers of a pattern, and operators with counts. The readers of tokens call it after
-//! an item and in escapes.
+//! an atom and in escapes.
 
 ghost use Rattle.std.specs.Prelude.{◌≡◌, ◌==◌, option_map, position};
 ghost use Rattle.logos_pattern_tokens.specs.Views.{Gives, token_view, is_digit, hex_digit, hex_from, scalar_of, cut_at, number_from, fits, number_at, lazy_at, count_end, order_at, most_at, bounds_at, count_at};

@@ -60,7 +60,7 @@ pub enum Atom {
     TextEnd,
     /// `\b`, `\B`
     Boundary(bool),
-    /// `\d`, `\D` and so on
+    /// `\d`, `\D` and so on.
     Perl(PerlKind, bool),
     /// `\p{..}`, `\P{..}`
     Property(Set, bool),

@@ -7,11 +7,13 @@ use Rattle.logos_places.specs.Core.{Core, At, width, IsFree}
 use Rattle.logos_places.specs.Places.{Place, Reads, ReadsInOrder, SomeReads, has_look, some_has_look}
 use Rattle.logos_places.specs.Size.{size, sizes}
 
--- The places that read, each by its number: the number p reads exactly if a place with that number does.
+-- The places that read, each by its number: the number p reads exactly if a place with that number
+-- does.
 abbrev pub ReadsAs : (Place → Option ℕ) → (ℕ → Type 0) → (Place → Type 0) → Type 0
 ReadsAs number ByNumber ByPlace = (p : ℕ) → ByNumber p ↔ ((place : Place) × ByPlace place × (number place ≡ Some p))
 
--- The written-out pattern matches what the tree matches, its places are those of the tree, and it is not much larger.
+-- The written-out pattern matches what the tree matches, its places are those of the tree, and it
+-- is not much larger.
 pub record IsCoreOf (tree : Tree) (c : Core) : Type 0 where
   pub matches : (bytes : List ℕ) (i j : ℕ) → core.Matches bytes c i j ↔ Matches tree bytes i j
   pub number : Place → Option ℕ
@@ -19,7 +21,7 @@ pub record IsCoreOf (tree : Tree) (c : Core) : Type 0 where
   pub free : has_look tree ≡ false → IsFree c
   pub small : width c ≤ 2 ^ 16 * size tree
 
--- the same of the parts from the n-th on, one after another
+-- The same of the parts from the n-th on, one after another.
 pub record IsCoreOfParts (parts : Trees) (n : ℕ) (c : Core) : Type 0 where
   pub matches : (bytes : List ℕ) (i j : ℕ) → core.Matches bytes c i j ↔ MatchesInOrder parts bytes i j
   pub number : Place → Option ℕ
@@ -27,7 +29,7 @@ pub record IsCoreOfParts (parts : Trees) (n : ℕ) (c : Core) : Type 0 where
   pub free : some_has_look parts ≡ false → IsFree c
   pub small : width c ≤ 2 ^ 16 * sizes parts
 
--- the same of the branches from the n-th on
+-- The same of the branches from the n-th on.
 pub record IsCoreOfBranches (branches : Trees) (n : ℕ) (c : Core) : Type 0 where
   pub matches : (bytes : List ℕ) (i j : ℕ) → core.Matches bytes c i j ↔ SomeMatches branches bytes i j
   pub number : Place → Option ℕ

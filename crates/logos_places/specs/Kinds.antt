@@ -11,7 +11,7 @@ use Rattle.logos_places.specs.declared.places.look.Context.{Context}
 abbrev pub is_word_byte : ℕ → Bool
 is_word_byte b = is_ascii_alphanumeric b || b == 95
 
--- a byte of the kind, or none
+-- A byte of the kind, or none.
 abbrev pub side_before : Kind → Option ℕ
 side_before kind.Start = None
 side_before kind.Unseen = Some 32
@@ -20,7 +20,7 @@ side_before kind.Cr = Some 13
 side_before kind.Lf = Some 10
 side_before kind.Other = Some 32
 
--- which looks hold in the context
+-- Which looks hold in the context.
 abbrev pub test_at : Context → Look → Bool
 test_at at l = holds_between l (side_before at.before) at.after
 
@@ -31,6 +31,6 @@ abbrev pub kind_before : Option ℕ → Kind
 kind_before None = kind.Start
 kind_before (Some b) = kind_of_byte b
 
--- the context of a place of the bytes
+-- The context of a place of the bytes.
 abbrev pub context_at : List ℕ → ℕ → Context
 context_at bytes at = record { before = kind_before (byte_before bytes at); after = byte_after bytes at }

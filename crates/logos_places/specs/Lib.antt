@@ -10,3 +10,5 @@ pub mod Several
 pub mod Size
 pub mod Table
 pub mod inside
+pub mod Words
+pub mod Views

@@ -10,17 +10,17 @@ use Rattle.logos_places.specs.declared.node.Node.{Node}
 use Rattle.logos_places.specs.declared.node.Node.TheOpen.{Node-F}
 use Rattle.logos_places.specs.declared.node.Node.TheFolds.{fold-Node}
 
--- the pattern written out, and whether the numbers beside it are right
+-- The pattern written out, and whether the numbers beside it are right.
 pub record Sized : Type 0 where
   pub written : Core
   pub measured : Bool
 
--- some number of copies is meant, but not just none
+-- Some number of copies is meant, but not none alone.
 abbrev pub is_ordered : ℕ → Option ℕ → Bool
 is_ordered least None = true
 is_ordered least (Some most) = nat_le least most && nat_lt 0 most
 
--- one node, with what each child stands for in its place
+-- One node, with what each child stands for in its place.
 abbrev pub node_sized : Node-F Sized → Sized
 node_sized Node-F.Void = record { written = core.void; measured = true }
 node_sized Node-F.Empty = record { written = core.empty; measured = true }

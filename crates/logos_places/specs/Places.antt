@@ -7,20 +7,20 @@ use Rattle.logos_hir.specs.Matches.{Matches, Pieces}
 
 -- A place of a tree: where it reads a byte.
 pub data Place : Type 0 where
-  -- the literal's byte with this number
+  -- The literal's byte with this number.
   byte_of : ℕ → Place
-  -- a class, with the bytes of a character that is begun and not yet whole
+  -- A class, with the bytes of a character that is begun and not yet whole.
   member : List ℕ → Place
-  -- a place in the part or the branch with this number, or in this copy of the body
+  -- A place in the part or the branch with this number, or in this copy of the body.
   within : ℕ → Place → Place
 
--- the copies of a repetition's body: the greater of 1 and the largest count, or the least count plus 1
--- where there is no largest
+-- The copies of a repetition's body: the greater of 1 and the largest count, or the least count
+-- plus 1 where there is no largest.
 abbrev pub copies : ℕ → Option ℕ → ℕ
 copies least None = least + 1
 copies least (Some most) = max 1 most
 
--- the bytes of a character that are read so far, if these are not all of them
+-- The bytes of a character that are read so far, if these are not all of them.
 abbrev pub begun : ℕ → List ℕ → List ℕ
 begun n text = if n + 1 == length text then [] else take (n + 1) text
 
@@ -41,7 +41,7 @@ abbrev mutual
   Reads (concat parts) bytes from place at = ReadsInOrder parts 0 bytes from place at
   Reads (alternation branches) bytes from place at = SomeReads branches 0 bytes from place at
 
-  -- some part reads it, after the parts before it; the parts are numbered
+  -- Some part reads it, after the parts before it; the parts are numbered.
   pub ReadsInOrder : Trees → ℕ → List ℕ → ℕ → Place → ℕ → Type 0
   ReadsInOrder none n bytes from place at = ⊥
   ReadsInOrder (also part parts) n bytes from place at =

@@ -3,17 +3,17 @@ use Rattle.std.specs.Prelude.{ℕ, zero, suc, ◌-◌, ◌<◌, ◌≤◌, max, 
 use Rattle.logos_places.specs.Core as core
 use Rattle.logos_places.specs.Core.{Core}
 
--- n copies, and then b
+-- The pattern `n` times, and then b.
 abbrev pub in_front : ℕ → Core → Core → Core
 in_front zero a b = b
 in_front (suc n) a b = core.cat a (in_front n a b)
 
--- `a{0,n}` is `(a(a(a)?)?)?`
+-- `a{0,n}` is `(a(a(a)?)?)?`.
 abbrev pub up_to : ℕ → Core → Core
 up_to zero a = core.empty
 up_to (suc n) a = core.alt (core.cat a (up_to n a)) core.empty
 
--- `a{n,}` is `aaa+`
+-- `a{n,}` is `aaa+`.
 abbrev pub at_least : ℕ → Core → Core
 at_least zero a = core.alt (core.plus a) core.empty
 at_least (suc n) a = in_front n a (core.plus a)
@@ -22,17 +22,17 @@ abbrev pub repeated : ℕ → Option ℕ → Core → Core
 repeated least None a = at_least least a
 repeated least (Some most) a = in_front least a (up_to (most - least) a)
 
--- some number of copies is meant, but not just none
+-- Some number of copies is meant, but not none alone.
 abbrev pub IsOrdered : ℕ → Option ℕ → Type 0
 IsOrdered least None = Unit {0}
 IsOrdered least (Some most) = (least ≤ most) × (0 < most)
 
--- how many copies stand apart
+-- How many copies stand apart.
 abbrev pub count_of : ℕ → Option ℕ → ℕ
 count_of least None = max least 1
 count_of least (Some most) = most
 
--- a byte after the other
+-- A byte after the other.
 abbrev pub spelled : List ℕ → Core
 spelled [] = core.empty
 spelled (b ∷ bs) = core.cat (core.byte_in (λ x. x == b)) (spelled bs)

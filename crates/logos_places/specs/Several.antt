@@ -7,19 +7,19 @@ use Rattle.logos_places.specs.Run.{width_of, StepsIn, ExitsIn}
 use Rattle.logos_places.specs.declared.node.Node.{Node}
 use Rattle.logos_hir.specs.declared.hir.Look.{Look}
 
--- Just these places, of those of the pattern t from `base` on, read the byte x, and `left` says whether t can be left here. The
--- pattern is not entered here.
+-- Exactly these places, of those of the pattern t from `base` on, read the byte x, and `left` says
+-- whether t can be left here. The pattern is not entered here.
 pub record IsStepOf (t : Core) (test : Look → Bool) (x : ℕ) (marks : List ℕ) (base : ℕ) (places : List ℕ) (left : Bool) : Type 0 where
   pub set : IsSet places (base + width t)
   pub has : (q : ℕ) → Has places q ↔ ((base ≤ q) × Steps t test x (λ p. Has marks (base + p)) (IsTrue false) (q - base))
   pub leaves : IsTrue left ↔ Exits t test (λ p. Has marks (base + p)) (IsTrue false)
 
--- just these places read the byte x
+-- Exactly these places read the byte x.
 pub record ReadBy (ts : List Core) (test : Look → Bool) (x : ℕ) (M : ℕ → Type 0) (entered : Type 0) (places : List ℕ) : Type 0 where
   pub set : IsSet places (width_of ts)
   pub has : (q : ℕ) → Has places q ↔ StepsIn ts test x M entered q
 
--- just the patterns with these numbers can be left here
+-- Exactly the patterns with these numbers can be left here.
 pub record LeftBy (ts : List Core) (test : Look → Bool) (M : ℕ → Type 0) (entered : Type 0) (numbers : List ℕ) : Type 0 where
   pub set : IsSet numbers (length ts)
   pub has : (k : ℕ) → Has numbers k ↔ ExitsIn ts k test M entered
@@ -38,11 +38,11 @@ pub record OwesNumbers (ts rest : List Core) (test : Look → Bool) (M : ℕ →
   pub has : (k : ℕ) →
       (Has numbers k ⊎ ((n ≤ k) × ExitsIn rest (k - n) test (λ p. M (base + p)) entered)) ↔ ExitsIn ts k test M entered
 
--- where the places of the first n trees begin
+-- Where the places of the first n trees begin.
 pub record AreFirstStarts (nodes : List Node) (starts : List ℕ) (n : ℕ) : Type 0 where
   pub count : length starts ≡ n
   pub begins : (i : ℕ) → i < n → slice_index starts i + width_of (map core_of (drop i nodes)) ≡ width_of (map core_of nodes)
 
--- where the places of each tree begin, and where those of the last one end
+-- Where the places of each tree begin, and where those of the last one end.
 abbrev pub AreStarts : List Node → List ℕ → Type 0
 AreStarts nodes starts = AreFirstStarts nodes starts (length nodes + 1)

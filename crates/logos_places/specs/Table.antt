@@ -11,7 +11,7 @@ use Rattle.logos_places.specs.declared.characters.build.Block.{Block}
 use Rattle.logos_places.specs.declared.characters.build.Rest.{Rest}
 use Rattle.logos_places.specs.declared.characters.reader.Table.{Table}
 
--- what a row stands for
+-- What a row stands for.
 pub record Row : Type 0 where
   pub left : ℕ
   pub offsets : List CharRange
@@ -19,23 +19,23 @@ pub record Row : Type 0 where
 abbrev pub row_of : Rest → Row
 row_of r = record { left = r.left; offsets = r.offsets.items }
 
--- the row i is r
+-- The row i is r.
 pub record IsAt (ks : List Rest) (i : ℕ) (r : Row) : Type 0 where
   pub key : Rest
   pub is : slice_get ks i ≡ Some key
   pub same : row_of key ≡ r
 
--- rows keep their numbers
+-- Rows keep their numbers.
 pub record Grows (old new : List Rest) : Type 0 where
   pub keeps : (i : ℕ) (r : Row) → IsAt old i r → IsAt new i r
 
--- row 0 is the end, and alone has no byte left
+-- Row 0 is the end, and alone has no byte left.
 pub record AreRests (ks : List Rest) : Type 0 where
   pub small : (i : ℕ) (r : Row) → IsAt ks i r → r.left ≤ 3
   pub whole : (i : ℕ) (r : Row) → IsAt ks i r → r.left ≡ 0 → i ≡ 0
   pub end : (r : Row) × IsAt ks 0 r × (r.left ≡ 0) × (in_ranges r.offsets 0 ≡ true)
 
--- there is an offset, and the row i has what is left; or there is none
+-- There is an offset, and the row i has what is left; or there is none.
 pub record IsRowFor (ks : List Rest) (n : ℕ) (has : ℕ → Bool) (i : ℕ) : Type 0 where
   pub row : Row
   pub at : IsAt ks i row
@@ -46,36 +46,36 @@ pub record IsRowFor (ks : List Rest) (n : ℕ) (has : ℕ → Bool) (i : ℕ) : 
 abbrev pub Finds : List Rest → ℕ → (ℕ → Bool) → Option ℕ → Type 0
 Finds ks n has to = MatchOption to (IsShut n has) (IsRowFor ks n has)
 
--- the target of a first byte
+-- The target of a first byte.
 abbrev pub FindsFirst : List Rest → (ℕ → Bool) → Option Lead → Option ℕ → Type 0
 FindsFirst ks c None to = to ≡ None
 FindsFirst ks c (Some by) to = Finds ks by.left (after_lead c by) to
 
--- the target of a continuation byte b
+-- The target of a continuation byte b.
 abbrev pub FindsNext : List Rest → Row → ℕ → ℕ → Option ℕ → Type 0
 FindsNext ks r zero b to = to ≡ None
 FindsNext ks r (suc n) b to = Finds ks n (after_byte n (in_ranges r.offsets) b) to
 
--- the cell j has the target of its row and byte
+-- The cell j has the target of its row and byte.
 pub record IsCell (ks : List Rest) (cells : List (Option ℕ)) (j : ℕ) : Type 0 where
   pub row : Row
   pub at : IsAt ks (j / 64) row
   pub next : FindsNext ks row row.left (0x80 + j % 64) (slice_index_or cells j None)
 
--- what a block stands for
+-- What a block stands for.
 abbrev pub lead_of : Block → Lead
 lead_of b = record { left = b.left; start = b.start; floor = b.floor }
 
--- how many rows there are, at most, from a place on where so many bytes are left
+-- How many rows there are, at most, from a place on where so many bytes are left.
 abbrev pub led_to : ℕ → ℕ
 led_to zero = 0
 led_to (suc n) = 1 + 64 * led_to n
 
--- the same for the rows from the n-th on, those that are not there yet too
+-- The same for the rows from the n-th on, those that are not there yet too.
 abbrev pub weight : ℕ → List Rest → ℕ
 weight n ks = sum_by (λ r. 1 + 64 * led_to (r.left - 1)) (drop n ks)
 
--- the same for all first bytes below b
+-- The same for all first bytes below b.
 abbrev pub first_weight : ℕ → ℕ
 first_weight b = (min b 0xE0 - 0xC0) + 65 * (min b 0xF0 - 0xE0) + 4161 * (min b 0xF8 - 0xF0)
 
@@ -86,7 +86,7 @@ rest_at (Some k) = record { left = k.left; has = in_ranges k.offsets.items }
 abbrev pub rest_of : List Rest → ℕ → Remainder
 rest_of ks q = rest_at (slice_get ks q)
 
--- the reader with these cells
+-- The reader with these cells.
 abbrev pub reader_from : ℕ → List (Option ℕ) → List (Option ℕ) → Reader
 reader_from rows first follow = record {
   others = rows - 1;
@@ -94,6 +94,6 @@ reader_from rows first follow = record {
   follow = λ q b. if nat_le 0x80 b && nat_lt b 0xC0 then slice_index_or follow (q * 64 + (b - 0x80)) None else None;
 }
 
--- the reader of a table
+-- The reader of a table.
 abbrev pub reader_of : Table → Reader
 reader_of t = reader_from t.rows t.first.items t.follow.items

@@ -1,4 +1,4 @@
-//! From trees to marked places, and the places to which a byte leads.
+//! From trees to sets of places, and the places to which a byte leads.
 
 #![tactic(auto)]
 

@@ -1,8 +1,8 @@
-//! Trees, prepared for the automaton.
+//! Trees, prepared for the automaton. `prepare` makes them, and steps read them.
+
 ghost use Rattle.std.specs.Prelude.{◌≡◌, ◌+◌, ◌*◌, ◌^◌, ◌<◌, IsTrue};
+ghost use Rattle.logos_places.specs.Views.{count_of, core_of, is_measured};
 ghost use Rattle.logos_places.specs.Core as core;
-ghost use Rattle.logos_places.specs.Node.{core_of, is_measured};
-ghost use Rattle.logos_places.specs.Repeat.{count_of};
 
 use crate::characters::reader::Table;
 use logos_hir::hir::{Look, Range};

@@ -1,4 +1,4 @@
-//! Steps from marked places to those that read the next byte.
+//! Steps from the places of a set to those that read the next byte.
 
 pub mod all;
 pub(crate) mod exits;

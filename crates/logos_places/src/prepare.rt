@@ -1,13 +1,10 @@
-//! Preparation of a pattern's tree: the tree that the automaton steps on.
+//! Preparation of a pattern's tree: the tree that the automaton steps on. `logos_automaton` calls
+//! it once for each rule, before it builds states.
+
 ghost use Rattle.std.specs.Prelude.{◌≡◌, ℕ, ◌+◌, ◌^◌, ◌<◌, ◌≤◌, IsTrue, IfOk, Bool, true, length, map, vec_len};
-ghost use Rattle.logos_hir.specs.Tree.{trees, literal, repetition};
-ghost use Rattle.logos_hir.specs.Hir.{class_tree, tree_of};
+ghost use Rattle.logos_places.specs.Views.{trees, literal, repetition, class_tree, tree_of, IsCoreOf, pair_up, of_none, IsPair, IsJoined, AreCoresOf, width_of, sizes, core_of, is_measured, AreMeasured};
+ghost use Rattle.logos_places.specs.Size.{size};
 ghost use Rattle.logos_places.specs.Core as core;
-ghost use Rattle.logos_places.specs.IsCore.{IsCoreOf};
-ghost use Rattle.logos_places.specs.Node.{core_of, is_measured, AreMeasured};
-ghost use Rattle.logos_places.specs.inside.Joined.{pair_up, of_none, IsPair, IsJoined, AreCoresOf};
-ghost use Rattle.logos_places.specs.Run.{width_of};
-ghost use Rattle.logos_places.specs.Size.{size, sizes};
 
 pub(crate) mod classes;
 
@@ -21,7 +18,7 @@ use std::alloc::{AllocError, Global};
 ///
 /// # Errors
 ///
-/// Returns `AllocError` when memory runs out.
+/// Returns `AllocError` if memory runs out.
 fn prepare_literal(alloc: Global, bytes: &[u8]) -> Result<Node, AllocError>
     ensures stands { IfOk result (λ node. IsCoreOf (literal bytes.now) (core_of node)) }
     ensures measured { IfOk result (λ node. IsTrue (is_measured node)) }
@@ -38,7 +35,7 @@ fn prepare_literal(alloc: Global, bytes: &[u8]) -> Result<Node, AllocError>
 ///
 /// # Errors
 ///
-/// Returns `AllocError` when memory runs out.
+/// Returns `AllocError` if memory runs out.
 fn prepare_class(alloc: Global, class: &Class) -> Result<Node, AllocError>
     ensures stands { IfOk result (λ node. IsCoreOf (class_tree class.now) (core_of node)) }
     ensures measured { IfOk result (λ node. IsTrue (is_measured node)) }
@@ -53,7 +50,7 @@ fn prepare_class(alloc: Global, class: &Class) -> Result<Node, AllocError>
 ///
 /// # Errors
 ///
-/// Returns `AllocError` when memory runs out.
+/// Returns `AllocError` if memory runs out.
 fn apart(alloc: Global, in_order: bool, first: Node, second: Node) -> Result<Node, AllocError>
     requires first { IsTrue (is_measured first) }
     requires second { IsTrue (is_measured second) }
@@ -83,7 +80,7 @@ fn apart(alloc: Global, in_order: bool, first: Node, second: Node) -> Result<Nod
 ///
 /// # Errors
 ///
-/// Returns `AllocError` when memory runs out.
+/// Returns `AllocError` if memory runs out.
 fn pair(alloc: Global, in_order: bool, first: Node, second: Node) -> Result<Node, AllocError>
     requires first { IsTrue (is_measured first) }
     requires second { IsTrue (is_measured second) }
@@ -125,11 +122,12 @@ fn sole(in_order: bool, mut nodes: Vec<Node>) -> Node
     node
 }
 
-/// Joins trees in pairs of about the same length: all of them in order, or the choice of one of them.
+/// Joins trees in pairs of about the same length: all of them in order, or the choice of one of
+/// them.
 ///
 /// # Errors
 ///
-/// Returns `AllocError` when memory runs out.
+/// Returns `AllocError` if memory runs out.
 fn join(alloc: Global, in_order: bool, mut nodes: Vec<Node>) -> Result<Node, AllocError>
     requires measured { AreMeasured nodes.items }
     requires fits { width_of (map core_of nodes.items) < 2 ^ 64 }
@@ -160,7 +158,7 @@ fn widen(count: Option<u32>) -> Option<usize>
 ///
 /// # Errors
 ///
-/// Returns `AllocError` when memory runs out.
+/// Returns `AllocError` if memory runs out.
 #[cycle(prepare)]
 pub fn prepare(alloc: Global, hir: &Hir) -> Result<Node, AllocError>
     requires { size (tree_of hir.now) ≤ 2 ^ 20 }
@@ -189,7 +187,7 @@ pub fn prepare(alloc: Global, hir: &Hir) -> Result<Node, AllocError>
 ///
 /// # Errors
 ///
-/// Returns `AllocError` when memory runs out.
+/// Returns `AllocError` if memory runs out.
 #[cycle(prepare)]
 fn prepare_repetition(
     alloc: Global,
@@ -224,7 +222,7 @@ fn prepare_repetition(
 ///
 /// # Errors
 ///
-/// Returns `AllocError` when memory runs out.
+/// Returns `AllocError` if memory runs out.
 #[cycle(prepare)]
 fn prepare_all(alloc: Global, hirs: &[Hir]) -> Result<Vec<Node>, AllocError>
     requires { sizes (trees (map tree_of hirs.now)) ≤ 2 ^ 20 }

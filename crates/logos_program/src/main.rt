@@ -1,4 +1,5 @@
-//! The program `logos`: prints the lexer of an enum in a file or its chart, or lexes another file by it.
+//! The program `logos`: prints the lexer of an enum in a file or its chart, or lexes another file
+//! by it.
 
 #![tactic(auto)]
 

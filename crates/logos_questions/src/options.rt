@@ -1,9 +1,7 @@
 //! What the words of a command line ask for.
 
 ghost use Rattle.std.specs.Prelude.{◌≡◌, IfErr, IfOk, None, Some, is_some, map, option_map, string_bytes};
-ghost use Rattle.logos_questions.specs.Words.{asked, asked_given, color_named, format_named, given_nothing, given_or, given_value, number_named, order_asked, order_given};
-ghost use Rattle.logos_questions.specs.Words.{path_named, place_named, question_given, question_value, request_value, status_of, use_value, with_color, with_expected};
-ghost use Rattle.logos_questions.specs.Words.{with_flag, with_format, with_found, with_input, with_json, with_most, with_name, with_path, with_place, with_topic, with_value, with_word, with_words};
+ghost use Rattle.logos_questions.specs.Words.{asked, asked_given, color_named, format_named, given_nothing, given_or, given_value, number_named, order_asked, order_given, path_named, place_named, question_given, question_value, request_value, status_of, use_value, with_color, with_expected, with_flag, with_format, with_found, with_input, with_json, with_most, with_name, with_path, with_place, with_topic, with_value, with_word, with_words};
 
 use logos_answers::{number_by_text, place_by_word};
 use logos_host::{

@@ -2,8 +2,7 @@
 //! proved law.
 
 ghost use Rattle.std.specs.Prelude.{◌≡◌, ◌<◌, ◌≤◌, ◌↔◌, ℕ, ◌+◌, ◌^◌, Bool, List, Ok, Option, IfSome};
-ghost use Rattle.logos_readings.specs.Words.{EnumValue, Piece, Reads, TokenList, pieces, stripped, in_file, moved, StandInReport, StandInText, ArePieces, EnumStays};
-ghost use Rattle.logos_readings.specs.Words.{IsBytes, Matches, MatchesInOrder, SomeMatches, Tree, repetition, trees, alternation_of, concat_of, repetition_of};
+ghost use Rattle.logos_readings.specs.Words.{EnumValue, Piece, Reads, TokenList, pieces, stripped, in_file, moved, StandInReport, StandInText, ArePieces, EnumStays, IsBytes, Matches, MatchesInOrder, SomeMatches, Tree, repetition, trees, alternation_of, concat_of, repetition_of};
 
 /// The pieces of an argument are its first piece, and then the pieces of what is left after that
 /// piece and its comma.

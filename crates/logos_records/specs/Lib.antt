@@ -5,3 +5,4 @@ pub mod Items
 pub mod Leaves
 pub mod Matches
 pub mod Words
+pub mod Views

@@ -1,13 +1,12 @@
 //! The object of a comparison of two lexers.
 
 ghost use Rattle.std.specs.Prelude.{◌≡◌, ◌++◌, ◌∷◌, [], codes, false, true};
-ghost use Rattle.logos_records.specs.Words.{Gains, Puts, bool_member, bytes_member, object};
-ghost use Rattle.logos_records.specs.Comparing.{finding_member, mode_member};
+ghost use Rattle.logos_records.specs.Words.{Gains, Puts, bool_member, bytes_member, object, finding_member, mode_member};
 
 use logos_answers::Finding;
 use logos_json::JsonLines;
 
-/// Pushes that two lexers are the same.
+/// Appends that two lexers are the same.
 pub fn push_same_record(lines: &mut JsonLines)
     ensures { Puts (object (bool_member (codes "same") true) ∷ []) lines.old lines.new }
 {
@@ -17,7 +16,7 @@ pub fn push_same_record(lines: &mut JsonLines)
     lines.end_line();
 }
 
-/// Pushes an input on which two lexers differ, and what each of them finds there.
+/// Appends an input on which two lexers differ, and what each of them finds there.
 pub fn push_difference_record(
     lines: &mut JsonLines,
     input: &[u8],
@@ -37,7 +36,7 @@ pub fn push_difference_record(
     lines.end_line();
 }
 
-/// Pushes what a lexer finds, as a member.
+/// Appends what a lexer finds, as a member.
 fn push_finding(lines: &mut JsonLines, name: &str, finding: Finding<'_>)
     ensures { Gains (finding_member name.now finding.entry) lines.old lines.new }
 {
@@ -49,7 +48,7 @@ fn push_finding(lines: &mut JsonLines, name: &str, finding: Finding<'_>)
     lines.end_object();
 }
 
-/// Pushes that two lexers differ in whether they read UTF-8.
+/// Appends that two lexers differ in whether they read UTF-8.
 pub fn push_modes_record(lines: &mut JsonLines, one: bool, other: bool)
     ensures { Puts (object (bool_member (codes "same") false ++ (mode_member (codes "old") one
         ++ mode_member (codes "new") other)) ∷ []) lines.old lines.new }
@@ -62,7 +61,7 @@ pub fn push_modes_record(lines: &mut JsonLines, one: bool, other: bool)
     lines.end_line();
 }
 
-/// Pushes whether a lexer reads UTF-8, as a member.
+/// Appends whether a lexer reads UTF-8, as a member.
 fn push_mode(lines: &mut JsonLines, name: &str, is_utf8: bool)
     ensures { Gains (mode_member name.now is_utf8) lines.old lines.new }
 {

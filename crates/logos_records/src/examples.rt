@@ -1,9 +1,7 @@
 //! The objects of what leaves find, and of where they lose.
 
 ghost use Rattle.std.specs.Prelude.{◌≡◌, ◌++◌, ◌∷◌, [], OnOk, codes, length, option_map};
-ghost use Rattle.logos_answers.specs.Views.{loss_value};
-ghost use Rattle.logos_records.specs.Words.{Gains, IsGraphOf, Puts, PutsExample, PutsExamples};
-ghost use Rattle.logos_records.specs.Words.{bytes_member, example_members, loss_members, maybe_bytes, null_member, number_member, object};
+ghost use Rattle.logos_records.specs.Words.{loss_value, Gains, IsGraphOf, Puts, PutsExample, PutsExamples, bytes_member, example_members, loss_members, maybe_bytes, null_member, number_member, object};
 
 use crate::matches::push_leaf_members;
 use logos_answers::{Evidence, Loss, evidence_of};
@@ -19,7 +17,7 @@ pub struct NamedGraph<'g, 's> {
     pub graph: &'g Graph<'s>,
 }
 
-/// Pushes an object for each leaf of a graph without faults: the name of its enum, the leaf, a
+/// Appends an object for each leaf of a graph without faults: the name of its enum, the leaf, a
 /// shortest input on which a lexer finds a match of it first, and a shortest one on which it
 /// matches and another leaf is found first, with that leaf.
 ///
@@ -41,7 +39,7 @@ pub fn push_example_records(
     Ok(())
 }
 
-/// Pushes the object of a leaf.
+/// Appends the object of a leaf.
 fn push_example_record(
     alloc: Global,
     lines: &mut JsonLines,
@@ -62,7 +60,7 @@ fn push_example_record(
     Ok(())
 }
 
-/// Pushes what a leaf finds, and where it loses.
+/// Appends what a leaf finds, and where it loses.
 fn push_evidence(lines: &mut JsonLines, evidence: &Evidence)
     ensures { Gains (example_members (option_map (λ input. input.items) evidence.now.found)
         (option_map loss_value evidence.now.loss)) lines.old lines.new }
@@ -71,7 +69,7 @@ fn push_evidence(lines: &mut JsonLines, evidence: &Evidence)
     push_loss(lines, &evidence.loss);
 }
 
-/// Pushes what a leaf finds.
+/// Appends what a leaf finds.
 fn push_found(lines: &mut JsonLines, found: &Option<Vec<u8>>)
     ensures { Gains (maybe_bytes (codes "finds") (option_map (λ input. input.items) found.now))
         lines.old lines.new }
@@ -82,7 +80,7 @@ fn push_found(lines: &mut JsonLines, found: &Option<Vec<u8>>)
     }
 }
 
-/// Pushes where a leaf loses, and to which leaf.
+/// Appends where a leaf loses, and to which leaf.
 fn push_loss(lines: &mut JsonLines, loss: &Option<Loss>)
     ensures { Gains (loss_members (option_map loss_value loss.now)) lines.old lines.new }
 {
@@ -92,7 +90,7 @@ fn push_loss(lines: &mut JsonLines, loss: &Option<Loss>)
     }
 }
 
-/// Pushes an input on which a leaf loses, and the leaf that takes it.
+/// Appends an input on which a leaf loses, and the leaf that takes it.
 fn push_lost(lines: &mut JsonLines, input: &[u8], winner: usize)
     ensures { Gains (bytes_member (codes "loses") input.now ++ number_member (codes "taker") winner)
         lines.old lines.new }
@@ -101,7 +99,7 @@ fn push_lost(lines: &mut JsonLines, input: &[u8], winner: usize)
     lines.push_number("taker", winner);
 }
 
-/// Pushes that a leaf never loses.
+/// Appends that a leaf never loses.
 fn push_no_loss(lines: &mut JsonLines)
     ensures { Gains (null_member (codes "loses") ++ null_member (codes "taker")) lines.old lines.new }
 {

@@ -1,8 +1,7 @@
 //! The objects of inputs that together pass all edges of a graph.
 
 ghost use Rattle.std.specs.Prelude.{◌≡◌, ◌∷◌, [], IfOk, map};
-ghost use Rattle.std.specs.List.{flat_map};
-ghost use Rattle.logos_records.specs.Words.{AreInputRecords, Puts, PutsInputs, input_lines, object};
+ghost use Rattle.logos_records.specs.Words.{flat_map, AreInputRecords, Puts, PutsInputs, input_lines, object};
 
 use logos_answers::first_of;
 use logos_evidence::covering_inputs;
@@ -37,7 +36,7 @@ pub fn input_records(
     Ok(InputRecords { bytes, count })
 }
 
-/// Pushes an object for each of the first inputs of those that together pass all edges of a graph,
+/// Appends an object for each of the first inputs of those that together pass all edges of a graph,
 /// at most `most` objects, and returns how many inputs there are in all.
 fn push_input_records(
     alloc: Global,
@@ -53,7 +52,7 @@ fn push_input_records(
     Ok(inputs.len())
 }
 
-/// Pushes an object for each of these inputs.
+/// Appends an object for each of these inputs.
 fn push_each(lines: &mut JsonLines, inputs: &[Vec<u8>])
     ensures { Puts (flat_map input_lines (map (λ input. input.items) inputs.now)) lines.old lines.new }
 {
@@ -62,7 +61,7 @@ fn push_each(lines: &mut JsonLines, inputs: &[Vec<u8>])
     }
 }
 
-/// Pushes the object of an input.
+/// Appends the object of an input.
 fn push_input_record(lines: &mut JsonLines, input: &[u8])
     ensures { Puts (input_lines input.now) lines.old lines.new }
 {

@@ -1,8 +1,7 @@
 //! The object of an item.
 
 ghost use Rattle.std.specs.Prelude.{◌≡◌, ◌∷◌, []};
-ghost use Rattle.logos_records.specs.Words.{Gains, Puts, object};
-ghost use Rattle.logos_records.specs.Items.{item_members, kind_members, place_members};
+ghost use Rattle.logos_records.specs.Views.{Gains, Puts, object, item_members, kind_members, place_members};
 
 use logos_json::JsonLines;
 use logos_lines::Position;
@@ -21,7 +20,7 @@ pub struct ItemRecord<'i> {
     pub bytes: &'i [u8],
 }
 
-/// Pushes the object of an item.
+/// Appends the object of an item.
 pub fn push_item_record(lines: &mut JsonLines, item: ItemRecord<'_>)
     ensures { Puts (object (item_members item.entry) ∷ []) lines.old lines.new }
 {
@@ -32,7 +31,7 @@ pub fn push_item_record(lines: &mut JsonLines, item: ItemRecord<'_>)
     lines.end_line();
 }
 
-/// Pushes where an item begins.
+/// Appends where an item begins.
 fn push_place_members(lines: &mut JsonLines, item: ItemRecord<'_>)
     ensures { Gains (place_members item.entry) lines.old lines.new }
 {
@@ -41,7 +40,7 @@ fn push_place_members(lines: &mut JsonLines, item: ItemRecord<'_>)
     lines.push_number("from", item.from);
 }
 
-/// Pushes what an item is.
+/// Appends what an item is.
 fn push_kind_members(lines: &mut JsonLines, item: ItemRecord<'_>)
     ensures { Gains (kind_members item.entry) lines.old lines.new }
 {

@@ -1,13 +1,12 @@
 //! The objects of leaves, and of what a lexer costs.
 
 ghost use Rattle.std.specs.Prelude.{◌≡◌, ◌∷◌, []};
-ghost use Rattle.logos_records.specs.Words.{Gains, Puts, object};
-ghost use Rattle.logos_records.specs.Leaves.{cost_members, leaf_members, leaf_objects, name_members, shape_members};
+ghost use Rattle.logos_records.specs.Words.{Gains, Puts, object, cost_members, leaf_members, leaf_objects, name_members, shape_members};
 
 use logos_inspect::{Costs, LeafRow};
 use logos_json::JsonLines;
 
-/// Pushes an object for each leaf of the lexer of an enum, with the number of the leaf.
+/// Appends an object for each leaf of the lexer of an enum, with the number of the leaf.
 pub fn push_leaf_records(lines: &mut JsonLines, name: &str, rows: &[LeafRow<'_>])
     ensures { Puts (leaf_objects name.now 0 rows.now) lines.old lines.new }
 {
@@ -16,7 +15,7 @@ pub fn push_leaf_records(lines: &mut JsonLines, name: &str, rows: &[LeafRow<'_>]
     }
 }
 
-/// Pushes the object of a leaf.
+/// Appends the object of a leaf.
 fn push_leaf_record(lines: &mut JsonLines, name: &str, number: usize, row: LeafRow<'_>)
     ensures { Puts (object (leaf_members name.now number row.entry) ∷ []) lines.old lines.new }
 {
@@ -27,7 +26,7 @@ fn push_leaf_record(lines: &mut JsonLines, name: &str, number: usize, row: LeafR
     lines.end_line();
 }
 
-/// Pushes the names of an enum and of a variant, and the number of a leaf.
+/// Appends the names of an enum and of a variant, and the number of a leaf.
 fn push_name_members(lines: &mut JsonLines, name: &str, number: usize, row: LeafRow<'_>)
     ensures { Gains (name_members name.now number row.entry) lines.old lines.new }
 {
@@ -37,7 +36,7 @@ fn push_name_members(lines: &mut JsonLines, name: &str, number: usize, row: Leaf
     lines.push_text("kind", if row.is_token { "token" } else { "regex" });
 }
 
-/// Pushes what is shown of a leaf beside its names.
+/// Appends what is shown of a leaf beside its names.
 fn push_shape_members(lines: &mut JsonLines, row: LeafRow<'_>)
     ensures { Gains (shape_members row.entry) lines.old lines.new }
 {
@@ -48,7 +47,7 @@ fn push_shape_members(lines: &mut JsonLines, row: LeafRow<'_>)
     lines.push_number("line", row.line);
 }
 
-/// Pushes the object of what the lexer of an enum costs.
+/// Appends the object of what the lexer of an enum costs.
 pub fn push_cost_record(lines: &mut JsonLines, name: &str, costs: Costs)
     ensures { Puts (object (cost_members name.now costs) ∷ []) lines.old lines.new }
 {

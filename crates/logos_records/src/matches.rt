@@ -1,9 +1,7 @@
 //! The objects of what matches from an offset of an input.
 
 ghost use Rattle.std.specs.Prelude.{◌≡◌, ◌≤◌, IfOk, OnOk, Some, length};
-ghost use Rattle.std.specs.List.{flat_map};
-ghost use Rattle.logos_records.specs.Words.{AllStart, AreMatchRecords, Gains, IsBytes, IsGraphOf, Puts, PutsMatches, rules_of};
-ghost use Rattle.logos_records.specs.Words.{end_members, match_lines, named_leaf};
+ghost use Rattle.logos_records.specs.Words.{flat_map, AllStart, AreMatchRecords, Gains, IsBytes, IsGraphOf, Puts, PutsMatches, rules_of, end_members, match_lines, named_leaf};
 
 use logos_answers::{bytes_between, longest_of, variant_at};
 use logos_evidence::{Match, matches_from, winner};
@@ -44,7 +42,7 @@ pub fn match_records(
     Ok(bytes)
 }
 
-/// Pushes an object for each leaf that matches from an offset of an input, with its longest match
+/// Appends an object for each leaf that matches from an offset of an input, with its longest match
 /// from there, and whether a lexer takes that match.
 fn push_match_records(
     alloc: Global,
@@ -73,7 +71,7 @@ fn push_match_records(
     Ok(())
 }
 
-/// Pushes the objects of the leaves that match.
+/// Appends the objects of the leaves that match.
 fn push_each(lines: &mut JsonLines, start: Start<'_, '_>, longest: &[Option<Match>])
     ensures { Puts (flat_map (match_lines start.entry.leaves.now start.entry.input.now
         start.entry.from start.entry.winner) longest.now) lines.old lines.new }
@@ -83,7 +81,7 @@ fn push_each(lines: &mut JsonLines, start: Start<'_, '_>, longest: &[Option<Matc
     }
 }
 
-/// Pushes the object of a leaf, if it matches.
+/// Appends the object of a leaf, if it matches.
 fn push_found(lines: &mut JsonLines, start: Start<'_, '_>, found: Option<Match>)
     ensures { Puts (match_lines start.entry.leaves.now start.entry.input.now start.entry.from
         start.entry.winner found) lines.old lines.new }
@@ -94,7 +92,7 @@ fn push_found(lines: &mut JsonLines, start: Start<'_, '_>, found: Option<Match>)
     }
 }
 
-/// Pushes the object of a match.
+/// Appends the object of a match.
 fn push_match(lines: &mut JsonLines, start: Start<'_, '_>, found: Match)
     ensures { Puts (match_lines start.entry.leaves.now start.entry.input.now start.entry.from
         start.entry.winner (Some found)) lines.old lines.new }
@@ -107,7 +105,7 @@ fn push_match(lines: &mut JsonLines, start: Start<'_, '_>, found: Match)
     lines.end_line();
 }
 
-/// Pushes the number of a leaf, and its variant.
+/// Appends the number of a leaf, and its variant.
 pub(crate) fn push_leaf_members(lines: &mut JsonLines, leaves: &[Leaf<'_>], leaf: usize)
     ensures { Gains (named_leaf leaves.now leaf) lines.old lines.new }
 {
@@ -115,7 +113,7 @@ pub(crate) fn push_leaf_members(lines: &mut JsonLines, leaves: &[Leaf<'_>], leaf
     lines.push_maybe_text("variant", variant_at(leaves, leaf));
 }
 
-/// Pushes how far a match goes, its text, and whether a lexer takes it.
+/// Appends how far a match goes, its text, and whether a lexer takes it.
 fn push_end(lines: &mut JsonLines, start: Start<'_, '_>, found: Match)
     ensures { Gains (end_members start.entry.input.now start.entry.from start.entry.winner found)
         lines.old lines.new }

@@ -2,27 +2,27 @@
 use Rattle.std.specs.Prelude.{◌≡◌, ◌<◌, ◌⊎◌, ℕ, List, [], ◌∷◌, Option, Some, IsSome, option_and_then}
 
 pub record StateType : Type 0 where
-  -- a match of this leaf ends one byte before the place reached
+  -- A match of this leaf ends one byte before the point reached.
   pub accept : Option ℕ
-  -- a match of this leaf ends there
+  -- A match of this leaf ends there.
   pub early : Option ℕ
 
 abbrev pub IsMarked : StateType → Type 0
 IsMarked type = IsSome type.early ⊎ IsSome type.accept
 
--- the states of a graph: their types, where a byte leads, and where the end leads
+-- The states of a graph: their types, where a byte leads, and where the end leads.
 pub record Edges (S : Type 0) : Type 0 where
   pub type_of : S → StateType
   pub next : S → ℕ → Option S
   pub at_end : S → Option S
 
 module _ {S : Type 0} (g : Edges S) where
-  -- the state to which the bytes lead
+  -- The state to which the bytes lead.
   abbrev pub reach : S → List ℕ → Option S
   reach s [] = Some s
   reach s (b ∷ bytes) = option_and_then (λ t. reach t bytes) (g.next s b)
 
-  -- the state leads to one with a mark, by one step or more
+  -- The state leads to one with a mark, by one step or more.
   pub data Leads : S → Type 0 where
     to_mark : {s t : S} (b : ℕ) → b < 256 → g.next s b ≡ Some t → IsMarked (g.type_of t) → Leads s
     onward : {s t : S} (b : ℕ) → b < 256 → g.next s b ≡ Some t → Leads t → Leads s

@@ -2,26 +2,27 @@
 use Rattle.std.specs.Prelude.{◌≢◌, ◌<◌, ℕ, List, Option, Some, option_map, option_and_then, length, Bool, if◌then◌else◌}
 use Rattle.std.specs.List.{All}
 use Rattle.logos_reduce.specs.Table.{size, to, mark}
-use Rattle.logos_reduce.specs.Words.{state_after}
+use Rattle.logos_reduce.specs.SymbolWords.{state_after}
 use Rattle.logos_reduce.specs.declared.table.Mark.{Mark}
 use Rattle.logos_reduce.specs.declared.table.Table.{Table}
 
 module _ (table : Table) where
-  -- the mark of a state, or of the one to which the end leads from it
+  -- The mark of a state, or of the one to which the end leads from it.
   abbrev pub mark_with_end : ℕ → Bool → Option Mark
   mark_with_end s ends =
       if ends then option_map (mark table) (to table s 256) else Some (mark table s)
 
-  -- the mark after the bytes, with the end after them where the flag is set
+  -- The mark after the bytes, with the end after them where the flag is set.
   abbrev pub mark_after : ℕ → List ℕ → Bool → Option Mark
   mark_after s bytes ends = option_and_then (λ t. mark_with_end t ends)
       (state_after table (Some s) bytes)
 
-  -- They lead from the two states to different marks, or can be followed from just one of the two.
+  -- They lead from the two states to different marks, or can be followed from exactly one of the
+  -- two.
   abbrev pub Distinguishes : ℕ → ℕ → List ℕ → Bool → Type 0
   Distinguishes s t bytes ends = mark_after s bytes ends ≢ mark_after t bytes ends
 
-  -- fewer bytes than there are states, which distinguish the two
+  -- Fewer bytes than there are states, which distinguish the two.
   pub record IsEvidence (s t : ℕ) (bytes : List ℕ) (ends : Bool) : Type 0 where
     pub are_bytes : All (λ b. b < 256) bytes
     pub distinguishes : Distinguishes s t bytes ends

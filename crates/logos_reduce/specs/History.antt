@@ -4,11 +4,12 @@ use Rattle.logos_reduce.specs.Merge.{IsHistory}
 use Rattle.logos_reduce.specs.Table.{size, to}
 use Rattle.logos_reduce.specs.declared.reduction.Reduction.{Reduction}
 
--- how the blocks that the states stand for were made
+-- How the blocks that the states stand for were made.
 abbrev pub HistoryOf : Reduction → Type 0
 HistoryOf r = IsHistory r.table r.splits.items (slice_index r.blocks.items)
 
--- Different states stand for blocks that were parted, and a state that is entered by the end leads nowhere.
+-- Different states stand for blocks that were parted, and a state that is entered by the end leads
+-- nowhere.
 pub record GivesEvidence (r : Reduction) : Type 0 where
   pub history : HistoryOf r
   pub some : 0 < length r.splits.items

@@ -8,10 +8,12 @@ pub mod Settle
 pub mod Order
 pub mod Prune
 pub mod Lists
-pub mod Words
+pub mod SymbolWords
 pub mod Merge
 pub mod Number
 pub mod Reduction
 pub mod History
 pub mod Evidence
 pub mod inside
+pub mod Words
+pub mod Views

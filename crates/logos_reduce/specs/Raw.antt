@@ -5,14 +5,15 @@ use Rattle.logos_reduce.specs.Edges.{reach, Leads}
 use Rattle.logos_reduce.specs.Table.{size, to, mark, edges}
 use Rattle.logos_reduce.specs.declared.table.Table.{Table}
 
--- some bytes lead from the root to the state, or some bytes and the end
+-- Some bytes lead from the root to the state, or some bytes and the end.
 abbrev pub IsReached : Table → ℕ → ℕ → Type 0
 IsReached table root s =
     (bytes : List ℕ) × All (λ b. b < 256) bytes
     × ((reach (edges table) root bytes ≡ Some s)
     ⊎ ((t : ℕ) × (reach (edges table) root bytes ≡ Some t) × (to table t 256 ≡ Some s)))
 
--- A table with late marks alone: each state can be reached, the root has no mark, and after the end there is none.
+-- A table with late marks alone: each state can be reached, the root has no mark, and after the end
+-- there is none.
 pub record IsRaw (table : Table) (root : ℕ) : Type 0 where
   pub root_in : root < size table
   pub late_only : (s : ℕ) → (mark table s).early ≡ None

@@ -5,32 +5,33 @@ use Rattle.logos_reduce.specs.Number.{IsNumbered}
 use Rattle.logos_reduce.specs.Prune.{IsOfUse, IsPrunedTable}
 use Rattle.logos_reduce.specs.Settle.{IsSettled}
 use Rattle.logos_reduce.specs.Table.{size, to, mark}
-use Rattle.logos_reduce.specs.Words.{WordDistinguishes}
+use Rattle.logos_reduce.specs.SymbolWords.{WordDistinguishes}
 use Rattle.logos_reduce.specs.declared.reduction.Reduction.{Reduction}
 use Rattle.logos_reduce.specs.declared.table.Table.{Table}
 
--- The old table, with its marks settled, without its useless edges, and with its states merged, is numbered from the root on.
+-- The old table, with its marks settled, without its useless edges, and with its states merged, is
+-- numbered from the root on.
 pub record IsReductionOf (old : Table) (root : ℕ) (r : Reduction) : Type 0 where
-  -- the table with early marks, and without needless late ones
+  -- The table with early marks, and without needless late ones.
   pub marked : Table
   pub settled : IsSettled old marked
-  -- the same without the edges to states that have no mark and lead to none
+  -- The same without the edges to states that have no mark and lead to none.
   pub useful : Table
   pub pruned : IsPrunedTable marked useful
-  -- the block of each state, and a state of each block
+  -- The block of each state, and a state of each block.
   pub block : ℕ → ℕ
   pub leader : ℕ → ℕ
   pub merged : IsMerged useful r.splits.items block leader
-  -- the blocks that the root leads to, as states
+  -- The blocks that the root leads to, as states.
   pub numbered : IsNumbered useful block leader root r.blocks.items r.table
 
 module _ (table : Table) where
-  -- a word of fewer symbols than there are states distinguishes any two different states
+  -- A word of fewer symbols than there are states distinguishes any two different states.
   abbrev pub IsLeast : Type 0
   IsLeast = (s t : ℕ) → s < size table → t < size table → s ≢ t →
       (word : List ℕ) × (length word < size table) × WordDistinguishes table s t word
 
-  -- the first edge into a state, by source number, then bytes ascending, then the end
+  -- The first edge into a state, by source number, then bytes ascending, then the end.
   pub record IsFirstEdge (t s k : ℕ) : Type 0 where
     pub edge : to table s k ≡ Some t
     pub first : (r l : ℕ) → to table r l ≡ Some t → (s < r) ⊎ ((s ≡ r) × (k ≤ l))

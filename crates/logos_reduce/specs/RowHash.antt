@@ -3,22 +3,22 @@ use Rattle.std.specs.Prelude.{ℕ, ◌+◌, ◌*◌, ◌%◌, ◌^◌, List, [],
 use Rattle.std.specs.Int.{from_le_bytes, rotate_left, w32, w64}
 use Rattle.logos_reduce.specs.declared.row_hasher.RowHasher.{RowHasher}
 
--- the hasher as it starts
+-- The hasher as it starts.
 abbrev pub initial : RowHasher
 initial = record { hash = 0; last = 0; count = 0 }
 
--- the number that the first four bytes are, the lowest first
+-- The number that the first four bytes are, the lowest first.
 abbrev pub word_of : List ℕ → ℕ
 word_of bytes =
     if nat_lt (length bytes) 4 then 0
     else from_le_bytes w32 (slice_index bytes 0 ∷ slice_index bytes 1 ∷ slice_index bytes 2 ∷ slice_index bytes 3 ∷ [])
 
--- the hash with one more number at a place
+-- The hash with one more number at an index.
 abbrev pub mixed : ℕ → ℕ → ℕ → ℕ
 mixed hash word place =
     rotate_left w64 ((bit_xor hash (bit_xor ((place * 2 ^ 32) % 2 ^ 64) word) * 0x9e37_79b9_7f4a_7c15) % 2 ^ 64) 29
 
--- the state after `write(bytes)`
+-- The state after `write(bytes)`.
 abbrev pub write : RowHasher → List ℕ → RowHasher
 write h bytes =
     let word = word_of bytes in

@@ -1,27 +1,27 @@
 -- Rows of targets.
 use Rattle.std.specs.Prelude.{◌≡◌, ◌<◌, ℕ, zero, suc, List, [], map, length, Option, Some, None, slice_index, slice_index_or}
 
--- what an entry of a row stands for: 0 is no target, and else the entry is one more than the state
+-- What an entry of a row stands for: 0 is no target, and else the entry is one more than the state.
 abbrev pub target_of : ℕ → Option ℕ
 target_of zero = None
 target_of (suc t) = Some t
 
--- where a row leads by a symbol, which is a byte, or 256 for the end
+-- Where a row leads by a symbol, which is a byte, or 256 for the end.
 abbrev pub target_by : List ℕ → ℕ → Option ℕ
 target_by row k = target_of (slice_index row k)
 
--- the rows at these places among the distinct ones
+-- The rows at these indeices among the distinct ones.
 abbrev pub rows_at : List ℕ → List (List ℕ) → List (List ℕ)
 rows_at places distinct = map (λ place. slice_index_or distinct place []) places
 
--- where a state leads by a symbol
+-- Where a state leads by a symbol.
 abbrev pub target_in : List (List ℕ) → ℕ → ℕ → Option ℕ
 target_in rows s k = target_by (slice_index_or rows s []) k
 
--- no edge leaves the first n states
+-- No edge leaves the first n states.
 abbrev pub IsClosed : ℕ → List (List ℕ) → Type 0
 IsClosed n rows = (s k t : ℕ) → s < n → target_in rows s k ≡ Some t → t < n
 
--- each row has an entry for each symbol
+-- Each row has an entry for each symbol.
 abbrev pub AreWide : List (List ℕ) → Type 0
 AreWide rows = (i : ℕ) → i < length rows → length (slice_index_or rows i []) ≡ 257

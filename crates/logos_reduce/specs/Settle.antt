@@ -4,23 +4,23 @@ use Rattle.logos_reduce.specs.RowsView.{rows_of}
 use Rattle.logos_reduce.specs.Table.{size, to, mark}
 use Rattle.logos_reduce.specs.declared.table.Table.{Table}
 
--- the leaf that is accepted where a symbol leads
+-- The leaf that is accepted where a symbol leads.
 abbrev pub accepted : Table → ℕ → ℕ → Option ℕ
 accepted table s k = option_and_then (λ t. (mark table t).accept) (to table s k)
 
--- every byte and the end lead to states that accept the leaf
+-- Every byte and the end lead to states that accept the leaf.
 abbrev pub AllAccepted : Table → ℕ → ℕ → Type 0
 AllAccepted table s leaf = (k : ℕ) → k < 257 → accepted table s k ≡ Some leaf
 
--- the early mark of a state: the leaf that is accepted wherever it leads
+-- The early mark of a state: the leaf that is accepted wherever it leads.
 abbrev pub IsCommon : Table → ℕ → Option ℕ → Type 0
 IsCommon table s early = (leaf : ℕ) → (early ≡ Some leaf) ↔ AllAccepted table s leaf
 
--- the state is entered from one with this early mark by an edge at which its late mark is needed
+-- The state is entered from one with this early mark by an edge at which its late mark is needed.
 abbrev pub IsNeeded : Table → ℕ → Option ℕ → ℕ → Type 0
 IsNeeded table s early t = (k : ℕ) × (to table s k ≡ Some t) × ((mark table t).accept ≢ early)
 
--- the late mark is needed at no edge from the state with this early mark
+-- The late mark is needed at no edge from the state with this early mark.
 abbrev pub IsSpare : Table → ℕ → Option ℕ → ℕ → Type 0
 IsSpare table s early t = (k : ℕ) → to table s k ≡ Some t → (mark table t).accept ≡ early
 

@@ -6,26 +6,26 @@ use Rattle.logos_reduce.specs.RowsView.{rows_of}
 use Rattle.logos_reduce.specs.declared.table.Mark.{Mark}
 use Rattle.logos_reduce.specs.declared.table.Table.{Table}
 
--- the mark at an index
+-- The mark at an index.
 abbrev pub mark_in : List Mark → ℕ → Mark
 mark_in marks s = slice_index_or marks s (record { accept = None; early = None })
 
--- how many states it has
+-- How many states it has.
 abbrev pub size : Table → ℕ
 size table = vec_len table.marks
 
--- where a state leads by a symbol
+-- Where a state leads by a symbol.
 abbrev pub to : Table → ℕ → ℕ → Option ℕ
 to table = target_in (rows_of table.rows)
 
--- the mark of a state
+-- The mark of a state.
 abbrev pub mark : Table → ℕ → Mark
 mark table = mark_in table.marks.items
 
 abbrev pub type_of : Mark → StateType
 type_of m = record { accept = m.accept; early = m.early }
 
--- the graph that it stands for
+-- The graph that it stands for.
 abbrev pub edges : Table → Edges ℕ
 edges table = record {
   type_of = λ s. type_of (mark table s);

@@ -1,20 +1,7 @@
--- Words of symbols, and the states that they distinguish.
-use Rattle.std.specs.Prelude.{◌≢◌, ℕ, List, [], ◌∷◌, Option, Some, None, option_map}
-use Rattle.logos_reduce.specs.Table.{to, mark}
-use Rattle.logos_reduce.specs.declared.table.Mark.{Mark}
-use Rattle.logos_reduce.specs.declared.table.Table.{Table}
-
-module _ (table : Table) where
-  -- the state to which a word of symbols leads
-  abbrev pub state_after : Option ℕ → List ℕ → Option ℕ
-  state_after None word = None
-  state_after (Some s) [] = Some s
-  state_after (Some s) (k ∷ word) = state_after (to table s k) word
-
-  -- the mark of that state
-  abbrev pub outcome : ℕ → List ℕ → Option Mark
-  outcome s word = option_map (mark table) (state_after (Some s) word)
-
-  -- the word leads from the two states to different marks, or can be followed from just one of them
-  abbrev pub WordDistinguishes : ℕ → ℕ → List ℕ → Type 0
-  WordDistinguishes s t word = outcome s word ≢ outcome t word
+-- Definitions that clauses cite: of lower crates, and those of this one that name no type of it.
+pub use Rattle.logos_reduce.specs.Edges.{IsMarked}
+pub use Rattle.logos_reduce.specs.Lists.{ArePredecessors, AreRising, Rises, has, has_in}
+pub use Rattle.logos_reduce.specs.Order.{IsMet, IsOrder}
+pub use Rattle.logos_reduce.specs.Rows.{target_by, target_in, target_of}
+pub use Rattle.logos_reduce.specs.inside.Lists.{AreFiled, AreHits, AreSources, HaveMoved, landing}
+pub use Rattle.logos_reduce.specs.inside.Order.{Grows}

@@ -1,13 +1,11 @@
-//! Distinguishes two states of a reduced table by bytes.
+//! Distinguishes two states of a reduced table by bytes. `Graph` of `logos_graph` asks for it after
+//! the reduction, for two states that a caller names.
+
 ghost use Rattle.std.specs.Prelude.{◌≡◌, ◌≢◌, ◌⊎◌, ◌↔◌, ◌<◌, ℕ, IsTrue, IfOk, IfSome, MatchOption, Some, None};
-ghost use Rattle.logos_reduce.specs.Table.{size, to};
-ghost use Rattle.logos_reduce.specs.History.{GivesEvidence};
-ghost use Rattle.logos_reduce.specs.Evidence.{mark_with_end, mark_after, Distinguishes, IsEvidence};
-ghost use Rattle.logos_reduce.specs.Words.{state_after};
-ghost use Rattle.logos_reduce.specs.inside.Evidence.{ArePartedAt};
+ghost use Rattle.logos_reduce.specs.Views.{size, to, GivesEvidence, mark_with_end, mark_after, Distinguishes, IsEvidence, state_after, ArePartedAt};
 
 use crate::reduction::Reduction;
-use crate::rows::END;
+use crate::rows::{END, WIDTH};
 use crate::table::{Mark, Table};
 use std::alloc::{AllocError, Global};
 
@@ -45,7 +43,7 @@ fn mark_after(table: &Table, s: usize, bytes: &[u8], at_end: bool) -> Option<Mar
     mark_with_end(table, t, at_end)
 }
 
-/// Returns whether two marks differ, or there is just one.
+/// Returns whether two marks differ, or exactly one is there.
 fn differ(one: Option<Mark>, other: Option<Mark>) -> bool
     ensures { IsTrue result ↔ (one ≢ other) }
 {
@@ -56,7 +54,7 @@ fn differ(one: Option<Mark>, other: Option<Mark>) -> bool
 fn both_targets(table: &Table, s: usize, t: usize, k: usize) -> Option<(usize, usize)>
     requires s_in { s < size table.now }
     requires t_in { t < size table.now }
-    requires k_in { k < 257 }
+    requires k_in { k < WIDTH }
     ensures { MatchOption result
         ((to table.now s k ≡ None) ⊎ (to table.now t k ≡ None))
         (λ p. (to table.now s k ≡ Some p.0) × (to table.now t k ≡ Some p.1)) }
@@ -92,7 +90,8 @@ fn parted_at(reduced: &Reduction, s: usize, t: usize) -> usize
 }
 
 impl Reduction {
-    /// Returns whether the bytes, with the end after them or without, distinguish the two states. It takes no memory.
+    /// Returns whether the bytes, with the end after them or without, distinguish the two states.
+    /// It takes no memory.
     pub fn checks(&self, s: usize, t: usize, bytes: &[u8], at_end: bool) -> bool
         requires s_in { s < size self.now.table }
         requires t_in { t < size self.now.table }
@@ -103,7 +102,8 @@ impl Reduction {
         differ(one, other)
     }
 
-    /// Returns bytes that distinguish two different states, fewer than there are states, and whether the end follows them.
+    /// Returns bytes that distinguish two different states, fewer than there are states, and
+    /// whether the end follows them.
     ///
     /// # Errors
     ///

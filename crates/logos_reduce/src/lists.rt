@@ -1,10 +1,9 @@
-//! A list of states for each state or block.
-ghost use Rattle.std.specs.Prelude.{true, ◌≡◌, ◌≢◌, ℕ, ◌+◌, ◌-◌, ◌<◌, ◌≤◌, ◌⊎◌, Some, OnOk, IfOk, IsTrue, IsFalse, length, slice_get, vec_len, slice_index};
-ghost use Rattle.logos_reduce.specs.Lists.{has, has_in, Rises, AreRising, ArePredecessors};
-ghost use Rattle.logos_reduce.specs.Table.{size, to};
-ghost use Rattle.logos_reduce.specs.Rows.{target_by};
+//! A list of states for each state or block. Merging and pruning go through them.
 
-use crate::rows::{Row, changed_target};
+ghost use Rattle.std.specs.Prelude.{true, ◌≡◌, ◌≢◌, ℕ, ◌+◌, ◌-◌, ◌<◌, ◌≤◌, ◌⊎◌, Some, OnOk, IfOk, IsTrue, IsFalse, length, slice_get, vec_len, slice_index};
+ghost use Rattle.logos_reduce.specs.Views.{has, has_in, Rises, AreRising, ArePredecessors, target_by, size, to};
+
+use crate::rows::{Row, WIDTH, changed_target};
 use crate::table::Table;
 use std::alloc::{AllocError, Global};
 
@@ -67,7 +66,7 @@ fn file_row(
     s: usize,
     width: usize,
 ) -> Result<(), AllocError>
-    requires width { width ≤ 257 }
+    requires width { width ≤ WIDTH }
     requires inside { (k t : ℕ) → target_by row.now k ≡ Some t → t < vec_len lists.old }
     ensures len { vec_len lists.new ≡ vec_len lists.old }
     ensures stays { (t u : ℕ) → has_in lists.old.items t u ≡ true →
@@ -87,13 +86,14 @@ fn file_row(
     Ok(())
 }
 
-/// Returns for each state the states that lead to it by one of the first `width` symbols, ascending and each once.
+/// Returns for each state the states that lead to it by one of the first `width` symbols, ascending
+/// and each once.
 pub fn predecessors(
     alloc: Global,
     table: &Table,
     width: usize,
 ) -> Result<Vec<Vec<usize>>, AllocError>
-    requires { width ≤ 257 }
+    requires { width ≤ WIDTH }
     ensures len { IfOk result (λ v. vec_len v ≡ size table.now) }
     ensures lists { IfOk result (λ v.
         ArePredecessors (size table.now) width (to table.now) v.items) }

@@ -1,9 +1,7 @@
-//! Merges states that no word distinguishes.
+//! Merges states that no word distinguishes. It is the third step of the reduction, after pruning.
+
 ghost use Rattle.std.specs.Prelude.{◌≡◌, ◌≢◌, ℕ, ◌+◌, ◌<◌, ◌≤◌, Some, IfOk, MatchOption, length, vec_len, slice_index, option_map};
-ghost use Rattle.logos_reduce.specs.Merge.{target_block, IsSound, AreLeaders, IsMerged};
-ghost use Rattle.logos_reduce.specs.inside.Merge.{IsFiner, IsExtension, IsLanding};
-ghost use Rattle.logos_reduce.specs.Table.{size, to};
-ghost use Rattle.logos_reduce.specs.Rows.{target_by};
+ghost use Rattle.logos_reduce.specs.Views.{target_by, target_block, IsSound, AreLeaders, IsMerged, IsFiner, IsExtension, IsLanding, size, to};
 
 pub mod blocks;
 mod classes;
@@ -27,7 +25,7 @@ fn first_difference(row: &Row, other: &Row, blocks: &Vec<usize>) -> Option<usize
     ensures { MatchOption result
         ((k : ℕ) → option_map (slice_index blocks.now.items) (target_by row.now k)
         ≡ option_map (slice_index blocks.now.items) (target_by other.now k))
-        (λ k. (k < 257)
+        (λ k. (k < WIDTH)
         × (option_map (slice_index blocks.now.items) (target_by row.now k)
         ≢ option_map (slice_index blocks.now.items) (target_by other.now k))) }
 {
@@ -41,7 +39,8 @@ fn first_difference(row: &Row, other: &Row, blocks: &Vec<usize>) -> Option<usize
     None
 }
 
-/// A state and a symbol by which it does not lead to the block to which the leader of its block does.
+/// A state and a symbol by which it does not lead to the block to which the leader of its block
+/// does.
 #[derive(Clone, Copy, Drop)]
 struct Difference {
     leader: usize,
@@ -61,7 +60,7 @@ fn find_difference(table: &Table, blocks: &Vec<usize>, leaders: &Vec<usize>) -> 
         target_block table.now (slice_index blocks.now.items) s k
         ≡ target_block table.now (slice_index blocks.now.items)
         (slice_index leaders.now.items (slice_index blocks.now.items s)) k)
-        (λ d. (d.state < size table.now) × (d.symbol < 257)
+        (λ d. (d.state < size table.now) × (d.symbol < WIDTH)
         × (d.leader ≡ slice_index leaders.now.items (slice_index blocks.now.items d.state))
         × (target_block table.now (slice_index blocks.now.items) d.state d.symbol
         ≢ target_block table.now (slice_index blocks.now.items) d.leader d.symbol)) }
@@ -79,7 +78,8 @@ fn find_difference(table: &Table, blocks: &Vec<usize>, leaders: &Vec<usize>) -> 
     None
 }
 
-/// A cut of a block: its states that lead to one block by a symbol, or nowhere, go into a new block.
+/// A cut of a block: its states that lead to one block by a symbol, or nowhere, go into a new
+/// block.
 #[derive(Clone, Copy, Drop)]
 struct Cut {
     /// The block that is cut.
@@ -95,7 +95,7 @@ struct Cut {
 fn part_of(table: &Table, blocks: &Vec<usize>, t: usize, cut: Cut) -> usize
     requires len { vec_len blocks.now ≡ size table.now }
     requires t_in { t < size table.now }
-    requires symbol_in { cut.symbol < 257 }
+    requires symbol_in { cut.symbol < WIDTH }
     ensures { IsLanding cut.home cut.to cut.fresh (slice_index blocks.now.items t)
         (target_block table.now (slice_index blocks.now.items) t cut.symbol) result }
 {
@@ -116,7 +116,7 @@ fn parts(
     cut: Cut,
 ) -> Result<Vec<usize>, AllocError>
     requires len { vec_len blocks.now ≡ size table.now }
-    requires symbol_in { cut.symbol < 257 }
+    requires symbol_in { cut.symbol < WIDTH }
     ensures len { IfOk result (λ v. vec_len v ≡ size table.now) }
     ensures parts { IfOk result (λ v. (t : ℕ) → t < size table.now →
         IsLanding cut.home cut.to cut.fresh (slice_index blocks.now.items t)
@@ -140,7 +140,7 @@ fn split_off(
     requires len { vec_len blocks.of ≡ size table.now }
     requires state_in { found.state < size table.now }
     requires leader_in { found.leader < size table.now }
-    requires symbol_in { found.symbol < 257 }
+    requires symbol_in { found.symbol < WIDTH }
     requires together { slice_index blocks.of.items found.leader
         ≡ slice_index blocks.of.items found.state }
     requires different { target_block table.now (slice_index blocks.of.items) found.state found.symbol
@@ -175,7 +175,8 @@ pub struct Partition {
     pub leaders: Vec<usize>,
 }
 
-/// Returns the blocks of the states that no word distinguishes. States with one mark and one row are one state here.
+/// Returns the blocks of the states that no word distinguishes. States with one mark and one row
+/// are one state here.
 pub fn merge(alloc: Global, table: &Table) -> Result<Partition, AllocError>
     ensures len { IfOk result (λ m. vec_len m.blocks.of ≡ size table.now) }
     ensures leaders_len { IfOk result (λ m. vec_len m.leaders ≡ vec_len m.blocks.splits) }

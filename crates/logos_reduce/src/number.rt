@@ -1,12 +1,7 @@
-//! Numbers states by first visit.
+//! Numbers states by first visit. It is the last step of the reduction.
+
 ghost use Rattle.std.specs.Prelude.{◌≡◌, ℕ, ◌+◌, ◌-◌, ◌<◌, ◌≤◌, ◌++◌, ◌∷◌, ◌⊎◌, ◌^◌, [], Some, OnOk, IfOk, length, vec_len, slice_index, option_map, option_and_then};
-ghost use Rattle.logos_reduce.specs.Merge.{target_block, AreLeaders};
-ghost use Rattle.logos_reduce.specs.Table.{size, to, mark, mark_in};
-ghost use Rattle.logos_reduce.specs.Number.{IsInTurn, AreUsed, IsNumbered};
-ghost use Rattle.logos_reduce.specs.Order.{IsMet};
-ghost use Rattle.logos_reduce.specs.inside.Order.{Grows};
-ghost use Rattle.logos_reduce.specs.Rows.{target_by, target_in, target_of};
-ghost use Rattle.logos_reduce.specs.RowsView.{rows_of};
+ghost use Rattle.logos_reduce.specs.Views.{IsMet, Grows, target_by, target_in, target_of, target_block, AreLeaders, size, to, mark, mark_in, IsInTurn, AreUsed, IsNumbered, rows_of};
 
 use crate::merge::Partition;
 use crate::merge::refine::block_of;
@@ -31,7 +26,7 @@ fn meet_target(order: &mut Order, target: Option<usize>) -> Result<(), AllocErro
     Ok(())
 }
 
-/// Adds the blocks to which the block at place `i` leads.
+/// Adds the blocks to which the block at index `i` leads.
 fn meet_targets(
     order: &mut Order,
     table: &Table,
@@ -111,7 +106,7 @@ fn numbered_row(row: &Row, blocks: &Vec<usize>, numbers: &Vec<usize>) -> Row
         ≡ option_and_then (λ b. target_of (slice_index numbers.now.items b))
         (option_map (slice_index blocks.now.items) (target_by row.now k)) }
 {
-    let mut numbered = [0; 257];
+    let mut numbered = [0; WIDTH];
     for k in 0..WIDTH {
         numbered[k] = match entry_before(row, &numbered, k) {
             Some(entry) => entry,
@@ -202,7 +197,8 @@ pub struct Numbering {
     pub states: Vec<usize>,
 }
 
-/// Returns the blocks as the states of a table, in the order of first visits from the block of the root.
+/// Returns the blocks as the states of a table, in the order of first visits from the block of the
+/// root.
 pub fn number(
     alloc: Global,
     table: &Table,

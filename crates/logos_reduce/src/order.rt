@@ -1,14 +1,15 @@
-//! States in the order in which they are met.
+//! States in the order in which they are met. Pruning collects the states to keep in one, and
+//! numbering those that it meets.
+
 ghost use Rattle.std.specs.Prelude.{true, ◌≡◌, ℕ, ◌+◌, ◌<◌, ◌++◌, ◌∷◌, ◌⊎◌, [], OnOk, IfOk, length, vec_len, slice_index};
-ghost use Rattle.logos_reduce.specs.Order.{IsOrder, IsMet};
-ghost use Rattle.logos_reduce.specs.inside.Order.{Grows};
+ghost use Rattle.logos_reduce.specs.Words.{IsOrder, IsMet, Grows};
 
 use std::alloc::{AllocError, Global};
 
 /// States, each once, in the order in which they were met.
 #[derive(Drop)]
 pub struct Order {
-    /// For each state one more than its place, or 0 where it was not met.
+    /// For each state one more than its index, or 0 where it was not met.
     pub numbers: Vec<usize>,
     /// The states that were met, in their order.
     pub states: Vec<usize>,
@@ -29,7 +30,7 @@ impl Order {
         })
     }
 
-    /// Returns one more than the place of a state, or 0 where it was not met.
+    /// Returns one more than the index of a state, or 0 where it was not met.
     pub fn number_of(&self, s: usize) -> usize
         ensures { result ≡ slice_index self.now.numbers.items s }
     {

@@ -1,14 +1,8 @@
-//! Leaves out the edges to states that have no mark and lead to none.
+//! Leaves out the edges to states that have no mark and lead to none. It is the second step of the
+//! reduction, once marks are settled.
+
 ghost use Rattle.std.specs.Prelude.{true, ◌≡◌, ℕ, ◌+◌, ◌<◌, ◌≤◌, ◌↔◌, ◌⊎◌, Some, OnOk, IfOk, IsTrue, IsSome, length, vec_len, slice_index};
-ghost use Rattle.logos_reduce.specs.Lists.{has};
-ghost use Rattle.logos_reduce.specs.Table.{size, to, mark, type_of};
-ghost use Rattle.logos_reduce.specs.inside.Prune.{IsSeed, AreUseful, met_target};
-ghost use Rattle.logos_reduce.specs.Prune.{IsPrunedTable};
-ghost use Rattle.logos_reduce.specs.Order.{IsMet};
-ghost use Rattle.logos_reduce.specs.inside.Order.{Grows};
-ghost use Rattle.logos_reduce.specs.Edges.{IsMarked};
-ghost use Rattle.logos_reduce.specs.Rows.{target_by, target_of, target_in};
-ghost use Rattle.logos_reduce.specs.RowsView.{rows_of};
+ghost use Rattle.logos_reduce.specs.Views.{has, IsMet, Grows, IsMarked, target_by, target_of, target_in, size, to, mark, type_of, IsSeed, AreUseful, met_target, IsPrunedTable, rows_of};
 
 use crate::lists::predecessors;
 use crate::order::Order;
@@ -100,7 +94,7 @@ fn pruned_row(row: &Row, order: &Order) -> Row
 
 /// Returns the entry of the row, or 0 where its target is not in the order.
 fn pruned_entry(row: &Row, k: usize, order: &Order) -> u32
-    requires { k < 257 }
+    requires { k < WIDTH }
     ensures { target_of result ≡ met_target order.now.numbers.items (target_by row.now k) }
 {
     match target_at(row, k) {

@@ -1,9 +1,7 @@
-//! Reduces a table.
+//! Reduces a table. `logos_graph` calls it with the table of an automaton.
+
 ghost use Rattle.std.specs.Prelude.{◌<◌, IfOk};
-ghost use Rattle.logos_reduce.specs.Raw.{IsRaw};
-ghost use Rattle.logos_reduce.specs.Reduction.{IsReductionOf, IsLeast, IsInOrder, IsSpareless};
-ghost use Rattle.logos_reduce.specs.Table.{size};
-ghost use Rattle.logos_reduce.specs.History.{GivesEvidence};
+ghost use Rattle.logos_reduce.specs.Views.{IsRaw, IsReductionOf, IsLeast, IsInOrder, IsSpareless, size, GivesEvidence};
 
 use crate::merge::blocks::{Blocks, Split};
 use crate::merge::{Partition, merge};
@@ -26,10 +24,11 @@ pub struct Reduction {
 
 /// Returns the least table that has the marks of this one, from the root on.
 ///
-/// Early marks are set, and late marks that they make needless are dropped; edges to states that have no mark and lead to
-/// none are left out; states that no word distinguishes are merged; and the states that the root leads to are numbered by
-/// first visit. Where each state can be reached, and there are only late marks, and none after the end, each state is of
-/// use, and `evidence` finds bytes that distinguish two of them.
+/// Early marks are set, and late marks that they make needless are dropped; edges to states that
+/// have no mark and lead to none are left out; states that no word distinguishes are merged; and
+/// the states that the root leads to are numbered by first visit. Where each state can be reached,
+/// and there are only late marks, and none after the end, each state is of use, and `evidence`
+/// finds bytes that distinguish two of them.
 ///
 /// # Errors
 ///

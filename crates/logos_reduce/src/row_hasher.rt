@@ -1,7 +1,8 @@
 //! A hasher for rows of targets.
 //!
-//! A row has 257 entries, and few of them differ from the entry before. So only these are mixed into the hash, each with its
-//! place.
+//! A row has 257 entries, and few of them differ from the entry before. So only these are mixed
+//! into the hash, each with its index.
+
 ghost use Rattle.std.specs.Prelude.{◌≡◌};
 ghost use Rattle.logos_reduce.specs.RowHash.{initial, mixed, write, word_of};
 
@@ -44,7 +45,7 @@ fn word_of(bytes: &[u8]) -> u32
     u32::from_le_bytes([bytes[0], bytes[1], bytes[2], bytes[3]])
 }
 
-/// Returns the hash with one more number at a place.
+/// Returns the hash with one more number at an index.
 #[inline(always)]
 fn mixed(hash: u64, word: u32, place: u64) -> u64
     ensures { result ≡ mixed hash word place }

@@ -1,4 +1,6 @@
-//! A list of rows of targets, which holds equal rows once.
+//! A list of rows of targets, which holds equal rows once. The table of an automaton has one, and
+//! so has each table that the reduction makes of it.
+
 ghost use Rattle.std.specs.Prelude.{◌≡◌, ℕ, ◌-◌, ◌<◌, ◌⊎◌, ◌++◌, ◌∷◌, [], MatchOption, IfOk, IfSome, OnOk, None, Some, length, vec_len, slice_index, slice_index_or};
 ghost use Rattle.logos_reduce.specs.Rows.{AreWide, target_by, target_of};
 
@@ -14,14 +16,14 @@ pub const WIDTH: usize = 257;
 /// The symbol that stands for the end.
 pub const END: usize = 256;
 
-/// For each symbol its target: 0 where there is none, and else one more than the number of the state. The symbols are the
-/// bytes, and then the end.
-pub type Row = [u32; 257];
+/// For each symbol its target: 0 where there is none, and else one more than the number of the
+/// state. The symbols are the bytes, and then the end.
+pub type Row = [u32; WIDTH];
 
 /// A list of rows.
 #[derive(Drop)]
 pub struct Rows {
-    /// For each row of the list its place among the distinct ones.
+    /// For each row of the list its index among the distinct ones.
     pub(crate) places: Vec<usize>,
     /// The rows of the list, each once.
     distinct: IndexSet<Row, BuildHasherDefault<RowHasher>>,
@@ -61,7 +63,7 @@ impl Rows {
         }
     }
 
-    /// Returns the place of the row at an index among the distinct rows.
+    /// Returns the index of row `i` among the distinct rows.
     pub fn place(&self, i: usize) -> usize
         requires { i < length (rows_of self.now) }
         ensures { result ≡ slice_index self.now.places.items i }
@@ -76,7 +78,7 @@ impl Rows {
         self.distinct.len()
     }
 
-    /// Returns the distinct row at a place.
+    /// Returns the distinct row at an index.
     pub(crate) fn distinct(&self, place: usize) -> &Row
         requires { place < length self.now.distinct.keys }
         ensures { result.now ≡ slice_index_or self.now.distinct.keys place [] }
@@ -124,7 +126,7 @@ impl Rows {
 
 /// Returns the target of a row by a symbol.
 pub fn target_at(row: &Row, k: usize) -> Option<usize>
-    requires { k < 257 }
+    requires { k < WIDTH }
     ensures { result ≡ target_by row.now k }
 {
     let entry = row[k] as usize;
@@ -133,7 +135,7 @@ pub fn target_at(row: &Row, k: usize) -> Option<usize>
 
 /// Returns the entry that is made of the symbol before, if the row leads to the same state by both.
 pub(crate) fn entry_before(row: &Row, made: &Row, k: usize) -> Option<u32>
-    requires { k < 257 }
+    requires { k < WIDTH }
     ensures { IfSome result (λ entry. (0 < k) × (target_by row.now k ≡ target_by row.now (k - 1))
         × (target_of entry ≡ target_by made.now (k - 1))) }
 {
@@ -145,7 +147,7 @@ pub(crate) fn entry_before(row: &Row, made: &Row, k: usize) -> Option<u32>
 
 /// Returns the target of a row by a symbol, unless the symbol before it leads to the same one.
 pub(crate) fn changed_target(row: &Row, k: usize) -> Option<usize>
-    requires { k < 257 }
+    requires { k < WIDTH }
     ensures { MatchOption result
         ((target_by row.now k ≡ None)
         ⊎ ((0 < k) × (target_by row.now k ≡ target_by row.now (k - 1))))

@@ -1,9 +1,8 @@
-//! Sets early marks, and drops the late marks that they make needless.
+//! Sets early marks, and drops the late marks that they make needless. It is the first step of the
+//! reduction.
+
 ghost use Rattle.std.specs.Prelude.{◌≡◌, ◌≢◌, ℕ, ◌+◌, ◌<◌, ◌↔◌, ◌⊎◌, None, Some, IfOk, length, vec_len, slice_index_or, if◌then◌else◌};
-ghost use Rattle.logos_reduce.specs.Table.{size, to, mark, mark_in};
-ghost use Rattle.logos_reduce.specs.Settle.{IsNeeded, IsSpare, IsSettled};
-ghost use Rattle.logos_reduce.specs.inside.Settle.{accepted_in, IsCommonIn, AreCommonIn};
-ghost use Rattle.logos_reduce.specs.inside.Settle.{AreCommon, IsSet, AreNeeded, IsMarkedBy};
+ghost use Rattle.logos_reduce.specs.Views.{size, to, mark, mark_in, IsNeeded, IsSpare, IsSettled, accepted_in, IsCommonIn, AreCommonIn, AreCommon, IsSet, AreNeeded, IsMarkedBy};
 
 use crate::rows::{END, Row, WIDTH, changed_target, target_at};
 use crate::table::{Mark, Table};
@@ -11,13 +10,14 @@ use std::alloc::{AllocError, Global};
 
 /// Returns the leaf that is accepted where a row leads by a symbol.
 fn accepted_by(table: &Table, row: &Row, k: usize) -> Option<usize>
-    requires { k < 257 }
+    requires { k < WIDTH }
     ensures { result ≡ accepted_in table.now row.now k }
 {
     table.accept(target_at(row, k)?)
 }
 
-/// Returns the leaf that is accepted wherever a row leads, if every byte and the end lead somewhere.
+/// Returns the leaf that is accepted wherever a row leads, if every byte and the end lead
+/// somewhere.
 fn common_leaf(table: &Table, row: &Row) -> Option<usize>
     ensures { IsCommonIn table.now row.now result }
 {

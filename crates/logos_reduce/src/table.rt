@@ -1,9 +1,11 @@
-//! Tables: states with their marks, and rows of targets.
+//! Tables: states with their marks, and rows of targets. Each step of the reduction makes a table
+//! from one.
+
 ghost use Rattle.std.specs.Prelude.{◌≡◌, ℕ, ◌+◌, ◌<◌, ◌^◌, Some, length, vec_len};
 ghost use Rattle.logos_reduce.specs.Rows.{IsClosed, target_by};
 ghost use Rattle.logos_reduce.specs.RowsView.{rows_of};
 
-use crate::rows::{Row, Rows, target_at};
+use crate::rows::{Row, Rows, WIDTH, target_at};
 
 /// The leaves whose matches end where a state is, or one byte before.
 #[derive(Clone, Copy, PartialEq, Eq, Drop)]
@@ -29,8 +31,9 @@ impl Table {
 
     /// Returns the table with these marks and rows: state `s` has mark `s` and row `s`.
     ///
-    /// There is a mark for each row, each target is the number of a state, and there are fewer than 4,294,967,295 states.
-    /// The rows are added one by one with `Rows::push`, in the order of the states.
+    /// There is a mark for each row, each target is the number of a state, and there are fewer than
+    /// 4,294,967,295 states. The rows are added one by one with `Rows::push`, in the order of the
+    /// states.
     pub fn new(marks: Vec<Mark>, rows: Rows) -> Table
         requires same_len { length (rows_of rows) ≡ vec_len marks }
         requires closed { IsClosed (vec_len marks) (rows_of rows) }
@@ -56,7 +59,8 @@ impl Table {
         self.marks[s]
     }
 
-    /// Returns the leaf whose match ends one byte before a state, or none where there is no such state.
+    /// Returns the leaf whose match ends one byte before a state, or none where there is no such
+    /// state.
     pub(crate) fn accept(&self, s: usize) -> Option<usize>
         ensures { result ≡ (mark self.now s).accept }
     {
@@ -78,7 +82,7 @@ impl Table {
     /// Returns the state to which a state leads by a symbol.
     pub fn target(&self, s: usize, k: usize) -> Option<usize>
         requires state { s < size self.now }
-        requires symbol { k < 257 }
+        requires symbol { k < WIDTH }
         ensures { result ≡ to self.now s k }
     {
         target_at(self.row(s), k)

@@ -1,8 +1,7 @@
 //! Lexing from a point on until a former border is met, or the input ends.
 
 ghost use Rattle.std.specs.Prelude.{◌≤◌, ◌<◌, ◌^◌, IfOk, drop, length};
-ghost use Rattle.logos_relex.specs.Words.{answers_of};
-ghost use Rattle.logos_relex.specs.Views.{bytes_of, IsAnew, IsBorder, IsMade};
+ghost use Rattle.logos_relex.specs.Views.{answers_of, bytes_of, IsAnew, IsBorder, IsMade};
 
 use crate::borders::{Border, border_from};
 use crate::chunk::{Chunk, ItemAt, last_items, next_chunk};

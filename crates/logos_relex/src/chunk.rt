@@ -1,8 +1,7 @@
 //! Chunks: the items of a few thousand bytes, which were found in the bytes of a window alone.
 
 ghost use Rattle.std.specs.Prelude.{◌≡◌, ◌<◌, ◌≤◌, length, map, take, IfOk, IfErr, IfSome};
-ghost use Rattle.logos_relex.specs.Words.{Runs, answers_of};
-ghost use Rattle.logos_relex.specs.Views.{place_of, item_at, IsChunk, IsRefused, SettlesUpTo};
+ghost use Rattle.logos_relex.specs.Views.{Runs, answers_of, place_of, item_at, IsChunk, IsRefused, SettlesUpTo};
 
 use crate::lexed::RelexError;
 use logos_code::code::Code;

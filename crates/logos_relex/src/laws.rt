@@ -1,8 +1,7 @@
 //! Laws of the definitions. The contract of each function is a law. To use one in a proof, call its
 //! function: the call does nothing.
 
-ghost use Rattle.logos_relex.specs.Words.{answers_of};
-ghost use Rattle.logos_relex.specs.Views.{LexedIsRun};
+ghost use Rattle.logos_relex.specs.Views.{answers_of, LexedIsRun};
 
 use logos_code::code::Code;
 use logos_hir::leaf::LeafId;

@@ -1,8 +1,7 @@
 //! Items of an input that changes.
 
 ghost use Rattle.std.specs.Prelude.{◌≡◌, ◌≤◌, IfOk, IfErr, OnErr, OnOk, length};
-ghost use Rattle.logos_relex.specs.Words.{answers_of};
-ghost use Rattle.logos_relex.specs.Views.{ComesAfter, IsLexed, IsRefused, PutsAnew, Stays, WasLexed, Memory as OutOfMemory};
+ghost use Rattle.logos_relex.specs.Views.{answers_of, ComesAfter, IsLexed, IsRefused, PutsAnew, Stays, WasLexed, Memory as OutOfMemory, NotUtf8 as NoUtf8};
 
 use crate::anew::{After, Anew, make, make_anew};
 use crate::borders::{Border, untouched};
@@ -24,9 +23,6 @@ pub enum RelexError {
 }
 
 impl From<AllocError> for RelexError {
-    ghost use Rattle.std.specs.Prelude.{◌≡◌};
-    ghost use Rattle.logos_relex.specs.Views.{Memory as OutOfMemory};
-
     ghost from_gives = { λ _ e. e ≡ OutOfMemory };
 
     fn from(_error: AllocError) -> RelexError {
@@ -35,9 +31,6 @@ impl From<AllocError> for RelexError {
 }
 
 impl<T: Drop> From<AllocFailed<T>> for RelexError {
-    ghost use Rattle.std.specs.Prelude.{◌≡◌};
-    ghost use Rattle.logos_relex.specs.Views.{Memory as OutOfMemory};
-
     ghost from_gives = { λ _ e. e ≡ OutOfMemory };
 
     fn from(_error: AllocFailed<T>) -> RelexError {
@@ -46,9 +39,6 @@ impl<T: Drop> From<AllocFailed<T>> for RelexError {
 }
 
 impl From<NotUtf8> for RelexError {
-    ghost use Rattle.std.specs.Prelude.{◌≡◌};
-    ghost use Rattle.logos_relex.specs.Views.{NotUtf8 as NoUtf8};
-
     ghost from_gives = { λ error e. e ≡ NoUtf8 error.valid_up_to };
 
     fn from(error: NotUtf8) -> RelexError {

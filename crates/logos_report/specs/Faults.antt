@@ -12,64 +12,65 @@ use Rattle.logos_report.specs.Pages.{painted}
 use Rattle.logos_report.specs.Places.{SourceValue, place_line}
 use Rattle.logos_report.specs.Shown.{shown_text}
 
--- a text up to its first LF
+-- A text up to its first LF.
 abbrev pub first_line : List ℕ → List ℕ
 first_line text = before_first (λ byte. byte == 10) text
 
--- how the line of a fault begins: with the name of its code, if it is an error
+-- How the line of a fault begins: with the name of its code, if it is an error.
 abbrev pub code_text : Bool → FaultCode → List ℕ
 code_text is_colored code =
     if is_error code then painted is_colored Error (codes "error[" ++ (name_of code ++ codes "]"))
     else painted is_colored Frame (codes "note")
 
--- the line of a fault: its code, and the first line of its message, as it is shown
+-- The line of a fault: its code, and the first line of its message, as it is shown.
 abbrev pub head_line : Bool → Fault → List ℕ
 head_line is_colored fault =
     code_text is_colored fault.code ++ (painted is_colored Strong (codes ": " ++ shown_text (first_line fault.message)) ++ codes "\n")
 
--- the line of a fault, and the one that names its place in the file
+-- The line of a fault, and the one that names its position in the file.
 abbrev pub fault_texts : Bool → SourceValue → ℕ → Fault → List (List ℕ)
 fault_texts is_colored source begin fault = head_line is_colored fault ∷ place_line is_colored source begin fault.span.from ∷ []
 
--- whether a fault has the code of this name
+-- Whether a fault has the code of this name.
 abbrev pub has_name : List ℕ → Fault → Bool
 has_name name fault = bytes_eq (name_of fault.code) name
 
--- how many of these faults have a code, but no more than one above the number that is shown
+-- How many of these faults have a code, but no more than one above the number that is shown.
 abbrev pub seen_of : FaultCode → List Fault → ℕ
 seen_of code faults = min (count_by (has_name (name_of code)) faults) 51
 
--- the line that says how many faults of a code are left out
+-- The line that says how many faults of a code are left out.
 abbrev pub rest_text : ℕ → List ℕ
 rest_text count = codes ": " ++ (decimal count ++ codes " more are not shown")
 
 abbrev pub rest_line : Bool → FaultCode → ℕ → List ℕ
 rest_line is_colored code count = code_text is_colored code ++ (painted is_colored Strong (rest_text count) ++ codes "\n")
 
--- the same of a fault that comes next: one that belongs to an earlier report is a place of that
+-- The same of a fault that comes next: one that belongs to an earlier report is a position of that.
 abbrev pub listed_texts : Bool → SourceValue → ℕ → TurnValue → Fault → List (List ℕ)
 listed_texts is_colored source begin turn fault =
     if follows turn fault then place_line is_colored source begin fault.span.from ∷ [] else fault_texts is_colored source begin fault
 
--- what is shown of a fault of a list, after those in front of it: its lines, if fewer than 50 in front have its code; and in place
--- of the next one how many of all are left out
+-- What is shown of a fault of a list, after those in front of it: its lines, if fewer than 50 in
+-- front have its code; and in place of the next one how many of all are left out.
 abbrev pub counted_texts : Bool → SourceValue → ℕ → List Fault → List Fault → TurnValue → Fault → List (List ℕ)
 counted_texts is_colored source begin all front turn fault =
     if nat_lt (seen_of fault.code front) 50 then listed_texts is_colored source begin turn fault
     else if seen_of fault.code front == 50 then rest_line is_colored fault.code (count_by (has_name (name_of fault.code)) all - 50) ∷ []
     else []
 
--- the same for the faults after some in front, in order
+-- The same for the faults after some in front, in order.
 abbrev pub texts_after : Bool → SourceValue → ℕ → List Fault → List Fault → TurnValue → List Fault → List (List ℕ)
 texts_after is_colored source begin all front turn [] = []
 texts_after is_colored source begin all front turn (fault ∷ faults) =
     counted_texts is_colored source begin all front turn fault ++ texts_after is_colored source begin all (front ++ fault ∷ []) (turn_after turn fault) faults
 
--- the same for all faults of a part of a file; the sets of ambiguous leaves have these sizes, in order, and each set one report
+-- The same for all faults of a part of a file; the sets of ambiguous leaves have these sizes, in
+-- order, and each set one report.
 abbrev pub faults_texts : Bool → SourceValue → ℕ → List ℕ → List Fault → List (List ℕ)
 faults_texts is_colored source begin sizes faults = texts_after is_colored source begin faults [] (first_turn sizes) faults
 
--- the line that says how many errors there are
+-- The line that says how many errors there are.
 abbrev pub count_text : ℕ → List ℕ
 count_text count = codes ": aborting due to " ++ (decimal count ++ (if count == 1 then codes " previous error" else codes " previous errors"))
 

@@ -5,3 +5,5 @@ pub mod Pages
 pub mod Places
 pub mod Faults
 pub mod Warnings
+pub mod Words
+pub mod Views

@@ -7,30 +7,31 @@ use Rattle.logos_report.specs.declared.page.Style.TheVariants.{Frame}
 use Rattle.logos_report.specs.Pages.{painted}
 use Rattle.logos_report.specs.Shown.{shown_text}
 
--- a file as a value: its path and its text
+-- A file as a value: its path and its text.
 pub record SourceValue : Type 0 where
   pub path : List ℕ
   pub text : List ℕ
 
--- a place as `path:line:column`
+-- A position as `path:line:column`.
 abbrev pub shown_position : List ℕ → Position → List ℕ
 shown_position path place = shown_text path ++ (codes ":" ++ (decimal place.line ++ (codes ":" ++ decimal place.column)))
 
--- an offset of the part that begins at another offset of a file, as one of the file, or the largest offset there is
+-- An offset of the part that begins at another offset of a file, as one of the file, or the largest
+-- offset there is.
 abbrev pub in_file : ℕ → ℕ → ℕ
 in_file begin offset = min (offset + begin) (2 ^ 64 - 1)
 
--- the place of an offset of the part of a file that begins at another offset
+-- The position of an offset of the part of a file that begins at another offset.
 abbrev pub shown_place : SourceValue → ℕ → ℕ → List ℕ
 shown_place source begin offset = shown_position source.path (place_at source.text (in_file begin offset))
 
--- the line that names the place of a fault, after the blanks of its margin
+-- The line that names the position of a fault, after the blanks of its margin.
 abbrev pub arrow_line : Bool → List ℕ → Position → List ℕ
 arrow_line is_colored path place = painted is_colored Frame (codes "-->") ++ (codes " " ++ (shown_position path place ++ codes "\n"))
 
 abbrev pub place_line : Bool → SourceValue → ℕ → ℕ → List ℕ
 place_line is_colored source begin offset = arrow_line is_colored source.path (place_at source.text (in_file begin offset))
 
--- this is the text of a line of a file, or nothing where the file has no such line
+-- This is the text of a line of a file, or nothing where the file has no such line.
 abbrev pub IsShownLine : List ℕ → ℕ → List ℕ → Type 0
 IsShownLine text line shown = IsLineOf text line shown ⊎ (IsNoLine text line × (shown ≡ []))

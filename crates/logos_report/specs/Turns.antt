@@ -6,12 +6,13 @@ use Rattle.logos_report.specs.declared.clues.Clues.{Clues}
 use Rattle.logos_report.specs.declared.clues.Meeting.{Meeting}
 use Rattle.logos_report.specs.declared.clues.Turn.{Turn}
 
--- which faults come next: how many leaves the sets have of which not all faults are passed, and how many faults of the first set are passed
+-- Which faults come next: how many leaves the sets have of which not all faults are passed, and how
+-- many faults of the first set are passed.
 pub record TurnValue : Type 0 where
   pub sizes : List ℕ
   pub passed : ℕ
 
--- how many leaves a set has, and each of all sets
+-- How many leaves a set has, and each of all sets.
 abbrev pub size_of : Meeting → ℕ
 size_of meeting = length meeting.names.items
 
@@ -21,11 +22,11 @@ sizes_of clues = map size_of clues.meetings.items
 abbrev pub turn_value : Turn → TurnValue
 turn_value turn = record { sizes = map size_of turn.meetings.now; passed = turn.passed }
 
--- no fault is passed
+-- No fault is passed.
 abbrev pub first_turn : List ℕ → TurnValue
 first_turn sizes = record { sizes = sizes; passed = 0 }
 
--- what comes next after a fault of the first of these sets: its next fault, or the next set
+-- What comes next after a fault of the first of these sets: its next fault, or the next set.
 abbrev pub stepped : TurnValue → List ℕ → TurnValue
 stepped turn [] = turn
 stepped turn (size ∷ rest) = if nat_lt turn.passed (size - 1) then record { sizes = turn.sizes; passed = turn.passed + 1 } else record { sizes = rest; passed = 0 }
@@ -33,20 +34,21 @@ stepped turn (size ∷ rest) = if nat_lt turn.passed (size - 1) then record { si
 abbrev pub turn_after : TurnValue → Fault → TurnValue
 turn_after turn fault = if is_ambiguity fault.code then stepped turn turn.sizes else turn
 
--- whether the first fault of a set is passed
+-- Whether the first fault of a set is passed.
 abbrev pub is_begun : ℕ → List ℕ → Bool
 is_begun passed [] = false
 is_begun passed (size ∷ rest) = nat_lt 0 passed
 
--- whether a fault that comes next belongs to the report of an earlier one: of the first one of its set
+-- Whether a fault that comes next belongs to the report of an earlier one: of the first one of its
+-- set.
 abbrev pub follows : TurnValue → Fault → Bool
 follows turn fault = is_ambiguity fault.code && is_begun turn.passed turn.sizes
 
--- whether a report of an error begins with a fault
+-- Whether a report of an error begins with a fault.
 abbrev pub begins_error : TurnValue → Fault → Bool
 begins_error turn fault = is_error fault.code && not (follows turn fault)
 
--- how many reports of errors these faults give
+-- How many reports of errors these faults give.
 abbrev pub errors_after : TurnValue → List Fault → ℕ
 errors_after turn [] = 0
 errors_after turn (fault ∷ faults) = cond (begins_error turn fault) 1 0 + errors_after (turn_after turn fault) faults

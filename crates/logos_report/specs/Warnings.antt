@@ -7,23 +7,23 @@ use Rattle.logos_report.specs.Pages.{painted}
 use Rattle.logos_report.specs.Places.{SourceValue, place_line}
 use Rattle.logos_report.specs.Shown.{shown_text}
 
--- the line of a warning: its message, as it is shown
+-- The line of a warning: its message, as it is shown.
 abbrev pub warning_head : Bool → List ℕ → List ℕ
 warning_head is_colored message = painted is_colored Warning (codes "warning") ++ (painted is_colored Strong (codes ": " ++ shown_text message) ++ codes "\n")
 
--- the line of a warning, and the one that names its place in the file
+-- The line of a warning, and the one that names its position in the file.
 abbrev pub warning_texts : Bool → SourceValue → ℕ → Shown → List (List ℕ)
 warning_texts is_colored source begin warning =
     warning_head is_colored (string_bytes warning.message) ∷ place_line is_colored source begin warning.span.from ∷ []
 
--- the same for warnings of a part of a file, in order
+-- The same for warnings of a part of a file, in order.
 abbrev pub all_texts : Bool → SourceValue → ℕ → List Shown → List (List ℕ)
 all_texts is_colored source begin warnings = flat_map (warning_texts is_colored source begin) warnings
 
--- those of these warnings that are shown: the first 50 of them
+-- Those of these warnings that are shown: the first 50 of them.
 abbrev pub shown_of : List Shown → List Shown
 shown_of warnings = if nat_lt 50 (length warnings) then take 50 warnings else warnings
 
--- what is shown of warnings
+-- What is shown of warnings.
 abbrev pub warnings_texts : Bool → SourceValue → ℕ → List Shown → List (List ℕ)
 warnings_texts is_colored source begin warnings = all_texts is_colored source begin (shown_of warnings)

@@ -1,9 +1,7 @@
 //! What is known of faults of a graph beyond what they say. Who builds the graph finds it.
 
 ghost use Rattle.std.specs.Prelude.{◌≡◌, [], MatchOption, false, nat_lt};
-ghost use Rattle.logos_token.specs.FaultView.{fault_of};
-ghost use Rattle.logos_report.specs.Codes.{is_ambiguity};
-ghost use Rattle.logos_report.specs.Turns.{follows, sizes_of, stepped, turn_after, turn_value};
+ghost use Rattle.logos_report.specs.Views.{fault_of, is_ambiguity, follows, sizes_of, stepped, turn_after, turn_value};
 
 use logos_token::error::{FaultCode, SpannedError};
 use logos_token::token::Span;
@@ -117,8 +115,8 @@ impl<'c> Turn<'c> {
         }
     }
 
-    /// Returns the member of a set of ambiguous leaves that a fault which comes next is, if something
-    /// is known of the set.
+    /// Returns the member of a set of ambiguous leaves that a fault which comes next is, if
+    /// something is known of the set.
     pub fn member(self, fault: &SpannedError) -> Option<Member<'c>>
         ensures { MatchOption result (follows (turn_value self.entry) (fault_of fault.now) ≡ false)
             (λ member. follows (turn_value self.entry) (fault_of fault.now)

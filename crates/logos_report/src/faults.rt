@@ -1,16 +1,7 @@
 //! The faults of a file.
 
 ghost use Rattle.std.specs.Prelude.{◌≡◌, ◌++◌, ◌==◌, ◌∷◌, [], codes, if◌then◌else◌};
-ghost use Rattle.std.specs.List.{count_by};
-ghost use Rattle.logos_token.specs.FaultNames.{name_of};
-ghost use Rattle.logos_token.specs.FaultView.{fault_of, faults_of};
-ghost use Rattle.logos_report.specs.Codes.{is_error};
-ghost use Rattle.logos_report.specs.Faults.{code_text, count_text, counted_texts, fault_texts, faults_texts, texts_after};
-ghost use Rattle.logos_report.specs.Faults.{first_line, has_name, head_line, rest_line, rest_text, seen_of, summary_line};
-ghost use Rattle.logos_report.specs.Turns.{begins_error, errors_after, first_turn, sizes_of, turn_value};
-ghost use Rattle.logos_report.specs.Pages.{Gains, Shows, painted};
-ghost use Rattle.logos_report.specs.Places.{place_line};
-ghost use Rattle.logos_report.specs.Shown.{shown_text};
+ghost use Rattle.logos_report.specs.Views.{count_by, name_of, fault_of, faults_of, is_error, shown_text, code_text, count_text, counted_texts, fault_texts, faults_texts, texts_after, first_line, has_name, head_line, rest_line, rest_text, seen_of, summary_line, begins_error, errors_after, first_turn, sizes_of, turn_value, Gains, Shows, painted, place_line};
 
 use crate::clues::{Clues, Turn, first_turn};
 use crate::frame::{Marks, push_frame_with, push_offset};
@@ -24,10 +15,10 @@ use logos_token::error::{Errors, FaultCode, SpannedError};
 /// How many faults of one code are shown of a part of a file.
 const MOST: usize = 50;
 
-/// Pushes the faults of a part of a file, in order. For each, a line with the name of its code and
-/// the first line of its message, and one with its place in the file stand in what is pushed. Of
+/// Appends the faults of a part of a file, in order. For each, a line with the name of its code and
+/// the first line of its message, and one with its position in the file stand in what is pushed. Of
 /// the faults of a set of ambiguous leaves of which something is known the first one has the line,
-/// and all have their places under it.
+/// and all have their positions under it.
 pub fn push_faults(page: &mut Page, part: Part<'_, '_>, errors: &Errors, clues: &Clues)
     ensures { Shows (faults_texts page.old.is_colored part.entry.source.now part.entry.offset
         (sizes_of clues.now) errors.now) page.old page.new }
@@ -35,7 +26,7 @@ pub fn push_faults(page: &mut Page, part: Part<'_, '_>, errors: &Errors, clues: 
     push_all(page, part, errors.list(), first_turn(clues));
 }
 
-/// Pushes these faults, of which sets of ambiguous leaves come first in this turn.
+/// Appends these faults, of which sets of ambiguous leaves come first in this turn.
 fn push_all(page: &mut Page, part: Part<'_, '_>, faults: &[SpannedError], first: Turn<'_>)
     ensures { Shows (texts_after page.old.is_colored part.entry.source.now part.entry.offset
         (faults_of faults.now) [] (turn_value first.entry) (faults_of faults.now)) page.old page.new }
@@ -49,8 +40,8 @@ fn push_all(page: &mut Page, part: Part<'_, '_>, faults: &[SpannedError], first:
     }
 }
 
-/// Pushes a fault, which is one of `faults`, after those in front of it. Of the faults of one code 50 are
-/// shown. In place of the next one stands how many are left out.
+/// Appends a fault, which is one of `faults`, after those in front of it. Of the faults of one code
+/// 50 are shown. In place of the next one stands how many are left out.
 fn push_counted(
     page: &mut Page,
     part: Part<'_, '_>,
@@ -75,7 +66,7 @@ fn push_counted(
     }
 }
 
-/// Pushes how many faults of a code are left out, and an empty line.
+/// Appends how many faults of a code are left out, and an empty line.
 fn push_rest(page: &mut Page, code: FaultCode, count: usize)
     ensures { Shows (rest_line page.old.is_colored code count ∷ []) page.old page.new }
 {
@@ -83,7 +74,7 @@ fn push_rest(page: &mut Page, code: FaultCode, count: usize)
     page.push("\n");
 }
 
-/// Pushes the line that says how many faults of a code are left out.
+/// Appends the line that says how many faults of a code are left out.
 fn push_rest_line(page: &mut Page, code: FaultCode, count: usize)
     ensures { Gains (rest_line page.old.is_colored code count) page.old page.new }
 {
@@ -92,7 +83,7 @@ fn push_rest_line(page: &mut Page, code: FaultCode, count: usize)
     page.push("\n");
 }
 
-/// Pushes what follows the code of faults that are left out.
+/// Appends what follows the code of faults that are left out.
 fn push_rest_text(page: &mut Page, count: usize)
     ensures { Gains (painted page.old.is_colored Style.Strong (rest_text count)) page.old page.new }
 {
@@ -114,8 +105,9 @@ fn count_code(faults: &[SpannedError], code: FaultCode) -> usize
     count
 }
 
-/// Returns how many of these faults have a code, but no more than one above the number that is shown. It
-/// looks from the last one on, so that the time of all these calls is linear in the number of faults.
+/// Returns how many of these faults have a code, but no more than one above the number that is
+/// shown. It looks from the last one on, so that the time of all these calls is linear in the
+/// number of faults.
 fn seen_of(faults: &[SpannedError], code: FaultCode) -> usize
     ensures { result ≡ seen_of code (faults_of faults.now) }
 {
@@ -138,7 +130,7 @@ fn has_code(fault: &SpannedError, code: FaultCode) -> bool
     fault.code.name() == code.name()
 }
 
-/// Returns how many reports of errors these faults give. `Previous` is the place of an earlier
+/// Returns how many reports of errors these faults give. `Previous` is an earlier
 /// definition that an error speaks of, and a set of ambiguous leaves of which something is known
 /// has one report.
 pub fn count_errors(errors: &Errors, clues: &Clues) -> usize
@@ -174,7 +166,7 @@ pub fn is_error(code: FaultCode) -> bool
     !matches!(code, FaultCode::Previous)
 }
 
-/// Pushes the line that says how many errors there are.
+/// Appends the line that says how many errors there are.
 pub fn push_summary(page: &mut Page, count: usize)
     ensures { Gains (summary_line page.old.is_colored count) page.old page.new }
 {
@@ -185,7 +177,7 @@ pub fn push_summary(page: &mut Page, count: usize)
     page.push("\n");
 }
 
-/// Pushes how many errors there are.
+/// Appends how many errors there are.
 fn push_count(page: &mut Page, count: usize)
     ensures { Gains (count_text count) page.old page.new }
 {
@@ -205,7 +197,7 @@ fn errors_text(count: usize) -> &'static str
     }
 }
 
-/// Pushes a fault, which is one of `faults`.
+/// Appends a fault, which is one of `faults`.
 pub fn push_fault(
     page: &mut Page,
     part: Part<'_, '_>,
@@ -228,7 +220,7 @@ pub fn push_fault(
     );
 }
 
-/// Pushes where a fault begins, and its lines with carets, but no line of a source that is too
+/// Appends where a fault begins, and its lines with carets, but no line of a source that is too
 /// long. Returns how wide the column of line numbers is.
 fn push_span(page: &mut Page, part: Part<'_, '_>, fault: &SpannedError) -> usize
     ensures { Shows (place_line page.old.is_colored part.entry.source.now part.entry.offset
@@ -241,7 +233,7 @@ fn push_span(page: &mut Page, part: Part<'_, '_>, fault: &SpannedError) -> usize
     push_marked(page, part, fault, "")
 }
 
-/// Pushes where a fault begins, and its lines with carets and a label. Returns how wide the column
+/// Appends where a fault begins, and its lines with carets and a label. Returns how wide the column
 /// of line numbers is.
 pub(crate) fn push_marked(
     page: &mut Page,
@@ -260,7 +252,7 @@ pub(crate) fn push_marked(
     push_frame_with(page, part, fault.span.from, marks)
 }
 
-/// Pushes the code of a fault and the first line of its message.
+/// Appends the code of a fault and the first line of its message.
 pub(crate) fn push_head(page: &mut Page, fault: &SpannedError)
     ensures { Gains (head_line page.old.is_colored (fault_of fault.now)) page.old page.new }
 {
@@ -269,7 +261,7 @@ pub(crate) fn push_head(page: &mut Page, fault: &SpannedError)
     page.push("\n");
 }
 
-/// Pushes the first line of a message, and what parts it from the code.
+/// Appends the first line of a message, and what parts it from the code.
 fn push_message(page: &mut Page, line: &str)
     ensures { Gains (painted page.old.is_colored Style.Strong (codes ": " ++ shown_text line.now))
         page.old page.new }
@@ -280,7 +272,7 @@ fn push_message(page: &mut Page, line: &str)
     page.end();
 }
 
-/// Pushes the code of a fault.
+/// Appends the code of a fault.
 fn push_code(page: &mut Page, code: FaultCode)
     ensures { Gains (code_text page.old.is_colored code) page.old page.new }
 {
@@ -291,7 +283,7 @@ fn push_code(page: &mut Page, code: FaultCode)
     }
 }
 
-/// Pushes the code of a fault that is an error.
+/// Appends the code of a fault that is an error.
 fn push_error_code(page: &mut Page, code: FaultCode)
     ensures { Gains (painted page.old.is_colored Style.Error
         (codes "error[" ++ (name_of code ++ codes "]"))) page.old page.new }

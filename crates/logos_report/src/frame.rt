@@ -1,9 +1,7 @@
 //! A span of a file: its lines, and carets under it.
 
 ghost use Rattle.std.specs.Prelude.{◌≡◌, ◌∷◌, [], decimal, length};
-ghost use Rattle.logos_report.specs.Pages.{Gains, Shows};
-ghost use Rattle.logos_report.specs.Places.{arrow_line, place_line, shown_place, shown_position};
-ghost use Rattle.logos_report.specs.Shown.{shown_text};
+ghost use Rattle.logos_report.specs.Views.{shown_text, Gains, Shows, arrow_line, place_line, shown_place, shown_position};
 
 use crate::page::{Page, Style};
 use crate::source::{Part, Source};
@@ -27,7 +25,7 @@ struct Frame<'p, 't> {
     label: &'p str,
 }
 
-/// What is marked in lines of a file.
+/// What carets show in lines of a file.
 #[derive(Clone, Copy)]
 pub(crate) struct Marks<'l> {
     /// What carets stand under.
@@ -38,7 +36,7 @@ pub(crate) struct Marks<'l> {
     pub(crate) label: &'l str,
 }
 
-/// Pushes where a span begins, the lines at which it begins and ends, and carets of this style
+/// Appends where a span begins, the lines at which it begins and ends, and carets of this style
 /// under it. Long lines are cut around it. Returns how many digits the number of the last line has.
 pub fn push_frame(page: &mut Page, part: Part<'_, '_>, span: Span, style: Style) -> usize
     ensures { Shows (place_line page.old.is_colored part.entry.source.now part.entry.offset span.from
@@ -52,7 +50,7 @@ pub fn push_frame(page: &mut Page, part: Part<'_, '_>, span: Span, style: Style)
     push_frame_with(page, part, span.from, marks)
 }
 
-/// Pushes an offset of a part of a file, the lines at which a span begins and ends, and carets
+/// Appends an offset of a part of a file, the lines at which a span begins and ends, and carets
 /// under the span. Returns how many digits the number of the last line has.
 pub(crate) fn push_frame_with(
     page: &mut Page,
@@ -96,7 +94,7 @@ fn last_shown(first: Position, end: Position) -> Position {
     }
 }
 
-/// Pushes the line that names an offset of a part of a file, after a margin.
+/// Appends the line that names an offset of a part of a file, after a margin.
 pub(crate) fn push_offset(page: &mut Page, part: Part<'_, '_>, offset: usize, width: usize)
     ensures { Shows (place_line page.old.is_colored part.entry.source.now part.entry.offset offset
         ∷ []) page.old page.new }
@@ -105,14 +103,14 @@ pub(crate) fn push_offset(page: &mut Page, part: Part<'_, '_>, offset: usize, wi
     push_arrow(page, part.source, part.position(offset));
 }
 
-/// Pushes an offset of a part of a file as `path:line:column`.
+/// Appends an offset of a part of a file as `path:line:column`.
 pub fn push_place(page: &mut Page, part: Part<'_, '_>, offset: usize)
     ensures { Gains (shown_place part.entry.source.now part.entry.offset offset) page.old page.new }
 {
     push_position(page, part.source, part.position(offset));
 }
 
-/// Pushes a position as `path:line:column`.
+/// Appends a position as `path:line:column`.
 fn push_position(page: &mut Page, source: &Source<'_>, place: Position)
     ensures { Gains (shown_position source.now.path place) page.old page.new }
 {
@@ -123,7 +121,7 @@ fn push_position(page: &mut Page, source: &Source<'_>, place: Position)
     page.push_number(place.column);
 }
 
-/// Pushes the line that says where a span begins, without its blanks in front.
+/// Appends the line that says where a span begins, without its blanks in front.
 fn push_arrow(page: &mut Page, source: &Source<'_>, place: Position)
     ensures { Gains (arrow_line page.old.is_colored source.now.path place) page.old page.new }
 {
@@ -133,7 +131,7 @@ fn push_arrow(page: &mut Page, source: &Source<'_>, place: Position)
     page.push("\n");
 }
 
-/// Pushes the lines of a span, with carets.
+/// Appends the lines of a span, with carets.
 fn push_lines(page: &mut Page, frame: Frame<'_, '_>)
     ensures { Shows [] page.old page.new }
 {
@@ -148,7 +146,7 @@ fn push_lines(page: &mut Page, frame: Frame<'_, '_>)
     }
 }
 
-/// Pushes the line of a span that ends where it begins.
+/// Appends the line of a span that ends where it begins.
 fn push_only_line(page: &mut Page, frame: Frame<'_, '_>)
     ensures { Shows [] page.old page.new }
 {
@@ -158,7 +156,7 @@ fn push_only_line(page: &mut Page, frame: Frame<'_, '_>)
     push_carets(page, frame, window, column, frame.last.column);
 }
 
-/// Pushes the line at which a span begins that ends on a later one.
+/// Appends the line at which a span begins that ends on a later one.
 fn push_first_line(page: &mut Page, frame: Frame<'_, '_>)
     ensures { Shows [] page.old page.new }
 {
@@ -169,7 +167,7 @@ fn push_first_line(page: &mut Page, frame: Frame<'_, '_>)
     push_carets(page, frame, window, column, usize::MAX);
 }
 
-/// Pushes dots if there are lines between the first and the last one.
+/// Appends dots if there are lines between the first and the last one.
 fn push_dots(page: &mut Page, frame: Frame<'_, '_>)
     ensures { Shows [] page.old page.new }
 {
@@ -179,7 +177,7 @@ fn push_dots(page: &mut Page, frame: Frame<'_, '_>)
     }
 }
 
-/// Pushes the line at which a span ends that began on an earlier one.
+/// Appends the line at which a span ends that began on an earlier one.
 fn push_last_line(page: &mut Page, frame: Frame<'_, '_>)
     ensures { Shows [] page.old page.new }
 {
@@ -189,7 +187,7 @@ fn push_last_line(page: &mut Page, frame: Frame<'_, '_>)
     push_carets(page, frame, window, 1, column);
 }
 
-/// Pushes the margin of a line without a number.
+/// Appends the margin of a line without a number.
 fn push_margin(page: &mut Page, width: usize)
     ensures { Shows [] page.old page.new }
 {
@@ -197,7 +195,7 @@ fn push_margin(page: &mut Page, width: usize)
     page.paint(Style::Frame, "|");
 }
 
-/// Pushes what is shown of a line of the file, with its number.
+/// Appends what is shown of a line of the file, with its number.
 fn push_line(page: &mut Page, frame: Frame<'_, '_>, line: usize, window: Window<'_>)
     ensures { Shows [] page.old page.new }
 {
@@ -209,7 +207,7 @@ fn push_line(page: &mut Page, frame: Frame<'_, '_>, line: usize, window: Window<
     page.push("\n");
 }
 
-/// Pushes the number of a line, and the margin after it.
+/// Appends the number of a line, and the margin after it.
 fn push_line_number(page: &mut Page, line: usize, width: usize)
     ensures { Shows [] page.old page.new }
 {
@@ -220,7 +218,7 @@ fn push_line_number(page: &mut Page, line: usize, width: usize)
     page.end();
 }
 
-/// Pushes carets under what is shown of a line, from a column to another one, which is not under
+/// Appends carets under what is shown of a line, from a column to another one, which is not under
 /// them. There is at least one.
 fn push_carets(page: &mut Page, frame: Frame<'_, '_>, window: Window<'_>, from: usize, to: usize)
     ensures { Shows [] page.old page.new }
@@ -236,7 +234,7 @@ fn push_carets(page: &mut Page, frame: Frame<'_, '_>, window: Window<'_>, from: 
     page.push("\n");
 }
 
-/// Pushes what stands after carets.
+/// Appends what stands after carets.
 fn push_label(page: &mut Page, label: &str)
     ensures { Shows [] page.old page.new }
 {

@@ -1,4 +1,4 @@
-//! Faults as rustc shows them: with the line of the file, and carets under the place.
+//! Faults as rustc shows them: with the line of the file, and carets under the span.
 
 #![tactic(auto)]
 

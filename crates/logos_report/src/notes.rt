@@ -1,4 +1,4 @@
-//! The lines under a fault: the rest of its message, its second place, and what to do.
+//! The lines under a fault: the rest of its message, its second span, and what to do.
 
 ghost use Rattle.std.specs.Prelude.{[]};
 ghost use Rattle.logos_report.specs.Pages.{Shows};
@@ -9,7 +9,7 @@ use crate::sight::help_of;
 use crate::source::Part;
 use logos_token::error::{FaultCode, SpannedError};
 
-/// A fault that was shown with its place. What belongs to it follows.
+/// A fault that was shown with its position. What belongs to it follows.
 #[derive(Clone, Copy)]
 pub(crate) struct Shown<'f, 'p, 't> {
     pub(crate) part: Part<'p, 't>,
@@ -21,7 +21,7 @@ pub(crate) struct Shown<'f, 'p, 't> {
     pub(crate) width: usize,
 }
 
-/// Pushes the notes and the help of a fault, and an empty line.
+/// Appends the notes and the help of a fault, and an empty line.
 pub(crate) fn push_notes(page: &mut Page, shown: Shown<'_, '_, '_>)
     ensures { Shows [] page.old page.new }
 {
@@ -31,7 +31,7 @@ pub(crate) fn push_notes(page: &mut Page, shown: Shown<'_, '_, '_>)
     page.push("\n");
 }
 
-/// Begins a line under a fault.
+/// Appends the beginning of a line under a fault.
 pub(crate) fn push_note(page: &mut Page, width: usize, kind: &str, text: &str)
     ensures { Shows [] page.old page.new }
 {
@@ -41,7 +41,7 @@ pub(crate) fn push_note(page: &mut Page, width: usize, kind: &str, text: &str)
     page.push_shown(text);
 }
 
-/// Pushes the mark of a line under a fault.
+/// Appends the `=` of a line under a fault.
 fn push_note_mark(page: &mut Page, width: usize)
     ensures { Shows [] page.old page.new }
 {
@@ -50,7 +50,7 @@ fn push_note_mark(page: &mut Page, width: usize)
     page.push(" ");
 }
 
-/// Pushes the second place of a fault, if it has one.
+/// Appends the position of the second span of a fault, if it has one.
 fn push_other_place(page: &mut Page, shown: Shown<'_, '_, '_>)
     ensures { Shows [] page.old page.new }
 {
@@ -61,7 +61,7 @@ fn push_other_place(page: &mut Page, shown: Shown<'_, '_, '_>)
     }
 }
 
-/// Pushes what to do about a fault, if there is something to say.
+/// Appends what to do about a fault, if there is something to say.
 pub(crate) fn push_help(page: &mut Page, shown: Shown<'_, '_, '_>)
     ensures { Shows [] page.old page.new }
 {
@@ -71,8 +71,8 @@ pub(crate) fn push_help(page: &mut Page, shown: Shown<'_, '_, '_>)
     }
 }
 
-/// Pushes the lines of a message after its first one. The other patterns of an ambiguity get their
-/// places.
+/// Appends the lines of a message after its first one. The other patterns of an ambiguity get their
+/// positions.
 fn push_other_lines(page: &mut Page, shown: Shown<'_, '_, '_>)
     ensures { Shows [] page.old page.new }
 {
@@ -82,7 +82,7 @@ fn push_other_lines(page: &mut Page, shown: Shown<'_, '_, '_>)
     }
 }
 
-/// Pushes a line of a message. Faults from `next` on may be those of other patterns of an
+/// Appends a line of a message. Faults from `next` on may be those of other patterns of an
 /// ambiguity. Returns where to look for the next one.
 fn push_other_line(page: &mut Page, shown: Shown<'_, '_, '_>, line: &str, next: usize) -> usize
     ensures { Shows [] page.old page.new }
@@ -101,7 +101,7 @@ fn push_other_line(page: &mut Page, shown: Shown<'_, '_, '_>, line: &str, next: 
     other.saturating_add(1)
 }
 
-/// Pushes the place of the fault with this number, if there is one, and ends the line.
+/// Appends the position of the fault with this number, if there is one, and ends the line.
 fn push_pattern_place(page: &mut Page, shown: Shown<'_, '_, '_>, number: usize)
     ensures { Shows [] page.old page.new }
 {
@@ -123,7 +123,7 @@ fn find_pattern(shown: Shown<'_, '_, '_>, name: &str, from: usize) -> usize {
     shown.faults.len()
 }
 
-/// Returns whether a fault is at another place than `own`, and an ambiguity of the pattern with
+/// Returns whether a fault is at another position than `own`, and an ambiguity of the pattern with
 /// this name.
 fn is_other_ambiguity(fault: &SpannedError, own: &SpannedError, name: &str) -> bool {
     let is_other = fault.span.from != own.span.from;

@@ -1,9 +1,7 @@
 //! A text that grows.
 
-ghost use Rattle.std.specs.Prelude.{◌≡◌, ◌↔◌, [], true, IfOk, IsOk, IsTrue};
-ghost use Rattle.std.specs.Prelude.{decimal, encode_utf8, string_bytes};
-ghost use Rattle.logos_report.specs.Pages.{Gains, begun, ended, painted, style_text, times};
-ghost use Rattle.logos_report.specs.Shown.{shown_char, shown_text};
+ghost use Rattle.std.specs.Prelude.{◌≡◌, ◌↔◌, [], true, IfOk, IsOk, IsTrue, decimal, encode_utf8, string_bytes};
+ghost use Rattle.logos_report.specs.Views.{shown_char, shown_text, Gains, begun, ended, painted, style_text, times};
 
 use crate::shown::stand_in;
 use std::alloc::{AllocError, Global};
@@ -55,7 +53,7 @@ impl Page {
         }
     }
 
-    /// Pushes a text.
+    /// Appends a text.
     pub fn push(&mut self, text: &str)
         ensures { Gains text.now self.old self.new }
     {
@@ -64,7 +62,7 @@ impl Page {
         }
     }
 
-    /// Pushes a character.
+    /// Appends a character.
     pub fn push_char(&mut self, character: char)
         ensures { Gains (encode_utf8 character) self.old self.new }
     {
@@ -73,7 +71,7 @@ impl Page {
         }
     }
 
-    /// Pushes a character as it is shown on a terminal, which no character of a text controls.
+    /// Appends a character as it is shown on a terminal, which no character of a text controls.
     pub(crate) fn push_shown_char(&mut self, character: char)
         ensures { Gains (shown_char character) self.old self.new }
     {
@@ -84,7 +82,7 @@ impl Page {
         }
     }
 
-    /// Pushes a text as it is shown on a terminal: ASCII control characters as pictures of
+    /// Appends a text as it is shown on a terminal: ASCII control characters as pictures of
     /// themselves, tabs as four blanks, and U+FFFD for other characters that control a terminal,
     /// change the order of a text or are not seen.
     pub fn push_shown(&mut self, text: &str)
@@ -95,7 +93,7 @@ impl Page {
         }
     }
 
-    /// Pushes a number.
+    /// Appends a number.
     pub fn push_number(&mut self, number: usize)
         ensures { Gains (decimal number) self.old self.new }
     {
@@ -104,7 +102,7 @@ impl Page {
         }
     }
 
-    /// Pushes a text `count` times.
+    /// Appends a text `count` times.
     pub fn push_times(&mut self, text: &str, count: usize)
         ensures { Gains (times count text.now) self.old self.new }
     {
@@ -133,7 +131,7 @@ impl Page {
         }
     }
 
-    /// Pushes a text of this style.
+    /// Appends a text of this style.
     pub fn paint(&mut self, style: Style, text: &str)
         ensures { Gains (painted self.old.is_colored style text.now) self.old self.new }
     {

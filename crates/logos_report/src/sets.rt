@@ -1,12 +1,8 @@
-//! Faults of a graph: one report for each set of ambiguous leaves, and the patterns that can look at
-//! what stands before their first byte.
+//! Faults of a graph: one report for each set of ambiguous leaves, and the patterns that can look
+//! at what stands before their first byte.
 
 ghost use Rattle.std.specs.Prelude.{◌∷◌, [], nat_lt, if◌then◌else◌};
-ghost use Rattle.logos_token.specs.FaultView.{fault_of};
-ghost use Rattle.logos_report.specs.Faults.{fault_texts, listed_texts};
-ghost use Rattle.logos_report.specs.Pages.{Shows};
-ghost use Rattle.logos_report.specs.Places.{place_line};
-ghost use Rattle.logos_report.specs.Turns.{turn_value};
+ghost use Rattle.logos_report.specs.Views.{fault_of, fault_texts, listed_texts, Shows, place_line, turn_value};
 
 use crate::clues::{Meeting, Member, Start, Turn};
 use crate::faults::{push_fault, push_head, push_marked};
@@ -19,7 +15,7 @@ use logos_token::error::SpannedError;
 /// How many patterns are shown under a fault.
 const MOST: usize = 50;
 
-/// Pushes a fault that comes next, which is one of `faults`.
+/// Appends a fault that comes next, which is one of `faults`.
 pub(crate) fn push_listed(
     page: &mut Page,
     part: Part<'_, '_>,
@@ -36,7 +32,7 @@ pub(crate) fn push_listed(
     }
 }
 
-/// Pushes a fault of a set of ambiguous leaves, and what is known of the set after the last one.
+/// Appends a fault of a set of ambiguous leaves, and what is known of the set after the last one.
 fn push_member(page: &mut Page, part: Part<'_, '_>, fault: &SpannedError, member: Member<'_>)
     ensures { Shows (if nat_lt 0 member.entry.number
         then place_line page.old.is_colored part.entry.source.now part.entry.offset
@@ -54,8 +50,8 @@ fn push_member(page: &mut Page, part: Part<'_, '_>, fault: &SpannedError, member
     push_end(page, shown, member);
 }
 
-/// Pushes the place of a fault of a set of ambiguous leaves, and in front of the first one the line
-/// of the report. Returns how wide the column of line numbers is.
+/// Appends the position of a fault of a set of ambiguous leaves, and in front of the first one the
+/// line of the report. Returns how wide the column of line numbers is.
 fn push_place_of(
     page: &mut Page,
     part: Part<'_, '_>,
@@ -75,8 +71,8 @@ fn push_place_of(
     }
 }
 
-/// Pushes the line of a report and the place of its fault, with a label. Returns how wide the column
-/// of line numbers is.
+/// Appends the line of a report and the position of its fault, with a label. Returns how wide the
+/// column of line numbers is.
 fn push_begin(page: &mut Page, part: Part<'_, '_>, fault: &SpannedError, label: &str) -> usize
     ensures { Shows (fault_texts page.old.is_colored part.entry.source.now part.entry.offset
         (fault_of fault.now)) page.old page.new }
@@ -85,7 +81,7 @@ fn push_begin(page: &mut Page, part: Part<'_, '_>, fault: &SpannedError, label: 
     push_marked(page, part, fault, label)
 }
 
-/// Pushes what is known of a set of ambiguous leaves, if this is the last of its faults.
+/// Appends what is known of a set of ambiguous leaves, if this is the last of its faults.
 fn push_end(page: &mut Page, shown: Shown<'_, '_, '_>, member: Member<'_>)
     ensures { Shows [] page.old page.new }
 {
@@ -94,7 +90,7 @@ fn push_end(page: &mut Page, shown: Shown<'_, '_, '_>, member: Member<'_>)
     }
 }
 
-/// Pushes on what text leaves meet and what to do, and an empty line.
+/// Appends on what text leaves meet and what to do, and an empty line.
 fn push_meeting(page: &mut Page, shown: Shown<'_, '_, '_>, meeting: &Meeting)
     ensures { Shows [] page.old page.new }
 {
@@ -104,7 +100,7 @@ fn push_meeting(page: &mut Page, shown: Shown<'_, '_, '_>, meeting: &Meeting)
     page.push("\n");
 }
 
-/// Pushes a fault that is none of a known set, with the patterns that explain it.
+/// Appends a fault that is none of a known set, with the patterns that explain it.
 fn push_single(
     page: &mut Page,
     part: Part<'_, '_>,
@@ -122,7 +118,7 @@ fn push_single(
     }
 }
 
-/// Pushes a fault of a whole enum, with the patterns that explain it in place of all its lines.
+/// Appends a fault of a whole enum, with the patterns that explain it in place of all its lines.
 fn push_explained(page: &mut Page, part: Part<'_, '_>, fault: &SpannedError, starts: &[Start])
     ensures { Shows (fault_texts page.old.is_colored part.entry.source.now part.entry.offset
         (fault_of fault.now)) page.old page.new }
@@ -141,7 +137,7 @@ fn push_explained(page: &mut Page, part: Part<'_, '_>, fault: &SpannedError, sta
     );
 }
 
-/// Pushes these patterns.
+/// Appends these patterns.
 fn push_starts(page: &mut Page, part: Part<'_, '_>, starts: &[Start])
     ensures { Shows [] page.old page.new }
 {
@@ -150,7 +146,7 @@ fn push_starts(page: &mut Page, part: Part<'_, '_>, starts: &[Start])
     }
 }
 
-/// Pushes a pattern that can look at what stands before its first byte.
+/// Appends a pattern that can look at what stands before its first byte.
 fn push_start(page: &mut Page, part: Part<'_, '_>, start: &Start)
     ensures { Shows [] page.old page.new }
 {

@@ -2,8 +2,7 @@
 //! it is, since some characters move its cursor, change its colors or the order of what it shows.
 
 ghost use Rattle.std.specs.Prelude.{◌≡◌, ◌<◌, ◌+◌};
-ghost use Rattle.std.specs.Int.{is_in_range};
-ghost use Rattle.logos_report.specs.Shown.{is_unsafe, stand_in};
+ghost use Rattle.logos_report.specs.Words.{is_in_range, is_unsafe, stand_in};
 
 use unicode_width::UnicodeWidthChar;
 

@@ -1,8 +1,7 @@
-//! Files whose places are shown.
+//! Files whose positions are shown.
 
 ghost use Rattle.std.specs.Prelude.{◌≡◌, IfOk};
-ghost use Rattle.logos_lines.specs.Places.{place_at};
-ghost use Rattle.logos_report.specs.Places.{IsShownLine};
+ghost use Rattle.logos_report.specs.Views.{place_at, IsShownLine, in_file};
 
 use logos_lines::{LineIndex, Position};
 use std::alloc::{AllocError, Global};
@@ -18,10 +17,6 @@ pub struct Part<'p, 't> {
 }
 
 impl Part<'_, '_> {
-    ghost use Rattle.std.specs.Prelude.{◌≡◌};
-    ghost use Rattle.logos_lines.specs.Places.{place_at};
-    ghost use Rattle.logos_report.specs.Places.{in_file};
-
     /// Returns the line and the column in the file of an offset of the part.
     pub fn position(self, offset: usize) -> Position
         ensures { result ≡ place_at self.entry.source.now.text

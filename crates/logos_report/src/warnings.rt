@@ -1,10 +1,7 @@
 //! Warnings: probable mistakes that are not faults.
 
 ghost use Rattle.std.specs.Prelude.{◌≡◌, ◌++◌, ◌∷◌, [], codes, string_bytes};
-ghost use Rattle.logos_report.specs.Pages.{Gains, Shows, painted};
-ghost use Rattle.logos_report.specs.Places.{place_line};
-ghost use Rattle.logos_report.specs.Shown.{shown_text};
-ghost use Rattle.logos_report.specs.Warnings.{all_texts, shown_of, warning_head, warning_texts, warnings_texts};
+ghost use Rattle.logos_report.specs.Views.{shown_text, Gains, Shows, painted, place_line, all_texts, shown_of, warning_head, warning_texts, warnings_texts};
 
 use crate::frame::{push_frame, push_place};
 use crate::notes::push_note;
@@ -30,8 +27,8 @@ pub struct Warning {
     pub also: Option<Span>,
 }
 
-/// Pushes the warnings of a part of a file, in order, but no more than 50, and how many are left
-/// out. For each, a line with its message and one with its place stand in what is pushed.
+/// Appends the warnings of a part of a file, in order, but no more than 50, and how many are left
+/// out. For each, a line with its message and one with its position stand in what is pushed.
 pub fn push_warnings(page: &mut Page, part: Part<'_, '_>, warnings: &[Warning])
     ensures { Shows (warnings_texts page.old.is_colored part.entry.source.now part.entry.offset
         warnings.now) page.old page.new }
@@ -51,7 +48,7 @@ fn first_of(warnings: &[Warning]) -> &[Warning]
     }
 }
 
-/// Pushes these warnings.
+/// Appends these warnings.
 fn push_all(page: &mut Page, part: Part<'_, '_>, warnings: &[Warning])
     ensures { Shows (all_texts page.old.is_colored part.entry.source.now part.entry.offset
         warnings.now) page.old page.new }
@@ -61,7 +58,7 @@ fn push_all(page: &mut Page, part: Part<'_, '_>, warnings: &[Warning])
     }
 }
 
-/// Pushes how many warnings are left out, if there are any.
+/// Appends how many warnings are left out, if there are any.
 fn push_more(page: &mut Page, count: usize)
     ensures { Shows [] page.old page.new }
 {
@@ -74,7 +71,7 @@ fn push_more(page: &mut Page, count: usize)
     page.push(" more warnings are not shown\n\n");
 }
 
-/// Pushes a warning.
+/// Appends a warning.
 pub fn push_warning(page: &mut Page, part: Part<'_, '_>, warning: &Warning)
     ensures { Shows (warning_texts page.old.is_colored part.entry.source.now part.entry.offset
         warning.now) page.old page.new }
@@ -84,7 +81,7 @@ pub fn push_warning(page: &mut Page, part: Part<'_, '_>, warning: &Warning)
     push_notes(page, part, width, warning);
 }
 
-/// Pushes the line with the message of a warning.
+/// Appends the line with the message of a warning.
 fn push_head(page: &mut Page, message: &str)
     ensures { Gains (warning_head page.old.is_colored message.now) page.old page.new }
 {
@@ -93,7 +90,7 @@ fn push_head(page: &mut Page, message: &str)
     page.push("\n");
 }
 
-/// Pushes a message, and what parts it from the word in front of it.
+/// Appends a message, and what parts it from the word in front of it.
 fn push_message(page: &mut Page, message: &str)
     ensures { Gains (painted page.old.is_colored Style.Strong (codes ": " ++ shown_text message.now))
         page.old page.new }
@@ -104,7 +101,7 @@ fn push_message(page: &mut Page, message: &str)
     page.end();
 }
 
-/// Pushes what stands under a warning, and an empty line.
+/// Appends what stands under a warning, and an empty line.
 fn push_notes(page: &mut Page, part: Part<'_, '_>, width: usize, warning: &Warning)
     ensures { Shows [] page.old page.new }
 {
@@ -118,7 +115,7 @@ fn push_notes(page: &mut Page, part: Part<'_, '_>, width: usize, warning: &Warni
     page.push("\n");
 }
 
-/// Pushes a note or a help.
+/// Appends a note or a help.
 fn push_line(page: &mut Page, width: usize, kind: &str, text: &str)
     ensures { Shows [] page.old page.new }
 {
@@ -126,7 +123,7 @@ fn push_line(page: &mut Page, width: usize, kind: &str, text: &str)
     page.push("\n");
 }
 
-/// Pushes the place of a second span, if there is one.
+/// Appends the position of a second span, if there is one.
 fn push_other(page: &mut Page, part: Part<'_, '_>, width: usize, also: Option<Span>)
     ensures { Shows [] page.old page.new }
 {

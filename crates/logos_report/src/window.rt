@@ -57,7 +57,7 @@ fn characters_in(text: &str, columns: usize) -> usize {
 }
 
 impl Window<'_> {
-    /// Pushes the part of the line that is shown, with dots where it is cut.
+    /// Appends the part of the line that is shown, with dots where it is cut.
     pub(crate) fn push(self, page: &mut Page)
         ensures { Shows [] page.old page.new }
     {
@@ -67,7 +67,7 @@ impl Window<'_> {
         self.push_characters(page);
     }
 
-    /// Pushes the part of the line that is shown, with dots where it is cut at its end.
+    /// Appends the part of the line that is shown, with dots where it is cut at its end.
     fn push_characters(self, page: &mut Page)
         ensures { Shows [] page.old page.new }
     {

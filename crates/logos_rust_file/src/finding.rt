@@ -1,8 +1,7 @@
 //! The enums of a file. `logos_cli` and `logos_show` call `enums_in` once for each file.
 
 ghost use Rattle.std.specs.Prelude.{◌≡◌, ◌↔◌, ◌∷◌, [], All, IfOk, IfErr, IsTrue, OnOk, length, map};
-ghost use Rattle.logos_rust_file.specs.Words.{Fault, tokens_of, EndsReading, Refuses};
-ghost use Rattle.logos_rust_file.specs.Views.{AreEnumsOf, Describes, Finds, IsEnum, AreInOrder, IsFoundCut, found_span, AddsItem, AddsRun};
+ghost use Rattle.logos_rust_file.specs.Views.{Fault, tokens_of, EndsReading, Refuses, AreEnumsOf, Describes, Finds, IsEnum, AreInOrder, IsFoundCut, found_span, AddsItem, AddsRun};
 
 use crate::derives::derives;
 use crate::fronts::{Kind, kind_of};
@@ -61,7 +60,7 @@ fn enums_of(alloc: Global, tokens: Tokens<'_, '_>) -> Result<Vec<FoundEnum>, Mem
     Ok(found)
 }
 
-/// Pushes the enums of all these items.
+/// Appends the enums of all these items.
 #[cycle(find)]
 fn add_all(alloc: Global, run: Tokens<'_, '_>, found: &mut Vec<FoundEnum>) -> Result<(), Memory>
     ensures { OnOk result (AddsRun (tokens_of run.entry) found.old.items found.new.items) }
@@ -73,7 +72,7 @@ fn add_all(alloc: Global, run: Tokens<'_, '_>, found: &mut Vec<FoundEnum>) -> Re
     Ok(())
 }
 
-/// Pushes the enums of the first item. Returns what follows it, or `None` if there is no item.
+/// Appends the enums of the first item. Returns what follows it, or `None` if there is no item.
 #[cycle(find)]
 fn add_first<'t, 's>(
     alloc: Global,

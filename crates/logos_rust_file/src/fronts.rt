@@ -1,8 +1,7 @@
 //! What comes before an item, and which kind of item it is.
 
 ghost use Rattle.std.specs.Prelude.{◌≡◌, ◌<◌, MatchOption};
-ghost use Rattle.logos_rust_file.specs.Words.{Token, also, count_of, tokens_of, tree_of};
-ghost use Rattle.logos_rust_file.specs.Views.{after_attributes, after_body, after_hash, after_head, braced_in, ends_body, kind_at, kind_of, kind_value, module_in};
+ghost use Rattle.logos_rust_file.specs.Views.{Token, also, count_of, tokens_of, tree_of, after_attributes, after_body, after_hash, after_head, braced_in, ends_body, kind_at, kind_of, kind_value, module_in};
 
 use logos_enum::{is_outer, skip_generics, skip_visibility};
 use logos_token::token::{Delimiter, TokenTree, Tokens};

@@ -113,7 +113,8 @@ module _ (code : CodeValue) (rows : List ℕ) (folded : AreFolded code rows) (in
         by_use Emits has is = absurd (let o = has.0 in omega (arith, o, t))
         by_use Asks has is = absurd (let o = has.0 in omega (arith, o, t))
 
-  -- from the entry on, where the one try stands, this try stands before a later entry, and those between are skipped
+  -- from the entry on, where the one try stands, this try stands before a later entry, and those
+  -- between are skipped
   pub record Later (from first at : ℕ) : Type 0 where
     pub start : ℕ
     pub place : ℕ

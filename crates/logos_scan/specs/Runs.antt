@@ -37,7 +37,7 @@ with_chunk chunk run = record { chunk = chunk; cursor = run.cursor; count = run.
 abbrev pub IsEmptyFrom : ℕ → List ℕ → Type 0
 IsEmptyFrom count entries = (k : ℕ) → count ≤ k → k < 4096 → slice_index entries k ≡ 0
 
--- Entries of the bytes of an input from the base on, which begin in the place.
+-- Entries of the bytes of an input from the base on, which begin in the row.
 pub record IsLoaded (rows input : List ℕ) (base place : ℕ) (entries : List ℕ) (loaded : Loaded) : Type 0 where
   pub within : base + loaded.count ≤ length input
   pub few : loaded.count ≤ 4096

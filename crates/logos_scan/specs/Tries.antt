@@ -8,7 +8,7 @@ use Rattle.logos_code.specs.Runs.{looped}
 use Rattle.logos_code.specs.declared.code.rows.MatchUse.TheVariants.{Skips}
 use Rattle.logos_machine.specs.inside.Looks.{Comes, Tried}
 
--- The try that begins at the start has come to the state of the place, and its fast loop to this
+-- The try that begins at the start has come to the state of the row, and its fast loop to this
 -- byte.
 pub record StandsIn (code : CodeValue) (bytes : List ℕ) (start at place : ℕ) : Type 0 where
   pub state : ℕ

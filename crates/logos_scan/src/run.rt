@@ -1,8 +1,7 @@
 //! Tries of an input, one after the other, by the entries of a chunk.
 
 ghost use Rattle.std.specs.Prelude.{◌≡◌, ◌+◌, ◌<◌, ◌≤◌, length, MatchOption};
-ghost use Rattle.logos_scan.specs.Words.{IsBytes, IsPlace, StandsIn, answers_of, item_of};
-ghost use Rattle.logos_scan.specs.Views.{EndsItems, GivesItem, IsFlagged, IsHeld, IsLoaded, IsMarked, IsOver, IsReading, IsReady, IsRun, IsTaken, with_chunk};
+ghost use Rattle.logos_scan.specs.Views.{IsBytes, IsPlace, StandsIn, answers_of, item_of, EndsItems, GivesItem, IsFlagged, IsHeld, IsLoaded, IsMarked, IsOver, IsReading, IsReady, IsRun, IsTaken, with_chunk};
 
 use crate::tries::{Taken, tried};
 use logos_code::action::Action;
@@ -41,7 +40,7 @@ impl<'r, 'c, 's, 'i> Reading<'r, 'c, 's, 'i> {
     }
 }
 
-/// How many bytes of the input a chunk has, and the place after them.
+/// How many bytes of the input a chunk has, and the row after them.
 #[derive(Clone, Copy, Drop)]
 pub struct Loaded {
     pub count: usize,
@@ -55,7 +54,7 @@ pub struct Run {
     pub cursor: Cursor,
     /// How many bytes the chunk has.
     pub count: usize,
-    /// The place after them.
+    /// The row after them.
     pub place: usize,
     /// The first entry of those that one walk wrote.
     pub low: usize,
@@ -67,7 +66,7 @@ fn are_bytes(input: &[u8])
     ensures { IsBytes input.now }
 {}
 
-/// Steps over the next bytes of the input, a chunk if there are as many, from a place on.
+/// Steps over the next bytes of the input, a chunk if there are as many, from a row on.
 fn step_over(reading: &Reading, base: usize, place: usize, entries: &mut [u32; 4096]) -> Loaded
     requires reading { IsReading reading.now }
     requires base { base ≤ length reading.now.input.now }
@@ -166,7 +165,7 @@ fn repaired_from(reading: &Reading, run: Run, chunk: &mut Chunk, from: usize) ->
     }
 }
 
-/// Goes on to the bytes from `base` on, where a try stands in a place that begins at `start`.
+/// Goes on to the bytes from `base` on, where a try that begins at `start` stands in a row.
 #[inline(always)]
 fn filled(reading: &Reading, chunk: &mut Chunk, base: usize, start: usize, place: usize) -> Run
     requires reading { IsReading reading.now }

@@ -4,21 +4,21 @@ use Rattle.logos_search.specs.Machines.{IsInput}
 use Rattle.logos_search.specs.declared.point.Point.{Point}
 use Rattle.logos_search.specs.declared.steps.Step.{Step}
 
--- a byte leads from a point to another one
+-- A byte leads from a point to another one.
 abbrev pub step_to : Point → Point → Step
 step_to from to = record { from = from; to = to; ends = false }
 
--- the input ends at a point
+-- The input ends at a point.
 abbrev pub end_at : Point → Step
 end_at at = record { from = at; to = at; ends = true }
 
 module _ (next : Point → ℕ → Option Point) where
-  -- an input takes a step on its way from a point
+  -- An input takes a step on its way from a point.
   abbrev pub Takes : Point → List ℕ → Step → Type 0
   Takes at [] step = step ≡ end_at at
   Takes at (b ∷ bytes) step = IsSomeAnd (next at b) (λ to. (step ≡ step_to at to) ⊎ Takes to bytes step)
 
-  -- one of the inputs takes the step
+  -- One of the inputs takes the step.
   abbrev pub OneTakes : Point → List (List ℕ) → Step → Type 0
   OneTakes start inputs step = (input : List ℕ) × Contains inputs input × Takes start input step
 

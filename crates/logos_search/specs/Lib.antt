@@ -3,3 +3,4 @@ pub mod Machines
 pub mod Rests
 pub mod Shortest
 pub mod inside
+pub mod Views

@@ -3,11 +3,11 @@ use Rattle.std.specs.Prelude.{ℕ, zero, suc, ◌-◌, Bool, ◌&&◌, List, [],
 use Rattle.simdutf8.specs.Steps.{least_after, most_after}
 use Rattle.logos_search.specs.declared.rest.Rest.{Rest}
 
--- so many bytes of a character are to come
+-- So many bytes of a character are to come.
 abbrev pub more : ℕ → Rest
 more n = record { low = 0x80; high = 0xbf; count = n }
 
--- what follows a byte that begins a character, if one can begin so
+-- What follows a byte that begins a character, if one can begin so.
 abbrev pub begun : ℕ → Option Rest
 begun b =
     if nat_lt b 0x80 then Some (more 0) else
@@ -16,26 +16,26 @@ begun b =
     (if nat_lt b 0xf0 then Some (record { low = least_after b; high = most_after b; count = 2 }) else
     (if nat_lt b 0xf5 then Some (record { low = least_after b; high = most_after b; count = 3 }) else None))))
 
--- what has to follow after one more byte, if it may come
+-- What has to follow after one more byte, if it may come.
 abbrev pub rest_after : Rest → ℕ → Option Rest
 rest_after rest b =
     if rest.count == 0 then begun b else
     (if nat_le rest.low b && nat_le b rest.high then Some (more (rest.count - 1)) else None)
 
--- the same in both modes: where inputs are any bytes, nothing has to follow
+-- The same in both modes: where inputs are any bytes, nothing has to follow.
 abbrev pub rest_by : Bool → Rest → ℕ → Option Rest
 rest_by utf8 rest b = if utf8 then rest_after rest b else Some rest
 
--- the same after several bytes
+-- The same after several bytes.
 abbrev pub rest_over : Bool → Rest → List ℕ → Option Rest
 rest_over utf8 rest [] = Some rest
 rest_over utf8 rest (b ∷ bytes) = option_and_then (λ next. rest_over utf8 next bytes) (rest_by utf8 rest b)
 
--- the least bytes that may follow inside a character, of which so many are to come
+-- The least bytes that may follow inside a character, of which so many are to come.
 abbrev pub leasts : ℕ → ℕ → List ℕ
 leasts low zero = []
 leasts low (suc n) = low ∷ leasts 0x80 n
 
--- the least bytes that complete a character
+-- The least bytes that complete a character.
 abbrev pub completion : Rest → List ℕ
 completion rest = leasts rest.low rest.count

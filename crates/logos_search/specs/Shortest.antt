@@ -4,11 +4,11 @@ use Rattle.logos_search.specs.Machines.{Leads}
 use Rattle.logos_search.specs.declared.point.Point.{Point}
 
 module _ (next : Point → ℕ → Option Point) (is_goal : Point → Bool) (utf8 : Bool) (start : Point) where
-  -- no input leads there
+  -- No input leads there.
   abbrev pub NoneLeads : Type 0
   NoneLeads = (bytes : List ℕ) → ¬ Leads next is_goal utf8 start bytes
 
-  -- this one leads there, and no other is shorter
+  -- This one leads there, and no other is shorter.
   pub record IsShortest (bytes : List ℕ) : Type 0 where
     pub leads : Leads next is_goal utf8 start bytes
     pub least : (other : List ℕ) → Leads next is_goal utf8 start other → length bytes ≤ length other

@@ -1,12 +1,9 @@
 //! The search for inputs that together take all steps of a machine.
 
 ghost use Rattle.std.specs.Prelude.{◌≡◌, ◌<◌, ◌∷◌, ◌++◌, [], true, IfOk, OnOk, Contains, Some, length, map, slice_get};
-ghost use Rattle.logos_search.specs.Covering.{AreCovering, end_at};
+ghost use Rattle.logos_search.specs.Views.{AreCovering, end_at, stand_goal, Step as Taken, Stand as At};
 ghost use Rattle.logos_search.specs.inside.Covers as covers;
-ghost use Rattle.logos_search.specs.inside.Stands.{stand_goal};
 ghost use Rattle.logos_search.specs.inside.Visits as walks;
-ghost use Rattle.logos_search.specs.declared.steps.Step.{Step as Taken};
-ghost use Rattle.logos_search.specs.declared.visits.Stand.{Stand as At};
 
 use crate::order::byte_at;
 use crate::point::{Machine, Point};
@@ -44,7 +41,7 @@ struct Reading {
 ///
 /// # Errors
 ///
-/// Returns `AllocError` when memory runs out.
+/// Returns `AllocError` if memory runs out.
 fn explore<M: Machine>(
     alloc: Global,
     machine: &M,
@@ -75,7 +72,7 @@ fn explore<M: Machine>(
 ///
 /// # Errors
 ///
-/// Returns `AllocError` when memory runs out.
+/// Returns `AllocError` if memory runs out.
 fn way_by(
     alloc: Global,
     visits: &Visits,
@@ -97,7 +94,7 @@ fn way_by(
 ///
 /// # Errors
 ///
-/// Returns `AllocError` when memory runs out.
+/// Returns `AllocError` if memory runs out.
 fn add_input<M: Machine>(
     machine: &M,
     start: Point,
@@ -118,7 +115,7 @@ fn add_input<M: Machine>(
 ///
 /// # Errors
 ///
-/// Returns `AllocError` when memory runs out.
+/// Returns `AllocError` if memory runs out.
 fn cover_byte<M: Machine>(
     machine: &M,
     explored: &Explored,
@@ -162,7 +159,7 @@ fn cover_byte<M: Machine>(
 ///
 /// # Errors
 ///
-/// Returns `AllocError` when memory runs out.
+/// Returns `AllocError` if memory runs out.
 fn cover_end<M: Machine>(
     machine: &M,
     explored: &Explored,
@@ -205,7 +202,7 @@ fn cover_end<M: Machine>(
 ///
 /// # Errors
 ///
-/// Returns `AllocError` when memory runs out.
+/// Returns `AllocError` if memory runs out.
 fn cover_stand<M: Machine>(
     machine: &M,
     explored: &Explored,
@@ -238,12 +235,12 @@ fn cover_stand<M: Machine>(
 /// any input: from a point to another by a byte, and the end of an input at a point that is looked
 /// for. Each input takes a step that none before it takes.
 ///
-/// Where `utf8` is set, inputs are UTF-8, and else any bytes. Each point that is met is stored, with
-/// what leads to it, and each step.
+/// Where `utf8` is set, inputs are UTF-8, and else any bytes. Each point that is met is stored,
+/// with what leads to it, and each step.
 ///
 /// # Errors
 ///
-/// Returns `AllocError` when memory runs out.
+/// Returns `AllocError` if memory runs out.
 pub fn covering<M: Machine>(
     alloc: Global,
     machine: &M,

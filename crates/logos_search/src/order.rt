@@ -1,8 +1,9 @@
 //! The order in which bytes are tried, so that texts are easy to read.
+
 ghost use Rattle.std.specs.Prelude.{◌<◌};
 ghost use Rattle.logos_search.specs.inside.Order.{IsByteAt};
 
-/// Returns the byte at a place of the order: letters, digits, punctuation, and then the rest.
+/// Returns the byte at an index of the order: letters, digits, punctuation, and then the rest.
 pub(crate) fn byte_at(place: u8) -> u8
     ensures { IsByteAt place result }
 {

@@ -1,4 +1,5 @@
 //! UTF-8 byte by byte.
+
 ghost use Rattle.std.specs.Prelude.{◌≡◌, ◌++◌, OnOk};
 ghost use Rattle.logos_search.specs.Rests as rests;
 ghost use Rattle.simdutf8.specs.Steps as steps;
@@ -109,11 +110,11 @@ pub(crate) fn rest_by(utf8: bool, rest: Rest, byte: u8) -> Option<Rest>
     }
 }
 
-/// Adds the least bytes that complete a character.
+/// Appends the least bytes that complete a character.
 ///
 /// # Errors
 ///
-/// Returns `AllocError` when memory runs out.
+/// Returns `AllocError` if memory runs out.
 pub(crate) fn push_rest(bytes: &mut Vec<u8>, rest: Rest) -> Result<(), AllocError>
     ensures { OnOk result (bytes.new.items ≡ bytes.old.items ++ rests.completion rest) }
 {

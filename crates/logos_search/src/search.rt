@@ -1,4 +1,5 @@
 //! The search for a shortest input.
+
 ghost use Rattle.std.specs.Prelude.{◌≡◌, IfOk, MatchOption};
 ghost use Rattle.logos_search.specs.Shortest.{IsShortest, NoneLeads};
 ghost use Rattle.logos_search.specs.inside.Stands as stands;
@@ -14,15 +15,16 @@ pub(crate) fn is_goal<M: Machine>(machine: &M, stand: Stand) -> bool
     machine.is_goal(stand.point) & (stand.rest.count == 0)
 }
 
-/// Returns a shortest input that leads a machine from a point to one that is looked for, or `None` if no
-/// input does. Of inputs of the same length it is the one with letters, digits and punctuation first.
+/// Returns a shortest input that leads a machine from a point to one that is looked for, or `None`
+/// if no input does. Of inputs of the same length it is the one with letters, digits and
+/// punctuation first.
 ///
-/// Where `utf8` is set, inputs are UTF-8, and else any bytes. Each point that is met is stored, with what leads
-/// to it.
+/// Where `utf8` is set, inputs are UTF-8, and else any bytes. Each point that is met is stored,
+/// with what leads to it.
 ///
 /// # Errors
 ///
-/// Returns `AllocError` when memory runs out.
+/// Returns `AllocError` if memory runs out.
 pub fn shortest<M: Machine>(
     alloc: Global,
     machine: &M,

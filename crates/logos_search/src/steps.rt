@@ -1,8 +1,7 @@
 //! The steps that a machine takes on its way over an input.
 
 ghost use Rattle.std.specs.Prelude.{◌≡◌, ◌⊎◌, false, IfOk, OnOk, Contains};
-ghost use Rattle.logos_search.specs.inside.Covers.{Adds};
-ghost use Rattle.logos_search.specs.declared.steps.Step.{Step as Taken};
+ghost use Rattle.logos_search.specs.Views.{Adds, Step as Taken};
 
 use crate::point::{Machine, Point};
 use indexmap::IndexSet;
@@ -22,7 +21,7 @@ pub(crate) struct Step {
 ///
 /// # Errors
 ///
-/// Returns `AllocError` when memory runs out.
+/// Returns `AllocError` if memory runs out.
 pub(crate) fn add_step(steps: &mut IndexSet<Step>, step: Step) -> Result<bool, AllocError>
     ensures has { OnOk result (Contains steps.new.keys step) }
     ensures only { OnOk result ((other : Taken) → Contains steps.new.keys other →
@@ -39,7 +38,7 @@ pub(crate) fn add_step(steps: &mut IndexSet<Step>, step: Step) -> Result<bool, A
 ///
 /// # Errors
 ///
-/// Returns `AllocError` when memory runs out.
+/// Returns `AllocError` if memory runs out.
 pub(crate) fn add_steps<M: Machine>(
     machine: &M,
     start: Point,

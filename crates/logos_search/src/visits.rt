@@ -1,7 +1,7 @@
 //! The points that were met, breadth first, and how each was met first.
+
 ghost use Rattle.std.specs.Prelude.{◌≡◌, ◌+◌, ◌<◌, ◌∷◌, [], ℕ, IfOk, OnOk, Option, Some, length, slice_get};
-ghost use Rattle.logos_search.specs.Rests.{more};
-ghost use Rattle.logos_search.specs.declared.visits.Stand.{Stand as At};
+ghost use Rattle.logos_search.specs.Views.{more, Stand as At};
 ghost use Rattle.logos_search.specs.inside.Stands as stands;
 ghost use Rattle.logos_search.specs.inside.Visits as walks;
 
@@ -59,7 +59,7 @@ pub(crate) fn advance<M: Machine>(machine: &M, utf8: bool, at: Stand, byte: u8) 
 ///
 /// # Errors
 ///
-/// Returns `AllocError` when memory runs out.
+/// Returns `AllocError` if memory runs out.
 fn meet(visits: &mut Visits, stand: Stand, way: Visit) -> Result<(), AllocError>
     ensures { OnOk result (walks.Meets visits.old.stands.keys visits.old.ways.items stand way
         visits.new.stands.keys visits.new.ways.items) }
@@ -75,7 +75,7 @@ fn meet(visits: &mut Visits, stand: Stand, way: Visit) -> Result<(), AllocError>
 ///
 /// # Errors
 ///
-/// Returns `AllocError` when memory runs out.
+/// Returns `AllocError` if memory runs out.
 fn meet_next<M: Machine>(
     machine: &M,
     utf8: bool,
@@ -111,7 +111,7 @@ fn meet_next<M: Machine>(
 ///
 /// # Errors
 ///
-/// Returns `AllocError` when memory runs out.
+/// Returns `AllocError` if memory runs out.
 pub(crate) fn meet_all<M: Machine>(
     machine: &M,
     utf8: bool,
@@ -166,7 +166,7 @@ pub(crate) fn stand_of(visits: &Visits, number: usize) -> Stand
 ///
 /// # Errors
 ///
-/// Returns `AllocError` when memory runs out.
+/// Returns `AllocError` if memory runs out.
 pub(crate) fn first_visits(alloc: Global, start: Stand) -> Result<Visits, AllocError>
     ensures stands { IfOk result (λ visits. visits.stands.keys ≡ start ∷ []) }
     ensures ways { IfOk result (λ visits. visits.ways.items ≡ walks.no_visit ∷ []) }
@@ -186,7 +186,7 @@ pub(crate) fn first_visits(alloc: Global, start: Stand) -> Result<Visits, AllocE
 ///
 /// # Errors
 ///
-/// Returns `AllocError` when memory runs out.
+/// Returns `AllocError` if memory runs out.
 pub(crate) fn way_to(alloc: Global, visits: &Visits, number: usize) -> Result<Vec<u8>, AllocError>
     requires there { number < length visits.now.ways.items }
     requires down { walks.GoDown visits.now.ways.items }

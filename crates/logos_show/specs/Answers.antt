@@ -21,11 +21,11 @@ use Rattle.logos_records.specs.Matches.{AreMatchRecords}
 use Rattle.logos_show.specs.declared.asking.Standing.{Standing}
 use Rattle.logos_show.specs.declared.asking.Standing.TheVariants.{Different, Same}
 
--- The line that names a place.
+-- The line that names a point.
 abbrev pub place_line : Position → List ℕ
 place_line place = codes "from " ++ (decimal place.line ++ (codes ":" ++ (decimal place.column ++ codes "\n")))
 
--- Standard output got the lines about all matches from a place of an input.
+-- Standard output got the lines about all matches from a point of an input.
 pub record PrintsMatches (leaves : List Leaf) (input : List ℕ) (place : Position) (old new : Option (List ℕ)) : Type 0 where
   pub from : ℕ
   pub at : IsOffsetOf input place from
@@ -35,7 +35,7 @@ pub record PrintsMatches (leaves : List Leaf) (input : List ℕ) (place : Positi
   pub lines : AreLines leaves input from matches text
   pub printed : Appends old new (place_line place ++ text)
 
--- Standard output got the lines of JSON about all matches from a place of an input.
+-- Standard output got the lines of JSON about all matches from a point of an input.
 pub record PrintsMatchRecords (leaves : List Leaf) (input : List ℕ) (place : Position) (old new : Option (List ℕ)) : Type 0 where
   pub from : ℕ
   pub at : IsOffsetOf input place from

@@ -1,2 +1,4 @@
 pub mod Answers
 pub mod Orders
+pub mod Words
+pub mod Views

@@ -1,10 +1,7 @@
 //! Answers to what is asked of lexers.
 
 ghost use Rattle.std.specs.Prelude.{◌≡◌, [], IfErr, IfOk, OnOk};
-ghost use Rattle.logos_answers.specs.Words.{AllStart, Gains, IsBytes, IsGraphOf, rules_of};
-ghost use Rattle.logos_show.specs.Answers.{GraphValue, IsCompared, IsJudged, PrintsInputRecords, PrintsInputs};
-ghost use Rattle.logos_show.specs.Answers.{PrintsMatchRecords, PrintsMatches, place_line};
-ghost use Rattle.logos_show.specs.Orders.{IsNoMisuse};
+ghost use Rattle.logos_show.specs.Views.{AllStart, Gains, IsBytes, IsGraphOf, rules_of, IsNoMisuse, GraphValue, IsCompared, IsJudged, PrintsInputRecords, PrintsInputs, PrintsMatchRecords, PrintsMatches, place_line};
 
 use crate::reading::print_bytes;
 use logos_answers::{
@@ -29,7 +26,7 @@ pub(crate) enum Standing {
     Different,
 }
 
-/// An input: its path, its bytes, and the place that is asked for, if one is.
+/// An input: its path, its bytes, and the point that is asked for, if one is.
 #[derive(Clone, Copy)]
 pub(crate) struct Input<'w, 'i> {
     pub(crate) path: &'w str,
@@ -39,7 +36,7 @@ pub(crate) struct Input<'w, 'i> {
     pub(crate) is_json: bool,
 }
 
-/// A place of an input: the path and the bytes of the input, and the place.
+/// A point of an input: the path and the bytes of the input, and the point.
 #[derive(Clone, Copy)]
 pub(crate) struct Spot<'w, 'i> {
     pub(crate) path: &'w str,
@@ -47,12 +44,12 @@ pub(crate) struct Spot<'w, 'i> {
     pub(crate) place: Position,
 }
 
-/// Writes what matches from a place of an input, as lines of text.
+/// Writes what matches from a point of an input, as lines of text.
 ///
 /// # Errors
 ///
-/// Returns `Refused` if the input does not have the place, `Output` if writing fails, and `Memory` if
-/// memory runs out.
+/// Returns `Refused` if the input does not have the point, `Output` if writing fails, and `Memory`
+/// if memory runs out.
 pub(crate) fn write_matches<O: Write>(
     alloc: Global,
     graph: &Graph<'_>,
@@ -75,12 +72,12 @@ pub(crate) fn write_matches<O: Write>(
     print_bytes(text.as_str().as_bytes(), out)
 }
 
-/// Writes what matches from a place of an input, as lines of JSON.
+/// Writes what matches from a point of an input, as lines of JSON.
 ///
 /// # Errors
 ///
-/// Returns `Refused` if the input does not have the place, `Output` if writing fails, and `Memory` if
-/// memory runs out.
+/// Returns `Refused` if the input does not have the point, `Output` if writing fails, and `Memory`
+/// if memory runs out.
 pub(crate) fn write_match_records<O: Write>(
     alloc: Global,
     graph: &Graph<'_>,
@@ -100,7 +97,7 @@ pub(crate) fn write_match_records<O: Write>(
     print_bytes(&bytes, out)
 }
 
-/// Pushes the line that names a place.
+/// Appends the line that names a point.
 fn push_place(page: &mut Page, place: Position)
     ensures { Gains (place_line place) page.old page.new }
 {
@@ -111,7 +108,7 @@ fn push_place(page: &mut Page, place: Position)
     page.push("\n");
 }
 
-/// Returns the refusal of an input that does not have a place.
+/// Returns the refusal of an input that does not have a point.
 fn no_place(alloc: Global, path: &str, place: Position) -> Failure<'static>
     ensures { IsNoMisuse result }
 {
@@ -129,8 +126,8 @@ fn no_place(alloc: Global, path: &str, place: Position) -> Failure<'static>
     }
 }
 
-/// Writes at most so many inputs of those that together pass all edges of a graph, as literals of Rust.
-/// Returns a note that says how many were left out, which is empty if none was.
+/// Writes at most so many inputs of those that together pass all edges of a graph, as literals of
+/// Rust. Returns a note that says how many were left out, which is empty if none was.
 ///
 /// # Errors
 ///
@@ -154,8 +151,8 @@ pub(crate) fn write_inputs<O: Write>(
     Ok(note)
 }
 
-/// Writes at most so many inputs of those that together pass all edges of a graph, as lines of JSON.
-/// Returns a note that says how many were left out, which is empty if none was.
+/// Writes at most so many inputs of those that together pass all edges of a graph, as lines of
+/// JSON. Returns a note that says how many were left out, which is empty if none was.
 ///
 /// # Errors
 ///
@@ -189,8 +186,8 @@ fn note_of_cut(alloc: Global, most: usize, count: usize) -> Result<String, Alloc
     page.finish()
 }
 
-/// Writes whether an answer is the stored one at a path, and returns that. If not, writes where they
-/// differ.
+/// Writes whether an answer is the stored one at a path, and returns that. If not, writes where
+/// they differ.
 ///
 /// # Errors
 ///
@@ -229,8 +226,8 @@ pub(crate) struct Judgment {
     pub(crate) note: String,
 }
 
-/// Writes whether two lexers are the same, and returns that. If they differ, writes a shortest input at
-/// whose beginning they find different things, and what each of them finds there.
+/// Writes whether two lexers are the same, and returns that. If they differ, writes a shortest
+/// input at whose beginning they find different things, and what each of them finds there.
 ///
 /// # Errors
 ///
@@ -331,7 +328,7 @@ fn compared_record(
     lines.finish()
 }
 
-/// Pushes the object of an input on which two lexers differ.
+/// Appends the object of an input on which two lexers differ.
 fn push_findings(
     alloc: Global,
     lines: &mut JsonLines,

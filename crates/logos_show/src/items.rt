@@ -43,10 +43,11 @@ pub(crate) struct Totals {
     pub(crate) passed: Option<usize>,
 }
 
-/// Writes a line for each item of an input, and then what was counted. Returns a note about callbacks,
-/// which is empty if no leaf with a callback has an item.
+/// Writes a line for each item of an input, and then what was counted. Returns a note about
+/// callbacks, which is empty if no leaf with a callback has an item.
 ///
 /// # Errors
+///
 /// Returns `NotUtf8` if the lexer reads text and the input is not UTF-8, `Output` if writing fails,
 /// and `Memory` if memory runs out.
 pub(crate) fn write_items<O: Write, C: Clock>(
@@ -72,8 +73,8 @@ pub(crate) fn write_items<O: Write, C: Clock>(
     Ok(note)
 }
 
-/// Writes an object of JSON for each item of an input. Returns a note about callbacks, which is empty if
-/// no leaf with a callback has an item.
+/// Writes an object of JSON for each item of an input. Returns a note about callbacks, which is
+/// empty if no leaf with a callback has an item.
 ///
 /// # Errors
 ///
@@ -182,7 +183,7 @@ fn add_record(
     }
 }
 
-/// Adds an object to a block. If memory runs out the block is empty.
+/// Appends an object to a block. If memory runs out the block is empty.
 fn push_record(
     alloc: Global,
     block: &mut Vec<u8>,
@@ -205,7 +206,7 @@ pub(crate) fn no_lines(alloc: Global, code: &Code<'_>) -> Result<Lines, AllocErr
     })
 }
 
-/// Adds what was counted of a whole input.
+/// Appends what was counted of a whole input.
 pub(crate) fn push_totals(
     code: &Code<'_>,
     lines: &mut Lines,

@@ -1,8 +1,7 @@
 //! Files and their enums.
 
 ghost use Rattle.std.specs.Prelude.{IfErr, OnOk};
-ghost use Rattle.std.specs.Io.KnownBytes.{Appends};
-ghost use Rattle.logos_show.specs.Orders.{IsNoMisuse};
+ghost use Rattle.logos_show.specs.Words.{Appends, IsNoMisuse};
 
 use logos_causes::{
     Explained, Showing, add_warnings, explain, push_warned, text_of as text_of_lines, warning_lines,

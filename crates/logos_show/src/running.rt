@@ -1,8 +1,7 @@
 //! From words to a status.
 
 ghost use Rattle.std.specs.Prelude.{◌≡◌, ◌≤◌, ◌↔◌, None, IfErr, map, string_bytes};
-ghost use Rattle.logos_host.specs.Failures.{status_of};
-ghost use Rattle.logos_show.specs.Orders.{IsNoMisuse, asked};
+ghost use Rattle.logos_show.specs.Words.{status_of, IsNoMisuse, asked};
 
 use crate::asking::{
     Input, Spot, Standing, write_input_records, write_inputs, write_match_records, write_matches,
@@ -69,8 +68,8 @@ options:
 
 const VERSION: &str = "logos_show 0.1.0 (for logos 0.16)\n";
 
-/// What the program reads, and where messages go: files, a clock, which also gives standard input, and
-/// standard error.
+/// What the program reads, and where messages go: files, a clock, which also gives standard input,
+/// and standard error.
 #[derive(Drop)]
 pub(crate) struct Host<'h, F, C, E> {
     pub(crate) files: &'h mut F,
@@ -78,9 +77,9 @@ pub(crate) struct Host<'h, F, C, E> {
     pub(crate) err: &'h mut E,
 }
 
-/// Runs the program, and returns the exit status: 0 done, 1 refused, or two lexers differ, 2 for words
-/// that are not a command, 3 for files, outputs and memory. What is refused or fails has a message on
-/// standard error, and warnings go there too.
+/// Runs the program, and returns the exit status: 0 done, 1 refused, or two lexers differ, 2 for
+/// words that are not a command, 3 for files, outputs and memory. What is refused or fails has a
+/// message on standard error, and warnings go there too.
 pub(crate) fn run<F: Files, C: Clock + StandardInput, O: Write, E: Write + IsTerminal>(
     alloc: Global,
     words: &[String],
@@ -101,7 +100,7 @@ pub(crate) fn run<F: Files, C: Clock + StandardInput, O: Write, E: Write + IsTer
     }
 }
 
-/// Writes why a run failed, and returns the exit status.
+/// Writes why the program failed, and returns the exit status.
 fn failed<E: Write>(failure: &Failure<'_>, err: &mut E) -> u8
     ensures { result ≡ status_of failure.now }
 {
@@ -173,8 +172,8 @@ fn answer_or_compare<'w, F: Files, C: Clock + StandardInput, O: Write, E: Write 
     write_standing(alloc, path, &stored, &made, out)
 }
 
-/// Answers what is asked of the lexers of a file, and returns whether what was to be compared is the
-/// same.
+/// Answers what is asked of the lexers of a file, and returns whether what was to be compared is
+/// the same.
 fn answer<'w, F: Files, C: Clock + StandardInput, O: Write, E: Write + IsTerminal>(
     alloc: Global,
     task: Task<'w>,
@@ -296,7 +295,7 @@ fn most_of(question: Question<'_>) -> usize {
     }
 }
 
-/// Writes the items of an input, or what matches from a place of it.
+/// Writes the items of an input, or what matches from a point of it.
 fn lex<'w, F: Files, C: Clock, O: Write, E: Write + IsTerminal>(
     alloc: Global,
     task: Task<'w>,
@@ -320,7 +319,7 @@ fn lex<'w, F: Files, C: Clock, O: Write, E: Write + IsTerminal>(
     lex_by_file(alloc, task, &source, input, host, out)
 }
 
-/// Writes the items of an input or what matches from a place of it, by the lexer of a file that is
+/// Writes the items of an input or what matches from a point of it, by the lexer of a file that is
 /// asked for.
 fn lex_by_file<'w, F: Files, C: Clock, O: Write, E: Write + IsTerminal>(
     alloc: Global,
@@ -348,7 +347,7 @@ pub(crate) fn part_of<'f, 's>(source: &'f Source<'s>, one: FoundEnum) -> Part<'f
     }
 }
 
-/// Writes the items of an input, or what matches from a place of it.
+/// Writes the items of an input, or what matches from a point of it.
 fn lex_by_lexer<'w, F: Files, C: Clock, O: Write, E: Write + IsTerminal>(
     alloc: Global,
     made: &Generated<'_>,
@@ -389,7 +388,7 @@ fn items_by_lexer<C: Clock, O: Write>(
     }
 }
 
-/// Writes what matches from a place of an input.
+/// Writes what matches from a point of an input.
 fn match_by_lexer<O: Write>(
     alloc: Global,
     graph: &Graph<'_>,
@@ -443,7 +442,7 @@ fn no_lexer(alloc: Global, file: &str, name: Option<&str>) -> Failure<'static>
     }
 }
 
-/// Pushes the name of an enum, if one is given.
+/// Appends the name of an enum, if one is given.
 fn push_name(page: &mut Page, name: Option<&str>) {
     if let Some(name) = name {
         page.push("`");

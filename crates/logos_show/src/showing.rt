@@ -1,4 +1,5 @@
 //! The lexers of a file, as tables.
+
 ghost use Rattle.std.specs.Prelude.{IfErr};
 ghost use Rattle.logos_show.specs.Orders.{IsNoMisuse};
 
@@ -165,7 +166,7 @@ fn enum_in<'f, 's>(
     }
 }
 
-/// Adds what is shown of an enum, if it has the name, or none is given.
+/// Appends what is shown of an enum, if it has the name, or none is given.
 fn push_named(
     alloc: Global,
     pages: &mut Pages,
@@ -180,7 +181,7 @@ fn push_named(
     Ok(())
 }
 
-/// Adds what is shown of an enum.
+/// Appends what is shown of an enum.
 fn push_enum(
     alloc: Global,
     pages: &mut Pages,
@@ -195,7 +196,7 @@ fn push_enum(
     Ok(())
 }
 
-/// Adds what is shown of an enum that derives `Logos`.
+/// Appends what is shown of an enum that derives `Logos`.
 fn push_lexer(
     alloc: Global,
     pages: &mut Pages,
@@ -212,7 +213,7 @@ fn push_lexer(
     }
 }
 
-/// Adds the leaves of a lexer or its examples, and the warnings of its leaves.
+/// Appends the leaves of a lexer or its examples, and the warnings of its leaves.
 fn push_made(
     alloc: Global,
     pages: &mut Pages,
@@ -226,7 +227,7 @@ fn push_made(
     Ok(())
 }
 
-/// Adds the leaves of a lexer or its examples, in the form that is asked for.
+/// Appends the leaves of a lexer or its examples, in the form that is asked for.
 fn push_form(
     alloc: Global,
     pages: &mut Pages,
@@ -248,7 +249,7 @@ fn push_form(
     }
 }
 
-/// Adds the leaves of the lexer of an enum, and what the lexer costs.
+/// Appends the leaves of the lexer of an enum, and what the lexer costs.
 fn push_table(
     alloc: Global,
     page: &mut Page,
@@ -262,7 +263,7 @@ fn push_table(
     Ok(())
 }
 
-/// Adds the examples of the leaves of a lexer.
+/// Appends the examples of the leaves of a lexer.
 fn push_example_lines(
     alloc: Global,
     page: &mut Page,
@@ -275,7 +276,7 @@ fn push_example_lines(
     Ok(())
 }
 
-/// Adds the leaves of the lexer of an enum and what it costs, as lines of JSON.
+/// Appends the leaves of the lexer of an enum and what it costs, as lines of JSON.
 fn push_leaves(
     alloc: Global,
     lines: &mut JsonLines,
@@ -301,7 +302,7 @@ fn rows_of<'l>(
     Ok(rows)
 }
 
-/// Adds the name of the enum and its position.
+/// Appends the name of the enum and its position.
 fn push_title(page: &mut Page, part: Part<'_, '_>, made: &Generated<'_>) {
     page.push("enum ");
     page.push(made.name.text);

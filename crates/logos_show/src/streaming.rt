@@ -1,8 +1,7 @@
 //! The items of standard input, a line each, written as they are found.
 
 ghost use Rattle.std.specs.Prelude.{◌<◌, IfErr};
-ghost use Rattle.logos_show.specs.Orders.{IsNoMisuse};
-ghost use Rattle.logos_stream.specs.Views.{KeepsCode, unread_length};
+ghost use Rattle.logos_show.specs.Words.{IsNoMisuse, KeepsCode, unread_length};
 
 use crate::items::{
     ERROR, Lines, Totals, head_at, milliseconds, no_lines, now, push_totals, write_if_full,
@@ -67,14 +66,14 @@ fn print_note<'w, E: Write>(
 }
 
 /// Writes a line for each item of standard input, and then what was counted. What was found is
-/// written before each read. Returns a note about callbacks, which is empty if no leaf with a callback
-/// has an item.
+/// written before each read. Returns a note about callbacks, which is empty if no leaf with a
+/// callback has an item.
 ///
 /// # Errors
 ///
-/// Returns `NotUtf8` if the lexer reads text and the input is not UTF-8, `Refused` if a token is too
-/// long, both after the lines of the items before it; `Read` if reading fails, `Output` if writing
-/// fails, and `Memory` if memory runs out.
+/// Returns `NotUtf8` if the lexer reads text and the input is not UTF-8, `Refused` if a token is
+/// too long, both after the lines of the items before it; `Read` if reading fails, `Output` if
+/// writing fails, and `Memory` if memory runs out.
 fn write_streamed<S: Clock + Input, O: Write>(
     alloc: Global,
     code: &Code<'_>,
@@ -135,8 +134,8 @@ fn too_long(alloc: Global, offset: usize) -> Failure<'static>
     }
 }
 
-/// Writes a line for each item of a stream, by blocks. The last block is left to the caller. Returns
-/// why the stream was not lexed to its end, if it was not.
+/// Writes a line for each item of a stream, by blocks. The last block is left to the caller.
+/// Returns why the stream was not lexed to its end, if it was not.
 fn write_stream<R: Read + Drop, C: Fn(LeafId, &[u8]) -> Action + Copy, O: Write>(
     stream: &mut Stream<'_, '_, R, C>,
     lines: &mut Lines,

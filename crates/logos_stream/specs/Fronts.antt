@@ -9,22 +9,22 @@ use Rattle.logos_stream.specs.declared.item.StreamItem.TheVariants.{Token, Error
 use Rattle.logos_stream.specs.declared.front.Front.{Front}
 use Rattle.logos_stream.specs.declared.front.Front.TheVariants.{Item as First, Waits, Ends}
 
--- Where the span of an item starts
+-- Where the span of an item starts.
 abbrev pub start_of : StreamItem → ℕ
 start_of (Token leaf span) = span.from
 start_of (Error leaf span) = span.from
 
--- Where it ends
+-- Where it ends.
 abbrev pub end_of : StreamItem → ℕ
 end_of (Token leaf span) = span.to
 end_of (Error leaf span) = span.to
 
--- An item with the bytes at its span
+-- An item with the bytes at its span.
 abbrev pub item_with : StreamItem → List ℕ → Item
 item_with (Token leaf span) slice = token leaf.0 span.from span.to slice
 item_with (Error leaf span) slice = error (option_map (λ l. l.0) leaf) span.from span.to slice
 
--- An item of these bytes
+-- An item of these bytes.
 abbrev pub item_in : StreamItem → List ℕ → Item
 item_in item bytes = item_with item (slice_range bytes (start_of item) (end_of item))
 

@@ -29,17 +29,17 @@ pub record WaitsAt {R : Type 0} (old new : WindowValue R) (to : ℕ) : Type 0 wh
   pub wanted : (new.wanted ≡ old.wanted) ⊎ (new.wanted ≤ 2 * unread_length new)
 
 module _ {R : Type 0} (old new : WindowValue R) where
-  -- Nothing is passed since a character goes over the end of what would be
+  -- Nothing is passed since a character goes over the end of what would be.
   abbrev pub IsStuck : ℕ → Type 0
   IsStuck to = IsInside old.utf8 old.lexed to × GoesPast 0 old new
 
-  -- What follows an item that was found;
+  -- What follows an item that was found.
   abbrev pub Gives : StreamItem → Streamed → Type 0
   Gives found (Given item) = Shows old new found item
   Gives found NotUtf8 = IsStuck (end_of found)
   Gives found other = ⊥
 
-  -- What follows if nothing is found up to here;
+  -- What follows if nothing is found up to here.
   abbrev pub Waits : ℕ → Streamed → Type 0
   Waits to More = WaitsAt old new to × (unread_length new < new.bound)
   Waits to TooLong = WaitsAt old new to × (new.bound ≤ unread_length new)

@@ -15,20 +15,20 @@ module _ {R : Type 0} (code : CodeValue) (callback : Callback) (old new : Window
   -- The next item was given, with its span in the stream: the next one whatever follows the bytes
   -- that can be lexed, unless they are the last ones.
   pub record GivesNext (item : StreamItem) : Type 0 where
-    -- The item with its span in these bytes
+    -- The item with its span in these bytes.
     pub found : StreamItem
     pub first : IsFirst code callback old.lexed old.is_last found
     pub shows : Shows old new found item
 
   -- No item is given, since what comes next depends on bytes that were not read.
   pub record WaitsNext : Type 0 where
-    -- How many bytes were passed, which give no item whatever follows
+    -- How many bytes were passed, which give no item whatever follows.
     pub passed : ℕ
     pub waits : WaitsAt old new passed
     pub unsettled : old.is_last ≡ false
     pub over : (more : List ℕ) → RunsOver code callback (old.lexed ++ more) 0 passed
     -- The next try looks at the end of the bytes; or none was made, since fewer bytes were read
-    -- than it wants
+    -- than it wants.
     pub why : LooksPast code old.lexed passed (first_stand code passed) ⊎ (unread_length old < old.wanted)
 
   -- No item is left, and the last bytes were passed.

@@ -5,32 +5,32 @@ use Rattle.logos_stream.specs.Tails.{IsNoText}
 
 pub record WindowValue (R : Type 0) : Type 0 where
   pub reader : R
-  -- Whether a text is read
+  -- Whether a text is read.
   pub utf8 : Bool
-  -- The bytes that the last move passed without an item, and those at the span of its item
+  -- The bytes that the last move passed without an item, and those at the span of its item.
   pub skipped : List ℕ
   pub slice : List ℕ
-  -- The bytes after these that can be lexed
+  -- The bytes after these that can be lexed.
   pub lexed : List ℕ
   -- The bytes that were read after them: of a text, a character that is not whole, or what is not
-  -- UTF-8
+  -- UTF-8.
   pub after : List ℕ
-  -- Whether `lexed` are the last bytes that are lexed
+  -- Whether `lexed` are the last bytes that are lexed.
   pub is_last : Bool
-  -- Whether the reader came to its end
+  -- Whether the reader came to its end.
   pub is_over : Bool
-  -- How many bytes of the stream are before `lexed`, up to the greatest number
+  -- How many bytes of the stream are before `lexed`, up to the greatest number.
   pub offset : ℕ
-  -- How many bytes may be in memory
+  -- How many bytes may be in memory.
   pub bound : ℕ
-  -- How many bytes there have to be for the next try
+  -- How many bytes there have to be for the next try.
   pub wanted : ℕ
 
--- How many bytes were read after the last item
+-- How many bytes were read after the last item.
 abbrev pub unread_length : {R : Type 0} → WindowValue R → ℕ
 unread_length window = length window.lexed + length window.after
 
--- A stream before its first byte
+-- A stream before its first byte.
 abbrev pub nothing_read : {R : Type 0} → Bool → R → ℕ → WindowValue R
 nothing_read utf8 reader bound = record {
   reader = reader;
@@ -86,7 +86,7 @@ pub record ReadsOn {R : Type 0} (remaining : R → Option (List ℕ)) (old new :
   pub added : List ℕ
   pub consumed : Consumes (remaining old.reader) (remaining new.reader) added
   pub bytes : new.lexed ++ new.after ≡ (old.lexed ++ old.after) ++ added
-  -- The bytes that can be lexed grow by these
+  -- The bytes that can be lexed grow by these.
   pub grown : List ℕ
   pub lexed : new.lexed ≡ old.lexed ++ grown
   pub last : IsTrue old.is_last → (grown ≡ []) × IsTrue new.is_last

@@ -1,8 +1,7 @@
 //! What comes first in some bytes of an input.
 
 ghost use Rattle.std.specs.Prelude.{◌≡◌, IsTrue, IsUtf8};
-ghost use Rattle.logos_stream.specs.Words.{answers_of, begun, item_of};
-ghost use Rattle.logos_stream.specs.Views.{IsFront, IsWithout};
+ghost use Rattle.logos_stream.specs.Views.{answers_of, begun, item_of, IsFront, IsWithout};
 
 use crate::item::StreamItem;
 use logos_code::action::Action;

@@ -1,8 +1,7 @@
 //! Items of a stream.
 
 ghost use Rattle.std.specs.Prelude.{◌≡◌, ◌+◌, ◌<◌, ◌^◌, List, ℕ};
-ghost use Rattle.logos_stream.specs.Views.{end_of, item_with, start_of};
-ghost use Rattle.logos_stream.specs.Words.{item_later};
+ghost use Rattle.logos_stream.specs.Views.{item_later, end_of, item_with, start_of};
 
 use logos_hir::leaf::LeafId;
 use logos_token::token::Span;

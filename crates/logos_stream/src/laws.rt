@@ -1,8 +1,7 @@
 //! Laws of the definitions. The contract of a function here is a law. To use it in a proof, call
 //! the function: the call does nothing.
 
-ghost use Rattle.logos_stream.specs.Words.{answers_of};
-ghost use Rattle.logos_stream.specs.Views.{StreamsAreOfTheWhole};
+ghost use Rattle.logos_stream.specs.Views.{answers_of, StreamsAreOfTheWhole};
 
 use logos_code::action::Action;
 use logos_hir::leaf::LeafId;

@@ -1,8 +1,7 @@
 //! A stream: a reader, and the items of what it gives.
 
 ghost use Rattle.std.specs.Prelude.{◌≡◌, ◌<◌, IfOk, OnErr};
-ghost use Rattle.logos_stream.specs.Words.{answers_of};
-ghost use Rattle.logos_stream.specs.Views.{at_start, unread_length, DoesNext, KeepsCode, ReadsOn, StaysUnread};
+ghost use Rattle.logos_stream.specs.Views.{answers_of, at_start, unread_length, DoesNext, KeepsCode, ReadsOn, StaysUnread};
 
 use crate::front::{Front, front_of};
 use crate::item::Streamed;
@@ -39,8 +38,7 @@ pub struct Stream<'c, 's, R, C> {
 
 impl<'c, 's, R, C> Model for Stream<'c, 's, R, C> {
     ghost use Rattle.std.specs.Prelude.{◌≡◌, []};
-    ghost use Rattle.logos_stream.specs.Words.{codes, named};
-    ghost use Rattle.logos_stream.specs.Views.{StreamValue};
+    ghost use Rattle.logos_stream.specs.Views.{codes, named, StreamValue};
     ghost use Rattle.logos_type.specs.contracts.type_expr.Part as p;
 
     ghost Value = { StreamValue R C };

@@ -1,8 +1,7 @@
 //! Laws of stripping. No code calls these functions: the contract of each is a proved law.
 
 ghost use Rattle.std.specs.Prelude.{◌≡◌, List, ℕ, IsUtf8};
-ghost use Rattle.logos_strip.specs.Words.{TokenList, Spells, printed, SpellsAgain, bare};
-ghost use Rattle.logos_strip.specs.Views.{stripped};
+ghost use Rattle.logos_strip.specs.Views.{TokenList, Spells, printed, SpellsAgain, bare, stripped};
 
 /// Stripping a second time removes nothing.
 pub fn strips_once()

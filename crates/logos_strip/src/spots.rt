@@ -1,8 +1,7 @@
 //! The spots of tokens in an enum, and which tokens go.
 
 ghost use Rattle.std.specs.Prelude.{◌≡◌, ◌<◌, Some, None, MatchOption};
-ghost use Rattle.logos_strip.specs.Words.{tokens_of, tree_of, is_none};
-ghost use Rattle.logos_strip.specs.Views.{begins_gone, goes, after_part, after_start, after_hash, after_attributed, after_in_enum, after_in_attribute, spot_after, scope_of, rank};
+ghost use Rattle.logos_strip.specs.Views.{tokens_of, tree_of, is_none, begins_gone, goes, after_part, after_start, after_hash, after_attributed, after_in_enum, after_in_attribute, spot_after, scope_of, rank};
 
 use crate::helpers::{begins_helper, is_comma, is_macro_entry};
 use logos_token::token::{Delimiter, TokenTree, Tokens};

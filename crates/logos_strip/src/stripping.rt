@@ -1,8 +1,7 @@
 //! Stripping of a source. `logos strip` and the expansion of files call it.
 
 ghost use Rattle.std.specs.Prelude.{◌≡◌, ◌<◌, [], ◌∷◌, length, IfOk, IfErr, IsErrAnd};
-ghost use Rattle.logos_strip.specs.Words.{source_limit, Fault, stream_tokens, EnumValue, too_long, EndsReading, EndsTokens, Refuses, IsMemory};
-ghost use Rattle.logos_strip.specs.Views.{stripped, AreStripped, IsStripped, SpellsEnum};
+ghost use Rattle.logos_strip.specs.Views.{source_limit, Fault, stream_tokens, EnumValue, too_long, EndsReading, EndsTokens, Refuses, IsMemory, stripped, AreStripped, IsStripped, SpellsEnum};
 
 use crate::spots::Scope;
 use crate::walk::strip_run;

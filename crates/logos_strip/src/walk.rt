@@ -1,8 +1,7 @@
 //! Stripping of runs, group by group.
 
 ghost use Rattle.std.specs.Prelude.{◌≡◌, ◌<◌, ◌≤◌, ◌∷◌, List, Option, Some, None, IfOk};
-ghost use Rattle.logos_strip.specs.Words.{Token, tokens_of, tree_of, stream_tokens};
-ghost use Rattle.logos_strip.specs.Views.{Open, scope_inside, left, thinned, sorted, completed, group_token};
+ghost use Rattle.logos_strip.specs.Views.{Token, tokens_of, tree_of, stream_tokens, Open, scope_inside, left, thinned, sorted, completed, group_token};
 
 use crate::spots::{Scope, TokenSpot, goes, scope_of, spot_after};
 use crate::writer::Writer;

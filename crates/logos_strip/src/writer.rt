@@ -1,8 +1,7 @@
 //! A writer of the tokens that stay, tree by tree.
 
 ghost use Rattle.std.specs.Prelude.{◌≡◌, [], ◌∷◌, List, Option, Some, None, IfOk};
-ghost use Rattle.logos_strip.specs.Words.{Token, stream_tokens, tree_of};
-ghost use Rattle.logos_strip.specs.Views.{left, completed};
+ghost use Rattle.logos_strip.specs.Views.{Token, stream_tokens, tree_of, left, completed};
 
 use logos_token::error::Memory;
 use logos_token::token::{Punct, Spacing, TokenStream, TokenTree};

@@ -1,8 +1,8 @@
 //! The subpatterns of a lexer, with their texts. `logos_leaf` makes them once, after all attributes
 //! of the enum are read.
 
-ghost use Rattle.std.specs.Prelude.{◌≡◌, ◌++◌, ◌∷◌, [], IfOk, OnOk, string_bytes};
-ghost use Rattle.logos_subpattern.specs.Words.{list_all, previous, ident_slice, literal_view, named_literal_view, AddsFault, is_word, is_name, flags_of, pattern_text, wrapped, subpattern_name, subpattern_twice, utf8_subpattern, utf8_text};
+ghost use Rattle.std.specs.Prelude.{◌≡◌, ◌++◌, ◌∷◌, [], IfOk, OnOk, string_bytes, ℕ, List, map, option_map, OnErr, chars};
+ghost use Rattle.logos_subpattern.specs.Views.{list_all, previous, ident_slice, literal_view, named_literal_view, AddsFault, is_word, is_name, flags_of, pattern_text, wrapped, subpattern_name, subpattern_twice, utf8_subpattern, utf8_text, Bor, IsReport, text_of, subst_report, stored_report, tested_report, IsAdded, AreAdded, IsTested, names_of};
 
 use crate::fault::{ReadingMode, read_pattern};
 use crate::substitution::substituted;
@@ -163,10 +163,6 @@ fn report_utf8(named: &(Ident<'_>, Literal<'_>), errors: &mut Errors) -> Result<
 }
 
 impl<'s> Subpatterns<'s> {
-    ghost use Rattle.std.specs.Prelude.{◌≡◌, ℕ, List, [], map, option_map, IfOk, OnOk, OnErr, string_bytes, chars};
-    ghost use Rattle.logos_subpattern.specs.Words.{Bor, ident_slice, named_literal_view, IsReport, text_of, subst_report, stored_report, tested_report, IsAdded, AreAdded, IsTested};
-    ghost use Rattle.logos_subpattern.specs.Views.{names_of};
-
     /// Returns the text of the subpattern with this name, if there is one.
     pub(crate) fn find(&self, name: &str) -> Option<&str>
         ensures { option_map (λ (text : Bor (List ℕ)). text.now) result

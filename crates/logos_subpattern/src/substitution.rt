@@ -2,8 +2,7 @@
 //! leaf.
 
 ghost use Rattle.std.specs.Prelude.{◌≡◌, ℕ, List, ◌+◌, ◌<◌, ◌++◌, ◌∷◌, [], length, drop, option_map, chars, OnOk, IfOk, MatchOption, string_bytes};
-ghost use Rattle.logos_subpattern.specs.Words.{IsReport, AddsFault, is_word, word_front, word_rest, closed, reference, parts, encoded, subpattern_missing, subst_report};
-ghost use Rattle.logos_subpattern.specs.Views.{names_of, part_of};
+ghost use Rattle.logos_subpattern.specs.Views.{IsReport, AddsFault, is_word, word_front, word_rest, closed, reference, parts, encoded, subpattern_missing, subst_report, part_report, name_report, text_of, names_of, part_of, text_view};
 
 use crate::subpattern::Subpatterns;
 use logos_attribute::reporting::report_named;
@@ -134,10 +133,6 @@ fn report_missing(name: &str, span: Span, errors: &mut Errors) -> Result<(), Mem
 }
 
 impl Text {
-    ghost use Rattle.std.specs.Prelude.{OnOk};
-    ghost use Rattle.logos_subpattern.specs.Words.{IsReport, part_report, name_report, text_of};
-    ghost use Rattle.logos_subpattern.specs.Views.{names_of, part_of, text_view};
-
     /// Adds the text of the subpattern with this name, or reports that there is none.
     fn add_name(
         &mut self,

@@ -108,8 +108,7 @@ fn group_tree(alloc: Global, captured: bool, tree: Hir) -> Result<Hir, AllocErro
 }
 
 impl OpenedGroup {
-    ghost use Rattle.logos_syntax.specs.Words.{pattern_nesting, Group, fresh, all_parts, put, set, next_branch, all_branches, whole_tree, repeat};
-    ghost use Rattle.logos_syntax.specs.Views.{part_view, group_view, Repeats};
+    ghost use Rattle.logos_syntax.specs.Views.{pattern_nesting, Group, fresh, all_parts, put, set, next_branch, all_branches, whole_tree, repeat, part_view, group_view, Repeats};
 
     /// Returns a group of which only the opening was read. `level` is the number of groups around
     /// its inside.
@@ -208,8 +207,7 @@ impl OpenedGroup {
 
 impl Groups {
     ghost use Rattle.std.specs.Prelude.{[]};
-    ghost use Rattle.logos_syntax.specs.Words.{pattern_nesting, State, start, whole_tree, step};
-    ghost use Rattle.logos_syntax.specs.Views.{state_view, Steps, Ends};
+    ghost use Rattle.logos_syntax.specs.Views.{pattern_nesting, State, start, whole_tree, step, state_view, Steps, Ends};
 
     /// Returns the stack at the start of a pattern of `left` characters.
     pub(crate) fn new(alloc: Global, flags: Flags, left: usize) -> Groups

@@ -1,7 +1,7 @@
 //! The names of groups, no two of which may be equal. The parser asks it at each named group.
 
 ghost use Rattle.std.specs.Prelude.{◌≡◌, ◌∷◌, [], List, not, bytes_eq, IfOk};
-ghost use Rattle.logos_syntax.specs.Words.{list_any, Text, token_view};
+ghost use Rattle.logos_syntax.specs.Views.{list_any, Text, token_view, HasNames, Admits};
 
 use logos_pattern_tokens::token::{Opening, Token};
 use std::alloc::{AllocError, Global};
@@ -14,8 +14,6 @@ pub(crate) struct GroupNames {
 }
 
 impl GroupNames {
-    ghost use Rattle.logos_syntax.specs.Views.{HasNames, Admits};
-
     /// Returns the empty set of names.
     pub(crate) fn new(alloc: Global) -> GroupNames
         ensures { HasNames result [] }

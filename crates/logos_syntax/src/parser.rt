@@ -1,8 +1,7 @@
 //! Reads a whole pattern. `logos_pattern` calls `parse` once for each pattern.
 
 ghost use Rattle.std.specs.Prelude.{◌≡◌, ℕ, List, ◌∷◌, [], chars, IfOk, IfErr, MatchResult};
-ghost use Rattle.logos_syntax.specs.Words.{Flags as FlagsValue, Text, Tree, tree_of, IsTooDeep, Spells, IsFound, Refuses};
-ghost use Rattle.logos_syntax.specs.Views.{StopsText, IfDeepText};
+ghost use Rattle.logos_syntax.specs.Views.{Flags as FlagsValue, Text, Tree, tree_of, IsTooDeep, Spells, IsFound, Refuses, start, StopsText, IfDeepText, HasNames, state_view, IsStopOf, ReadsToken, ReadsSimple};
 
 use crate::bracket::parser::{read_bracket, stop_for};
 use crate::groups::Groups;
@@ -21,9 +20,6 @@ pub(crate) struct PatternParser {
 }
 
 impl PatternParser {
-    ghost use Rattle.logos_syntax.specs.Words.{start};
-    ghost use Rattle.logos_syntax.specs.Views.{HasNames, state_view, IsStopOf, ReadsToken, ReadsSimple};
-
     /// Returns a parser at the front of a text of `left` characters.
     fn new(alloc: Global, flags: Flags, left: usize) -> PatternParser
         ensures groups { state_view result.groups ≡ start flags }

@@ -5,39 +5,41 @@ use Rattle.logos_code.specs.Code.{CodeValue}
 use Rattle.logos_code.specs.CodeView.{state_at}
 use Rattle.logos_tables.specs.Steps.{HasSteps, step_number}
 
--- one number, some times
+-- One number, some times.
 abbrev pub times : ℕ → ℕ → List ℕ
 times zero x = []
 times (suc n) x = x ∷ times n x
 
--- what runs stand for: each number, as often as its run says
+-- What runs stand for: each number, as often as its run says.
 abbrev pub spread : List (ℕ × ℕ) → List ℕ
 spread runs = flat_map (λ run. times run.0 run.1) runs
 
--- the tables of the steps of a lexer
+-- The tables of the steps of a lexer.
 pub record Tables : Type 0 where
-  -- the class of each symbol
+  -- The class of each symbol.
   pub classes : List ℕ
-  -- rows of steps, each with one step for each class
+  -- Rows of steps, each with one step for each class.
   pub rows : List (List ℕ)
-  -- the rows one after another, as runs: how many equal steps, and which
+  -- The rows one after another, as runs: how many equal steps, and which.
   pub runs : List (ℕ × ℕ)
-  -- the number of the row of each state
+  -- The number of the row of each state.
   pub places : List ℕ
-  -- how many classes there are
+  -- How many classes there are.
   pub width : ℕ
 
--- the row of a state, by the tables, if there is one
+-- The row of a state, by the tables, if there is one.
 abbrev pub row_in : Tables → ℕ → Option (List ℕ)
 row_in tables state = option_and_then (slice_get tables.rows) (slice_get tables.places state)
 
--- the step of a symbol in a state, by the tables: that of the symbol's class in the state's row, if there is one
+-- The step of a symbol in a state, by the tables: that of the symbol's class in the state's row, if
+-- there is one.
 abbrev pub step_in : Tables → ℕ → ℕ → Option ℕ
 step_in tables state symbol =
     option_and_then (λ row. option_and_then (slice_get row) (slice_get tables.classes symbol)) (row_in tables state)
 
--- The tables hold the step of each symbol in each state of a code: there are as many classes as symbols and as many places of rows as states, each class
--- is one of a row, and each place is that of a row.
+-- The tables hold the step of each symbol in each state of a code: there are as many classes as
+-- symbols and as many numbers of rows as states, each class is one of a row, and each number is
+-- that of a row.
 pub record Hold (code : CodeValue) (tables : Tables) : Type 0 where
   pub symbols : length tables.classes ≡ 257
   pub states : length tables.places ≡ length code.states
@@ -48,28 +50,28 @@ pub record Hold (code : CodeValue) (tables : Tables) : Type 0 where
   pub wide : (i : ℕ) → i < length tables.rows → length (slice_index_or tables.rows i []) ≡ tables.width
   pub runs : spread tables.runs ≡ flat_map (λ row. row) tables.rows
 
--- rows by their places among the distinct ones
+-- Rows by their indices among the distinct ones.
 abbrev pub rows_at : List ℕ → List (List ℕ) → List (List ℕ)
 rows_at places distinct = map (λ place. slice_index_or distinct place []) places
 
--- each row has a step for each symbol
+-- Each row has a step for each symbol.
 abbrev pub AreWide : List (List ℕ) → Type 0
 AreWide rows = (i : ℕ) → i < length rows → length (slice_index_or rows i []) ≡ 257
 
--- these are the rows of the states of a code, as many as there are
+-- These are the rows of the states of a code, as many as there are.
 pub record AreRows (code : CodeValue) (rows : List (List ℕ)) : Type 0 where
   pub count : length rows ≡ length code.states
   pub are : (state : ℕ) → state < length code.states → HasSteps code (state_at code state) (slice_index_or rows state [])
 
--- two symbols have the same step in each of the rows
+-- Two symbols have the same step in each of the rows.
 abbrev pub HaveSameSteps : List (List ℕ) → ℕ → ℕ → Type 0
 HaveSameSteps rows one other = (i : ℕ) → i < length rows → slice_index (slice_index_or rows i []) one ≡ slice_index (slice_index_or rows i []) other
 
--- a class is there, and its symbol has the same steps as the one that is in the class
+-- A class is there, and its symbol has the same steps as the one that is in the class.
 abbrev pub IsClassOf : List (List ℕ) → List ℕ → ℕ → ℕ → Type 0
 IsClassOf rows symbols symbol number = (number < length symbols) × HaveSameSteps rows (slice_index symbols number) symbol
 
--- the classes of so many symbols, each with one of its symbols
+-- The classes of so many symbols, each with one of its symbols.
 pub record Classify (rows : List (List ℕ)) (numbers symbols : List ℕ) (count : ℕ) : Type 0 where
   pub many : length numbers ≡ count
   pub are : (symbol : ℕ) → symbol < count → IsClassOf rows symbols symbol (slice_index numbers symbol)
@@ -77,6 +79,6 @@ pub record Classify (rows : List (List ℕ)) (numbers symbols : List ℕ) (count
 abbrev pub AreClasses : List (List ℕ) → List ℕ → List ℕ → Type 0
 AreClasses rows numbers symbols = Classify rows numbers symbols 257
 
--- a row by classes: the steps of one symbol of each
+-- A row by classes: the steps of one symbol of each.
 abbrev pub by_classes : List ℕ → List ℕ → List ℕ
 by_classes symbols row = map (λ symbol. slice_index row symbol) symbols

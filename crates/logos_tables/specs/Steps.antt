@@ -1,30 +1,32 @@
--- What symbols do in states, as numbers. The symbols are the bytes, and after them the end of the input.
+-- What symbols do in states, as numbers. The symbols are the bytes, and after them the end of the
+-- input.
 use Rattle.std.specs.Prelude.{◌≡◌, ℕ, ◌+◌, ◌*◌, ◌<◌, ◌&&◌, not, List, length, Option, Some, None, if◌then◌else◌, ◌==◌, slice_index}
 use Rattle.logos_automaton.specs.Munch.{Use}
 use Rattle.logos_code.specs.Code.{CodeValue, CodeState, Mark}
 use Rattle.logos_code.specs.Runs.{stays, target}
 
--- 0 for no state, and else 2 more than the state
+-- 0 for no state, and else 2 more than the state.
 abbrev pub led_number : Option ℕ → ℕ
 led_number None = 0
 led_number (Some state) = state + 2
 
--- what a symbol does: 0 where nothing leads on, 1 where the byte stays in the state, and else 2 more than the state that it leads to
+-- What a symbol does: 0 where nothing leads on, 1 where the byte stays in the state, and else 2
+-- more than the state that it leads to.
 abbrev pub step_number : CodeValue → CodeState → ℕ → ℕ
 step_number code state symbol =
     if symbol == 256 then led_number state.at_end
     else (if stays code state.fast_loop symbol then 1 else led_number (target code state.fork symbol))
 
--- these are the steps of a state, for each symbol
+-- These are the steps of a state, for each symbol.
 pub record HasSteps (code : CodeValue) (state : CodeState) (steps : List ℕ) : Type 0 where
   pub wide : length steps ≡ 257
   pub are : (symbol : ℕ) → symbol < 257 → slice_index steps symbol ≡ step_number code state symbol
 
--- 0 for no mark, and else 2 more than twice the leaf, and 1 more if the mark is late
+-- 0 for no mark, and else 2 more than twice the leaf, and 1 more if the mark is late.
 abbrev pub mark_number : Option Mark → ℕ
 mark_number None = 0
 mark_number (Some mark) = if mark.late then mark.leaf * 2 + 3 else mark.leaf * 2 + 2
 
--- 1 for a leaf whose matches are left out without a callback, and else 0
+-- 1 for a leaf whose matches are left out without a callback, and else 0.
 abbrev pub skip_number : Use → ℕ
 skip_number use_of = if use_of.skips && not use_of.asks then 1 else 0

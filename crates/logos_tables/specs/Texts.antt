@@ -7,12 +7,12 @@ use Rattle.logos_text.specs.Standing.{numbered}
 use Rattle.logos_tables.specs.Layout.{Tables, Hold}
 use Rattle.logos_tables.specs.Steps.{mark_number, skip_number}
 
--- all numbers are below a bound
+-- All numbers are below a bound.
 abbrev pub are_below : ℕ → List ℕ → Bool
 are_below bound [] = true
 are_below bound (number ∷ numbers) = nat_lt number bound && are_below bound numbers
 
--- the shortest type that holds the numbers
+-- The shortest type that holds the numbers.
 abbrev pub type_text : List ℕ → List ℕ
 type_text numbers =
     if are_below 256 numbers then codes "u8"
@@ -20,30 +20,30 @@ type_text numbers =
     else (if are_below 4294967296 numbers then codes "u32"
     else codes "u64"))
 
--- an entry: its digits, and a comma
+-- An entry: its digits, and a comma.
 abbrev pub entry_text : ℕ → List ℕ
 entry_text entry = decimal entry ++ codes ","
 
--- the name, the type and the length of a table
+-- The name, the type and the length of a table.
 abbrev pub head_text : List ℕ → List ℕ → List ℕ
 head_text name entries = codes "const " ++ name ++ codes ": [" ++ type_text entries ++ codes "; " ++ decimal (length entries) ++ codes "] = ["
 
--- a table with a name
+-- A table with a name.
 abbrev pub table_text : List ℕ → List ℕ → List ℕ
 table_text name entries = head_text name entries ++ flat_map entry_text entries ++ codes "];\n"
 
--- a number with a name
+-- A number with a name.
 abbrev pub number_text : List ℕ → ℕ → List ℕ
 number_text name number = codes "const " ++ name ++ codes ": usize = " ++ decimal number ++ codes ";\n"
 
--- how many steps each run has, and the step of each
+-- How many steps each run has, and the step of each.
 abbrev pub lengths_text : List (ℕ × ℕ) → List ℕ
 lengths_text runs = table_text (codes "_RUN_LENGTHS") (map (λ run. run.0) runs)
 
 abbrev pub run_steps_text : List (ℕ × ℕ) → List ℕ
 run_steps_text runs = table_text (codes "_RUN_STEPS") (map (λ run. run.1) runs)
 
--- the texts of the tables of steps
+-- The texts of the tables of steps.
 abbrev pub step_texts : List ℕ → List (ℕ × ℕ) → List ℕ → List (List ℕ)
 step_texts classes runs places =
     table_text (codes "_CLASSES") classes
@@ -52,50 +52,52 @@ step_texts classes runs places =
     ∷ table_text (codes "_ROWS") places
     ∷ []
 
--- the texts of the sizes
+-- The texts of the sizes.
 abbrev pub size_texts : ℕ → ℕ → ℕ → List (List ℕ)
 size_texts root height width = number_text (codes "_ROOT") root ∷ number_text (codes "_HEIGHT") height ∷ number_text (codes "_WIDTH") width ∷ []
 
--- the mark of each state, and which leaves are left out
+-- The mark of each state, and which leaves are left out.
 abbrev pub marks_text : CodeValue → List ℕ
 marks_text code = table_text (codes "_MARKS") (map (λ state. mark_number state.mark) code.states)
 
 abbrev pub skips_text : CodeValue → List ℕ
 skips_text code = table_text (codes "_SKIPS") (map skip_number code.leaves)
 
--- a leaf in the table of leaves
+-- A leaf in the table of leaves.
 abbrev pub name_text : ℕ → List ℕ
 name_text leaf = codes "LogosLeaf::Leaf" ++ decimal leaf ++ codes ","
 
--- the table of so many leaves, each at its number
+-- The table of so many leaves, each at its number.
 abbrev pub names_text : ℕ → List ℕ
 names_text count = codes "const _NAMES: [LogosLeaf; " ++ decimal count ++ codes "] = [" ++ numbered name_text 0 count ++ codes "];\n"
 
--- the most steps of all states for which entries of 32 bits are taken: their upper three bits are the kind of an entry
+-- The most steps of all states for which entries of 32 bits are taken: their upper three bits are
+-- the kind of an entry.
 abbrev pub most_steps : ℕ
 most_steps = 268435456
 
--- the type of entries, for so many states with so many steps each
+-- The type of entries, for so many states with so many steps each.
 abbrev pub entry_type_text : ℕ → ℕ → List ℕ
 entry_type_text states width =
     if nat_le (states * width) most_steps then codes "type _Entry = u32;\n" else codes "type _Entry = u64;\n"
 
--- the texts of the tables of all leaves, and of the type of entries
+-- The texts of the tables of all leaves, and of the type of entries.
 abbrev pub end_texts : ℕ → ℕ → ℕ → List (List ℕ)
 end_texts leaves states width = names_text leaves ∷ entry_type_text states width ∷ []
 
--- the texts of all tables of a code
+-- The texts of all tables of a code.
 abbrev pub texts_of : CodeValue → Tables → List (List ℕ)
 texts_of code tables =
     step_texts tables.classes tables.runs tables.places
     ++ (marks_text code ∷ skips_text code ∷ size_texts code.root (length tables.rows) tables.width)
     ++ end_texts (length code.code_leaves) (length tables.places) tables.width
 
--- texts, one right after another
+-- Texts, one right after another.
 abbrev pub joined : List (List ℕ) → List ℕ
 joined texts = flat_map (λ text. text) texts
 
--- Tables that hold what the code does stand in the text, one right after another and in order, and each of their entries as its digits.
+-- Tables that hold what the code does stand in the text, one right after another and in order, and
+-- each of their entries as its digits.
 pub record HoldsTables (code : CodeValue) (text : List ℕ) : Type 0 where
   pub tables : Tables
   pub hold : Hold code tables

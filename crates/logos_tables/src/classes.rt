@@ -1,4 +1,6 @@
-//! Classes of bytes: two bytes of a class do the same in each state.
+//! Classes of bytes: two bytes of a class do the same in each state. `lexer` makes them from the
+//! rows, and `runs` reads rows by them.
+
 ghost use Rattle.std.specs.Prelude.{◌≡◌, ◌+◌, ◌<◌, IfOk, IfSome, OnOk, IsTrue, slice_index};
 ghost use Rattle.logos_tables.specs.Words.{AreClasses, Classify, IsClassOf, HaveSameSteps};
 
@@ -17,7 +19,8 @@ pub(crate) struct Classes {
 /// Returns the classes of all symbols. Symbols of one class have the same step in each of the rows.
 ///
 /// # Errors
-/// Returns an error when memory runs out.
+///
+/// Returns an error if memory runs out.
 pub(crate) fn classes_of(alloc: Global, rows: &[Steps]) -> Result<Classes, AllocError>
     ensures { IfOk result (λ classes. AreClasses rows.now classes.numbers.items classes.symbols.items) }
 {
@@ -46,7 +49,8 @@ fn add_symbol(rows: &[Steps], classes: &mut Classes, symbol: usize) -> Result<()
     Ok(())
 }
 
-/// Returns the class whose symbol has the same step as this one in each of the rows, if there is one.
+/// Returns the class whose symbol has the same step as this one in each of the rows, if there is
+/// one.
 fn class_of(rows: &[Steps], symbols: &[usize], symbol: usize) -> Option<usize>
     ensures { IfSome result (IsClassOf rows.now symbols.now symbol) }
 {

@@ -1,4 +1,4 @@
-//! The text that is the same for all lexers.
+//! The text that is the same for all lexers. `rest` prints it.
 
 /// What is made of the tables when the text is compiled, and the steps of the loop over them.
 pub(crate) const STEPS: &str = "\

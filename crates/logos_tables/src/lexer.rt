@@ -1,4 +1,5 @@
-//! Prints a lexer as tables with a loop over them.
+//! Prints a lexer as tables with a loop over them. `logos_cli` calls it for the shape `tables`.
+
 ghost use Rattle.std.specs.Prelude.{ℕ, List, ◌∷◌, [], IfOk, OnOk, string_bytes};
 ghost use Rattle.logos_tables.specs.Words.{BeginsWith, IsFrontOf, HoldsTables, end_texts, marks_text, skips_text, Appends, AppendsSteps, AppendsTables};
 
@@ -14,11 +15,13 @@ use logos_codegen::Generated;
 use logos_token::error::Memory;
 use std::alloc::Global;
 
-/// Returns the Rust text of an implementation of `Logos` for the enum, whose function that lexes is one loop over tables. The
-/// tables hold what each byte, and the end of the input, does in each state of the code, and the mark of each state.
+/// Returns the Rust text of an implementation of `Logos` for the enum, whose function that lexes is
+/// one loop over tables. The tables hold what each byte, and the end of the input, does in each
+/// state of the code, and the mark of each state.
 ///
 /// # Errors
-/// Returns `Memory` when memory runs out.
+///
+/// Returns `Memory` if memory runs out.
 pub fn tables(alloc: Global, made: &Generated<'_>) -> Result<String, Memory>
     ensures holds { IfOk result (λ text. HoldsTables made.now.code (string_bytes text)) }
     // Before the tables stands the text of `front`.

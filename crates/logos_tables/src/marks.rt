@@ -1,4 +1,6 @@
-//! The marks of states, and which leaves are left out, as numbers.
+//! The marks of states, and which leaves are left out, as numbers. `lexer` prints them beside the
+//! steps.
+
 ghost use Rattle.std.specs.Prelude.{◌≡◌, ◌<◌, IfOk, IfSome, map, option_map};
 ghost use Rattle.logos_tables.specs.Words.{All, mark_of, use_of, mark_number, skip_number};
 
@@ -6,12 +8,16 @@ use logos_code::code::{CodeLeaf, CodeState, Mark};
 use logos_pattern::leaf::VariantKind;
 use std::alloc::{AllocError, Global};
 
+/// A leaf below this number has a mark that is a number, too. No list of leaves is longer.
+const LEAVES: usize = 9_223_372_036_854_775_807;
+
 /// Returns the numbers of the marks of all states.
 ///
 /// # Errors
-/// Returns an error when memory runs out.
+///
+/// Returns an error if memory runs out.
 pub(crate) fn marks_of(alloc: Global, states: &[CodeState]) -> Result<Vec<usize>, AllocError>
-    requires { All (λ state. IfSome state.mark (λ mark. mark.leaf.0 < 9223372036854775807)) states.now }
+    requires { All (λ state. IfSome state.mark (λ mark. mark.leaf.0 < LEAVES)) states.now }
     ensures { IfOk result (λ marks. marks.items
         ≡ map (λ state. mark_number (option_map mark_of state.mark)) states.now) }
 {
@@ -22,9 +28,10 @@ pub(crate) fn marks_of(alloc: Global, states: &[CodeState]) -> Result<Vec<usize>
     Ok(marks)
 }
 
-/// Returns the number of a mark: 0 for none, and else 2 more than twice the number of its leaf, and 1 more if it is late.
+/// Returns the number of a mark: 0 for none, and else 2 more than twice the number of its leaf, and
+/// 1 more if it is late.
 fn mark_number(mark: Option<Mark>) -> usize
-    requires { IfSome mark (λ mark. mark.leaf.0 < 9223372036854775807) }
+    requires { IfSome mark (λ mark. mark.leaf.0 < LEAVES) }
     ensures { result ≡ mark_number (option_map mark_of mark) }
 {
     match mark {
@@ -37,7 +44,8 @@ fn mark_number(mark: Option<Mark>) -> usize
 /// Returns for each leaf 1 if its matches are left out without a callback, and else 0.
 ///
 /// # Errors
-/// Returns an error when memory runs out.
+///
+/// Returns an error if memory runs out.
 pub(crate) fn skips_of(alloc: Global, leaves: &[CodeLeaf<'_>]) -> Result<Vec<usize>, AllocError>
     ensures { IfOk result (λ skips. skips.items ≡ map (λ leaf. skip_number (use_of leaf)) leaves.now) }
 {

@@ -1,4 +1,5 @@
-//! Prints the parts of the tables.
+//! Prints the parts of the tables. `lexer` calls it for each part in turn.
+
 ghost use Rattle.std.specs.Prelude.{◌≡◌, ◌*◌, ◌++◌, ◌∷◌, [], OnOk, nat_le, string_bytes};
 ghost use Rattle.logos_tables.specs.Words.{numbered, Appends, lengths_text, run_steps_text, size_texts, step_texts, entry_type_text, most_steps, name_text, names_text};
 
@@ -10,7 +11,8 @@ use std::alloc::Global;
 /// The most steps of all states for which entries have 32 bits.
 const MOST_STEPS: usize = 268435456;
 
-/// Appends the tables of steps: the classes of symbols, the runs of the rows, and the row of each state.
+/// Appends the tables of steps: the classes of symbols, the runs of the rows, and the row of each
+/// state.
 pub(crate) fn push_steps(
     alloc: Global,
     text: &mut String,
@@ -109,7 +111,7 @@ pub(crate) fn push_entry_type(text: &mut String, states: usize, width: usize) ->
     Ok(())
 }
 
-/// Returns the text of the type of entries: it has room for a place in the table and three bits.
+/// Returns the text of the type of entries: it has room for an offset of the table and three bits.
 fn entry_type(states: usize, width: usize) -> &'static str
     ensures { result.now ≡ entry_type_text states width }
 {
@@ -120,7 +122,8 @@ fn entry_type(states: usize, width: usize) -> &'static str
     }
 }
 
-/// Returns whether entries of 32 bits have room for all steps of so many states, with so many steps each.
+/// Returns whether entries of 32 bits have room for all steps of so many states, with so many steps
+/// each.
 fn are_few(states: usize, width: usize) -> bool
     ensures { result ≡ nat_le (states * width) most_steps }
 {

@@ -1,4 +1,5 @@
-//! Prints tables and numbers.
+//! Prints tables and numbers. `lexer`, `parts` and `rest` call it.
+
 ghost use Rattle.std.specs.Prelude.{◌≡◌, ◌++◌, ◌∷◌, [], OnOk, string_bytes};
 ghost use Rattle.logos_tables.specs.Words.{flat_map, Grows, Appends, are_below, entry_text, head_text, number_text, table_text, type_text};
 

@@ -1,4 +1,5 @@
-//! Prints what follows the tables.
+//! Prints what follows the tables. `lexer` calls it last.
+
 ghost use Rattle.std.specs.Prelude.{OnOk, string_bytes};
 ghost use Rattle.logos_tables.specs.Words.{Grows};
 
@@ -20,7 +21,8 @@ const AFTER_TYPE: &str = " { type Error = ";
 /// front of the implementation of `Logos`.
 ///
 /// # Errors
-/// Returns `Memory` when memory runs out.
+///
+/// Returns `Memory` if memory runs out.
 pub(crate) fn scanned_head(alloc: Global, front: &str) -> Result<String, Memory> {
     let mut head = String::new(alloc);
     if let Some((path, this)) = names_in(front) {

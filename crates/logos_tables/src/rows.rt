@@ -1,4 +1,5 @@
-//! The rows of all states, with each row once.
+//! The rows of all states, with each row once. `lexer` makes them first.
+
 ghost use Rattle.std.specs.Prelude.{◌≡◌, ℕ, ◌<◌, ◌++◌, ◌∷◌, [], IfOk, OnOk, length, vec_len, slice_index, slice_index_or};
 ghost use Rattle.logos_tables.specs.Words.{AreRows, AreWide, rows_at};
 
@@ -51,7 +52,8 @@ fn state_count(code: &Code<'_>) -> usize
 /// Returns the rows of all states.
 ///
 /// # Errors
-/// Returns an error when memory runs out.
+///
+/// Returns an error if memory runs out.
 pub(crate) fn rows_of(alloc: Global, code: &Code<'_>) -> Result<Rows, AllocError>
     ensures { IfOk result (λ rows. AreRows code.now
         (rows_at rows.places.items rows.distinct.keys)) }

@@ -1,4 +1,5 @@
-//! Runs of equal steps.
+//! Runs of equal steps. `lexer` makes them of the rows by classes, and `parts` prints them.
+
 ghost use Rattle.std.specs.Prelude.{◌≡◌, ◌<◌, ◌++◌, ◌∷◌, [], IfOk, OnOk, IsTrue, map};
 ghost use Rattle.logos_tables.specs.Words.{flat_map, by_classes, spread};
 
@@ -15,7 +16,8 @@ pub(crate) type Run = (usize, usize);
 /// Returns the runs of the rows, one after another, each with one step for each class.
 ///
 /// # Errors
-/// Returns an error when memory runs out.
+///
+/// Returns an error if memory runs out.
 pub(crate) fn runs_of(
     alloc: Global,
     rows: &[Steps],
@@ -58,7 +60,7 @@ fn push_step(runs: &mut Vec<Run>, step: usize) -> Result<(), AllocError>
 
 /// Returns whether a run can have this step too.
 fn goes_on(run: Run, step: usize) -> bool
-    ensures { IsTrue result → (run.1 ≡ step) × (run.0 < 65535) }
+    ensures { IsTrue result → (run.1 ≡ step) × (run.0 < LONGEST) }
 {
     (run.1 == step) & (run.0 < LONGEST)
 }
@@ -66,7 +68,8 @@ fn goes_on(run: Run, step: usize) -> bool
 /// Returns how many steps each run has.
 ///
 /// # Errors
-/// Returns an error when memory runs out.
+///
+/// Returns an error if memory runs out.
 pub(crate) fn lengths_of(alloc: Global, runs: &[Run]) -> Result<Vec<usize>, AllocError>
     ensures { IfOk result (λ lengths. lengths.items ≡ map (λ run. run.0) runs.now) }
 {
@@ -80,7 +83,8 @@ pub(crate) fn lengths_of(alloc: Global, runs: &[Run]) -> Result<Vec<usize>, Allo
 /// Returns the step of each run.
 ///
 /// # Errors
-/// Returns an error when memory runs out.
+///
+/// Returns an error if memory runs out.
 pub(crate) fn steps_in(alloc: Global, runs: &[Run]) -> Result<Vec<usize>, AllocError>
     ensures { IfOk result (λ steps. steps.items ≡ map (λ run. run.1) runs.now) }
 {

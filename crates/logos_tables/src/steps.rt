@@ -1,4 +1,6 @@
-//! What each byte, and the end of the input, does in a state, as one number.
+//! What each byte, and the end of the input, does in a state, as one number. `rows` asks for those
+//! of each state.
+
 ghost use Rattle.std.specs.Prelude.{◌≡◌, ◌<◌, length, IfSome, IsTrue};
 ghost use Rattle.logos_tables.specs.Words.{passes_test, code_of, state_at, NamesState, NamesTest, stays, target, HasSteps, led_number, step_number};
 
@@ -7,26 +9,29 @@ use logos_code::code::{Code, CodeParts};
 /// The symbol that stands for the end of the input; those before it are the bytes.
 const END: usize = 256;
 
+/// The number of symbols: each byte, and the end of the input.
+const SYMBOLS: usize = 257;
+
 /// The steps of a state, for each symbol.
-pub(crate) type Steps = [usize; 257];
+pub(crate) type Steps = [usize; SYMBOLS];
 
 /// Returns the steps of a state.
 pub(crate) fn steps_of(code: &Code<'_>, state: usize) -> Steps
     requires { state < length code.now.states }
     ensures { HasSteps code.now (state_at code.now state) result }
 {
-    let mut steps = [0; 257];
-    for symbol in 0..257 {
+    let mut steps = [0; SYMBOLS];
+    for symbol in 0..SYMBOLS {
         steps[symbol] = step_number(code, state, symbol);
     }
     steps
 }
 
-/// Returns the number of what the symbol does in the state: 0 for nothing, 1 where the byte stays, and else 2 more than
-/// the state that it leads to.
+/// Returns the number of what the symbol does in the state: 0 for nothing, 1 where the byte stays,
+/// and else 2 more than the state that it leads to.
 fn step_number(code: &Code<'_>, state: usize, symbol: usize) -> usize
     requires state { state < length code.now.states }
-    requires symbol { symbol < 257 }
+    requires symbol { symbol < SYMBOLS }
     ensures { result ≡ step_number code.now (state_at code.now state) symbol }
 {
     if symbol == END {

@@ -1,4 +1,5 @@
-//! Prints callbacks.
+//! Prints callbacks. `leaves` and `errors` call it.
+
 ghost use Rattle.std.specs.Prelude.{◌≡◌, OnOk, [], string_bytes};
 ghost use Rattle.logos_text.specs.Words.{tokens_of, tree_of, gap_after, gap_of, Grows};
 
@@ -61,8 +62,9 @@ pub(crate) fn push_tokens(
     Ok(())
 }
 
-/// Returns the gap to print between `tokens` and the token that follows them: nothing when there are no tokens, a line end when
-/// the last of them is a comment that ends with its line, since what follows would belong to the comment, and else a space.
+/// Returns the gap to print between `tokens` and the token that follows them: nothing when there
+/// are no tokens, a line end when the last of them is a comment that ends with its line, since what
+/// follows would belong to the comment, and else a space.
 pub fn gap_after(tokens: Tokens<'_, '_>) -> &'static str
     ensures { result.now ≡ gap_after [] (tokens_of tokens.entry) }
 {

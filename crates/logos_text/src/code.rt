@@ -1,7 +1,7 @@
-//! Prints a whole code.
+//! Prints a whole code. `logos_codegen` calls it.
+
 ghost use Rattle.std.specs.Prelude.{IfOk, OnOk, length, string_bytes};
-ghost use Rattle.logos_text.specs.Words.{printed_type, type_tree, code_of, BeginsWith, IsFront, leaf_names_text, opening_text, Adds, AddsLast, Grows, StandInOrder, texts_in, texts_of};
-ghost use Rattle.logos_text.specs.Views.{around_value};
+ghost use Rattle.logos_text.specs.Views.{printed_type, type_tree, code_of, BeginsWith, IsFront, leaf_names_text, opening_text, Adds, AddsLast, Grows, StandInOrder, texts_in, texts_of, around_value};
 
 use crate::errors::push_make_error;
 use crate::implementation::{Around, push_front};
@@ -16,12 +16,14 @@ use logos_token::error::Memory;
 use logos_type::print_type;
 use std::alloc::Global;
 
-/// Returns the Rust text of a code, as the body of a function: its tokens, with the gaps that `print` puts between tokens. The texts
-/// of all bit tables, by their numbers, are parts of it, and after them those of the conditions of all forks, by states and in the
-/// fork's order, without overlap.
+/// Returns the Rust text of a code, as the body of a function: its tokens, with the gaps that
+/// `print` puts between tokens. The texts of all bit tables, by their numbers, are parts of it, and
+/// after them those of the conditions of all forks, by states and in the fork's order, without
+/// overlap.
 ///
 /// # Errors
-/// Returns `Memory` when memory runs out.
+///
+/// Returns `Memory` if memory runs out.
 pub fn text(alloc: Global, code: &Code<'_>) -> Result<String, Memory>
     ensures { IfOk result (λ text. StandInOrder (texts_of code.now) (string_bytes text)) }
 {
@@ -35,7 +37,8 @@ pub fn text(alloc: Global, code: &Code<'_>) -> Result<String, Memory>
 /// Returns the Rust text of a code as `text` does, with the implementation of `Logos` around it.
 ///
 /// # Errors
-/// Returns `Memory` when memory runs out.
+///
+/// Returns `Memory` if memory runs out.
 pub fn text_in(alloc: Global, code: &Code<'_>, around: Around<'_>) -> Result<String, Memory>
     ensures stand { IfOk result (λ text. StandInOrder (texts_of code.now) (string_bytes text)) }
     ensures begins { IfOk result (λ text. BeginsWith (opening_text (around_value around.entry)
@@ -51,11 +54,13 @@ pub fn text_in(alloc: Global, code: &Code<'_>, around: Around<'_>) -> Result<Str
 }
 
 /// Returns the beginning of the implementation of `Logos` for the enum of a code: its types, the
-/// imports of the function that lexes, and inside that function the functions for matches and errors
-/// and the enum of the leaves. Text that follows it can go on with the body of that function.
+/// imports of the function that lexes, and inside that function the functions for matches and
+/// errors and the enum of the leaves. Text that follows it can go on with the body of that
+/// function.
 ///
 /// # Errors
-/// Returns `Memory` when memory runs out.
+///
+/// Returns `Memory` if memory runs out.
 pub fn front_in(alloc: Global, code: &Code<'_>, around: Around<'_>) -> Result<String, Memory>
     ensures { IfOk result (λ text. IsFront (around_value around.entry)
         (printed_type (type_tree code.now.header.this)) (length code.now.code_leaves)

@@ -1,4 +1,6 @@
-//! Prints conditions.
+//! Prints conditions. `forks` calls it for each branch, and `states` for fast loops and for the end
+//! of the input.
+
 ghost use Rattle.std.specs.Prelude.{◌≡◌, ◌++◌, ◌∷◌, [], ◌==◌, ◌<◌, OnOk, map, codes, string_bytes};
 ghost use Rattle.logos_text.specs.Words.{flat_map, join_by, comparison_of, condition_of, is_quoted, end_text, exception_text, single_text, between_text, comparison_text, bit_text, test_text, transition_text, condition_text};
 
@@ -6,6 +8,9 @@ use crate::pieces::push_str;
 use logos_byte_class::byte_class::Comparisons;
 use logos_code::code::{Condition, Config};
 use logos_token::error::Memory;
+
+/// The characters below this one are ASCII.
+const ASCII: u32 = 128;
 
 /// Returns whether the byte is written as a character between quotes.
 fn is_quoted(byte: u8) -> bool
@@ -32,7 +37,7 @@ fn push_end(text: &mut String, byte: u8) -> Result<(), Memory>
 
 /// Appends a character between quotes.
 fn push_quoted(text: &mut String, character: char) -> Result<(), Memory>
-    requires { character < 128 }
+    requires { character < ASCII }
     ensures { OnOk result (string_bytes text.new
         ≡ string_bytes text.old ++ 98 ∷ 39 ∷ character ∷ 39 ∷ []) }
 {

@@ -1,4 +1,5 @@
-//! Prints the function that makes errors.
+//! Prints the function that makes errors. `code` calls it once.
+
 ghost use Rattle.std.specs.Prelude.{OnOk, string_bytes};
 ghost use Rattle.logos_text.specs.Words.{Grows};
 

@@ -1,4 +1,5 @@
-//! Prints forks.
+//! Prints forks. `states` calls it for each state.
+
 ghost use Rattle.std.specs.Prelude.{◌∷◌, [], OnOk, map, string_bytes};
 ghost use Rattle.logos_text.specs.Words.{branch_of, fork_of, Adds, Grows, branch_text, fork_texts};
 

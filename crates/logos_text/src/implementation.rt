@@ -1,7 +1,8 @@
-//! Prints the implementation of `Logos` around the body of a lexer.
+//! Prints the implementation of `Logos` around the body of a lexer. `code` calls it before the
+//! body.
+
 ghost use Rattle.std.specs.Prelude.{◌≡◌, ◌++◌, OnOk, string_bytes};
-ghost use Rattle.logos_text.specs.Words.{head_text, opening_text, signature_text, types_text, uses_text};
-ghost use Rattle.logos_text.specs.Views.{around_value};
+ghost use Rattle.logos_text.specs.Views.{head_text, opening_text, signature_text, types_text, uses_text, around_value};
 
 use logos_token::error::Memory;
 

@@ -1,4 +1,6 @@
-//! Prints the leaves, and what the lexer does with their matches.
+//! Prints the leaves, and what the lexer does with their matches. `code` calls it once for all
+//! leaves.
+
 ghost use Rattle.std.specs.Prelude.{◌≡◌, ◌++◌, OnOk, string_bytes};
 ghost use Rattle.logos_text.specs.Words.{leaf_name_text, leaf_names_text, Grows, numbered};
 
@@ -97,7 +99,8 @@ fn push_arm(
     push(text, "} ")
 }
 
-/// Appends the body of a leaf's arm: the call of its callback, if it has one, and what a match gives.
+/// Appends the body of a leaf's arm: the call of its callback, if it has one, and what a match
+/// gives.
 fn push_leaf(
     alloc: Global,
     text: &mut String,

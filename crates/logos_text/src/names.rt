@@ -1,4 +1,5 @@
-//! The names that all parts of a text use.
+//! The names that all parts of a text use. `code` makes them once, for all printers.
+
 ghost use Rattle.std.specs.Prelude.{◌≡◌};
 
 use logos_code::code::{CodeParts, Config};

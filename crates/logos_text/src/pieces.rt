@@ -1,4 +1,5 @@
-//! Appends to a text.
+//! Appends to a text. All printers call it.
+
 ghost use Rattle.std.specs.Prelude.{◌≡◌, ◌==◌, ◌++◌, OnOk, codes, if◌then◌else◌, string_bytes};
 ghost use Rattle.logos_text.specs.Words.{Grows};
 

@@ -1,4 +1,5 @@
-//! Prints states.
+//! Prints states. `code` calls it, for a loop over a state variable or a function for each state.
+
 ghost use Rattle.std.specs.Prelude.{OnOk, map, string_bytes};
 ghost use Rattle.logos_text.specs.Words.{flat_map, state_of, Adds, Grows, state_texts};
 
@@ -22,7 +23,8 @@ fn push_fast_loop(text: &mut String, fast_loop: Option<usize>) -> Result<(), Mem
     push(text, " == 0 } _fast_loop ! ( lex , loop_test , offset ) ; ")
 }
 
-/// Returns what to subtract from the offset to get the end of a match: one byte if its mark is late.
+/// Returns what to subtract from the offset to get the end of a match: one byte if its mark is
+/// late.
 fn distance(late: bool) -> &'static str {
     if late { " - 1" } else { "" }
 }

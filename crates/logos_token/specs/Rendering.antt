@@ -5,7 +5,7 @@ use Rattle.std.specs.List.{flat_map}
 use Rattle.logos_token.specs.EscapedTexts.{escaped}
 use Rattle.logos_token.specs.Faults.{Fault}
 
--- The item that reports the message of a fault.
+-- The `compile_error!` that reports the message of a fault.
 abbrev pub rendered_fault : Fault → List ℕ
 rendered_fault fault = (codes "{ compile_error ! ( \"" ++ escaped fault.message) ++ codes "\" ) } "
 

@@ -1,7 +1,7 @@
 //! Small helpers for tokens. The readers of enums and attributes use them.
 
-ghost use Rattle.std.specs.Prelude.{◌≡◌};
-ghost use Rattle.logos_token.specs.ViewWords.{tree_of, is_alone, unless_alone};
+ghost use Rattle.std.specs.Prelude.{◌≡◌, IfOk, string_bytes};
+ghost use Rattle.logos_token.specs.ViewWords.{tree_of, is_alone, unless_alone, maybe_printed};
 
 mod escaping;
 mod first;
@@ -68,9 +68,6 @@ pub enum MaybeVoid<'s> {
 }
 
 impl<'s> MaybeVoid<'s> {
-    ghost use Rattle.std.specs.Prelude.{◌≡◌, IfOk, string_bytes};
-    ghost use Rattle.logos_token.specs.ViewWords.{maybe_printed};
-
     /// Replaces the tokens and returns the former ones.
     pub fn replace(&mut self, stream: TokenStream<'s>) -> MaybeVoid<'s>
         ensures former { result ≡ self.old }

@@ -1,8 +1,7 @@
 //! Prints types.
 
 ghost use Rattle.std.specs.Prelude.{◌≡◌, IfOk, OnOk, fold, string_bytes};
-ghost use Rattle.logos_type.specs.Words.{print_part, printed_of};
-ghost use Rattle.logos_type.specs.Views.{sign_of, tree_of, lifetime_parts, sign_parts, type_parts, printed_type, type_tree};
+ghost use Rattle.logos_type.specs.Views.{print_part, printed_of, sign_of, tree_of, lifetime_parts, sign_parts, type_parts, printed_type, type_tree};
 
 use crate::type_expr::{Leaf, Part, TypeExpr};
 use logos_token::error::Memory;

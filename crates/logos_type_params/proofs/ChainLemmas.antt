@@ -208,7 +208,8 @@ reaches_on params Whole items k p old mid completes h e first new rest =
 
 -- ---- chains by places
 
--- each type has the list of the places to which it leads, where what completes the rest completes the whole
+-- each type has the list of the places to which it leads, where what completes the rest completes
+-- the whole
 pub reached_on : (params : List ParamValue) {L : Type 0} (items : L → List ℕ) (es : Entries) (k : ℕ) (key : Bor Text) (p : TypeParam) (old new : List L) (list : L) →
     ((left : List (List ℕ)) → AreReached params (map param_value (drop k es)) left → AreReached params params (map items old ++ left)) → slice_get es k ≡ Some (key, p) →
     Reaches params (names (tree_of p.part)) [] (items list) → new ≡ old ++ list ∷ [] →

@@ -1,8 +1,7 @@
 //! Sets the lifetimes of types to `'s`. Each type that is given or written goes through it.
 
 ghost use Rattle.std.specs.Prelude.{◌≡◌, map, IfOk};
-ghost use Rattle.logos_type_params.specs.Words.{whole, trees, tree_of, type_tree};
-ghost use Rattle.logos_type_params.specs.Views.{with_lifetimes, with_lifetime, own_lifetime};
+ghost use Rattle.logos_type_params.specs.Views.{whole, trees, tree_of, type_tree, with_lifetimes, with_lifetime, own_lifetime};
 
 use crate::substitution::set_lifetime;
 use logos_token::error::Memory;

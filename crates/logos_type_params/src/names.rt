@@ -1,6 +1,7 @@
 //! Holds names in the order in which they are declared.
 
-ghost use Rattle.std.specs.Prelude.{map};
+ghost use Rattle.std.specs.Prelude.{map, ◌≡◌, ◌++◌, ◌∷◌, [], OnOk, OnErr};
+ghost use Rattle.logos_type_params.specs.Words.{is_declared};
 ghost use Rattle.logos_type_params.specs.NameLists.{named_of};
 ghost use Rattle.logos_type_params.specs.inside.Fronts.{AreInFront};
 
@@ -20,10 +21,6 @@ pub(crate) struct DeclaredNames<'s> {
 }
 
 impl<'s> DeclaredNames<'s> {
-    ghost use Rattle.std.specs.Prelude.{◌≡◌, ◌++◌, ◌∷◌, [], map, OnOk, OnErr};
-    ghost use Rattle.logos_type_params.specs.Words.{is_declared};
-    ghost use Rattle.logos_type_params.specs.NameLists.{named_of};
-
     /// Returns an empty list.
     pub(crate) fn new(alloc: Global) -> DeclaredNames<'s>
         ensures { result.list.items ≡ [] }

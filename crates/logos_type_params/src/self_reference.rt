@@ -2,9 +2,8 @@
 //! read.
 
 ghost use Rattle.std.specs.Prelude.{◌≡◌, ◌↔◌, [], length, map, IfOk, OnOk, IsTrue};
-ghost use Rattle.logos_type_params.specs.Words.{name, tree_of};
-ghost use Rattle.logos_type_params.specs.SelfReference.{param_value, names, Leads};
-ghost use Rattle.logos_type_params.specs.inside.Chains.{Reaches, AreReached};
+ghost use Rattle.logos_type_params.specs.Views.{name, tree_of, names, Leads, Reaches, AreReached};
+ghost use Rattle.logos_type_params.specs.SelfReference.{param_value};
 
 use crate::substitution::TypeParam;
 use indexmap::IndexMap;

@@ -1,8 +1,7 @@
 //! Replaces declared type parameters in types.
 
 ghost use Rattle.std.specs.Prelude.{◌≡◌, ◌<◌, ℕ, Bool, true, false, List, map, IfOk, IfErr, MatchOption};
-ghost use Rattle.logos_type_params.specs.Words.{Tree, name, whole, trees, tree_of, sign_of, IfDeep, exceeds};
-ghost use Rattle.logos_type_params.specs.Views.{Params, given, given_first, given_type, set_sign, param_value, After, AllAfter, Passes, SomePasses, params_of};
+ghost use Rattle.logos_type_params.specs.Views.{Tree, name, whole, trees, tree_of, sign_of, IfDeep, exceeds, Params, given, given_first, given_type, set_sign, param_value, After, AllAfter, Passes, SomePasses, params_of};
 ghost use Rattle.logos_type_params.specs.inside.Given.{given_of};
 
 use indexmap::{IndexMap, IndexSet};

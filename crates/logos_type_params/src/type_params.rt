@@ -1,8 +1,7 @@
 //! Holds the declared type parameters of an enum and the types given to them.
 
-ghost use Rattle.std.specs.Prelude.{◌≡◌, ◌++◌, ◌∷◌, [], Some, None, map, IfOk, OnOk, OnErr, if◌then◌else◌, option_map};
-ghost use Rattle.logos_type_params.specs.Words.{tokens_of, run_span, tree_of, IfFault, type_tree, IsTypeExpr, NoTypeExpr};
-ghost use Rattle.logos_type_params.specs.Views.{param_value, ChecksName, named_of, given_of, type_syntax, many_lifetimes, former, given_more, given_faults, ReadsValue};
+ghost use Rattle.std.specs.Prelude.{◌≡◌, ◌++◌, ◌∷◌, [], Some, None, map, IfOk, OnOk, OnErr, if◌then◌else◌, option_map, true, false};
+ghost use Rattle.logos_type_params.specs.Views.{tokens_of, run_span, tree_of, IfFault, type_tree, IsTypeExpr, NoTypeExpr, param_value, ChecksName, named_of, given_of, type_syntax, many_lifetimes, former, given_more, given_faults, ReadsValue, AreChecked, Value, value_of, IsSet, types_of};
 
 mod concrete;
 mod written;
@@ -209,10 +208,6 @@ fn check_name<'s>(
 }
 
 impl<'s> TypeParams<'s> {
-    ghost use Rattle.std.specs.Prelude.{◌≡◌, ◌++◌, ◌∷◌, [], OnOk, OnErr, true, false, if◌then◌else◌};
-    ghost use Rattle.logos_type_params.specs.Words.{tokens_of};
-    ghost use Rattle.logos_type_params.specs.Views.{AreChecked, Value, value_of, named_of, many_lifetimes, IsSet, types_of};
-
     /// Returns an empty list of parameters, which takes its memory from `alloc`.
     pub fn new(alloc: Global) -> TypeParams<'s>
         ensures { value_of result ≡ record { names = []; types = []; lifetime = false } }
@@ -267,7 +262,7 @@ impl<'s> TypeParams<'s> {
     /// Gives the type that `value` spells to the declared parameter `name`. Reports a value that is
     /// not a type, as `TypeSyntax` or `LimitTypeNesting`, and a name that is not declared, as
     /// `NotTypeParameter`; nothing is given then. Reports a second type as `TypeTwice`, with the
-    /// place of the first one; the second one is given then.
+    /// span of the first one; the second one is given then.
     ///
     /// # Errors
     ///

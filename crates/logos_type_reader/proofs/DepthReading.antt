@@ -1,4 +1,5 @@
--- What is read holds no more types inside one another than its levels, and is read with as many levels as it holds.
+-- What is read holds no more types inside one another than its levels, and is read with as many
+-- levels as it holds.
 use Rattle.std.proofs.Common.{◌≡◌, ℕ, ◌+◌, ◌-◌, ◌<◌, ◌≤◌, ◌⊎◌, inl, inr, max, Bool, List, [], ◌∷◌, ◌++◌, refl, sym, subst, arith}
 use Rattle.logos_token.specs.Tokens.{Token, identifier, punctuation, literal, doc, group, TokenList, none as no_token_left, also as and_token}
 use Rattle.logos_type.specs.Parts.{Tree, sign, trees, closing}

@@ -22,7 +22,8 @@ use Rattle.logos_type_reader.specs.Reading.{IsType, just_name, formed, IsMove, a
 use Rattle.logos_type_reader.specs.Written.{Ending, plain_named, may_follow, name_ending, begins_mut, begins_parameter, begins_for, Lifetimes, in_angles, LifetimeList, no_lifetime, last_lifetime, lifetimes, Written, a_name, a_form, Form, path, rooted, qualified, borrowed, borrowed_for, slice, array, tuple, trait_object, bound_function, function, pointer_const, pointer_mut, Referent, shared, mutable, Listed as ListedTypes, nothing, single, several, Qualified, of_type, of_trait, AnyPath, from_name, from_root, Path, last, longer, Longer, member, angled, angled_member, called, giving, Angled, plain, turbofish, Arguments, finished, final, further, Argument, a_lifetime, a_literal, empty_braces, braces, a_type, a_binding, Bounds, one_bound, last_bound, plus_after, bounds, Bound, lifetime_bound, trait_bound, enclosed, Questioned, unquestioned, questioned, Trait, unbound, for_all, Function, not_safe, safe, Linked, linked, linked_as, unlinked, Taking, takes_only, takes_and_gives, Parameters, no_parameter, last_parameter, parameters, Parameter, unnamed, with_name}
 use Rattle.logos_type_reader.proofs.WrittenReads.{name_is}
 
--- What stands at each place, up to the end of what was begun: parts that are read from a run, and the rest.
+-- What stands at each place, up to the end of what was begun: parts that are read from a run, and
+-- the rest.
 abbrev Parts : Type 1
 Parts = TokenList → List Tree → TokenList → Type 0
 

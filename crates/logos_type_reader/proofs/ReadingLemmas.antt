@@ -97,7 +97,8 @@ or_false : (a : Bool) → (a || false) ≡ a
 or_false true = refl
 or_false false = refl
 
--- with the parts so far, what completes the rest completes the whole, and what is wrong with the rest is wrong with the whole
+-- with the parts so far, what completes the rest completes the whole, and what is wrong with the
+-- rest is wrong with the whole
 pub record Remains (levels : ℕ) (from : Spot) (old now : List Tree) (barred : Bool) (spot : Spot) : Type 0 where
   pub front : List Tree
   pub is : now ≡ old ++ front

@@ -26,7 +26,8 @@ SameOpen None None = Unit {0}
 SameOpen (Some a) (Some b) = Unit {0}
 SameOpen a b = ⊥
 
--- How a spot is reached from a run: over tokens, into a group, or out of one. What holds then holds of all runs with these tokens in front.
+-- How a spot is reached from a run: over tokens, into a group, or out of one. What holds then holds
+-- of all runs with these tokens in front.
 pub data Passes (Q : TokenList → Option TokenList → Spot → Type 0) (run : TokenList) (b : Option TokenList) (spot : Spot) : Type 0 where
   over : (front : TokenList) → run ≡ append front spot.run → b ≡ spot.outside →
       ((rest : TokenList) (c : Option TokenList) → SameOpen b c → SameSign spot.run rest → Q (append front rest) c (to spot.place rest c)) → Passes Q run b spot
@@ -37,7 +38,8 @@ pub data Passes (Q : TokenList → Option TokenList → Spot → Type 0) (run : 
 abbrev pub Moving : Type 0
 Moving = TokenList → Option TokenList → Move
 
--- it stops at a place of the run, and so of each run with the same tokens in front and the same sign there
+-- it stops at a place of the run, and so of each run with the same tokens in front and the same
+-- sign there
 abbrev pub Stops : Moving → TokenList → Option TokenList → Fault → Type 0
 Stops M run b f = (front : TokenList) × (left : TokenList) × (run ≡ append front left) × (f ≡ mismatch (first_span left))
     × ((l : TokenList) (c : Option TokenList) → SameOpen b c → SameSign left l → M (append front l) c ≡ stops (mismatch (first_span l)))

@@ -1,4 +1,4 @@
--- The place of a fault: what stands in front of it, and the sign at it, decide that the run begins
+-- The spot of a fault: what stands in front of it, and the sign at it, decide that the run begins
 -- with no type.
 use Rattle.std.specs.Prelude.{◌≡◌, ℕ, List, Bool}
 use Rattle.logos_lexeme.specs.declared.lexeme.Span.{Span}
@@ -8,16 +8,16 @@ use Rattle.logos_token.specs.Tokens.{Token, TokenList, identifier, punctuation, 
 use Rattle.logos_type_reader.specs.Table.{Fault, unsupported, mismatch, too_deep, first_span}
 use Rattle.logos_type_reader.specs.Reading.{NoType}
 
--- What stands in front of a place of a run: tokens, and groups that are open there.
+-- What stands in front of a spot of a run: tokens, and groups that are open there.
 pub data Front : Type 0 where
   -- Nothing.
   start : Front
   -- A token, and then the rest.
   past : Token → Front → Front
-  -- An opening delimiter, and then what stands in front of the place inside the group.
+  -- An opening delimiter, and then what stands in front of the spot inside the group.
   within : Delimiter → Front → Front
 
--- The front stands in front of a place of the run. What is left is the rest of the run there, or of
+-- The front stands in front of a spot of the run. What is left is the rest of the run there, or of
 -- the group that is open there.
 pub data IsAt : Front → TokenList → TokenList → Type 0 where
   at_start : {run : TokenList} → IsAt start run run
@@ -57,20 +57,20 @@ pub record EndsWith (front : Front) (span : Span) : Type 0 where
   pub is : front ≡ followed former tokens
   pub spans : span ≡ run_span tokens
 
--- The fault stands at this place: a mismatch at the first token that is left, and a type that is
--- not supported right in front of the place.
+-- The fault stands at this spot: a mismatch at the first token that is left, and a type that is
+-- not supported right in front of the spot.
 abbrev pub StandsAt : Fault → Front → TokenList → Type 0
 StandsAt (mismatch span) front left = span ≡ first_span left
 StandsAt (unsupported span) front left = EndsWith front span
 StandsAt too_deep front left = ⊥
 
--- The same fault where these tokens are left at its place.
+-- The same fault where these tokens are left at its spot.
 abbrev pub fault_at : Fault → TokenList → Fault
 fault_at (mismatch span) left = mismatch (first_span left)
 fault_at (unsupported span) left = unsupported span
 fault_at too_deep left = too_deep
 
--- A place of the run where the fault stands, so that the front and the sign at the place decide it:
+-- A spot of the run where the fault stands, so that the front and the sign at the spot decide it:
 -- each run that has both has this fault, whatever comes after them.
 pub record FaultPlace (levels : ℕ) (plus : Bool) (run : TokenList) (fault : Fault) : Type 0 where
   pub front : Front

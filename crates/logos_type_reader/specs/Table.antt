@@ -1,4 +1,4 @@
--- The grammar of types as a table: what can come next at each place inside a type.
+-- The grammar of types as a table: what can come next at each spot inside a type.
 use Rattle.std.specs.Prelude.{ℕ, ◌==◌, ◌&&◌, ◌||◌, not, if◌then◌else◌, List, Bool, true, false, Option, Some, None, codes}
 use Rattle.std.specs.Str.{bytes_eq}
 use Rattle.logos_lexeme.specs.declared.lexeme.Span.{Span}
@@ -30,7 +30,7 @@ pub data Fault : Type 0 where
   -- More types stand inside one another than are allowed.
   too_deep : Fault
 
--- The position of the reader: a place, the tokens that are left there, and, if these are inside a
+-- The position of the reader: a spot, the tokens that are left there, and, if these are inside a
 -- group, the tokens after the group.
 pub record Spot : Type 0 where
   pub place : Place
@@ -50,14 +50,14 @@ pub data Move : Type 0 where
   takes : Sign → Spot → Move
   -- Takes this token, which only types that are not supported have.
   bars : Sign → Spot → Move
-  -- Reads a type and goes on at this place; `+` can join bounds if `plus` holds.
+  -- Reads a type and goes on at this spot; `+` can join bounds if `plus` holds.
   asks : (plus : Bool) → Place → Move
-  -- Reads a type that is never replaced and goes on at this place.
+  -- Reads a type that is never replaced and goes on at this spot.
   keeps_type : Place → Move
   -- Takes these tokens without reading types in them.
   keeps : TokenList → Spot → Move
   -- Takes this token, with which a path or bounds begin, reads these from the spot on, and goes on
-  -- at this place.
+  -- at this spot.
   nests : Sign → Spot → Place → Move
   -- Nothing fits, for this reason.
   stops : Fault → Move
@@ -71,7 +71,7 @@ pub data First : Type 0 where
 abbrev pub mismatches : TokenList → Move
 mismatches run = stops (mismatch (first_span run))
 
--- A place with the tokens that are left there.
+-- A spot with the tokens that are left there.
 abbrev pub to : Place → TokenList → Option TokenList → Spot
 to p run outside = record { place = p; run = run; outside = outside }
 
@@ -162,7 +162,7 @@ macro_move run outside = mismatches run
 abbrev pub output_move : TokenList → Option TokenList → Move
 output_move run outside = if begins_arrow run then takes arrow (to place.Target (after_two run) outside) else ends
 
--- The end of a group, and the place after it.
+-- The end of a group, and the spot after it.
 abbrev pub closes : Delimiter → Place → Option TokenList → Move
 closes delimiter next (Some rest) = takes (closing delimiter) (to next rest None)
 closes delimiter next None = ends
@@ -273,7 +273,7 @@ self_end_move (also (identifier text span) rest) outside = if bytes_eq text (cod
 self_end_move (also (punctuation c spacing span) rest) outside = if c == 62 then takes (mark 62) (to place.SelfClosed rest outside) else stops (mismatch span)
 self_end_move run outside = mismatches run
 
--- Where a path begins, and the place after it.
+-- Where a path begins, and the spot after it.
 abbrev pub path_move : PathKind → Place → TokenList → Move
 path_move kind next (also (identifier text span) rest) = nests (word text) (to (place.Named kind) rest None) next
 path_move kind next (also (punctuation c spacing span) rest) =
@@ -418,7 +418,7 @@ abbrev pub variadic_end_move : TokenList → Option TokenList → Move
 variadic_end_move none outside = closes Parenthesis place.Output outside
 variadic_end_move run outside = mismatches run
 
--- The next step at a place inside a type.
+-- The next step at a spot inside a type.
 unfoldable pub next_at : Place → TokenList → Option TokenList → Move
 next_at place.End run outside = ends
 next_at (place.Named kind) run outside = named_move kind run outside
@@ -487,7 +487,7 @@ group_first Parenthesis span inside rest = starts false (opening Parenthesis) (t
 group_first Bracket span inside rest = starts false (opening Bracket) (to place.Element inside (Some rest))
 group_first Brace span inside rest = refused (mismatch span)
 
--- The place after the word with which a type begins.
+-- The spot after the word with which a type begins.
 abbrev pub word_place : Bool → List ℕ → Place
 word_place plus text =
     if bytes_eq text (codes "dyn") || bytes_eq text (codes "impl") then place.Bound plus

@@ -1,4 +1,5 @@
--- Definitions that clauses cite, and that name types of this crate.
+-- Definitions that clauses cite: those of `Words`, and those that name types of this crate.
+pub use Rattle.logos_type_reader.specs.Words.{IsRestOf, TokenList, Tree, also, closing, count_of, depth, inside_of, none, opening, rest_of, run_span, sign, sign_of, still, still_run, still_token, tokens_of, tree_of, trees, type_tree}
 pub use Rattle.logos_type_reader.specs.FaultPlaces.{FaultPlace, IsAt, SameSign}
 pub use Rattle.logos_type_reader.specs.Reading.{IsMove, IsType, NoType, after_type, next_of}
 pub use Rattle.logos_type_reader.specs.ReadingViews.{GivesMove, GivesParts, IfFault, IsFirst, IsStep, fault_of, outside_of, spot_of}

@@ -2,8 +2,7 @@
 //! proved law.
 
 ghost use Rattle.std.specs.Prelude.{◌≡◌, ◌<◌, ◌≤◌, ◌⊎◌, ℕ, Bool, true};
-ghost use Rattle.logos_type_reader.specs.Words.{TokenList, IsRestOf, count_of, Tree, depth};
-ghost use Rattle.logos_type_reader.specs.Views.{Fault, too_deep, IsType, NoType, Ending, Written, may_follow, FaultPlace, IsAt, SameSign, IsTypeExpr, NoTypeExpr};
+ghost use Rattle.logos_type_reader.specs.Views.{TokenList, IsRestOf, count_of, Tree, depth, Fault, too_deep, IsType, NoType, Ending, Written, may_follow, FaultPlace, IsAt, SameSign, IsTypeExpr, NoTypeExpr};
 
 /// A run begins with at most one type, which leaves one rest. It has at most one fault, and none if
 /// it begins with a type.
@@ -68,8 +67,8 @@ pub fn read_is_written()
         × Written levels plus run tree rest ending × (may_follow ending rest ≡ true) }
 {}
 
-/// A fault has a place in its run, unless types nest too deep. Each run with the same tokens in
-/// front of this place and the same sign at it has the fault, too, so none of them begins with a
+/// A fault has a spot in its run, unless types nest too deep. Each run with the same tokens in
+/// front of this spot and the same sign at it has the fault, too, so none of them begins with a
 /// written type.
 pub fn fault_place()
     ensures place { (levels : ℕ) (plus : Bool) (run : TokenList) (fault : Fault) →

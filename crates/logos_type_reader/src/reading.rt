@@ -2,8 +2,7 @@
 //! attribute gives.
 
 ghost use Rattle.std.specs.Prelude.{◌≡◌, ◌<◌, ◌∷◌, ◌++◌, [], ℕ, map, IfOk, IfErr, OnOk, None, Ok, false};
-ghost use Rattle.logos_type_reader.specs.Words.{IsRestOf, count_of, run_span, tokens_of, inside_of, tree_of, sign_of, sign, opening, closing, still, trees, also, none, still_run, still_token, type_tree};
-ghost use Rattle.logos_type_reader.specs.Views.{Spot as SpotOfRuns, outer, name_of, asks, keeps_type, nests, IsType, NoType, IsMove, after_type, next_of, spot_of, outside_of, IfFault, IsStep, GivesMove, GivesParts, IsTypeExpr, NoTypeExpr};
+ghost use Rattle.logos_type_reader.specs.Views.{IsRestOf, count_of, run_span, tokens_of, inside_of, tree_of, sign_of, sign, opening, closing, still, trees, also, none, still_run, still_token, type_tree, Spot as SpotOfRuns, outer, name_of, asks, keeps_type, nests, IsType, NoType, IsMove, after_type, next_of, spot_of, outside_of, IfFault, IsStep, GivesMove, GivesParts, IsTypeExpr, NoTypeExpr, Memory, fault_of};
 ghost use Rattle.logos_token.specs.Views.{tree_of as token_of};
 
 use crate::table::{Place, Spot, Step, Stop, begin, next_at, read_name};
@@ -26,8 +25,6 @@ pub enum TypeFault {
 }
 
 impl From<AllocError> for TypeFault {
-    ghost use Rattle.logos_type_reader.specs.Views.{Memory};
-
     ghost from_gives = { λ _ fault. fault ≡ Memory };
 
     fn from(_error: AllocError) -> TypeFault {
@@ -36,8 +33,6 @@ impl From<AllocError> for TypeFault {
 }
 
 impl<T: Drop> From<AllocFailed<T>> for TypeFault {
-    ghost use Rattle.logos_type_reader.specs.Views.{Memory};
-
     ghost from_gives = { λ _ fault. fault ≡ Memory };
 
     fn from(_error: AllocFailed<T>) -> TypeFault {
@@ -46,8 +41,6 @@ impl<T: Drop> From<AllocFailed<T>> for TypeFault {
 }
 
 impl From<Stop> for TypeFault {
-    ghost use Rattle.logos_type_reader.specs.Views.{fault_of};
-
     ghost from_gives = { λ stop fault. fault ≡ fault_of stop };
 
     fn from(stop: Stop) -> TypeFault {
@@ -197,7 +190,7 @@ fn move_past_still<'t, 's>(
     }
 }
 
-/// Reads a type, adds it, and goes on at a place after it.
+/// Reads a type, adds it, and goes on at a spot after it.
 #[cycle(types)]
 fn move_past_type<'t, 's>(
     alloc: Global,
@@ -217,7 +210,7 @@ fn move_past_type<'t, 's>(
     }
 }
 
-/// Reads a type, adds it as a part that is never replaced, and goes on at a place after it.
+/// Reads a type, adds it as a part that is never replaced, and goes on at a spot after it.
 #[cycle(types)]
 fn move_past_still_type<'t, 's>(
     alloc: Global,
@@ -236,7 +229,7 @@ fn move_past_still_type<'t, 's>(
     }
 }
 
-/// Adds the first token of a path or of bounds and then their parts, and goes on at a place after
+/// Adds the first token of a path or of bounds and then their parts, and goes on at a spot after
 /// them.
 #[cycle(types)]
 fn move_past_nest<'t, 's>(

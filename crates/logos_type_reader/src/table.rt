@@ -1,8 +1,7 @@
-//! The grammar of types, place by place: what can come next.
+//! The grammar of types, spot by spot: what can come next.
 
 ghost use Rattle.std.specs.Prelude.{IsTrue};
-ghost use Rattle.logos_type_reader.specs.Words.{tokens_of};
-ghost use Rattle.logos_type_reader.specs.Views.{next_at, outside_of, spot_of, IsStep, IsAction, is_in_bounds};
+ghost use Rattle.logos_type_reader.specs.Views.{tokens_of, next_at, outside_of, spot_of, IsStep, IsAction, is_in_bounds};
 
 mod acting;
 mod bounds;
@@ -35,7 +34,7 @@ use paths::{
 pub(crate) use place::{Place, Spot, Step, Stop};
 use place::{Action, BoundKind, Next, Outside, PathKind};
 
-/// Returns what is to be done at a place inside a type.
+/// Returns what is to be done at a spot inside a type.
 #[tactic(auto, unfolding(crate::specs::Table::next_at))]
 fn action_at(at: &Spot<'_, '_>) -> Next
     ensures { IsAction result (spot_of at.now)
@@ -74,7 +73,7 @@ fn action_at(at: &Spot<'_, '_>) -> Next
     }
 }
 
-/// Returns what is to be done at a place in a bound, in `for<..>` or in the type of a function.
+/// Returns what is to be done at a spot in a bound, in `for<..>` or in the type of a function.
 #[tactic(auto, unfolding(crate::specs::Table::next_at))]
 fn bound_action_at(at: &Spot<'_, '_>) -> Next
     requires { IsTrue (is_in_bounds at.now.place) }
@@ -106,7 +105,7 @@ fn bound_action_at(at: &Spot<'_, '_>) -> Next
     }
 }
 
-/// Returns the next step at a place inside a type.
+/// Returns the next step at a spot inside a type.
 pub(crate) fn next_at<'t, 's>(
     place: Place,
     run: Tokens<'t, 's>,

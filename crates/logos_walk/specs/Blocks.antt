@@ -3,14 +3,14 @@ use Rattle.std.specs.Prelude.{ℕ, ◌+◌, List}
 use Rattle.logos_walk.specs.declared.blocks.Places.{Places}
 use Rattle.logos_walk.specs.Walk.{IsPlace, Walked}
 
--- A whole row begins at each of the places.
+-- A whole row begins at each of the offsets.
 pub record ArePlaces (rows : List ℕ) (places : Places) : Type 0 where
   pub first : IsPlace rows places.first
   pub second : IsPlace rows places.second
   pub third : IsPlace rows places.third
   pub fourth : IsPlace rows places.fourth
 
--- The trace holds a walk over the first `count` bytes of each block, from the one places to the
+-- The trace holds a walk over the first `count` bytes of each block, from the one rows to the
 -- others.
 pub record AreWalked (rows text : List ℕ) (from : Places) (trace : List ℕ) (count : ℕ) (to : Places) : Type 0 where
   pub first : Walked rows text from.first trace 0 count to.first

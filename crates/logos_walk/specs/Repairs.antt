@@ -12,7 +12,7 @@ pub record HoldsStretch (rows text trace : List ℕ) (stretch : Stretch) : Type 
   pub walked : Walked rows text stretch.begin trace stretch.from stretch.to stretch.end
   pub stays : IsPlace rows stretch.end
 
--- The trace holds a walk over the same bytes from another place, and no entry differs but those up
+-- The trace holds a walk over the same bytes from another row, and no entry differs but those up
 -- to the stop.
 pub record IsRepaired (rows text : List ℕ) (place : ℕ) (stretch : Stretch) (old new : List ℕ) (repaired : Repaired) : Type 0 where
   pub walked : Walked rows text place new stretch.from stretch.to repaired.place

@@ -1,8 +1,7 @@
 //! Four blocks of a chunk at once.
 
 ghost use Rattle.std.specs.Prelude.{◌≡◌, ◌<◌, ◌≤◌, ◌+◌, length};
-ghost use Rattle.logos_walk.specs.Words.{IsClosed, IsPlace, IsSameBeside, Walked};
-ghost use Rattle.logos_walk.specs.Views.{ArePlaces, AreWalked, HoldsStretch};
+ghost use Rattle.logos_walk.specs.Views.{IsClosed, IsPlace, IsSameBeside, Walked, ArePlaces, AreWalked, HoldsStretch};
 
 use crate::guess::guess;
 use crate::repair::{Stretch, repair};
@@ -14,7 +13,7 @@ pub const BLOCK: usize = 1024;
 /// The bytes of a chunk: four blocks.
 pub const CHUNK: usize = 4096;
 
-/// A place for each block.
+/// The offset of a row for each block.
 #[derive(Clone, Copy, Drop)]
 pub struct Places {
     pub first: usize,
@@ -49,7 +48,7 @@ fn column(rows: &[u32], text: &[u8], from: Places, trace: &mut [u32], at: usize)
     }
 }
 
-/// Steps over the four blocks in turns, each from its own place on. Returns the places after them.
+/// Steps over the four blocks in turns, each from its own row on. Returns the rows after them.
 fn walk_blocks(rows: &[u32], text: &[u8], from: Places, trace: &mut [u32]) -> Places
     requires closed { IsClosed rows.now }
     requires places { ArePlaces rows.now from }
@@ -65,8 +64,8 @@ fn walk_blocks(rows: &[u32], text: &[u8], from: Places, trace: &mut [u32]) -> Pl
     now
 }
 
-/// Steps over a chunk from a place on, and returns the place after it. The blocks but the first
-/// begin in places that are guessed from the bytes before them, in a walk from the root. Where a
+/// Steps over a chunk from a row on, and returns the row after it. The blocks but the first begin
+/// in rows that are guessed from the bytes before them, in a walk from the root. Where a
 /// guess was wrong, the block is repaired.
 pub fn walk_chunk(rows: &[u32], text: &[u8], root: usize, place: usize, trace: &mut [u32]) -> usize
     requires closed { IsClosed rows.now }
@@ -86,8 +85,8 @@ pub fn walk_chunk(rows: &[u32], text: &[u8], root: usize, place: usize, trace: &
     walk_from(rows, text, from, trace)
 }
 
-/// Steps over a chunk from the place of its first block on, with guesses for the others. Returns
-/// the place after it.
+/// Steps over a chunk from the row of its first block on, with guesses for the others. Returns the
+/// row after it.
 fn walk_from(rows: &[u32], text: &[u8], from: Places, trace: &mut [u32]) -> usize
     requires closed { IsClosed rows.now }
     requires places { ArePlaces rows.now from }
@@ -120,7 +119,7 @@ fn walk_from(rows: &[u32], text: &[u8], from: Places, trace: &mut [u32]) -> usiz
     mended(rows, text, after_third, trace, fourth)
 }
 
-/// Steps again over a block that began in a guess, if that was not its place. Returns the place
+/// Steps again over a block that began in a guess, if that was not its row. Returns the row
 /// after the block.
 #[inline(always)]
 fn mended(rows: &[u32], text: &[u8], place: usize, trace: &mut [u32], stretch: Stretch) -> usize

@@ -1,8 +1,7 @@
 //! What there is to do in a chunk, taken from the flags of its entries.
 
 ghost use Rattle.std.specs.Prelude.{◌≡◌, ℕ, List, ◌<◌, ◌≤◌, ◌+◌, ◌*◌, MatchOption};
-ghost use Rattle.logos_walk.specs.Words.{HasRoom, IsNext, IsUnder, NoToken, StartsAt};
-ghost use Rattle.logos_walk.specs.Views.{IsMarked, Passes, Stands};
+ghost use Rattle.logos_walk.specs.Views.{HasRoom, IsNext, IsUnder, NoToken, StartsAt, IsMarked, Passes, Stands};
 
 use crate::masks::Chunk;
 

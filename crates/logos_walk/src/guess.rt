@@ -1,4 +1,4 @@
-//! Places in which blocks begin.
+//! Guesses at the rows in which blocks begin.
 
 ghost use Rattle.std.specs.Prelude.{◌≤◌, length};
 ghost use Rattle.logos_walk.specs.Words.{IsClosed, IsPlace};
@@ -6,9 +6,9 @@ ghost use Rattle.logos_walk.specs.Words.{IsClosed, IsPlace};
 use crate::walk::{PLACE, entry_of};
 use std::simd::prelude::*;
 
-/// Returns a guess at the place at `end`: the one to which the bytes after the last line end among
-/// the 64 before lead from the root, or all 64 if there is no line end. Any place of a row is
-/// right, a good guess is fast.
+/// Returns a guess at the row at `end`: the one to which the bytes after the last line end among
+/// the 64 before lead from the root, or all 64 if there is no line end. Any row is right, a good
+/// guess is fast.
 #[inline(always)]
 pub fn guess(rows: &[u32], text: &[u8], root: usize, end: usize) -> usize
     requires closed { IsClosed rows.now }
@@ -23,7 +23,7 @@ pub fn guess(rows: &[u32], text: &[u8], root: usize, end: usize) -> usize
     run(rows, &text[end - back.min(64)..end], root)
 }
 
-/// Returns the place after the bytes.
+/// Returns the row after the bytes.
 #[inline(always)]
 fn run(rows: &[u32], text: &[u8], place: usize) -> usize
     requires closed { IsClosed rows.now }

@@ -1,8 +1,7 @@
 //! Bit masks of the flags of entries.
 
 ghost use Rattle.std.specs.Prelude.{◌≡◌, ◌≤◌, ◌+◌, length};
-ghost use Rattle.logos_walk.specs.Words.{MarksFrom};
-ghost use Rattle.logos_walk.specs.Views.{IsMarked, IsMarkedBeside};
+ghost use Rattle.logos_walk.specs.Views.{MarksFrom, IsMarked, IsMarkedBeside};
 
 use crate::walk::{ENDED, TOKEN};
 use std::simd::prelude::*;

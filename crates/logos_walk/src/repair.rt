@@ -1,13 +1,12 @@
-//! Steps again over bytes where a walk began in another place.
+//! Steps again over bytes where a walk began in another row.
 
 ghost use Rattle.std.specs.Prelude.{◌≡◌, ◌<◌, ◌≤◌, length};
-ghost use Rattle.logos_walk.specs.Words.{IsClosed, IsPlace, IsSameBeside, Walked};
-ghost use Rattle.logos_walk.specs.Views.{HoldsStretch, IsRepaired};
+ghost use Rattle.logos_walk.specs.Views.{IsClosed, IsPlace, IsSameBeside, Walked, HoldsStretch, IsRepaired};
 
 use crate::walk::{PLACE, step};
 
-/// A walk that a trace holds: over the bytes from `from` up to `to`, from the place `begin` to the
-/// place `end`.
+/// A walk that a trace holds: over the bytes from `from` up to `to`, from the row `begin` to the
+/// row `end`.
 #[derive(Clone, Copy, Drop)]
 pub struct Stretch {
     pub from: usize,
@@ -19,13 +18,13 @@ pub struct Stretch {
 /// What a repair leaves.
 #[derive(Clone, Copy, Drop)]
 pub struct Repaired {
-    /// The place after the last byte of the stretch.
+    /// The row after the last byte of the stretch.
     pub place: usize,
     /// The first byte whose entry need not be written again.
     pub stop: usize,
 }
 
-/// Steps again over the bytes of a stretch from another place on, until the trace holds what is
+/// Steps again over the bytes of a stretch from another row on, until the trace holds what is
 /// written.
 pub fn repair(
     rows: &[u32],

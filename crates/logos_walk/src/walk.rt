@@ -1,13 +1,14 @@
 //! Steps over bytes, one after the other.
 //!
-//! Folded rows are rows of 256 entries. The entry of a byte in the row at a place names, in its
-//! lowest twenty bits, the place of the next row. Its two highest bits are flags: `ENDED` says that
-//! a match ends before the byte, and `TOKEN` that there is something to do there.
+//! Folded rows are rows of 256 entries. A row is named by its offset, the index of its first entry.
+//! The entry of a byte in a row names, in its lowest twenty bits, the next row. Its two highest
+//! bits are flags: `ENDED` says that a match ends before the byte, and `TOKEN` that there is
+//! something to do there.
 
 ghost use Rattle.std.specs.Prelude.{◌≡◌, ◌+◌, ◌<◌, ◌≤◌, length, slice_index, slice_set};
 ghost use Rattle.logos_walk.specs.Words.{IsClosed, IsPlace, IsSameBeside, Walked, entry_at, place_of};
 
-/// The bits of an entry that name the place of the next row.
+/// The bits of an entry that name the next row, by its offset.
 pub const PLACE: u32 = 0xF_FFFF;
 
 /// The flag of an entry before whose byte a match ends.
@@ -16,7 +17,7 @@ pub const ENDED: u32 = 1 << 31;
 /// The flag of an entry at whose byte there is something to do.
 pub const TOKEN: u32 = 1 << 30;
 
-/// Returns the entry of a byte in the row at a place. The byte is added first: the place, which comes
+/// Returns the entry of a byte in a row. The byte is added first: the offset of the row, which comes
 /// from the entry before, is known last.
 #[inline(always)]
 pub(crate) fn entry_of(rows: &[u32], byte: u8, place: usize) -> u32
@@ -27,7 +28,7 @@ pub(crate) fn entry_of(rows: &[u32], byte: u8, place: usize) -> u32
     column[place]
 }
 
-/// Steps over the byte at `at`: writes its entry, and returns the place that it names.
+/// Steps over the byte at `at`: writes its entry, and returns the row that it names.
 #[inline(always)]
 pub fn step(rows: &[u32], text: &[u8], place: usize, trace: &mut [u32], at: usize) -> usize
     requires closed { IsClosed rows.now }
@@ -43,7 +44,7 @@ pub fn step(rows: &[u32], text: &[u8], place: usize, trace: &mut [u32], at: usiz
     (entry & PLACE) as usize
 }
 
-/// Steps over all bytes of the text, from the place on, and returns the place after them.
+/// Steps over all bytes of the text, from the row on, and returns the row after them.
 pub fn walk(rows: &[u32], text: &[u8], place: usize, trace: &mut [u32]) -> usize
     requires closed { IsClosed rows.now }
     requires place { IsPlace rows.now place }

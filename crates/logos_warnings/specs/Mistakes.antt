@@ -15,76 +15,76 @@ use Rattle.logos_warnings.specs.declared.mistakes.Mistake.TheVariants.{Misspelle
 
 -- ---- Attributes
 
--- whether a run begins with `:`
+-- Whether a run begins with `:`.
 abbrev pub begins_with_colon : TokenList → Bool
 begins_with_colon (also (punctuation character spacing span) rest) = character == 58
 begins_with_colon run = false
 
--- the name of an attribute, by what its brackets hold, if its path is one identifier
+-- The name of an attribute, by what its brackets hold, if its path is one identifier.
 abbrev pub name_in : TokenList → Option (List ℕ)
 name_in (also (identifier text span) rest) = if begins_with_colon rest then None else Some text
 name_in run = None
 
--- the name of an attribute, if it has brackets and its path is one identifier
+-- The name of an attribute, if it has brackets and its path is one identifier.
 abbrev pub name_of : AttributeValue → Option (List ℕ)
 name_of attribute = option_and_then name_in attribute.inside
 
--- there are tokens after what was asked for, and the test holds of them
+-- There are tokens after what was asked for, and the test holds of them.
 abbrev pub holds_after : (TokenList → Bool) → Option TokenList → Bool
 holds_after test None = false
 holds_after test (Some rest) = test rest
 
--- a run begins with the name of a helper attribute
+-- A run begins with the name of a helper attribute.
 abbrev pub begins_with_helper : TokenList → Bool
 begins_with_helper (also (identifier text span) rest) = is_helper_name text
 begins_with_helper run = false
 
--- a run begins with `::` and the name of a helper attribute
+-- A run begins with `::` and the name of a helper attribute.
 abbrev pub is_helper_segment : TokenList → Bool
 is_helper_segment run = holds_after begins_with_helper (after_path_mark run)
 
--- a run begins with `logos::` and the name of a helper attribute
+-- A run begins with `logos::` and the name of a helper attribute.
 abbrev pub is_helper_path : TokenList → Bool
 is_helper_path run = holds_after is_helper_segment (after_word (codes "logos") run)
 
--- whether the path of an attribute is `logos::` and the name of a helper attribute
+-- Whether the path of an attribute is `logos::` and the name of a helper attribute.
 abbrev pub is_qualified : AttributeValue → Bool
 is_qualified attribute = holds_after is_helper_path attribute.inside
 
--- an attribute has the name of a helper attribute
+-- An attribute has the name of a helper attribute.
 pub record IsHelper (attribute : AttributeValue) : Type 0 where
   pub name : List ℕ
   pub named : name_of attribute ≡ Some name
   pub helper : IsTrue (is_helper_name name)
 
--- one of the attributes of a run is a helper attribute
+-- One of the attributes of a run is a helper attribute.
 pub data HasHelper : TokenList → Type 0 where
   here : {run : TokenList} {split : SplitAttribute} → attribute_in run ≡ Some split → IsHelper split.attribute → HasHelper run
   later : {run : TokenList} {split : SplitAttribute} → attribute_in run ≡ Some split → HasHelper split.rest → HasHelper run
 
--- one of these variants has a helper attribute
+-- One of these variants has a helper attribute.
 pub data VariantsHave : List VariantValue → Type 0 where
   first_has : {variant : VariantValue} {more : List VariantValue} → HasHelper variant.attributes → VariantsHave (variant ∷ more)
   more_have : {variant : VariantValue} {more : List VariantValue} → VariantsHave more → VariantsHave (variant ∷ more)
 
--- an enum has a helper attribute, or one of its variants does
+-- An enum has a helper attribute, or one of its variants does.
 abbrev pub HasHelpers : EnumValue → Type 0
 HasHelpers item = HasHelper item.attributes ⊎ VariantsHave item.variants
 
 -- ---- Mistakes
 
 pub data MistakeValue : Type 0 where
-  -- the name of the attribute at this span is probably a misspelled one of a helper attribute
+  -- The name of the attribute at this span is probably a misspelled one of a helper attribute.
   misspelled : (name : List ℕ) (intended : Helper) (span : Span) → MistakeValue
-  -- the path of the attribute at this span is `logos::` and the name of a helper attribute
+  -- The path of the attribute at this span is `logos::` and the name of a helper attribute.
   qualified : (span : Span) → MistakeValue
-  -- the attribute at this span has no effect where it is
+  -- The attribute at this span has no effect where it is.
   useless : (span : Span) → MistakeValue
-  -- a variant with a pattern stands under the condition at this span
+  -- A variant with a pattern stands under the condition at this span.
   conditional : (span : Span) → MistakeValue
-  -- no variant of the enum whose name has this span has a pattern
+  -- No variant of the enum whose name has this span has a pattern.
   no_pattern : (span : Span) → MistakeValue
-  -- the enum whose name has this span has helper attributes and does not derive `Logos`
+  -- The enum whose name has this span has helper attributes and does not derive `Logos`.
   no_derive : (span : Span) → MistakeValue
 
 abbrev pub mistake_value : Mistake → MistakeValue
@@ -95,7 +95,7 @@ mistake_value (Conditional span) = conditional span
 mistake_value (NoPattern span) = no_pattern span
 mistake_value (NoDerive span) = no_derive span
 
--- what a mistake is about
+-- What a mistake is about.
 abbrev pub span_of : MistakeValue → Span
 span_of (misspelled name intended span) = span
 span_of (qualified span) = span
@@ -104,19 +104,20 @@ span_of (conditional span) = span
 span_of (no_pattern span) = span
 span_of (no_derive span) = span
 
--- whether an attribute with this name has no effect there: `logos` on a variant
+-- Whether an attribute with this name has no effect there: `logos` on a variant.
 abbrev pub is_useless : Site → List ℕ → Bool
 is_useless OnEnum name = false
 is_useless OnVariant name = bytes_eq name (codes "logos")
 is_useless OnLeaf name = bytes_eq name (codes "logos")
 
--- whether an attribute with this name puts a pattern under a condition: `cfg` on a variant with a helper attribute
+-- Whether an attribute with this name puts a pattern under a condition: `cfg` on a variant with a
+-- helper attribute.
 abbrev pub is_conditional : Site → List ℕ → Bool
 is_conditional OnEnum name = false
 is_conditional OnVariant name = false
 is_conditional OnLeaf name = bytes_eq name (codes "cfg")
 
--- what an attribute adds to the mistakes
+-- What an attribute adds to the mistakes.
 pub data AttributeAdds (site : Site) (attribute : AttributeValue) (before : List MistakeValue) : List MistakeValue → Type 0 where
   unnamed : name_of attribute ≡ None → is_qualified attribute ≡ false → AttributeAdds site attribute before before
   with_path : name_of attribute ≡ None → is_qualified attribute ≡ true → AttributeAdds site attribute before (before ++ qualified attribute.span ∷ [])
@@ -129,36 +130,37 @@ pub data AttributeAdds (site : Site) (attribute : AttributeValue) (before : List
   ill_spelled : {name : List ℕ} {intended : Helper} → name_of attribute ≡ Some name → is_useless site name ≡ false → is_conditional site name ≡ false → Intends name (Some intended) →
       AttributeAdds site attribute before (before ++ misspelled name intended attribute.span ∷ [])
 
--- what the attributes of a run add to the mistakes, in order
+-- What the attributes of a run add to the mistakes, in order.
 pub data RunAdds (site : Site) : TokenList → List MistakeValue → List MistakeValue → Type 0 where
   no_attribute : {run : TokenList} {before : List MistakeValue} → attribute_in run ≡ None → RunAdds site run before before
   one_attribute : {run : TokenList} {split : SplitAttribute} {before mid after : List MistakeValue} → attribute_in run ≡ Some split →
       AttributeAdds site split.attribute before mid → RunAdds site split.rest mid after → RunAdds site run before after
 
--- what the attributes of a variant add to the mistakes, by whether a helper attribute is among them
+-- What the attributes of a variant add to the mistakes, by whether a helper attribute is among
+-- them.
 pub data VariantAdds (run : TokenList) (before after : List MistakeValue) : Type 0 where
   on_leaf : HasHelper run → RunAdds OnLeaf run before after → VariantAdds run before after
   on_other : ¬ HasHelper run → RunAdds OnVariant run before after → VariantAdds run before after
 
--- what the attributes of variants add to the mistakes, in order
+-- What the attributes of variants add to the mistakes, in order.
 pub data VariantsAdd : List VariantValue → List MistakeValue → List MistakeValue → Type 0 where
   no_variant : {before : List MistakeValue} → VariantsAdd [] before before
   one_variant : {variant : VariantValue} {more : List VariantValue} {before mid after : List MistakeValue} →
       VariantAdds variant.attributes before mid → VariantsAdd more mid after → VariantsAdd (variant ∷ more) before after
 
--- the mistakes of the attributes of an enum, and then of those of its variants
+-- The mistakes of the attributes of an enum, and then of those of its variants.
 pub record NamesAdd (item : EnumValue) (before after : List MistakeValue) : Type 0 where
   pub mid : List MistakeValue
   pub of_enum : RunAdds OnEnum item.attributes before mid
   pub of_variants : VariantsAdd item.variants mid after
 
--- the mistakes of the names of an enum, and last that it does not derive `Logos`
+-- The mistakes of the names of an enum, and last that it does not derive `Logos`.
 pub record ForgetsDerive (item : EnumValue) (warnings : List MistakeValue) : Type 0 where
   pub names : List MistakeValue
   pub of_names : NamesAdd item [] names
   pub are : warnings ≡ names ++ no_derive item.name.span ∷ []
 
--- the mistakes of the names of an enum, and last that none of its variants has a pattern
+-- The mistakes of the names of an enum, and last that none of its variants has a pattern.
 pub record LacksPatterns (item : EnumValue) (mistakes : List MistakeValue) : Type 0 where
   pub names : List MistakeValue
   pub of_names : NamesAdd item [] names
@@ -169,7 +171,8 @@ pub data AreOfLexer (item : EnumValue) (mistakes : List MistakeValue) : Type 0 w
   with_patterns : VariantsHave item.variants → NamesAdd item [] mistakes → AreOfLexer item mistakes
   without : ¬ VariantsHave item.variants → LacksPatterns item mistakes → AreOfLexer item mistakes
 
--- The mistakes of an enum that derives `Logos` or not. An enum without helper attributes that does not derive it has none.
+-- The mistakes of an enum that derives `Logos` or not. An enum without helper attributes that does
+-- not derive it has none.
 pub data AreMistakes (item : EnumValue) (derives : Bool) : List MistakeValue → Type 0 where
   of_lexer : {mistakes : List MistakeValue} → derives ≡ true → AreOfLexer item mistakes → AreMistakes item derives mistakes
   of_forgotten : {mistakes : List MistakeValue} → derives ≡ false → HasHelpers item → ForgetsDerive item mistakes → AreMistakes item derives mistakes

@@ -1,7 +1,7 @@
 //! Attributes, by their names.
+
 ghost use Rattle.std.specs.Prelude.{◌≡◌, ◌↔◌, IsTrue, MatchOption, None, Some, map};
-ghost use Rattle.logos_warnings.specs.Words.{attribute_value, enum_value, variant_value, tokens_of};
-ghost use Rattle.logos_warnings.specs.Views.{begins_with_colon, begins_with_helper, is_helper_path, is_helper_segment, is_qualified, name_in, name_of, HasHelper, HasHelpers, IsHelper, VariantsHave};
+ghost use Rattle.logos_warnings.specs.Views.{attribute_value, enum_value, variant_value, tokens_of, begins_with_colon, begins_with_helper, is_helper_path, is_helper_segment, is_qualified, name_in, name_of, HasHelper, HasHelpers, IsHelper, VariantsHave};
 
 use crate::helper::is_helper_name;
 use logos_enum::{Attribute, ItemEnum, Variant, split_attribute};

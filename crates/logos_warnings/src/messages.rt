@@ -10,9 +10,9 @@ use logos_token::error::Memory;
 use logos_token::token::{Span, TokenError, tokenize};
 use std::alloc::{AllocError, Global};
 
-/// Returns the warnings of an enum with this text: those of its own attributes and then those of its
-/// variants', in source order, and last that it has no pattern or does not derive `Logos`. An enum
-/// that cannot be read has none.
+/// Returns the warnings of an enum with this text: those of its own attributes and then those of
+/// its variants', in source order, and last that it has no pattern or does not derive `Logos`. An
+/// enum that cannot be read has none.
 ///
 /// # Errors
 ///

@@ -1,7 +1,7 @@
 //! Probable mistakes in an enum that are not faults.
+
 ghost use Rattle.std.specs.Prelude.{◌≡◌, IfOk, None, OnOk, Some, [], map};
-ghost use Rattle.logos_warnings.specs.Words.{attribute_value, enum_value, variant_value, tokens_of};
-ghost use Rattle.logos_warnings.specs.Views.{mistake_value, is_conditional, is_useless, name_of, AreMistakes, AreOfLexer, AttributeAdds, LacksPatterns, RunAdds, VariantAdds, VariantsAdd, NamesAdd, ForgetsDerive};
+ghost use Rattle.logos_warnings.specs.Views.{attribute_value, enum_value, variant_value, tokens_of, mistake_value, is_conditional, is_useless, name_of, AreMistakes, AreOfLexer, AttributeAdds, LacksPatterns, RunAdds, VariantAdds, VariantsAdd, NamesAdd, ForgetsDerive};
 
 use crate::attributes::{Site, has_helper, has_helpers, has_patterns, is_qualified, name_of};
 use crate::helper::{Helper, intended_helper};
@@ -51,7 +51,8 @@ pub enum Mistake<'s> {
 /// attributes. An enum that does not derive `Logos` and has no helper attribute has none.
 ///
 /// # Errors
-/// Returns `AllocError` when memory runs out.
+///
+/// Returns `AllocError` if memory runs out.
 pub fn mistakes_of<'s>(
     alloc: Global,
     item: &ItemEnum<'_, 's>,
@@ -119,7 +120,7 @@ fn forgotten_of<'s>(alloc: Global, item: &ItemEnum<'_, 's>) -> Result<Vec<Mistak
     Ok(warnings)
 }
 
-/// Adds the warnings of the attributes of an enum and of its variants.
+/// Reports the warnings of the attributes of an enum and of its variants.
 fn report_names<'s>(
     item: &ItemEnum<'_, 's>,
     warnings: &mut Vec<Mistake<'s>>,
@@ -131,7 +132,7 @@ fn report_names<'s>(
     report_variants(item.variants.as_slice(), warnings)
 }
 
-/// Adds the warnings of the attributes of variants.
+/// Reports the warnings of the attributes of variants.
 fn report_variants<'s>(
     variants: &[Variant<'_, 's>],
     warnings: &mut Vec<Mistake<'s>>,
@@ -147,7 +148,7 @@ fn report_variants<'s>(
     Ok(())
 }
 
-/// Adds the mistakes of the attributes of a variant.
+/// Reports the mistakes of the attributes of a variant.
 fn report_variant<'s>(
     run: Tokens<'_, 's>,
     warnings: &mut Vec<Mistake<'s>>,
@@ -163,7 +164,7 @@ fn report_variant<'s>(
     Ok(())
 }
 
-/// Adds the warnings of the attributes of a run.
+/// Reports the warnings of the attributes of a run.
 fn report_run<'s>(
     site: Site,
     run: Tokens<'_, 's>,
@@ -202,7 +203,7 @@ fn is_conditional(site: Site, name: &str) -> bool
     }
 }
 
-/// Adds the mistake of an attribute, if it has one.
+/// Reports the mistake of an attribute, if it has one.
 fn report_attribute<'s>(
     site: Site,
     attribute: Attribute<'_, 's>,
@@ -217,7 +218,7 @@ fn report_attribute<'s>(
     }
 }
 
-/// Adds the mistake of an attribute whose path is not one identifier, if it has one.
+/// Reports the mistake of an attribute whose path is not one identifier, if it has one.
 fn report_unnamed<'s>(
     site: Site,
     attribute: Attribute<'_, 's>,
@@ -234,7 +235,7 @@ fn report_unnamed<'s>(
     Ok(())
 }
 
-/// Adds the mistake of an attribute with this name, if it has one.
+/// Reports the mistake of an attribute with this name, if it has one.
 fn report_named<'s>(
     site: Site,
     attribute: Attribute<'_, 's>,

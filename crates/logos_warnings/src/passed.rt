@@ -29,7 +29,8 @@ pub fn passed_over(alloc: Global, text: &str, found: &[Span]) -> Result<Vec<Warn
     Ok(warnings_of(alloc, &derives, found)?)
 }
 
-/// Returns the warnings of those of these spans that stand in none of the others. Both are in order.
+/// Returns the warnings of those of these spans that stand in none of the others. Both are in
+/// order.
 fn warnings_of(
     alloc: Global,
     derives: &[Span],
@@ -77,7 +78,7 @@ fn warning_at(alloc: Global, span: Span) -> Result<Warning, AllocError> {
     })
 }
 
-/// Pushes the spans of all lists of `derive` in a run that have the derive macro.
+/// Appends the spans of all lists of `derive` in a run that have the derive macro.
 #[cycle(search)]
 fn search_run(run: Tokens<'_, '_>, found: &mut Vec<Span>) -> Result<(), AllocError> {
     let mut rest = run;
@@ -88,7 +89,7 @@ fn search_run(run: Tokens<'_, '_>, found: &mut Vec<Span>) -> Result<(), AllocErr
     Ok(())
 }
 
-/// Pushes that of a list with which a run begins, and those in a group with which it begins.
+/// Appends that of a list with which a run begins, and those in a group with which it begins.
 #[cycle(search)]
 fn search_first(run: Tokens<'_, '_>, found: &mut Vec<Span>) -> Result<(), AllocError> {
     add_derive(run, found)?;
@@ -98,7 +99,7 @@ fn search_first(run: Tokens<'_, '_>, found: &mut Vec<Span>) -> Result<(), AllocE
     }
 }
 
-/// Pushes the span of a list of `derive` with which a run begins, if it has the derive macro.
+/// Appends the span of a list of `derive` with which a run begins, if it has the derive macro.
 fn add_derive(run: Tokens<'_, '_>, found: &mut Vec<Span>) -> Result<(), AllocError> {
     let Some(rest) = after_word("derive", run) else {
         return Ok(());

@@ -4,7 +4,8 @@ use logos::Logos;
 
 /// The tokens of a language like Rust. Every variant is a kind of text that looks the same.
 #[derive(Logos, Clone, Copy, Debug, PartialEq)]
-// All characters outside ASCII count as letters: that keeps the lexer small, and colours are no worse for it.
+// All characters outside ASCII count as letters: that keeps the lexer small, and colours are no
+// worse for it.
 #[logos(subpattern name = r"[a-zA-Z_\u{80}-\u{10FFFF}][a-zA-Z0-9_\u{80}-\u{10FFFF}]*")]
 #[logos(subpattern escape = r#"\\(?:[nrt0\\'"]|x[0-9a-fA-F]{2}|u\{[0-9a-fA-F_]{1,8}\})"#)]
 #[logos(subpattern suffix = r"(?:[iu](?:8|16|32|64|128|size)|f32|f64)")]

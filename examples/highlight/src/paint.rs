@@ -3,7 +3,8 @@
 use crate::lexer::Token;
 use logos::Logos;
 
-/// A kind of text: its class on a page, its colours on a light and on a dark page, and its code on a terminal.
+/// A kind of text: its class on a page, its colours on a light and on a dark page, and its code on
+/// a terminal.
 struct Style(&'static str, &'static str, &'static str, &'static str);
 
 const STYLES: [Style; 15] = [
@@ -24,8 +25,8 @@ const STYLES: [Style; 15] = [
     Style("wrong", "#b31d28", "#f85149", "41;97"),
 ];
 
-/// Returns the name of the style of a token, or none where it looks like any text. A name in front of a parenthesis is
-/// a function.
+/// Returns the name of the style of a token, or none where it looks like any text. A name in front
+/// of a parenthesis is a function.
 fn style(token: Result<Token, ()>, is_called: bool) -> Option<&'static str> {
     use Token::*;
     Some(match token {

@@ -1,4 +1,5 @@
-//! Compares the parts of a sample with those that are written beside it, and the text of the page with the sample. Where a Chromium is found, so is what it shows.
+//! Compares the parts of a sample with those that are written beside it, and the text of the page
+//! with the sample. Where a Chromium is found, so is what it shows.
 
 use std::fs;
 use std::process::Command;

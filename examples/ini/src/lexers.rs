@@ -1,4 +1,5 @@
-//! The lexers of a settings file. The build expands the derive of `Logos`, and `lib.rs` includes the result.
+//! The lexers of a settings file. The build expands the derive of `Logos`, and `lib.rs` includes
+//! the result.
 
 use logos::{Lexer, Logos};
 use std::fmt;

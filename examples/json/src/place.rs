@@ -9,8 +9,8 @@ pub struct Error {
     pub message: String,
 }
 
-/// Returns the error as `file:line:column: message`, and under it the line with carets. Lines and columns count from 1,
-/// columns in characters.
+/// Returns the error as `file:line:column: message`, and under it the line with carets. Lines and
+/// columns count from 1, columns in characters.
 pub fn shown(path: &str, text: &str, error: &Error) -> String {
     let before = &text[..error.span.start];
     let line_start = before.rfind('\n').map_or(0, |at| at + 1);

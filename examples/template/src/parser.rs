@@ -21,7 +21,8 @@ pub enum Part<'t> {
     Section { path: Vec<&'t str>, is_inverted: bool, parts: Vec<Part<'t>> },
 }
 
-/// A section that is still open: its path, whether it is inverted, where it opened, and the parts in front of it.
+/// A section that is still open: its path, whether it is inverted, where it opened, and the parts
+/// in front of it.
 struct Open<'t> {
     path: Vec<&'t str>,
     is_inverted: bool,

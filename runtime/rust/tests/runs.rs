@@ -3,8 +3,8 @@
 use logos::internal::{CallbackResult, CallbackRetVal, LexerInternal, SkipRetVal};
 use logos::{Filter, FilterResult, Lexer, Logos, Skip, Source};
 
-/// Digits are numbers, blanks are skipped, and letters are what `extras` says. Everything else is an
-/// error.
+/// Digits are numbers, blanks are skipped, and letters are what `extras` says. Everything else is
+/// an error.
 #[derive(Clone, Copy, Debug, PartialEq)]
 enum Word {
     Number(u32),

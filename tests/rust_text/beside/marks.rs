@@ -46,7 +46,8 @@ fn leaf<'s>(lex: &logos::Lexer<'s, Tokens<'s>>, token: Tokens<'s>) -> usize {
     }
 }
 
-/// An error has the value that was made at its place, by a callback just where the match is one that it refuses.
+/// An error has the value that was made at its place, by a callback just where the match is one
+/// that it refuses.
 fn told<'s>(lex: &logos::Lexer<'s, Tokens<'s>>, fault: Fault) {
     assert_eq!((fault.from, &fault.bytes[..]), (lex.span().start, lex.slice()));
     assert_eq!(fault.refusals, if lex.slice() == b"\xFF" { 1 } else { 0 });

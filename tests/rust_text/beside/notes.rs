@@ -1,6 +1,7 @@
 type Tokens = Notes;
 
-/// An error that knows where it was made, and how: by the function that makes errors, or by a callback that refuses.
+/// An error that knows where it was made, and how: by the function that makes errors, or by a
+/// callback that refuses.
 #[derive(Clone, Debug, Default, PartialEq)]
 struct Fault {
     from: usize,
@@ -111,7 +112,8 @@ fn leaf(lex: &logos::Lexer<'_, Tokens>, token: Tokens) -> usize {
     }
 }
 
-/// An error has the value that was made at its place, by a callback just where the match is one that it refuses.
+/// An error has the value that was made at its place, by a callback just where the match is one
+/// that it refuses.
 fn told(lex: &logos::Lexer<'_, Tokens>, fault: Fault) {
     let refused = lex.slice().starts_with('#') || ["<>", "*"].contains(&lex.slice());
     assert_eq!((fault.from, fault.to), (lex.span().start, lex.span().end));

@@ -1,4 +1,5 @@
-# A match that is left out without a callback is not told, nor one that a token's callback leaves out.
+# A match that is left out without a callback is not told, nor one that a token's callback leaves
+# out.
 /^token 0 /d
 /^token 12 /d
 /^token 14 /d

@@ -115,7 +115,8 @@ module _ (nodes : List Node) (starts : List ℕ) (are : AreStarts nodes starts) 
         step_by_own (core_of node) (test_at (record { before = before; after = Some x })) x state.places places _ (slice_index starts live.tree) _ own (rw (← kind, tree) made);
   }
 
--- where each live tree makes one step by both bytes, and both are of one kind or no tree has a look, they lead to one state
+-- where each live tree makes one step by both bytes, and both are of one kind or no tree has a
+-- look, they lead to one state
 pub same_after : (all : List TreeSteps) (lives : List LiveTree) (x y : ℕ) (looks : Bool) → AreSameBy all lives x y → (IsTrue looks → kind_of_byte x ≡ kind_of_byte y) →
     state_after looks all lives x ≡ state_after looks all lives y
 same_after all lives x y looks same kinds =

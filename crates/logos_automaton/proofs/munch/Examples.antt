@@ -99,7 +99,8 @@ first_copy = (0, 0, byte_of 0, omega arith, refl, (0, omega arith, refl, refl, r
 pub second_copy : Reads (repetition 2 (Some 2) true (literal (97 ∷ []))) (97 ∷ 97 ∷ []) 0 (within 2 (byte_of 0)) 1
 second_copy = (1, 1, byte_of 0, omega arith, (1, record { end = refl; here = refl }, refl), (0, omega arith, refl, refl, record { end = refl; here = refl }), refl)
 
--- Where an error ends, in the words of the longest beginning that grows: after it, and after a byte at least.
+-- Where an error ends, in the words of the longest beginning that grows: after it, and after a byte
+-- at least.
 pub stop_is_longest : (rules : List Rule) (bytes : List ℕ) (from n to : ℕ) → n ≤ length (drop from bytes) →
     Grows rules (take n (drop from bytes)) →
     ((m : ℕ) → m ≤ length (drop from bytes) → Grows rules (take m (drop from bytes)) → m ≤ n) →

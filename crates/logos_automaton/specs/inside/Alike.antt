@@ -19,38 +19,39 @@ IsAlike (cat a b) x y = IsAlike a x y × IsAlike b x y
 IsAlike (alt a b) x y = IsAlike a x y × IsAlike b x y
 IsAlike (plus a) x y = IsAlike a x y
 
--- more bytes are marked, among them each byte that the pattern distinguishes from the byte before
+-- More flags are set, among them that of each byte that the pattern distinguishes from the byte
+-- before.
 abbrev pub MarksFor : Core → List Bool → List Bool → Type 0
 MarksFor t old new = (byte : ℕ) → byte + 1 < 256 → slice_index_or new (byte + 1) false ≡ false →
     (slice_index_or old (byte + 1) false ≡ false) × IsAlike t byte (byte + 1)
 
--- each byte below n that the pattern distinguishes from the byte before is among these
+-- Each byte below n that the pattern distinguishes from the byte before is among these.
 abbrev pub AreStartsOf : Core → List ℕ → ℕ → Type 0
 AreStartsOf t bytes n = (byte : ℕ) → byte + 1 < n → Has bytes (byte + 1) ⊎ IsAlike t byte (byte + 1)
 
--- each tree has its list of such bytes
+-- Each tree has its list of such bytes.
 pub record AreClassStarts (nodes : List Node) (lists : List ClassStarts) (n : ℕ) : Type 0 where
   pub count : length lists ≡ n
   pub are : (i : ℕ) → i < n → (node : Node) → node ≡ slice_index_or nodes i node → (list : ClassStarts) → list ≡ slice_index_or lists i list → AreStartsOf (core_of node) list.bytes.items 256
 
--- from these marks the same places read either byte
+-- From these places the same ones read either byte.
 abbrev pub AreReadAlike : List Core → (ℕ → Type 0) → Type 0 → ℕ → ℕ → Type 0
 AreReadAlike ts M entered x y = (test : Look → Bool) (q : ℕ) → StepsIn ts test x M entered q ↔ StepsIn ts test y M entered q
 
--- each byte of another kind than the byte before is marked
+-- Each byte of another kind than the byte before has its flag set.
 abbrev pub AreKindBytes : List Bool → Type 0
 AreKindBytes first = (byte : ℕ) → byte + 1 < 256 → slice_index_or first (byte + 1) false ≡ false → kind_of_byte byte ≡ kind_of_byte (byte + 1)
 
--- and so is each byte that the patterns, with these marks, distinguish from the byte before
+-- And so has each byte that the patterns, from these places, distinguish from the byte before.
 abbrev pub AreFirstBytes : List Core → (ℕ → Type 0) → Type 0 → List Bool → Type 0
 AreFirstBytes ts M entered first = (byte : ℕ) → byte + 1 < 256 → slice_index_or first (byte + 1) false ≡ false →
     AreReadAlike ts M entered byte (byte + 1) × (kind_of_byte byte ≡ kind_of_byte (byte + 1))
 
--- each byte whose entry differs from that of the byte before is one of these
+-- Each byte whose entry differs from that of the byte before is one of these.
 abbrev pub AreChangesOf : List ℕ → List ℕ → Type 0
 AreChangesOf by_byte changes = (x : ℕ) → x + 1 < 256 → (Has changes (x + 1) → ⊥) → slice_index by_byte x ≡ slice_index by_byte (x + 1)
 
--- each byte that is not marked is read by the tree, and by looks, as the byte before
+-- Each byte whose flag is not set is read by the tree, and by looks, as the byte before.
 abbrev pub AreFirstOf : List Node → ℕ → List Bool → Type 0
 AreFirstOf nodes i first = (node : Node) → node ≡ slice_index_or nodes i node → (byte : ℕ) → byte + 1 < 256 → slice_index_or first (byte + 1) false ≡ false →
     IsAlike (core_of node) byte (byte + 1) × (kind_of_byte byte ≡ kind_of_byte (byte + 1))

@@ -9,11 +9,11 @@ use Rattle.logos_places.specs.Node.{core_of, AreMeasured}
 use Rattle.logos_places.specs.Run.{width_of}
 use Rattle.logos_places.specs.Several.{AreStarts}
 
--- the patterns that the trees stand for
+-- The patterns that the trees stand for.
 abbrev pub cores_of : Trees → List Core
 cores_of trees = map core_of trees.nodes.now
 
--- the places of the trees have numbers, and what is known of the trees is right
+-- The places of the trees have numbers, and what is known of the trees is right.
 pub record IsPrepared (trees : Trees) : Type 0 where
   pub fits : width_of (cores_of trees) < 2 ^ 64
   pub measured : AreMeasured trees.nodes.now
@@ -21,6 +21,6 @@ pub record IsPrepared (trees : Trees) : Type 0 where
   pub class_starts : AreClassStarts trees.nodes.now trees.class_starts.now (length trees.nodes.now)
   pub kinds : AreKindBytes trees.kinds.now
 
--- the steps in the cache are those of the trees
+-- The steps in the cache are those of the trees.
 abbrev pub IsCacheOf : Trees → StepCache → Type 0
 IsCacheOf trees cache = AreCached trees.nodes.now trees.starts.now cache.states.keys cache.steps.items

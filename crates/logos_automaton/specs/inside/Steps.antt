@@ -1,4 +1,5 @@
--- The steps of trees, which are made once for each state of a tree, and the states to which they lead.
+-- The steps of trees, which are made once for each state of a tree, and the states to which they
+-- lead.
 use Rattle.std.specs.Prelude.{◌≡◌, ℕ, ◌+◌, ◌<◌, ◌≤◌, ◌⊎◌, Bool, false, List, [], ◌∷◌, ◌++◌, Option, Some, None, length, slice_get, slice_index, slice_index_or, if◌then◌else◌}
 use Rattle.logos_automaton.specs.Keys.{State, IsAt, IsNext, is_start, next_kind}
 use Rattle.logos_automaton.specs.declared.cache.LiveTree.{LiveTree}
@@ -14,7 +15,7 @@ use Rattle.logos_places.specs.declared.node.Node.{Node}
 use Rattle.logos_places.specs.declared.places.look.Kind.{Kind}
 use Rattle.logos_places.specs.declared.places.tree.TreeStep.{TreeStep}
 
--- a step: the places that read the byte, and whether the tree can be left before it
+-- A step: the places that read the byte, and whether the tree can be left before it.
 pub record StepView : Type 0 where
   pub places : List ℕ
   pub left : Bool
@@ -22,26 +23,26 @@ pub record StepView : Type 0 where
 abbrev pub view_of : TreeStep → StepView
 view_of step = record { places = step.places.items; left = step.left }
 
--- a step, or nothing where there is none
+-- A step, or nothing where there is none.
 abbrev pub viewed : Option TreeStep → StepView
 viewed None = record { places = []; left = false }
 viewed (Some step) = view_of step
 
--- the step by the byte x, whose index is in `by_byte`
+-- The step by the byte x, whose index is in `by_byte`.
 abbrev pub step_in : List TreeStep → List ℕ → ℕ → StepView
 step_in found by_byte x = viewed (slice_get found (slice_index by_byte x))
 
--- the same, if there are such steps
+-- The same, if there are such steps.
 abbrev pub step_from : Option TreeSteps → ℕ → StepView
 step_from None x = viewed None
 step_from (Some steps) x = step_in steps.found.items steps.by_byte x
 
--- Where these places read the byte before, which is of this kind, the byte x makes this step on the pattern t, whose places begin
--- at `base`.
+-- Where these places read the byte before, which is of this kind, the byte x makes this step on the
+-- pattern t, whose places begin at `base`.
 abbrev pub Makes : Core → Kind → List ℕ → ℕ → ℕ → StepView → Type 0
 Makes t before places base x step = IsStepOf t (test_at (record { before = before; after = Some x })) x places base step.places step.left
 
--- a state of a tree, as contracts see it
+-- A state of a tree, as contracts see it.
 pub record TreeView : Type 0 where
   pub tree : ℕ
   pub places : List ℕ
@@ -50,43 +51,43 @@ pub record TreeView : Type 0 where
 abbrev pub tree_view : TreeState → TreeView
 tree_view state = record { tree = state.tree; places = state.places.items; kind = state.kind }
 
--- the steps that are stored keep their indices
+-- The steps that are stored keep their indices.
 abbrev pub Keeps : List TreeSteps → List TreeSteps → Type 0
 Keeps old new = (i : ℕ) (steps : TreeSteps) → slice_get old i ≡ Some steps → slice_get new i ≡ Some steps
 
--- no tree from the number i on and below j has one of the places
+-- No tree from the number i on and below j has one of the places.
 pub record NoneLive (starts places : List ℕ) (i j : ℕ) : Type 0 where
   pub order : i ≤ j
   pub none : (q : ℕ) → slice_index starts i ≤ q → q < slice_index starts j → Has places q → ⊥
 
 module _ (nodes : List Node) (starts : List ℕ) where
-  -- the tree of the state is one of the trees
+  -- The tree of the state is one of the trees.
   pub record IsTreeState (state : TreeView) : Type 0 where
     pub there : state.tree < length nodes
     pub rising : IsRising state.places
 
-  -- from the state, the byte x makes this step on the tree
+  -- From the state, the byte x makes this step on the tree.
   abbrev pub MakesFrom : TreeView → ℕ → StepView → Type 0
   MakesFrom state x step = (node : Node) → node ≡ slice_index_or nodes state.tree node →
       Makes (core_of node) state.kind state.places (slice_index starts state.tree) x step
 
-  -- from the state, the first n bytes make these steps on the tree
+  -- From the state, the first n bytes make these steps on the tree.
   pub record AreStepsFrom (state : TreeView) (found : List TreeStep) (by_byte : List ℕ) (n : ℕ) : Type 0 where
     pub there : (x : ℕ) → x < n → slice_index by_byte x < length found
     pub make : (x : ℕ) → x < n → MakesFrom state x (step_in found by_byte x)
 
-  -- the steps from the state have this index
+  -- The steps from the state have this index.
   pub record HasSteps (all : List TreeSteps) (state : TreeView) (i : ℕ) : Type 0 where
     pub steps : TreeSteps
     pub at : slice_get all i ≡ Some steps
     pub are : AreStepsFrom state steps.found.items steps.by_byte 256
 
-  -- each state has its steps
+  -- Each state has its steps.
   pub record AreCached (states : List TreeState) (all : List TreeSteps) : Type 0 where
     pub count : length all ≡ length states
     pub are : (i : ℕ) (state : TreeState) → slice_get states i ≡ Some state → HasSteps all (tree_view state) i
 
-  -- each state but the last has its steps, and the last has none
+  -- Each state but the last has its steps, and the last has none.
   pub record LacksLast (states : List TreeState) (all : List TreeSteps) : Type 0 where
     pub before : List TreeState
     pub last : TreeState
@@ -94,11 +95,11 @@ module _ (nodes : List Node) (starts : List ℕ) where
     pub state : IsTreeState (tree_view last)
     pub cached : AreCached before all
 
-  -- at most the last state has no steps
+  -- At most the last state has no steps.
   abbrev pub AreAlmostCached : List TreeState → List TreeSteps → Type 0
   AreAlmostCached states all = AreCached states all ⊎ LacksLast states all
 
-  -- the steps with the index of the live tree are those of its tree from all these places
+  -- The steps with the index of the live tree are those of its tree from all these places.
   pub record IsLive (places : List ℕ) (before : Kind) (all : List TreeSteps) (live : LiveTree) : Type 0 where
     pub there : live.tree < length nodes
     pub steps : TreeSteps
@@ -106,27 +107,27 @@ module _ (nodes : List Node) (starts : List ℕ) where
     pub make : (node : Node) → node ≡ slice_index_or nodes live.tree node → (x : ℕ) → x < 256 →
         Makes (core_of node) before places (slice_index starts live.tree) x (step_from (Some steps) x)
 
-  -- these are the trees from the number i on and below j that have one of the places
+  -- These are the trees from the number i on and below j that have one of the places.
   abbrev pub AreLive : List ℕ → Kind → List TreeSteps → ℕ → List LiveTree → ℕ → Type 0
   AreLive places before all i [] j = NoneLive starts places i j
   AreLive places before all i (live ∷ lives) j =
       NoneLive starts places i live.tree × IsLive places before all live × AreLive places before all (live.tree + 1) lives j
 
--- the step of a live tree by the byte x
+-- The step of a live tree by the byte x.
 abbrev pub step_of : List TreeSteps → LiveTree → ℕ → StepView
 step_of all live x = step_from (slice_get all live.steps) x
 
--- the places of all live trees that read the byte x
+-- The places of all live trees that read the byte x.
 abbrev pub places_by : List TreeSteps → List LiveTree → ℕ → List ℕ
 places_by all [] x = []
 places_by all (live ∷ lives) x = (step_of all live x).places ++ places_by all lives x
 
--- the live trees that can be left before the byte x
+-- The live trees that can be left before the byte x.
 abbrev pub left_by : List TreeSteps → List LiveTree → ℕ → List ℕ
 left_by all [] x = []
 left_by all (live ∷ lives) x = if (step_of all live x).left then live.tree ∷ left_by all lives x else left_by all lives x
 
--- the state after the byte x
+-- The state after the byte x.
 abbrev pub state_after : Bool → List TreeSteps → List LiveTree → ℕ → State
 state_after looks all lives x = record {
   places = places_by all lives x;
@@ -134,17 +135,18 @@ state_after looks all lives x = record {
   matches = left_by all lives x;
 }
 
--- By the steps of the live trees, each byte leads from the state i to the state that `state_after` gives.
+-- By the steps of the live trees, each byte leads from the state i to the state that `state_after`
+-- gives.
 pub record Foresees (ts : List Core) (looks : Bool) (ks : List Key) (i : ℕ) (all : List TreeSteps) (lives : List LiveTree) : Type 0 where
   pub from : State
   pub from_is : IsAt ks i from
   pub next : (x : ℕ) → x < 256 → IsNext ts looks from x (state_after looks all lives x)
 
--- the state i is not the start
+-- The state i is not the start.
 abbrev pub IsNotStart : List Key → ℕ → Type 0
 IsNotStart ks i = (s : State) → IsAt ks i s → is_start s.kind ≡ false
 
--- both bytes make the same step on each of the live trees
+-- Both bytes make the same step on each of the live trees.
 abbrev pub AreSameBy : List TreeSteps → List LiveTree → ℕ → ℕ → Type 0
 AreSameBy all [] x y = Unit {0}
 AreSameBy all (live ∷ lives) x y = (step_of all live x ≡ step_of all live y) × AreSameBy all lives x y

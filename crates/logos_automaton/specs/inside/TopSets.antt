@@ -4,16 +4,16 @@ use Rattle.logos_automaton.specs.Munch.{Rule, priority_of}
 use Rattle.logos_automaton.specs.Faults.{Ascends}
 
 module _ (rules : List Rule) where
-  -- the highest priority among these leaves
+  -- The highest priority among these leaves.
   abbrev pub highest_of : List ℕ → ℕ
   highest_of [] = 0
   highest_of (leaf ∷ leaves) = max (priority_of rules leaf) (highest_of leaves)
 
-  -- those of this priority
+  -- Those of this priority.
   abbrev pub with_priority : ℕ → List ℕ → List ℕ
   with_priority priority leaves = filter (λ leaf. nat_eq (priority_of rules leaf) priority) leaves
 
-  -- those of the highest priority
+  -- Those of the highest priority.
   abbrev pub top_of : List ℕ → List ℕ
   top_of leaves = with_priority (highest_of leaves) leaves
 
@@ -22,7 +22,7 @@ module _ (rules : List Rule) where
     pub several : 2 ≤ length set
     pub top : set ≡ top_of listed
 
-  -- it is such a set of one of the lists
+  -- It is such a set of one of the lists.
   abbrev pub IsTopIn : List (List ℕ) → List ℕ → Type 0
   IsTopIn lists set = (s : ℕ) × (listed : List ℕ) × (slice_get lists s ≡ Some listed) × IsTopSet listed set
 

@@ -1,16 +1,9 @@
-//! Building the automaton of rules: one loop over its states, from the start on, until each has its targets.
+//! Building the automaton of rules: one loop over its states, from the start on, until each has its
+//! targets. `Graph::new` of `logos_graph` calls it, once the size of the rules is known to be
+//! within the limit.
+
 ghost use Rattle.std.specs.Prelude.{◌≡◌, ◌^◌, ◌<◌, ◌≤◌, ◌+◌, [], Bool, List, IfOk, IfErr, OnOk, length, map, vec_len};
-ghost use Rattle.logos_automaton.specs.inside.Prepared.{IsCacheOf, IsPrepared, cores_of};
-ghost use Rattle.logos_automaton.specs.Building.{IsUnderway, FailsOn, FailsFor};
-ghost use Rattle.logos_places.specs.Core.{Core};
-ghost use Rattle.logos_automaton.specs.DfaView.{dfa_of};
-ghost use Rattle.logos_automaton.specs.Keys.{AreDistinct, AreReached, IsBuilt};
-ghost use Rattle.logos_places.specs.Node.{core_of, AreMeasured};
-ghost use Rattle.logos_places.specs.Run.{width_of};
-ghost use Rattle.logos_automaton.specs.Measures.{size_of};
-ghost use Rattle.logos_automaton.specs.Faults.{AllStart};
-ghost use Rattle.logos_automaton.specs.Automaton.{IsTotal, ReadsOneByteLate};
-ghost use Rattle.logos_automaton.specs.View.{rules_of};
+ghost use Rattle.logos_automaton.specs.Views.{Core, core_of, AreMeasured, width_of, size_of, AllStart, IsTotal, ReadsOneByteLate, IsCacheOf, IsPrepared, cores_of, IsUnderway, FailsOn, FailsFor, dfa_of, AreDistinct, AreReached, IsBuilt, rules_of};
 
 use super::Dfa;
 use crate::alike::{class_starts, kind_bytes};
@@ -33,7 +26,7 @@ pub const MAX_STATES: usize = 65_536;
 ///
 /// # Errors
 ///
-/// Returns `AllocError` when memory runs out.
+/// Returns `AllocError` if memory runs out.
 fn only_start(alloc: Global) -> Result<IndexSet<Key>, AllocError>
     ensures { (looks : Bool) (ts : List Core) →
         IfOk result (λ states. IsUnderway ts looks states.keys [] []) }
@@ -47,7 +40,8 @@ fn only_start(alloc: Global) -> Result<IndexSet<Key>, AllocError>
 ///
 /// # Errors
 ///
-/// Returns `LimitStates` when there are more states than an automaton may have, and `Memory` when memory runs out.
+/// Returns `LimitStates` when there are more states than an automaton may have, and `Memory` when
+/// memory runs out.
 fn fill_next(
     trees: &Trees<'_>,
     cache: &mut StepCache,
@@ -81,7 +75,8 @@ fn fill_next(
 ///
 /// # Errors
 ///
-/// Returns `LimitStates` when there are more states than an automaton may have, and `Memory` when memory runs out.
+/// Returns `LimitStates` when there are more states than an automaton may have, and `Memory` when
+/// memory runs out.
 fn build_nodes(alloc: Global, nodes: &[Node], looks: bool) -> Result<Dfa, BuildError>
     requires fits { width_of (map core_of nodes.now) < 2 ^ 64 }
     requires measured { AreMeasured nodes.now }
@@ -90,7 +85,7 @@ fn build_nodes(alloc: Global, nodes: &[Node], looks: bool) -> Result<Dfa, BuildE
     ensures distinct { IfOk result (λ dfa. AreDistinct dfa.states.keys) }
     ensures reached { IfOk result (λ dfa.
         AreReached (map core_of nodes.now) looks dfa.states.keys) }
-    ensures few { IfOk result (λ dfa. length dfa.states.keys ≤ 65536) }
+    ensures few { IfOk result (λ dfa. length dfa.states.keys ≤ MAX_STATES) }
     ensures fails { IfErr result (FailsOn (map core_of nodes.now) looks) }
 {
     let starts = starts_of(alloc, nodes)?;
@@ -118,13 +113,14 @@ fn build_nodes(alloc: Global, nodes: &[Node], looks: bool) -> Result<Dfa, BuildE
 ///
 /// # Errors
 ///
-/// Returns `LimitStates` when the automaton would have more than 65,536 states, and `Memory` when memory runs out.
+/// Returns `LimitStates` when the automaton would have more than 65,536 states, and `Memory` when
+/// memory runs out.
 pub fn build(alloc: Global, rules: &[RuleView<'_>]) -> Result<Dfa, BuildError>
     requires size { size_of (rules_of rules.now) ≤ 2 ^ 20 }
     requires start { AllStart (rules_of rules.now) }
     ensures late { IfOk result (λ dfa. ReadsOneByteLate (rules_of rules.now) (dfa_of dfa)) }
     ensures total { IfOk result (λ dfa. IsTotal (dfa_of dfa)) }
-    ensures few { IfOk result (λ dfa. length (dfa_of dfa).matches ≤ 65536) }
+    ensures few { IfOk result (λ dfa. length (dfa_of dfa).matches ≤ MAX_STATES) }
     ensures fails { IfErr result (FailsFor (rules_of rules.now)) }
 {
     let nodes = nodes_of(alloc, rules)?;

@@ -1,4 +1,6 @@
-//! The parts of an automaton, by the number of a state.
+//! The parts of an automaton, by the number of a state. The faults of rules, the table of a graph
+//! and the evidence are read off them.
+
 ghost use Rattle.std.specs.Prelude.{◌≡◌, ◌<◌, Some, length, slice_get};
 ghost use Rattle.logos_automaton.specs.DfaView.{dfa_of};
 

@@ -1,8 +1,10 @@
 //! Walks of an automaton, from state to state.
-ghost use Rattle.std.specs.Prelude.{◌≤◌};
+
+ghost use Rattle.std.specs.Prelude.{◌≤◌, ◌≡◌};
 
 use super::Dfa;
 use super::parts::leaves_at;
+use crate::row::SYMBOLS;
 use logos_hir::leaf::LeafId;
 
 /// A state of an automaton, by its number.
@@ -15,7 +17,8 @@ pub struct Matches<'d> {
     leaves: &'d [usize],
 }
 
-/// The targets of a state: by each byte from 0 to 255, and then by the end. Equal targets come more than once.
+/// The targets of a state: by each byte from 0 to 255, and then by the end. Equal targets come more
+/// than once.
 #[derive(Clone, Copy)]
 pub struct Children<'d> {
     row: &'d [u16],
@@ -31,8 +34,6 @@ pub struct States {
 }
 
 impl StateId {
-    ghost use Rattle.std.specs.Prelude.{◌≡◌};
-
     /// Returns the number of the state. The start has the number 0.
     pub fn index(self) -> usize
         ensures { result ≡ self.0 }
@@ -43,11 +44,7 @@ impl StateId {
 
 impl Dfa {
     ghost use Rattle.std.specs.Prelude.{◌≡◌, ◌<◌, ◌↔◌, ℕ, IsTrue, Some, Contains, length, slice_get};
-    ghost use Rattle.std.specs.List.{All, range_with_len};
-    ghost use Rattle.logos_automaton.specs.DfaView.{dfa_of};
-    ghost use Rattle.logos_automaton.specs.Automaton.{dfa_next};
-    ghost use Rattle.logos_automaton.specs.Reach.{IsReachable};
-    ghost use Rattle.logos_automaton.specs.Walks.{matches_left, children_left, states_left};
+    ghost use Rattle.logos_automaton.specs.Views.{All, range_with_len, dfa_next, IsReachable, dfa_of, matches_left, children_left, states_left};
 
     /// Returns the state before the first byte.
     pub fn start(&self) -> StateId
@@ -92,10 +89,11 @@ impl Dfa {
         }
     }
 
-    /// Returns the targets of a state: by each byte from 0 to 255, and then by the end. The automaton must have the state.
+    /// Returns the targets of a state: by each byte from 0 to 255, and then by the end. The
+    /// automaton must have the state.
     pub fn iter_children(&self, state: StateId) -> Children<'_>
         requires { state.0 < length (dfa_of self.now).matches }
-        ensures count { length (children_left result) ≡ 257 }
+        ensures count { length (children_left result) ≡ SYMBOLS }
         ensures by_byte { (byte : ℕ) → byte < 256 → slice_get (children_left result) byte ≡
             dfa_next (dfa_of self.now) (Some state.0) byte }
         ensures at_end { slice_get (children_left result) 256 ≡
@@ -109,7 +107,8 @@ impl Dfa {
         }
     }
 
-    /// Returns the start and all states that are reached from it in any number of steps, ascending: all states of the automaton.
+    /// Returns the start and all states that are reached from it in any number of steps, ascending:
+    /// all states of the automaton.
     pub fn get_states(&self) -> States
         ensures all { states_left result ≡ range_with_len 0 (length (dfa_of self.now).matches) }
         ensures reached { (s : ℕ) → Contains (states_left result) s ↔
@@ -125,8 +124,7 @@ impl Dfa {
 impl Iterator for Matches<'_> {
     type Item = LeafId;
 
-    ghost use Rattle.std.specs.Iterator.{YieldsFirstBy, item_count};
-    ghost use Rattle.logos_automaton.specs.Walks.{matches_left};
+    ghost use Rattle.logos_automaton.specs.Views.{YieldsFirstBy, item_count, matches_left};
 
     ghost next_gives = { YieldsFirstBy (λ leaf. leaf.0) matches_left };
 
@@ -142,8 +140,7 @@ impl Iterator for Matches<'_> {
 impl Iterator for Children<'_> {
     type Item = StateId;
 
-    ghost use Rattle.std.specs.Iterator.{YieldsFirstBy, item_count};
-    ghost use Rattle.logos_automaton.specs.Walks.{children_left};
+    ghost use Rattle.logos_automaton.specs.Views.{YieldsFirstBy, item_count, children_left};
 
     ghost next_gives = { YieldsFirstBy (λ state. state.0) children_left };
 
@@ -163,8 +160,7 @@ impl Iterator for Children<'_> {
 impl Iterator for States {
     type Item = StateId;
 
-    ghost use Rattle.std.specs.Iterator.{YieldsFirstBy, item_count};
-    ghost use Rattle.logos_automaton.specs.Walks.{states_left};
+    ghost use Rattle.logos_automaton.specs.Views.{YieldsFirstBy, item_count, states_left};
 
     ghost next_gives = { YieldsFirstBy (λ state. state.0) states_left };
 

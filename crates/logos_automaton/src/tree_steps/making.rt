@@ -1,8 +1,7 @@
-//! Making the steps of one tree by each byte.
+//! Making the steps of one tree by each byte. `cache` calls it once for each state of a tree.
+
 ghost use Rattle.std.specs.Prelude.{◌≡◌, ◌+◌, ◌-◌, ◌<◌, ◌≤◌, ℕ, false, IsTrue, IfOk, IfSome, OnOk, length, vec_len, slice_get, slice_index, slice_index_or};
-ghost use Rattle.logos_automaton.specs.inside.Alike.{AreChangesOf, AreFirstOf};
-ghost use Rattle.logos_automaton.specs.inside.Prepared.{IsPrepared};
-ghost use Rattle.logos_automaton.specs.inside.Steps.{tree_view, view_of, viewed, AreStepsFrom, IsTreeState, MakesFrom};
+ghost use Rattle.logos_automaton.specs.Views.{AreChangesOf, AreFirstOf, IsPrepared, tree_view, view_of, viewed, AreStepsFrom, IsTreeState, MakesFrom};
 
 use crate::alike::{add_bytes, note};
 use crate::tree_steps::{TreeState, TreeSteps};
@@ -39,7 +38,7 @@ fn position_of(found: &[TreeStep], step: &TreeStep) -> usize
 ///
 /// # Errors
 ///
-/// Returns `AllocError` when memory runs out.
+/// Returns `AllocError` if memory runs out.
 fn add_step(found: &mut Vec<TreeStep>, step: TreeStep) -> Result<usize, AllocError>
     ensures stored { IfOk result (λ i. viewed (slice_get found.new.items i) ≡ view_of step) }
     ensures within { IfOk result (λ i. i < vec_len found.new) }
@@ -59,7 +58,7 @@ fn add_step(found: &mut Vec<TreeStep>, step: TreeStep) -> Result<usize, AllocErr
 ///
 /// # Errors
 ///
-/// Returns `AllocError` when memory runs out.
+/// Returns `AllocError` if memory runs out.
 fn step_by(trees: &Trees<'_>, state: &TreeState, byte: u8) -> Result<TreeStep, AllocError>
     requires prepared { IsPrepared trees.now }
     requires state { IsTreeState trees.now.nodes.now trees.now.starts.now (tree_view state.now) }
@@ -88,7 +87,7 @@ fn step_by(trees: &Trees<'_>, state: &TreeState, byte: u8) -> Result<TreeStep, A
 ///
 /// # Errors
 ///
-/// Returns `AllocError` when memory runs out.
+/// Returns `AllocError` if memory runs out.
 fn index_by(
     trees: &Trees<'_>,
     state: &TreeState,
@@ -129,7 +128,7 @@ fn first_in(trees: &Trees<'_>, tree: usize) -> [bool; 256]
     first
 }
 
-/// Returns the index of the step by the byte before, if the byte is not marked.
+/// Returns the index of the step by the byte before, if the flag of the byte is not set.
 fn index_before(first: &[bool; 256], by_byte: &[u8; 256], byte: usize) -> Option<u8>
     requires within { byte < 256 }
     ensures { IfSome result (λ i. (1 ≤ byte) × (slice_index_or first.now byte false ≡ false)
@@ -148,7 +147,7 @@ fn index_before(first: &[bool; 256], by_byte: &[u8; 256], byte: usize) -> Option
 ///
 /// # Errors
 ///
-/// Returns `AllocError` when memory runs out.
+/// Returns `AllocError` if memory runs out.
 fn changes_of(alloc: Global, by_byte: &[u8; 256]) -> Result<Vec<u8>, AllocError>
     ensures { IfOk result (λ changes. AreChangesOf by_byte.now changes.items) }
 {
@@ -164,7 +163,7 @@ fn changes_of(alloc: Global, by_byte: &[u8; 256]) -> Result<Vec<u8>, AllocError>
 ///
 /// # Errors
 ///
-/// Returns `AllocError` when memory runs out.
+/// Returns `AllocError` if memory runs out.
 pub fn steps_of(trees: &Trees<'_>, state: &TreeState) -> Result<TreeSteps, AllocError>
     requires prepared { IsPrepared trees.now }
     requires state { IsTreeState trees.now.nodes.now trees.now.starts.now (tree_view state.now) }

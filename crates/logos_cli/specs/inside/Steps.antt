@@ -15,7 +15,7 @@ use Rattle.logos_rust_file.specs.Handed.{IsStripped}
 use Rattle.logos_token.specs.Faults.{Fault}
 use Rattle.logos_token.specs.Tokens.{TokenList}
 
--- one more enum was gathered: what it gives stands at the end
+-- One more enum was gathered: what it gives stands at the end.
 pub record GathersOne (shape : Shape) (text : List ℕ) (one : FoundEnum) (old new : Gathered) : Type 0 where
   pub parts : List Replacement
   pub refused : List Refused
@@ -23,19 +23,19 @@ pub record GathersOne (shape : Shape) (text : List ℕ) (one : FoundEnum) (old n
   pub refused_are : new.refused.items ≡ old.refused.items ++ refused
   pub completes : (rest : List FoundEnum) (more : List Replacement) (worse : List Refused) → Gathers shape text rest more worse → Gathers shape text (one ∷ rest) (parts ++ more) (refused ++ worse)
 
--- these are the faults of a refusal other than for want of memory
+-- These are the faults of a refusal other than for want of memory.
 abbrev pub AreFaultsOf : Refusal → List Fault → Type 0
 AreFaultsOf (refusals.Errors faults) others = others ≡ faults
 AreFaultsOf refusals.Memory others = ⊥
 
--- one more refusal stands at the end, with the faults of what begins at an offset
+-- One more refusal stands at the end, with the faults of what begins at an offset.
 pub record AddsRefusal (offset : ℕ) (refusal : Refusal) (old new : List Refused) : Type 0 where
   pub bad : Refused
   pub is_offset : bad.offset ≡ offset
   pub faults : AreFaultsOf refusal bad.errors
   pub are : new ≡ old ++ bad ∷ []
 
--- these are tokens, and after LF the text of a lexer with this code and with attributes, laid out
+-- These are tokens, and after LF the text of a lexer with this code and with attributes, laid out.
 pub record IsPrintedWith (shape : Shape) (code : CodeValue) (left : TokenList) (shown : List ℕ) : Type 0 where
   pub written : List ℕ
   pub lexer : List ℕ
@@ -46,7 +46,7 @@ pub record IsPrintedWith (shape : Shape) (code : CodeValue) (left : TokenList) (
   pub is_laid_out : IsLaidOut (under by_name left lexer) laid
   pub is : shown ≡ written ++ 10 ∷ laid
 
--- this is the expansion of an enum whose lexer has this code
+-- This is the expansion of an enum whose lexer has this code.
 pub record IsExpansionBy (shape : Shape) (code : CodeValue) (source shown : List ℕ) : Type 0 where
   pub left : TokenList
   pub stripped : IsStripped source left

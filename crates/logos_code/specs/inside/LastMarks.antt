@@ -7,28 +7,29 @@ use Rattle.logos_code.specs.Runs.{stays, target}
 use Rattle.logos_code.specs.declared.code.last_marks.LastMark.{LastMark}
 use Rattle.logos_code.specs.declared.code.last_marks.LastMark.TheVariants.{Unseen, Varies, Never, Back}
 
--- the last mark agrees with the mark of its state
+-- The last mark agrees with the mark of its state.
 abbrev pub IsOwn : LastMark → Option Mark → Type 0
 IsOwn Unseen mark = Unit {0}
 IsOwn Varies mark = Unit {0}
 IsOwn Never mark = mark ≡ None
 IsOwn (Back leaf bytes) mark = IfSome mark (λ m. (leaf.0 ≡ m.leaf) × (bytes ≡ (if m.late then 1 else 0)))
 
--- it is this leaf's, one byte before
+-- It is this leaf's, one byte before.
 abbrev pub FollowsBack : LastMark → ℕ → ℕ → Type 0
 FollowsBack Unseen leaf bytes = ⊥
 FollowsBack Varies leaf bytes = ⊥
 FollowsBack Never leaf bytes = ⊥
 FollowsBack (Back last before) leaf bytes = (last.0 ≡ leaf) × (before + 1 ≡ bytes)
 
--- the last mark in a state without a mark of its own follows from that in a state that leads to it by a byte
+-- The last mark in a state without a mark of its own follows from that in a state that leads to it
+-- by a byte.
 abbrev pub Follows : LastMark → LastMark → Option ℕ → Type 0
 Follows Unseen from fast_loop = Unit {0}
 Follows Varies from fast_loop = Unit {0}
 Follows Never from fast_loop = from ≡ Never
 Follows (Back leaf bytes) from fast_loop = (fast_loop ≡ None) × FollowsBack from leaf.0 bytes
 
--- no mark is passed as a try begins
+-- No mark is passed as a try begins.
 abbrev pub BeginsUnmarked : LastMark → Type 0
 BeginsUnmarked Unseen = Unit {0}
 BeginsUnmarked Varies = Unit {0}
@@ -36,15 +37,15 @@ BeginsUnmarked Never = Unit {0}
 BeginsUnmarked (Back leaf bytes) = ⊥
 
 module _ (code : CodeValue) (marks : List LastMark) where
-  -- the last mark in the state, if it has none of its own
+  -- The last mark in the state, if it has none of its own.
   abbrev pub FollowsAt : LastMark → ℕ → Type 0
   FollowsAt from s = (state_at code s).mark ≡ None → Follows (last_mark_at marks s) from (state_at code s).fast_loop
 
-  -- the entry says something, and where it leads to a state the last mark there follows
+  -- The entry says something, and where it leads to a state the last mark there follows.
   abbrev pub EntryAgrees : LastMark → ℕ → Type 0
   EntryAgrees from entry = (entry < 2415919104) × (entry < 268435456 → FollowsAt from (entry / 272))
 
-  -- so does it where the byte leads
+  -- So does it where the byte leads.
   abbrev pub EdgeAgrees : ℕ → ℕ → Type 0
   EdgeAgrees s b = (t : ℕ) → stays code (state_at code s).fast_loop b ≡ false → target code (state_at code s).fork b ≡ Some t → FollowsAt (last_mark_at marks s) t
 

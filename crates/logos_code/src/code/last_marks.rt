@@ -1,7 +1,9 @@
 //! Last marks: which mark a try has passed last, where it ends in a state.
 //!
-//! Where all ways to a state agree on it, a lexer need not note the marks that it passes. The last marks are searched for
-//! along the entries of the rows, and then checked: only the check says that they are right.
+//! Where all ways to a state agree on it, a lexer need not note the marks that it passes. The last
+//! marks are searched for along the entries of the rows, and then checked: only the check says that
+//! they are right.
+
 ghost use Rattle.std.specs.Prelude.{◌≡◌, ◌+◌, ◌*◌, ◌<◌, ◌≤◌, IfOk, IsTrue, length, option_map, if◌then◌else◌};
 ghost use Rattle.logos_code.specs.Views.{code_of, mark_of, IsSound, AreLastMarks, last_mark_at, AreRows, IsOwn, Follows, FollowsBack, EntryAgrees, StateAgrees, BeginsUnmarked, Agree};
 
@@ -35,7 +37,8 @@ struct Search {
 /// Returns the last marks of all states, or none.
 ///
 /// # Errors
-/// Returns an error when memory runs out.
+///
+/// Returns an error if memory runs out.
 pub(super) fn last_marks_of(
     alloc: Global,
     parts: &CodeParts,
@@ -55,7 +58,8 @@ pub(super) fn last_marks_of(
 /// Searches for the last marks of all states.
 ///
 /// # Errors
-/// Returns an error when memory runs out.
+///
+/// Returns an error if memory runs out.
 fn find(alloc: Global, parts: &CodeParts, rows: &[u32]) -> Result<Vec<LastMark>, AllocError> {
     let mut search = Search {
         found: vec![in alloc; LastMark::Unseen; parts.states.len()]?,
@@ -165,12 +169,12 @@ fn begins_unmarked(mark: LastMark) -> bool
     !matches!(mark, LastMark::Back(..))
 }
 
-/// Returns whether the last mark in a state agrees with the state's mark, and with the last marks in those to which its
-/// bytes lead.
+/// Returns whether the last mark in a state agrees with the state's mark, and with the last marks
+/// in those to which its bytes lead.
 fn state_agrees(parts: &CodeParts, rows: &[u32], marks: &[LastMark], state: usize) -> bool
     requires rows { AreRows (code_of parts.now) rows.now }
     requires state { state < length parts.now.states.items }
-    requires room { 272 * state + 256 ≤ length rows.now }
+    requires room { WIDTH * state + 256 ≤ length rows.now }
     ensures { IsTrue result → StateAgrees (code_of parts.now) marks.now state }
 {
     let from = last_mark_at(marks, state);
@@ -199,8 +203,8 @@ fn is_own(last: LastMark, mark: Option<Mark>) -> bool
     }
 }
 
-/// Returns whether the last mark in the state to which the entry leads, if it leads to one, follows from that in the state
-/// that has the entry. An entry that says nothing does not agree.
+/// Returns whether the last mark in the state to which the entry leads, if it leads to one, follows
+/// from that in the state that has the entry. An entry that says nothing does not agree.
 fn entry_agrees(parts: &CodeParts, marks: &[LastMark], from: LastMark, entry: u32) -> bool
     ensures { IsTrue result → EntryAgrees (code_of parts.now) marks.now from entry }
 {
@@ -220,8 +224,8 @@ fn entry_agrees(parts: &CodeParts, marks: &[LastMark], from: LastMark, entry: u3
     follows(from, next.fast_loop, last_mark_at(marks, to))
 }
 
-/// Returns whether the last mark in a state without a mark of its own follows from that in a state that leads to it by a
-/// byte.
+/// Returns whether the last mark in a state without a mark of its own follows from that in a state
+/// that leads to it by a byte.
 fn follows(from: LastMark, fast_loop: Option<usize>, to: LastMark) -> bool
     ensures { IsTrue result → Follows to from fast_loop }
 {

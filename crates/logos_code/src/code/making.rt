@@ -1,4 +1,6 @@
-//! Makes code values. This module is for the generator of codes alone, so `code` does not export it.
+//! Makes code values. This module is for the generator of codes alone, so `code` does not export
+//! it.
+
 ghost use Rattle.std.specs.Prelude.{◌≡◌, IfOk};
 ghost use Rattle.logos_code.specs.Views.{code_of, IsValid};
 
@@ -10,10 +12,12 @@ use super::uses::uses_of;
 use super::{Code, CodeParts};
 use std::alloc::{AllocError, Global};
 
-/// Makes the code of these parts. Everything that they name must exist, and no two of their jump tables may be equal.
+/// Makes the code of these parts. Everything that they name must exist, and no two of their jump
+/// tables may be equal.
 ///
 /// # Errors
-/// Returns an error when memory runs out.
+///
+/// Returns an error if memory runs out.
 pub fn make_code<'s>(alloc: Global, parts: CodeParts<'s>) -> Result<Code<'s>, AllocError>
     requires { IsValid parts }
     ensures { IfOk result (λ code. code ≡ code_of parts.entry) }

@@ -1,9 +1,8 @@
-//! Masks: the tests of fast loops, for sixteen bytes at once.
+//! Masks: the tests of fast loops, for sixteen bytes at once. `making` makes them, and the fast
+//! loops of lexers look them up.
 
 ghost use Rattle.std.specs.Prelude.{◌≡◌, ◌+◌, ◌*◌, ◌<◌, ◌≤◌, ◌^◌, ◌==◌, ℕ, if◌then◌else◌, IfOk};
-ghost use Rattle.std.specs.Int.{bit_at};
-ghost use Rattle.logos_code.specs.Words.{passes_test};
-ghost use Rattle.logos_code.specs.Views.{code_of, IsMask, AreMasks, NamesTest};
+ghost use Rattle.logos_code.specs.Views.{bit_at, passes_test, code_of, IsMask, AreMasks, NamesTest};
 
 use super::CodeParts;
 use std::alloc::{AllocError, Global};
@@ -11,7 +10,8 @@ use std::alloc::{AllocError, Global};
 /// Makes the masks of all tests, in the order of their numbers.
 ///
 /// # Errors
-/// Returns an error when memory runs out.
+///
+/// Returns an error if memory runs out.
 pub(super) fn masks_of(alloc: Global, parts: &CodeParts) -> Result<Vec<[u8; 32]>, AllocError>
     ensures { IfOk result (λ masks. AreMasks (code_of parts.now) masks.items) }
 {
@@ -23,7 +23,8 @@ pub(super) fn masks_of(alloc: Global, parts: &CodeParts) -> Result<Vec<[u8; 32]>
     Ok(masks)
 }
 
-/// Returns the mask of the test. Bit `b / 16 % 8` of entry `16 * (b / 128) + b % 16` is set where byte `b` passes the test.
+/// Returns the mask of the test. Bit `b / 16 % 8` of entry `16 * (b / 128) + b % 16` is set where
+/// byte `b` passes the test.
 fn mask_of(parts: &CodeParts, test: usize) -> [u8; 32]
     requires { NamesTest (code_of parts.now) test }
     ensures { IsMask (passes_test parts.now.bit_tables.items test) result }
@@ -35,11 +36,14 @@ fn mask_of(parts: &CodeParts, test: usize) -> [u8; 32]
     mask
 }
 
-/// Returns the entry of a mask for the eight bytes that are 16 apart from the first one on: bit `k` is set where byte `k` of
-/// these passes the test.
+/// The bytes below this one have seven more that follow them 16 apart.
+const FIRSTS: usize = 144;
+
+/// Returns the entry of a mask for the eight bytes that are 16 apart from the first one on: bit `k`
+/// is set where byte `k` of these passes the test.
 fn mask_entry(parts: &CodeParts, test: usize, first: usize) -> u8
     requires test { NamesTest (code_of parts.now) test }
-    requires first { first < 144 }
+    requires first { first < FIRSTS }
     ensures { (k : ℕ) → k < 8 → (bit_at result k == 1)
         ≡ passes_test parts.now.bit_tables.items test (first + 16 * k) }
 {

@@ -1,12 +1,13 @@
 //! Rows: what each byte does in each state, as one number.
 //!
-//! The rows of all states lie in one table, one after another, `WIDTH` entries each: what byte `b` does in state `s` is entry
-//! `WIDTH * s + b`. The place of a state is the index of the first entry of its row. An entry has its kind in the upper
-//! four bits, and below them what it names. The kinds are numbered in the order in which a lexer asks for them:
+//! The rows of all states lie in one table, one after another, `WIDTH` entries each: what byte `b`
+//! does in state `s` is entry `WIDTH * s + b`. The offset of a state is the index of the first
+//! entry of its row. An entry has its kind in the upper four bits, and below them what it names.
+//! The kinds are numbered in the order in which a lexer asks for them:
 //!
 //! | Kind | It names | The byte |
 //! |---|---|---|
-//! | 0 | the place of a state | leads to this state |
+//! | 0 | the offset of a state | leads to this state |
 //! | 1, `STAYS` | a test | stays in the state, whose fast loop has this test |
 //! | 2, `LEAVES` | a leaf, `LATE` | ends a match before it, which is skipped without a callback |
 //! | 3, `HALTS` | a leaf, `LATE` | ends a match before it, which is a token without a callback |
@@ -17,13 +18,13 @@
 //! | 8, `STUCK` | nothing | leads nowhere, and the state marks no match there |
 //! | 9, `UNSAID` | nothing | does something that entries do not name |
 //!
-//! A match that ends after the byte is marked by the state to which the byte leads, and that state does nothing else.
-//! Where the match ends before the byte, bit `LATE` says whether the state itself marks it and the byte leads nowhere
-//! (0), or the byte leads to a state that marks it late and does nothing else (1). What is too large for an entry is
-//! `UNSAID`.
+//! A match that ends after the byte is marked by the state to which the byte leads, and that state
+//! does nothing else. Where the match ends before the byte, bit `LATE` says whether the state
+//! itself marks it and the byte leads nowhere (0), or the byte leads to a state that marks it late
+//! and does nothing else (1). What is too large for an entry is `UNSAID`.
+
 ghost use Rattle.std.specs.Prelude.{◌≡◌, ◌+◌, ◌*◌, ◌<◌, ◌≤◌, ◌⊎◌, false, ℕ, List, length, map, None, Some, option_map, IfOk, IfSome, slice_index_or};
-ghost use Rattle.logos_code.specs.Words.{comparison_of, some_compares, passes_test};
-ghost use Rattle.logos_code.specs.Views.{by_conditions, IsSound, NamesTest, NamesState, NamesCondition, NamesFork, NamesWhatIsThere, stays, target, passes, mark_of, condition_of, branch_of, fork_of, use_of, jumps_of, state_of, has_mask, code_of, closing, IsStepOf, first_halting, first_closing, IsUse, IsPlainUse, Says, IsHalting, IsEntry, IsRow, AreRows, IsFirstEntry, IsFirstOf};
+ghost use Rattle.logos_code.specs.Views.{comparison_of, some_compares, passes_test, by_conditions, IsSound, NamesTest, NamesState, NamesCondition, NamesFork, NamesWhatIsThere, stays, target, passes, mark_of, condition_of, branch_of, fork_of, use_of, jumps_of, state_of, has_mask, code_of, closing, IsStepOf, first_halting, first_closing, IsUse, IsPlainUse, Says, IsHalting, IsEntry, IsRow, AreRows, IsFirstEntry, IsFirstOf};
 
 use super::{CodeLeaf, CodeParts, CodeState, Condition, Fork, Mark, target_of};
 use logos_byte_class::byte_class::Comparisons;
@@ -34,30 +35,36 @@ use std::alloc::{AllocError, Global};
 /// How many entries a kind has.
 const NAMED: u32 = 1 << 28;
 
-/// How many entries a row has: one for each byte, and 16 more that are not used. So the entries of one byte in many states
-/// do not lie a power of two apart, where they would drive each other out of a processor's cache.
+/// How many entries a row has: one for each byte, and 16 more that are not used. So the entries of
+/// one byte in many states do not lie a power of two apart, where they would drive each other out
+/// of a processor's cache.
 pub const WIDTH: usize = 272;
 
 /// How many states entries can name.
 const STATES: usize = 986_896;
 
-/// Added to an entry of a match that ends before the byte, where the byte leads to a state that marks the match late.
+/// Added to an entry of a match that ends before the byte, where the byte leads to a state that
+/// marks the match late.
 pub const LATE: u32 = 1 << 27;
 
-/// The first entry that names a test: the byte stays in the state, whose fast loop has this test. An entry below it is
-/// the place of the state to which the byte leads.
+/// The first entry that names a test: the byte stays in the state, whose fast loop has this test.
+/// An entry below it is the offset of the state to which the byte leads.
 pub const STAYS: u32 = NAMED;
 
-/// The first entry that names a leaf whose match ends before the byte, and is skipped without a callback.
+/// The first entry that names a leaf whose match ends before the byte, and is skipped without a
+/// callback.
 pub const LEAVES: u32 = 2 * NAMED;
 
-/// The first entry that names a leaf whose match ends before the byte, and is a token without a callback.
+/// The first entry that names a leaf whose match ends before the byte, and is a token without a
+/// callback.
 pub const HALTS: u32 = 3 * NAMED;
 
-/// The first entry that names a leaf whose match ends after the byte, and is a token without a callback.
+/// The first entry that names a leaf whose match ends after the byte, and is a token without a
+/// callback.
 pub const CLOSES: u32 = 4 * NAMED;
 
-/// The first entry that names a leaf whose match ends after the byte, and is skipped without a callback.
+/// The first entry that names a leaf whose match ends after the byte, and is skipped without a
+/// callback.
 pub const SHUTS: u32 = 5 * NAMED;
 
 /// The first entry that names a leaf whose match ends before the byte, and is up to a callback.
@@ -92,7 +99,8 @@ pub enum Step {
     Stays(usize),
     /// It leads nowhere, and a match of this leaf ends before it.
     Halts(LeafId, MatchUse),
-    /// It leads to a state that marks a match of this leaf late, one that ends before it, and does nothing else.
+    /// It leads to a state that marks a match of this leaf late, one that ends before it, and does
+    /// nothing else.
     Looks(LeafId, MatchUse),
     /// It leads to a state that marks a match of this leaf, and does nothing else.
     Closes(LeafId, MatchUse),
@@ -144,7 +152,8 @@ fn first_closing(used: MatchUse) -> u32
 /// Makes the rows of all states.
 ///
 /// # Errors
-/// Returns an error when memory runs out.
+///
+/// Returns an error if memory runs out.
 pub(super) fn rows_of(alloc: Global, parts: &CodeParts) -> Result<Vec<u32>, AllocError>
     requires { IsSound (code_of parts.now) }
     ensures { IfOk result (λ rows. AreRows (code_of parts.now) rows.items) }
@@ -179,10 +188,10 @@ fn entry_at(parts: &CodeParts, state: &CodeState, byte: u8) -> u32
     entry_of_step(parts.step(state, byte))
 }
 
-/// Returns the row for the first byte of a try, from the rows of all states and the state in which tries begin. An
-/// entry of it leads to a state, closes a match or says nothing.
+/// Returns the row for the first byte of a try, from the rows of all states and the state in which
+/// tries begin. An entry of it leads to a state, closes a match or says nothing.
 pub(super) fn first_row(rows: &[u32], root: usize) -> [u32; 256]
-    requires { 272 * root + 256 ≤ length rows.now }
+    requires { WIDTH * root + 256 ≤ length rows.now }
     ensures { IsFirstOf rows.now root result }
 {
     let mut first = [UNSAID; 256];

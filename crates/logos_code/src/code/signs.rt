@@ -1,4 +1,6 @@
-//! Signs: the marks of states, found by one look.
+//! Signs: the marks of states, found by one look. `making` makes them, and the slow way of a try
+//! reads them.
+
 ghost use Rattle.std.specs.Prelude.{◌≡◌, IfOk, map, option_map};
 ghost use Rattle.logos_code.specs.Views.{mark_of, code_of, mark_by, AreSigns};
 
@@ -6,7 +8,8 @@ use super::{CodeParts, Mark};
 use logos_hir::leaf::LeafId;
 use std::alloc::{AllocError, Global};
 
-/// The mark of a state. A lexer distinguishes the three by a branch, so it need not wait for the leaf.
+/// The mark of a state. A lexer distinguishes the three by a branch, so it need not wait for the
+/// leaf.
 #[derive(Clone, Copy)]
 pub enum Sign {
     /// The state has no mark.
@@ -20,7 +23,8 @@ pub enum Sign {
 /// Returns the signs of all states.
 ///
 /// # Errors
-/// Returns an error when memory runs out.
+///
+/// Returns an error if memory runs out.
 pub(super) fn signs_of(alloc: Global, parts: &CodeParts) -> Result<Vec<Sign>, AllocError>
     ensures { IfOk result (λ signs. AreSigns (code_of parts.now) (map mark_by signs.items)) }
 {

@@ -1,4 +1,6 @@
-//! Uses: what becomes of the matches of a leaf, by one look.
+//! Uses: what becomes of the matches of a leaf, by one look. `making` makes them, and a lexer reads
+//! them at the end of a match.
+
 ghost use Rattle.std.specs.Prelude.{◌≡◌, IfOk, map};
 ghost use Rattle.logos_code.specs.Views.{use_of, use_by};
 
@@ -6,7 +8,8 @@ use super::{CodeLeaf, CodeParts};
 use logos_pattern::leaf::VariantKind;
 use std::alloc::{AllocError, Global};
 
-/// What becomes of the matches of a leaf, in two bytes. A lexer reads these in place of the leaves, which are far larger.
+/// What becomes of the matches of a leaf, in two bytes. A lexer reads these in place of the leaves,
+/// which are far larger.
 #[derive(Clone, Copy)]
 pub(crate) struct LeafUse {
     /// The matches are skipped.
@@ -18,7 +21,8 @@ pub(crate) struct LeafUse {
 /// Returns the uses of all leaves, in the order of their numbers.
 ///
 /// # Errors
-/// Returns an error when memory runs out.
+///
+/// Returns an error if memory runs out.
 pub(super) fn uses_of(alloc: Global, parts: &CodeParts) -> Result<Vec<LeafUse>, AllocError>
     ensures { IfOk result (λ uses. map use_by uses.items ≡ map use_of parts.now.leaves.items) }
 {

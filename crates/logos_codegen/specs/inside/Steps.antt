@@ -20,7 +20,8 @@ IsLimit LimitSize item before after = after ≡ before ++ fault_at LimitSizeCode
 IsLimit LimitStates item before after = after ≡ before ++ fault_at LimitStatesCode states_text item ∷ []
 IsLimit Memory item before after = ⊥
 
--- The graph of leaves, if there is one, and the faults after its own are reported. Without a graph there is one at least.
+-- The graph of leaves, if there is one, and the faults after its own are reported. Without a graph
+-- there is one at least.
 pub record ReportsGraph (leaves : List Leaf) (utf8 : Bool) (item : Span) (before after : List SourceFault) (graph : Option GraphValue) : Type 0 where
   pub faults : List SourceFault
   pub reports : GraphReports (map named_rule leaves) item faults
@@ -36,7 +37,8 @@ IsFaultless leaves utf8 item before graph = ReportsGraph leaves utf8 item before
 abbrev pub AreGraphFaults : List Leaf → Bool → Span → List SourceFault → List SourceFault → Type 0
 AreGraphFaults leaves utf8 item before faults = (faults ≢ []) × ((graph : Option GraphValue) × ReportsGraph leaves utf8 item before faults graph)
 
--- The graph of a source without faults, which has this analysis. The source is accepted with the rules of the graph, and is within the limits of size.
+-- The graph of a source without faults, which has this analysis. The source is accepted with the
+-- rules of the graph, and is within the limits of size.
 pub record IsGraphMade (source : List ℕ) (analysis : AnalysisView) (graph : GraphValue) : Type 0 where
   pub accepted : IsAccepted source (rules_of graph.leaves) graph.utf8
   pub of_source : IsGraphOfSource source analysis.name analysis.options graph

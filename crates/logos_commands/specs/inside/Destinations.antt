@@ -7,16 +7,17 @@ use Rattle.logos_commands.specs.declared.failure.Failure.TheVariants.{NotExporte
 use Rattle.logos_commands.specs.declared.outcome.Outcome.{Outcome}
 use Rattle.logos_commands.specs.declared.outcome.Outcome.TheVariants.{Text, Chart}
 
--- whether this is why a chart does not go where it is to go: its path is refused, or the bytes of it found no memory
+-- Whether this is why a chart does not go where it is to go: its path is refused, or the bytes of
+-- it found no memory.
 abbrev pub FailsAt : Destination → Failure → Type 0
 FailsAt (file_at path) failure = failure ≡ Memory
 FailsAt (refused why) failure = failure ≡ NotExported why
 
--- what an outcome does once it is delivered
+-- What an outcome does once it is delivered.
 abbrev pub effect_of : Outcome → Effect
 effect_of (Text text) = prints (string_bytes text)
 effect_of (Chart path text) = makes_file (string_bytes path) (string_bytes text)
 
--- a text of which this holds, and LF
+-- A text of which this holds, and LF.
 abbrev pub EndsWithLine : (List ℕ → Type 0) → List ℕ → Type 0
 EndsWithLine Holds shown = (text : List ℕ) × Holds text × (shown ≡ text ++ 10 ∷ [])

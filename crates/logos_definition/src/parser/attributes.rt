@@ -1,8 +1,7 @@
 //! Reads whole attributes of an enum and its variants.
 
-ghost use Rattle.std.specs.Prelude.{OnOk};
-ghost use Rattle.logos_definition.specs.Words.{AddsFault};
-ghost use Rattle.logos_definition.specs.Views.{logos_form};
+ghost use Rattle.std.specs.Prelude.{OnOk, ◌≡◌, OnErr, IfOk, option_map, true};
+ghost use Rattle.logos_definition.specs.Views.{AddsFault, attribute_value, IsReport, logos_form, meta_report, ReadsMeta, ReadsAttribute, definition_view, meta_of, meta_view, parser_view, HasNotFailed};
 
 use crate::definition::{Definition, read_definition};
 use crate::meta::{Meta, meta_of};
@@ -20,10 +19,6 @@ fn report_logos_form(span: Span, errors: &mut Errors) -> Result<(), Memory>
 }
 
 impl<'s> Parser<'s> {
-    ghost use Rattle.std.specs.Prelude.{◌≡◌, OnOk, OnErr, IfOk, option_map, true};
-    ghost use Rattle.logos_definition.specs.Words.{attribute_value, IsReport};
-    ghost use Rattle.logos_definition.specs.Views.{meta_report, ReadsMeta, ReadsAttribute, definition_view, meta_of, meta_view, parser_view, HasNotFailed};
-
     /// Adds the arguments of a `logos` attribute, or reports that it has none.
     fn add_meta(&mut self, meta: Meta<'_, 's>, span: Span) -> Result<(), Memory>
         ensures { OnOk result (ReadsMeta

@@ -21,8 +21,7 @@ use logos_token::util::MaybeVoid;
 
 impl<'s> Parser<'s> {
     ghost use Rattle.std.specs.Prelude.{OnOk, IfOk, string_bytes};
-    ghost use Rattle.logos_definition.specs.Words.{grouped, named, tokens_of, ident_slice, literal_slice, IsReport, map_report, and_then, text_report, string_in, literal_view, value_of, piece_of, pieces_left, definition_report, skip_plain, skip_whole, skip_report, mode_set, utf8_report, extras_set, extras_report, crate_report, path_set, held_path, export_report, subpattern_set, subpattern_report, error_set, error_report, setting_report, option_report, ReadsError, ReadsType, ReadsPiece, ReadsPieces};
-    ghost use Rattle.logos_definition.specs.Views.{error_view, parser_view};
+    ghost use Rattle.logos_definition.specs.Views.{grouped, named, tokens_of, ident_slice, literal_slice, IsReport, map_report, and_then, text_report, string_in, literal_view, value_of, piece_of, pieces_left, definition_report, skip_plain, skip_whole, skip_report, mode_set, utf8_report, extras_set, extras_report, crate_report, path_set, held_path, export_report, subpattern_set, subpattern_report, error_set, error_report, setting_report, option_report, ReadsError, ReadsType, ReadsPiece, ReadsPieces, error_view, parser_view};
 
     /// Sets the UTF-8 mode, in place of a former one.
     fn set_mode(&mut self, tokens: Tokens<'_, 's>) -> Result<(), Memory>

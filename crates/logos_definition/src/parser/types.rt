@@ -1,8 +1,8 @@
 //! Declares the generic parameters of an enum, and replaces them in types.
 
-ghost use Rattle.std.specs.Prelude.{OnOk};
-ghost use Rattle.logos_definition.specs.Words.{AddsFault};
-ghost use Rattle.logos_definition.specs.Views.{const_generic};
+ghost use Rattle.std.specs.Prelude.{OnOk, ◌≡◌, ◌++◌, [], IfOk, OnErr, option_map, true};
+ghost use Rattle.logos_definition.specs.Views.{AddsFault, run_span, tokens_of, type_tree, IsReport, ident_slice, generics, generics_of, missing_types, GetsUnheld, const_generic, parameter_report, parser_view, HasNotFailed};
+ghost use Rattle.logos_type_params.specs.TypeParams.{value_of};
 
 use crate::parser::Parser;
 use logos_enum::{Parameter, ParameterKind};
@@ -23,11 +23,6 @@ fn report_const(span: Span, errors: &mut Errors) -> Result<(), Memory>
 }
 
 impl<'s> Parser<'s> {
-    ghost use Rattle.std.specs.Prelude.{◌≡◌, ◌++◌, [], IfOk, OnOk, OnErr, option_map, true};
-    ghost use Rattle.logos_definition.specs.Words.{run_span, tokens_of, type_tree, IsReport, ident_slice, generics, generics_of, missing_types, GetsUnheld};
-    ghost use Rattle.logos_definition.specs.Views.{parameter_report, parser_view, HasNotFailed};
-    ghost use Rattle.logos_type_params.specs.TypeParams.{value_of};
-
     /// Adds a generic parameter.
     fn add_parameter(&mut self, parameter: Parameter<'_, 's>) -> Result<(), Memory>
         ensures { OnOk result (IsReport

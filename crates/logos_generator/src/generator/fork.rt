@@ -1,4 +1,6 @@
-//! Makes forks and fast loops.
+//! Makes forks and fast loops. `states` calls it for each state, and `nodes` for the state that its
+//! caller names.
+
 ghost use Rattle.std.specs.Prelude.{◌≡◌, ◌<◌, ◌≤◌, ◌↔◌, ◌&&◌, ◌==◌, ℕ, true, IfOk, OnOk, OnErr, IsTrue, [], ◌∷◌, length, map, option_map, find, nat_le, slice_index, None};
 ghost use Rattle.logos_generator.specs.Words.{All, flat_map, option_or, ranges_of, has_byte, AreSeparated, comparison_of, condition_of, branch_of, entry_of, fork_of, edge_of, state_number, hit, leads_beside, Extends, IsConditionOf, AreBranchesOf, IsForkOf, IsLoopOf, cost, numbered, loop_uses, condition_uses, branch_uses, fork_uses, fork_tables, jump_table, with_tables, AddsBranch};
 
@@ -41,7 +43,8 @@ fn edge_back<'e>(edges: &'e [(ByteClass, State)], state: usize) -> Option<&'e By
     None
 }
 
-/// Makes the fork of a state, without the edge back to it: a table for more than two edges, else conditions.
+/// Makes the fork of a state, without the edge back to it: a table for more than two edges, else
+/// conditions.
 pub(super) fn impl_fork(
     alloc: Global,
     tables: &mut NodeTables,
@@ -49,7 +52,7 @@ pub(super) fn impl_fork(
     state: usize,
 ) -> Result<Fork, AllocError>
     requires separated { All (λ edge. AreSeparated (ranges_of edge.0)) edges.now }
-    requires targets { All (λ edge. state_number edge.1 < 4294967295) edges.now }
+    requires targets { All (λ edge. state_number edge.1 < NOWHERE) edges.now }
     ensures tests { Extends tables.old.tests.keys tables.new.tests.keys }
     ensures jumps { Extends tables.old.jumps.keys tables.new.jumps.keys }
     ensures is { IfOk result (λ fork. IsForkOf tables.new.tests.keys state
@@ -68,7 +71,7 @@ pub(super) fn impl_fork(
 
 /// Returns the jump table of a state's edges, without the edge back to it.
 fn table_of(edges: &[(ByteClass, State)], state: usize) -> [u32; 256]
-    requires { All (λ edge. state_number edge.1 < 4294967295) edges.now }
+    requires { All (λ edge. state_number edge.1 < NOWHERE) edges.now }
     ensures long { length result ≡ 256 }
     ensures leads { (b : ℕ) → b < 256 →
         entry_of (slice_index result b) ≡ leads_beside state (map edge_of edges.now) b }
@@ -83,7 +86,7 @@ fn table_of(edges: &[(ByteClass, State)], state: usize) -> [u32; 256]
 
 /// Writes an edge into the table, unless it leads back to the state.
 fn fill_edge(table: &mut [u32; 256], edge: &(ByteClass, State), state: usize)
-    requires { state_number edge.now.1 < 4294967295 }
+    requires { state_number edge.now.1 < NOWHERE }
     ensures { (b : ℕ) → b < 256 → entry_of (slice_index table.new b) ≡ option_or
         (entry_of (slice_index table.old b)) (leads_beside state (edge_of edge.now ∷ []) b) }
 {
@@ -94,7 +97,7 @@ fn fill_edge(table: &mut [u32; 256], edge: &(ByteClass, State), state: usize)
 
 /// Writes the target at each byte of the class that has none.
 fn fill_class(table: &mut [u32; 256], class: &ByteClass, target: u32)
-    requires { target < 4294967295 }
+    requires { target < NOWHERE }
     ensures { (b : ℕ) → b < 256 → entry_of (slice_index table.new b)
         ≡ hit (has_byte class.now b) target (entry_of (slice_index table.old b)) }
 {
@@ -105,7 +108,7 @@ fn fill_class(table: &mut [u32; 256], class: &ByteClass, target: u32)
 
 /// Writes the target at each byte of a range that has none.
 fn fill_range(table: &mut [u32; 256], first: u8, last: u8, target: u32)
-    requires { target < 4294967295 }
+    requires { target < NOWHERE }
     ensures { (b : ℕ) → b < 256 → entry_of (slice_index table.new b)
         ≡ hit (nat_le first b && nat_le b last) target (entry_of (slice_index table.old b)) }
 {
@@ -116,7 +119,7 @@ fn fill_range(table: &mut [u32; 256], first: u8, last: u8, target: u32)
 
 /// Returns the entry, or the target if the entry leads nowhere.
 fn filled(entry: u32, target: u32) -> u32
-    requires { target < 4294967295 }
+    requires { target < NOWHERE }
     ensures { entry_of result ≡ hit true target (entry_of entry) }
 {
     if entry == NOWHERE { target } else { entry }
@@ -166,7 +169,8 @@ fn add_branch(
     Ok(())
 }
 
-/// Makes the test of a class: by comparisons, or by a bit of a table if they cost more than two operations.
+/// Makes the test of a class: by comparisons, or by a bit of a table if they cost more than two
+/// operations.
 fn condition_of(
     alloc: Global,
     tests: &mut IndexSet<[bool; 256]>,

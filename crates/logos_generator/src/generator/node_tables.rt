@@ -1,4 +1,6 @@
-//! The tables that the nodes of a code share.
+//! The tables that the nodes of a code share. `fork` adds to them, and `states` puts them into the
+//! code.
+
 ghost use Rattle.std.specs.Prelude.{◌≡◌, []};
 
 use indexmap::IndexSet;
@@ -14,8 +16,8 @@ pub(super) struct NodeTables {
 }
 
 impl NodeTables {
-    /// Returns tables without a test and without a jump table. They take their memory from `alloc` when they grow; this call takes
-    /// none.
+    /// Returns tables without a test and without a jump table. They take their memory from `alloc`
+    /// when they grow; this call takes none.
     pub(super) fn new(alloc: Global) -> NodeTables
         ensures tests { result.tests.keys ≡ [] }
         ensures jumps { result.jumps.keys ≡ [] }

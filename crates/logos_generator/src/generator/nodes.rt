@@ -1,7 +1,7 @@
-//! Makes the nodes of a code one by one.
+//! Makes the nodes of a code one by one. Callers of `Generator` ask for them; `generate` does not.
+
 ghost use Rattle.std.specs.Prelude.{◌≡◌, ◌≤◌, ◌<◌, OnOk, OnErr, IfOk, length};
-ghost use Rattle.logos_generator.specs.Words.{ranges_of, graph_state_of, state_number, code_leaf_value, leaf_value, left_out, bit_tables_of, IsCodable};
-ghost use Rattle.logos_generator.specs.Views.{Continues, MakesFork, MakesLoop, MakesLoopOver};
+ghost use Rattle.logos_generator.specs.Views.{ranges_of, graph_state_of, state_number, code_leaf_value, leaf_value, left_out, bit_tables_of, IsCodable, Continues, MakesFork, MakesLoop, MakesLoopOver};
 
 use super::Generator;
 use super::fork::{impl_fork, maybe_impl_fast_loop};
@@ -20,7 +20,8 @@ pub struct FastLoop {
     pub test: usize,
 }
 
-/// The macro that ends a try. After a match that is skipped, the next try begins in the state with this number.
+/// The macro that ends a try. After a match that is skipped, the next try begins in the state with
+/// this number.
 #[derive(Clone, Copy, Debug, PartialEq, Eq)]
 pub struct TakeAction {
     pub restart: usize,
@@ -41,11 +42,12 @@ pub fn fast_loop_macro(unroll_factor: usize) -> FastLoopMacro
 }
 
 impl<'s> Generator<'_, 's> {
-    /// Makes the fork of a state with this data, with the edge back to the state or without it. Its tests and its jump table are
-    /// numbered after those of the nodes made before.
+    /// Makes the fork of a state with this data, with the edge back to the state or without it. Its
+    /// tests and its jump table are numbered after those of the nodes made before.
     ///
     /// # Errors
-    /// Returns `Memory` when memory runs out. The generator is then as it was.
+    ///
+    /// Returns `Memory` if memory runs out. The generator is then as it was.
     pub fn impl_fork(
         &mut self,
         alloc: Global,
@@ -73,7 +75,8 @@ impl<'s> Generator<'_, 's> {
     /// Makes the fast loop of a state of the graph, over the edge back to it, if there is one.
     ///
     /// # Errors
-    /// Returns `Memory` when memory runs out. The generator is then as it was.
+    ///
+    /// Returns `Memory` if memory runs out. The generator is then as it was.
     pub fn maybe_impl_fast_loop(
         &mut self,
         _alloc: Global,
@@ -94,7 +97,8 @@ impl<'s> Generator<'_, 's> {
     /// Makes the fast loop over an edge with these bytes.
     ///
     /// # Errors
-    /// Returns `Memory` when memory runs out. The generator is then as it was.
+    ///
+    /// Returns `Memory` if memory runs out. The generator is then as it was.
     pub fn impl_fast_loop(
         &mut self,
         _alloc: Global,
@@ -111,7 +115,8 @@ impl<'s> Generator<'_, 's> {
     /// Returns the code's leaf for a leaf: its kind, and a copy of its callback.
     ///
     /// # Errors
-    /// Returns `Memory` when memory runs out.
+    ///
+    /// Returns `Memory` if memory runs out.
     pub fn generate_callback(&self, _alloc: Global, leaf: &Leaf<'s>) -> Result<CodeLeaf<'s>, Memory>
         ensures { IfOk result (λ made. code_leaf_value made ≡ leaf_value leaf.now) }
     {
@@ -125,21 +130,25 @@ impl<'s> Generator<'_, 's> {
         TakeAction { restart: 0 }
     }
 
-    /// Returns the bit tables of the tests of all nodes made so far: after `generate`, those of the code.
+    /// Returns the bit tables of the tests of all nodes made so far: after `generate`, those of the
+    /// code.
     ///
     /// # Errors
-    /// Returns `Memory` when memory runs out.
+    ///
+    /// Returns `Memory` if memory runs out.
     pub fn render_luts(&self, alloc: Global) -> Result<Vec<[u8; 256]>, Memory>
         ensures { IfOk result (λ tables. tables.items ≡ bit_tables_of self.now.tests) }
     {
         Ok(tables_of(alloc, self.tables.tests.as_slice())?)
     }
 
-    /// Returns the jump tables of all forks made so far, by their numbers: after `generate`, those of the code. An entry is the number
-    /// of the state that the byte leads to, or `NOWHERE`. `Fork::Table(k)` names table k.
+    /// Returns the jump tables of all forks made so far, by their numbers: after `generate`, those
+    /// of the code. An entry is the number of the state that the byte leads to, or `NOWHERE`.
+    /// `Fork::Table(k)` names table k.
     ///
     /// # Errors
-    /// Returns `Memory` when memory runs out.
+    ///
+    /// Returns `Memory` if memory runs out.
     pub fn render_jump_tables(&self, alloc: Global) -> Result<Vec<[u32; 256]>, Memory>
         ensures { IfOk result (λ tables. tables.items ≡ self.now.jumps) }
     {
@@ -147,8 +156,8 @@ impl<'s> Generator<'_, 's> {
     }
 }
 
-/// Returns the number of the state to which a fork has no edge: the state itself if `ignore_self` holds, else a number that no state
-/// has.
+/// Returns the number of the state to which a fork has no edge: the state itself if `ignore_self`
+/// holds, else a number that no state has.
 fn left_out(ignore_self: bool, state: usize) -> usize
     ensures { result ≡ left_out ignore_self state }
 {

@@ -1,4 +1,6 @@
-//! Makes tests of bytes by the bits of tables.
+//! Makes tests of bytes by the bits of tables. `fork` adds tests, and `states` makes the tables
+//! once all tests are known.
+
 ghost use Rattle.std.specs.Prelude.{◌≡◌, ◌+◌, ◌*◌, ◌<◌, ◌≤◌, ◌/◌, ◌∷◌, [], ℕ, Some, IfOk, OnOk, OnErr, length, slice_get, if◌then◌else◌};
 ghost use Rattle.logos_generator.specs.Words.{beq, pointwise, insert_key, ranges_of, passes_test, Extends, IsTest, tests_byte, numbered, bits_from, bit_table, bit_tables_of};
 
@@ -6,7 +8,8 @@ use indexmap::IndexSet;
 use logos_byte_class::byte_class::ByteClass;
 use std::alloc::{AllocError, Global};
 
-/// Returns the number of the test for the bytes of the class, and adds the test if it is new. Classes with the same bytes share a test.
+/// Returns the number of the test for the bytes of the class, and adds the test if it is new.
+/// Classes with the same bytes share a test.
 pub(super) fn add_test(
     tests: &mut IndexSet<[bool; 256]>,
     class: &ByteClass,
@@ -71,7 +74,8 @@ fn entry_of(tests: &[[bool; 256]], j: usize, b: usize) -> u8
     bits
 }
 
-/// Returns the bit of test number `k` for the byte `b`: 1 if there is such a test and it holds, else 0.
+/// Returns the bit of test number `k` for the byte `b`: 1 if there is such a test and it holds,
+/// else 0.
 fn bit_of(tests: &[[bool; 256]], k: usize, b: usize) -> u8
     requires { b < 256 }
     ensures { result ≡ (if tests_byte tests.now k b then 1 else 0) }

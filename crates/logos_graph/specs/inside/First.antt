@@ -3,12 +3,12 @@ use Rattle.std.specs.Prelude.{ℕ, List, [], ◌∷◌, Option, Some, None, nat_
 use Rattle.logos_automaton.specs.Munch.{Rule, priority_of}
 
 module _ (rules : List Rule) where
-  -- the leaf, or the other one if that has a higher priority
+  -- The leaf, or the other one if that has a higher priority.
   abbrev pub higher : ℕ → Option ℕ → ℕ
   higher leaf None = leaf
   higher leaf (Some other) = if nat_lt (priority_of rules leaf) (priority_of rules other) then other else leaf
 
-  -- a leaf of highest priority among those listed
+  -- A leaf of highest priority among those listed.
   abbrev pub first_of : List ℕ → Option ℕ
   first_of [] = None
   first_of (leaf ∷ leaves) = Some (higher leaf (first_of leaves))

@@ -8,22 +8,23 @@ use Rattle.logos_reduce.specs.Rows.{target_in}
 use Rattle.logos_reduce.specs.declared.table.Mark.{Mark}
 
 module _ (rules : List Rule) (leaves : ℕ) where
-  -- the leaf, if it has a higher priority than the best one before it, or else that one
+  -- The leaf, if it has a higher priority than the best one before it, or else that one.
   abbrev pub best_with : Option ℕ → ℕ → ℕ
   best_with None leaf = leaf
   best_with (Some best) leaf = higher rules best (Some leaf)
 
-  -- the late mark of a state that lists these leaves: one of highest priority, if all of them are leaves
+  -- The late mark of a state that lists these leaves: one of highest priority, if all of them are
+  -- leaves.
   pub record IsRawMark (listed : List ℕ) (mark : Mark) : Type 0 where
     pub early : mark.early ≡ None
     pub named : IfSome mark.accept (λ leaf. leaf < leaves)
     pub first : All (λ leaf. leaf < leaves) listed → mark.accept ≡ first_of rules listed
 
-  -- the mark of the state s
+  -- The mark of the state s.
   abbrev pub IsMarkOf : Automaton → ℕ → Mark → Type 0
   IsMarkOf dfa s mark = (listed : List ℕ) × (slice_get dfa.matches s ≡ Some listed) × IsRawMark listed mark
 
--- the rows have the targets of the first n states
+-- The rows have the targets of the first n states.
 pub record AreRawRows (dfa : Automaton) (rows : List (List ℕ)) (n : ℕ) : Type 0 where
   pub len : length rows ≡ n
   pub next : (s b : ℕ) → s < n → b < 256 → target_in rows s b ≡ dfa_next dfa (Some s) b

@@ -8,8 +8,8 @@ use Rattle.logos_graph.specs.inside.First.{first_of}
 use Rattle.logos_automaton.specs.Automaton.{Automaton, dfa_next}
 use Rattle.logos_reduce.specs.Edges.{StateType, Edges, reach, Leads}
 
--- The mark of a state that is entered by one step from the place `at`: a leaf and the end of its match.
--- A state with no mark leaves the mark before it.
+-- The mark of a state that is entered by one step from the point `at`: a leaf and the end of its
+-- match. A state with no mark leaves the mark before it.
 abbrev pub marked : StateType → ℕ → Option (ℕ × ℕ) → Option (ℕ × ℕ)
 marked type at last = go type.early type.accept
   where
@@ -19,29 +19,30 @@ marked type at last = go type.early type.accept
     go None None = last
 
 module _ {S : Type 0} (g : Edges S) where
-  -- the last mark on the way along the rest and the end, from a state at a place
+  -- The last mark on the way along the rest and the end, from a state at a point.
   abbrev pub last_mark : S → List ℕ → ℕ → Option (ℕ × ℕ) → Option (ℕ × ℕ)
   last_mark s [] at last = option_map_or (λ t. marked (g.type_of t) at last) (g.at_end s) last
   last_mark s (b ∷ rest) at last = option_map_or (λ t. last_mark t rest (at + 1) (marked (g.type_of t) at last)) (g.next s b) last
 
-  -- how many bytes of the rest can be followed
+  -- How many bytes of the rest can be followed.
   abbrev pub followed : S → List ℕ → ℕ
   followed s [] = 0
   followed s (b ∷ rest) = option_map_or (λ t. followed t rest + 1) (g.next s b) 0
 
-  -- no beginning of the rest that leads on goes beyond the place
+  -- No beginning of the rest that leads on goes beyond the point.
   abbrev pub Covers : S → List ℕ → ℕ → ℕ → Type 0
   Covers s [] at to = Unit {0}
   Covers s (b ∷ rest) at to = (t : S) → g.next s b ≡ Some t → Leads g t → (at + 1 ≤ to) × Covers t rest (at + 1) to
 
 module _ {S : Type 0} (g : Edges S) (root : S) (utf8 : Bool) (bytes : List ℕ) (from : ℕ) where
-  -- An error may end here: after a byte, after all bytes that can be followed, and in UTF-8 mode between characters.
+  -- An error may end here: after a byte, after all bytes that can be followed, and in UTF-8 mode
+  -- between characters.
   pub record MayEnd (to : ℕ) : Type 0 where
     pub nonempty : from < to
     pub covers : from + followed g root (drop from bytes) ≤ to
     pub boundary : IsTrue utf8 → IsCharBoundary bytes to
 
-  -- there is no mark on the way, and the error ends at the first place where it may
+  -- There is no mark on the way, and the error ends at the first point where it may.
   pub record IsUnmarked (to : ℕ) : Type 0 where
     pub starts : from < length bytes
     pub unmarked : last_mark g root (drop from bytes) from None ≡ None
@@ -54,23 +55,24 @@ module _ {S : Type 0} (g : Edges S) (root : S) (utf8 : Bool) (bytes : List ℕ) 
   WalkFinds (failed to) = IsUnmarked to
 
 module _ (rules : List Rule) where
-  -- no rule matches the span
+  -- No rule matches the span.
   abbrev pub NoneMatches : List ℕ → ℕ → ℕ → Type 0
   NoneMatches bytes from to = (leaf : ℕ) → RuleMatches rules leaf bytes from to → ⊥
 
-  -- a late mark alone, of the rule of highest priority among those that match the span, if one does
+  -- A late mark alone, of the rule of highest priority among those that match the span, if one
+  -- does.
   pub record IsLateMark (type : StateType) (bytes : List ℕ) (from to : ℕ) : Type 0 where
     pub late : type.early ≡ None
     pub first : MatchOption type.accept (NoneMatches bytes from to) (IsFirst rules bytes from to)
 
-  -- after bytes and one more, and after bytes and the end, there is the mark of all of the bytes
+  -- After bytes and one more, and after bytes and the end, there is the mark of all of the bytes.
   pub record MarksOneByteLate {S : Type 0} (g : Edges S) (root : S) : Type 0 where
     pub by_byte : (bytes : List ℕ) (b : ℕ) → IsBytes (bytes ++ b ∷ []) →
         (t : S) × (reach g root (bytes ++ b ∷ []) ≡ Some t) × IsLateMark (g.type_of t) (bytes ++ b ∷ []) 0 (length bytes)
     pub at_end : (bytes : List ℕ) → IsBytes bytes →
         (s t : S) × (reach g root bytes ≡ Some s) × (g.at_end s ≡ Some t) × IsLateMark (g.type_of t) bytes 0 (length bytes)
 
--- a finished graph, as its edges
+-- A finished graph, as its edges.
 abbrev pub edges_of : List GraphState → Edges ℕ
 edges_of graph = record {
   type_of = λ s. option_map_or (λ state. state.state_type) (slice_get graph s) (record { accept = None; early = None });
@@ -78,11 +80,11 @@ edges_of graph = record {
   at_end = next_at_end graph;
 }
 
--- what a finished graph finds at a place
+-- What a finished graph finds at a point.
 abbrev pub GraphFindsByWalk : List GraphState → Bool → List ℕ → ℕ → Found → Type 0
 GraphFindsByWalk graph utf8 bytes from = WalkFinds (edges_of graph) 0 utf8 bytes from
 
--- an automaton, as a graph with late marks alone
+-- An automaton, as a graph with late marks alone.
 abbrev pub edges_of_automaton : List Rule → Automaton → Edges ℕ
 edges_of_automaton rules dfa = record {
   type_of = λ s. record { accept = option_and_then (first_of rules) (slice_get dfa.matches s); early = None };

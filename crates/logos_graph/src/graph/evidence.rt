@@ -1,4 +1,5 @@
-//! Distinguishes two states of a graph by bytes.
+//! Distinguishes two states of a graph by bytes. Callers ask for it, of graphs that are made.
+
 ghost use Rattle.std.specs.Prelude.{◌≡◌, ◌≢◌, ◌<◌, ◌↔◌, [], IsTrue, IfOk, length};
 ghost use Rattle.logos_graph.specs.Words.{Distinguishes, IsEvidence};
 
@@ -6,7 +7,8 @@ use super::{Graph, State};
 use logos_token::error::Memory;
 use std::alloc::Global;
 
-/// Bytes that distinguish two states: they lead to states of different types, or can be followed from exactly one of the two.
+/// Bytes that distinguish two states: they lead to states of different types, or can be followed
+/// from exactly one of the two.
 #[derive(Debug, Drop)]
 pub struct Telling {
     pub bytes: Vec<u8>,
@@ -15,8 +17,8 @@ pub struct Telling {
 }
 
 impl Graph<'_> {
-    /// Returns bytes that distinguish two different states of this graph, fewer than it has states, and whether the end
-    /// follows them.
+    /// Returns bytes that distinguish two different states of this graph, fewer than it has states,
+    /// and whether the end follows them.
     ///
     /// # Errors
     ///
@@ -32,7 +34,8 @@ impl Graph<'_> {
         Ok(Telling { bytes, at_end })
     }
 
-    /// Returns whether the bytes, with the end after them or without, distinguish two states of this graph. It takes no memory.
+    /// Returns whether the bytes, with the end after them or without, distinguish two states of
+    /// this graph. It takes no memory.
     pub fn checks(&self, s: State, t: State, bytes: &[u8], at_end: bool) -> bool
         requires s_in { s.0 < length self.now.states }
         requires t_in { t.0 < length self.now.states }

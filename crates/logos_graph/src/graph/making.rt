@@ -1,4 +1,5 @@
-//! Makes the graph of leaves.
+//! Makes the graph of leaves. `Graph::new` is here.
+
 ghost use Rattle.std.specs.Prelude.{◌≡◌, ◌^◌, ◌<◌, ◌≤◌, [], IfOk, IfErr, length, map};
 ghost use Rattle.logos_graph.specs.Words.{dfa_of, AreFaults, AllStart, fault_of, IsGraphOf, AreFindings, Refuses, size_of, rules_of, IsTotal, ReadsOneByteLate, Memory, LimitSize};
 ghost use Rattle.logos_automaton.specs.View as views;
@@ -8,7 +9,7 @@ use super::{BuildError, Config, Graph, GraphError};
 use crate::leaves::{is_size_within, rule_views};
 use crate::raw_table::raw_table;
 use logos_automaton::dfa::Dfa;
-use logos_automaton::dfa::build::build;
+use logos_automaton::dfa::build::{MAX_STATES, build};
 use logos_automaton::faults::graph_errors;
 use logos_automaton::rule::{RuleView, some_leads, some_passable};
 use logos_pattern::leaf::Leaf;
@@ -17,7 +18,7 @@ use std::alloc::Global;
 /// Returns the automaton of no rules.
 fn automaton_of_none(alloc: Global) -> Result<Dfa, BuildError>
     ensures total { IfOk result (λ dfa. IsTotal (dfa_of dfa)) }
-    ensures few { IfOk result (λ dfa. length (dfa_of dfa).matches ≤ 65536) }
+    ensures few { IfOk result (λ dfa. length (dfa_of dfa).matches ≤ MAX_STATES) }
     ensures err { IfErr result (λ e. e ≡ Memory) }
 {
     match build(alloc, &[]) {
@@ -26,13 +27,14 @@ fn automaton_of_none(alloc: Global) -> Result<Dfa, BuildError>
     }
 }
 
-/// Returns the automaton of the rules, if each of their trees takes a byte before it looks or matches, and else of no rules.
+/// Returns the automaton of the rules, if each of their trees takes a byte before it looks or
+/// matches, and else of no rules.
 fn automaton(alloc: Global, rules: &[RuleView<'_>]) -> Result<Dfa, BuildError>
     requires { size_of (views.rules_of rules.now) ≤ 2 ^ 20 }
     ensures late { IfOk result (λ dfa. AllStart (views.rules_of rules.now) →
         ReadsOneByteLate (views.rules_of rules.now) (dfa_of dfa)) }
     ensures total { IfOk result (λ dfa. IsTotal (dfa_of dfa)) }
-    ensures few { IfOk result (λ dfa. length (dfa_of dfa).matches ≤ 65536) }
+    ensures few { IfOk result (λ dfa. length (dfa_of dfa).matches ≤ MAX_STATES) }
     ensures err { IfErr result (Refuses (views.rules_of rules.now)) }
 {
     if some_leads(rules) {
@@ -82,7 +84,7 @@ fn finished<'s>(
     dfa: Dfa,
 ) -> Result<Graph<'s>, BuildError>
     requires total { IsTotal (dfa_of dfa) }
-    requires few { length (dfa_of dfa).matches ≤ 65536 }
+    requires few { length (dfa_of dfa).matches ≤ MAX_STATES }
     requires late { ReadsOneByteLate (rules_of leaves.items) (dfa_of dfa) }
     requires faultless { AreFaults (rules_of leaves.items) [] }
     ensures graph { IfOk result (IsGraphOf leaves.entry.items config.utf8_mode) }
@@ -96,13 +98,15 @@ fn finished<'s>(
 impl<'s> Graph<'s> {
     /// Returns the graph of leaves, which are numbered in their order.
     ///
-    /// The faults of the leaves are in `errors`: a missing universal start alone; else the leaves that match nothing; else
-    /// all sets of leaves that are ambiguous, ascending. Where there is a fault, the graph has no states.
+    /// The faults of the leaves are in `errors`: a missing universal start alone; else the leaves
+    /// that match nothing; else all sets of leaves that are ambiguous, ascending. Where there is a
+    /// fault, the graph has no states.
     ///
     /// # Errors
     ///
-    /// `LimitSize` exactly where the size of all trees passes 1,048,576. `LimitStates` only where each pattern takes a byte
-    /// before it looks or matches, and the automaton would have more than 65,536 states. `Memory` where memory runs out.
+    /// `LimitSize` exactly where the size of all trees passes 1,048,576. `LimitStates` only where
+    /// each pattern takes a byte before it looks or matches, and the automaton would have more than
+    /// 65,536 states. `Memory` where memory runs out.
     pub fn new(
         alloc: Global,
         leaves: Vec<Leaf<'s>>,

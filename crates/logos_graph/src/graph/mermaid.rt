@@ -1,7 +1,7 @@
-//! Draws charts of graphs in Mermaid's language.
+//! Draws charts of graphs in Mermaid's language. `Graph::get_mermaid` calls it.
+
 ghost use Rattle.std.specs.Prelude.{◌≡◌, ◌<◌, ◌++◌, IfOk, OnOk, map, option_map, codes, string_bytes};
-ghost use Rattle.logos_graph.specs.Words.{decimal, flat_map, bounds, ranges_of, byte_text, label_character, label_text, range_label, next_label, class_label, state_label, state_colour, node_name, edge_name, style_line, link_line, node_lines, edge_lines, byte_edge_lines, end_edge_lines, state_lines, mermaid_of};
-ghost use Rattle.logos_graph.specs.Views.{edge_of, graph_state_of, state_number, state_type_of};
+ghost use Rattle.logos_graph.specs.Views.{decimal, flat_map, bounds, ranges_of, byte_text, label_character, label_text, range_label, next_label, class_label, state_label, state_colour, node_name, edge_name, style_line, link_line, node_lines, edge_lines, byte_edge_lines, end_edge_lines, state_lines, mermaid_of, edge_of, graph_state_of, state_number, state_type_of};
 
 use super::{State, StateData, StateType};
 use logos_byte_class::byte_class::ByteClass;
@@ -10,9 +10,12 @@ use logos_hir::leaf::LeafId;
 use std::alloc::{AllocError, Global};
 use std::ops::RangeInclusive;
 
-/// Adds a character of a label.
+/// The characters below this one are ASCII.
+const ASCII: u32 = 128;
+
+/// Appends a character of a label.
 fn push_character(text: &mut String, character: char) -> Result<(), AllocError>
-    requires { character < 128 }
+    requires { character < ASCII }
     ensures { OnOk result (string_bytes text.new
         ≡ string_bytes text.old ++ label_character character) }
 {
@@ -24,7 +27,7 @@ fn push_character(text: &mut String, character: char) -> Result<(), AllocError>
     }
 }
 
-/// Adds a byte to a label, as it prints.
+/// Appends a byte to a label, as it prints.
 fn push_byte(text: &mut String, byte: u8) -> Result<(), AllocError>
     ensures { OnOk result (string_bytes text.new
         ≡ string_bytes text.old ++ label_text (byte_text byte)) }
@@ -42,7 +45,7 @@ fn push_byte(text: &mut String, byte: u8) -> Result<(), AllocError>
     push_character(text, lower_digit(byte % 16))
 }
 
-/// Adds a range of bytes to a label.
+/// Appends a range of bytes to a label.
 fn push_range(text: &mut String, range: &RangeInclusive<u8>) -> Result<(), AllocError>
     ensures { OnOk result (string_bytes text.new
         ≡ string_bytes text.old ++ range_label (bounds range.now)) }
@@ -57,7 +60,7 @@ fn push_range(text: &mut String, range: &RangeInclusive<u8>) -> Result<(), Alloc
     push_byte(text, last)
 }
 
-/// Adds a range of bytes to a label, below the former one.
+/// Appends a range of bytes to a label, below the former one.
 fn push_next_range(text: &mut String, range: &RangeInclusive<u8>) -> Result<(), AllocError>
     ensures { OnOk result (string_bytes text.new
         ≡ string_bytes text.old ++ next_label (bounds range.now)) }
@@ -66,7 +69,7 @@ fn push_next_range(text: &mut String, range: &RangeInclusive<u8>) -> Result<(), 
     push_range(text, range)
 }
 
-/// Adds ranges of bytes to a label, below the former ones.
+/// Appends ranges of bytes to a label, below the former ones.
 fn push_next_ranges(text: &mut String, ranges: &[RangeInclusive<u8>]) -> Result<(), AllocError>
     ensures { OnOk result (string_bytes text.new
         ≡ string_bytes text.old ++ flat_map next_label (map bounds ranges.now)) }
@@ -77,7 +80,7 @@ fn push_next_ranges(text: &mut String, ranges: &[RangeInclusive<u8>]) -> Result<
     Ok(())
 }
 
-/// Adds the ranges of an edge, one below another.
+/// Appends the ranges of an edge, one below another.
 fn push_class(text: &mut String, class: &ByteClass) -> Result<(), AllocError>
     ensures { OnOk result (string_bytes text.new
         ≡ string_bytes text.old ++ class_label (ranges_of class.now)) }
@@ -89,7 +92,7 @@ fn push_class(text: &mut String, class: &ByteClass) -> Result<(), AllocError>
     push_next_ranges(text, rest)
 }
 
-/// Adds a mark with its leaf.
+/// Appends a mark with its leaf.
 fn push_mark(text: &mut String, mark: &str, leaf: LeafId) -> Result<(), AllocError>
     ensures { OnOk result (string_bytes text.new
         ≡ string_bytes text.old ++ mark.now ++ decimal leaf.0 ++ codes ")") }
@@ -98,7 +101,7 @@ fn push_mark(text: &mut String, mark: &str, leaf: LeafId) -> Result<(), AllocErr
     write!(text, "{mark}{leaf})")
 }
 
-/// Adds the label of the node of a state.
+/// Appends the label of the node of a state.
 fn push_state_label(text: &mut String, s: usize, state_type: StateType) -> Result<(), AllocError>
     ensures { OnOk result (string_bytes text.new
         ≡ string_bytes text.old ++ state_label s (state_type_of state_type)) }
@@ -130,7 +133,7 @@ fn name_of(alloc: Global, s: usize) -> Result<String, AllocError>
     format!(in alloc; "n{s}")
 }
 
-/// Adds the colour of a node.
+/// Appends the colour of a node.
 fn push_style(text: &mut String, name: &str, colour: &str) -> Result<(), AllocError>
     ensures { OnOk result (string_bytes text.new
         ≡ string_bytes text.old ++ style_line name.now colour.now) }
@@ -138,7 +141,7 @@ fn push_style(text: &mut String, name: &str, colour: &str) -> Result<(), AllocEr
     write!(text, "style {name} stroke:{colour}\n")
 }
 
-/// Adds a link between nodes.
+/// Appends a link between nodes.
 fn push_link(text: &mut String, from: &str, to: &str) -> Result<(), AllocError>
     ensures { OnOk result (string_bytes text.new
         ≡ string_bytes text.old ++ link_line from.now to.now) }
@@ -146,7 +149,7 @@ fn push_link(text: &mut String, from: &str, to: &str) -> Result<(), AllocError>
     write!(text, "{from}-->{to}\n")
 }
 
-/// Adds the lines of the node of an edge.
+/// Appends the lines of the node of an edge.
 fn push_edge(
     alloc: Global,
     text: &mut String,
@@ -165,7 +168,7 @@ fn push_edge(
     push_link(text, &name, &to)
 }
 
-/// Adds the lines of an edge by bytes.
+/// Appends the lines of an edge by bytes.
 fn push_byte_edge(
     alloc: Global,
     text: &mut String,
@@ -180,7 +183,7 @@ fn push_byte_edge(
     push_edge(alloc, text, from, edge.1, &label)
 }
 
-/// Adds the lines of the edges by bytes.
+/// Appends the lines of the edges by bytes.
 fn push_byte_edges(
     alloc: Global,
     text: &mut String,
@@ -196,7 +199,7 @@ fn push_byte_edges(
     Ok(())
 }
 
-/// Adds the lines of the edge by the end, if there is one.
+/// Appends the lines of the edge by the end, if there is one.
 fn push_end_edge(
     alloc: Global,
     text: &mut String,
@@ -212,7 +215,7 @@ fn push_end_edge(
     push_edge(alloc, text, from, target, "EOI")
 }
 
-/// Adds the node of a state.
+/// Appends the node of a state.
 fn push_node(
     text: &mut String,
     name: &str,
@@ -228,7 +231,7 @@ fn push_node(
     push_style(text, name, colour_of(state_type))
 }
 
-/// Adds the lines of a state and of its edges.
+/// Appends the lines of a state and of its edges.
 fn push_state(
     alloc: Global,
     text: &mut String,

@@ -1,4 +1,5 @@
 //! Prints states and graphs.
+
 ghost use Rattle.std.specs.Prelude.{◌≡◌, ◌++◌, Some, IfOk, codes, string_bytes};
 ghost use Rattle.logos_graph.specs.Words.{decimal};
 

@@ -1,4 +1,6 @@
-//! Reduces the table of an automaton, and states what that means for its graph.
+//! Reduces the table of an automaton, and states what that means for its graph. `making` calls it
+//! where leaves have no faults.
+
 ghost use Rattle.std.specs.Prelude.{◌<◌, ℕ, IfOk, Bool, List};
 ghost use Rattle.logos_graph.specs.Words.{IsRaw, size, mark, type_of, edges, GivesEvidence, NamesLeaves, IsFit, FindsTheLongest, GraphState, IsLeast, Rule, Shows, IsReduced, AllStart, MarksOneByteLate};
 
@@ -6,7 +8,8 @@ use logos_reduce::reduction::{Reduction, reduce};
 use logos_reduce::table::Table;
 use std::alloc::{AllocError, Global};
 
-/// Reduces a table with late marks. The graph that shows the result finds what the table finds from the root on.
+/// Reduces a table with late marks. The graph that shows the result finds what the table finds from
+/// the root on.
 pub(crate) fn least_table(alloc: Global, table: Table, root: usize) -> Result<Reduction, AllocError>
     requires { root < size table }
     ensures finds { IfOk result (λ r. (rules : List Rule) (graph : List GraphState) (utf8 : Bool) →

@@ -1,7 +1,7 @@
-//! Makes the states of a graph from its table.
+//! Makes the states of a graph from its table. `value` calls it once for each graph without faults.
+
 ghost use Rattle.std.specs.Prelude.{◌≡◌, ◌≢◌, ℕ, ◌<◌, ◌≤◌, ◌++◌, ◌∷◌, [], IsTrue, IsFalse, IfOk, OnOk, length, map, option_map, slice_index};
-ghost use Rattle.logos_graph.specs.Words.{All, bounds, AreNeat, IsFit, IsFinished, IsRising, IsFirstFrom, Shows, size, to, mark, type_of, target_by};
-ghost use Rattle.logos_graph.specs.Views.{HaveBackward, edge_of, graph_state_of, leaf_number, state_number, state_type_of, targets, with_range, with_run, AreEdgesOf, IsStateOf};
+ghost use Rattle.logos_graph.specs.Views.{All, bounds, AreNeat, IsFit, IsFinished, IsRising, IsFirstFrom, Shows, size, to, mark, type_of, target_by, HaveBackward, edge_of, graph_state_of, leaf_number, state_number, state_type_of, targets, with_range, with_run, AreEdgesOf, IsStateOf};
 
 use super::{State, StateData, StateType};
 use logos_byte_class::byte_class::ByteClass;
@@ -46,7 +46,7 @@ fn is_at(edges: &[Edge], place: usize, target: usize) -> bool
     edges[place].1.0 == target
 }
 
-/// Adds bytes to an edge.
+/// Appends bytes to an edge.
 fn push_range(edge: &mut Edge, range: RangeInclusive<u8>) -> Result<(), AllocError>
     ensures { OnOk result (edge_of edge.new
         ≡ ((edge_of edge.old).0 ++ bounds range ∷ [], (edge_of edge.old).1)) }
@@ -84,7 +84,7 @@ fn add_range(
     Ok(())
 }
 
-/// Returns the end of the run of equal entries that begins at a byte.
+/// Returns the end of the equal entries that begin at a byte.
 fn run_end(row: &Row, from: usize) -> usize
     requires { from < 256 }
     ensures after { from < result }
@@ -101,7 +101,7 @@ fn run_end(row: &Row, from: usize) -> usize
     256
 }
 
-/// Adds the bytes of a run, if they lead to a state.
+/// Adds the bytes of a range, if they lead to a state.
 fn add_run(
     alloc: Global,
     edges: &mut Vec<Edge>,

@@ -1,7 +1,7 @@
 //! Graphs, and the calls on them.
+
 ghost use Rattle.std.specs.Prelude.{◌≡◌, ◌≢◌, ℕ, ◌-◌, ◌<◌, ◌↔◌, [], IsTrue, IfOk, Some, length, map, slice_get, string_bytes};
-ghost use Rattle.logos_graph.specs.Words.{range_with_len, dfa_of, fault_of, IsFit, IsFinished, mermaid_of, Shows, GivesEvidence};
-ghost use Rattle.logos_graph.specs.Views.{AreBackward, graph_state_of, state_number, states_left};
+ghost use Rattle.logos_graph.specs.Views.{range_with_len, dfa_of, fault_of, IsFit, IsFinished, mermaid_of, Shows, GivesEvidence, YieldsFirstBy, item_count, AreBackward, graph_state_of, state_number, states_left};
 
 use super::mermaid::chart;
 use super::printing::Listing;
@@ -118,7 +118,8 @@ impl<'s> Graph<'s> {
 }
 
 impl Graph<'_> {
-    /// Returns the state in which each match begins. The graph must have states, as it has where there are no errors.
+    /// Returns the state in which each match begins. The graph must have states, as it has where
+    /// there are no errors.
     pub fn root(&self) -> State
         requires { 0 < length self.now.states }
         ensures root { result.0 ≡ 0 }
@@ -186,8 +187,8 @@ impl Graph<'_> {
         &self.errors
     }
 
-    /// Returns the chart of the graph in Mermaid's language: a flow chart with a node for each state and for each edge. It
-    /// fails only where there is no memory.
+    /// Returns the chart of the graph in Mermaid's language: a flow chart with a node for each
+    /// state and for each edge. It fails only where there is no memory.
     pub fn get_mermaid(&self, alloc: Global) -> Result<String, Memory>
         ensures { IfOk result (λ text. string_bytes text ≡ mermaid_of self.now.states) }
     {
@@ -214,9 +215,6 @@ impl fmt::Display for Graph<'_> {
 
 impl Iterator for States {
     type Item = State;
-
-    ghost use Rattle.logos_graph.specs.Words.{YieldsFirstBy, item_count};
-    ghost use Rattle.logos_graph.specs.Views.{state_number, states_left};
 
     ghost next_gives = { YieldsFirstBy state_number states_left };
 

@@ -142,7 +142,8 @@ alternation_unfit bs (is_several u v rest e same) = ap fits_of e ∙ by_chars (f
     by_chars (found ranges k) = absurd (chars_differ (char_ranges (members ranges)) bs (sym (ap (chars_or (u ∷ v ∷ rest)) k) ∙ same))
     by_chars (missing k) = by_bytes k (found_of (all_ranges byte_ranges_of (u ∷ v ∷ rest)))
 
--- a tree in its simplest form that is neither a class nor a literal brings branches that fit no class
+-- a tree in its simplest form that is neither a class nor a literal brings branches that fit no
+-- class
 pub others_unfit : (h : Hir) → IsSimplest (tree_of h) → ((class : ClassType) → h ≡ Class class → ⊥) → ((bytes : Vec ℕ Global) → h ≡ Literal bytes → ⊥) →
     record { chars = false; bytes = false } ≡ fits_of (branches_of (tree_of h))
 others_unfit h simple no_class no_literal = of_kind (kind h)

@@ -2,8 +2,7 @@
 //! them.
 
 ghost use Rattle.std.specs.Prelude.{◌≡◌, ◌≤◌, ◌++◌, ◌∷◌, [], map, length, take, drop, Option, option_map, is_some, ◌&&◌, true, false, IfOk, OnOk};
-ghost use Rattle.logos_hir.specs.Words.{chars};
-ghost use Rattle.logos_hir.specs.Views.{pairs, tree_of, class_tree, sole_char, char_ranges_of, byte_ranges_of, all_ranges, branches_of, bytes_or, chars_or, choice_of, alternation_of, IsSimplest, IsAdded, IsFlatAlone, fits_of};
+ghost use Rattle.logos_hir.specs.Views.{chars, pairs, tree_of, class_tree, sole_char, char_ranges_of, byte_ranges_of, all_ranges, branches_of, bytes_or, chars_or, choice_of, alternation_of, IsSimplest, IsAdded, IsFlatAlone, fits_of};
 
 use super::{byte_class, char_class};
 use crate::hir::{Class, Hir, Range};
@@ -31,8 +30,8 @@ fn characters(alloc: Global, text: &str) -> Result<Vec<char>, AllocError>
     text.chars().collect(alloc)
 }
 
-/// Adds the ranges of a class of characters, or of a literal of one character. Returns whether the
-/// branch is one of these.
+/// Appends the ranges of a class of characters, or of a literal of one character. Returns whether
+/// the branch is one of these.
 fn push_char_ranges(out: &mut Vec<Range>, branch: &Hir) -> Result<bool, AllocError>
     ensures { IfOk result (λ done. IsAdded (char_ranges_of (tree_of branch.now)) done
         (pairs out.old.items) (pairs out.new.items)) }
@@ -53,8 +52,8 @@ fn push_char_ranges(out: &mut Vec<Range>, branch: &Hir) -> Result<bool, AllocErr
     }
 }
 
-/// Adds the ranges of a class of bytes, or of a literal of one byte. Returns whether the branch is
-/// one of these.
+/// Appends the ranges of a class of bytes, or of a literal of one byte. Returns whether the branch
+/// is one of these.
 fn push_byte_ranges(out: &mut Vec<Range>, branch: &Hir) -> Result<bool, AllocError>
     ensures { IfOk result (λ done. IsAdded (byte_ranges_of (tree_of branch.now)) done
         (pairs out.old.items) (pairs out.new.items)) }
@@ -103,7 +102,7 @@ fn byte_ranges(alloc: Global, branches: &[Hir]) -> Result<Option<Vec<Range>>, Al
     Ok(Some(out))
 }
 
-/// Adds branches after the others. Where there are no others yet, the vector of the branches is
+/// Appends branches after the others. Where there are no others yet, the vector of the branches is
 /// taken over as it is.
 fn push_branches(branches: &mut Vec<Hir>, mut inner: Vec<Hir>) -> Result<(), AllocError>
     ensures { OnOk result (map tree_of branches.new.items ≡
@@ -116,7 +115,7 @@ fn push_branches(branches: &mut Vec<Hir>, mut inner: Vec<Hir>) -> Result<(), All
     Ok(branches.append(&mut inner)?)
 }
 
-/// Adds the branches that a tree brings into an alternation.
+/// Appends the branches that a tree brings into an alternation.
 fn push_branch(branches: &mut Vec<Hir>, branch: Hir) -> Result<(), AllocError>
     ensures { OnOk result (map tree_of branches.new.items ≡
         map tree_of branches.old.items ++ branches_of (tree_of branch)) }
@@ -268,7 +267,7 @@ fn fits_of(branch: &Hir) -> Fits
     }
 }
 
-/// Adds the branches that a tree in its simplest form brings into an alternation. Returns which
+/// Appends the branches that a tree in its simplest form brings into an alternation. Returns which
 /// classes they fit.
 pub(crate) fn push_fitting(branches: &mut Vec<Hir>, branch: Hir) -> Result<Fits, AllocError>
     requires { IsSimplest (tree_of branch) }

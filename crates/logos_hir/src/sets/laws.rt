@@ -1,10 +1,9 @@
 //! Laws of sets of characters. No code calls these functions: the contract of each is a proved law.
 
 ghost use Rattle.std.specs.Prelude.{◌≡◌, ℕ, Bool};
-ghost use Rattle.logos_hir.specs.Words.{AreCanonical, in_range, intersection, members, only_chars, char_ranges, byte_ranges};
-ghost use Rattle.logos_hir.specs.Views.{pairs, set_of};
+ghost use Rattle.logos_hir.specs.Views.{AreCanonical, in_range, intersection, members, only_chars, char_ranges, byte_ranges, pairs, set_of};
 
-use super::RangeSet;
+use super::{LAST_BYTE, RangeSet};
 
 /// Sets with the same members have the same ranges.
 pub fn same_members(a: &RangeSet, b: &RangeSet)
@@ -18,5 +17,5 @@ pub fn ranges_of_a_set()
     ensures chars_members { (set : ℕ → Bool) → members (char_ranges set) ≡ only_chars set }
     ensures bytes_canonical { (set : ℕ → Bool) → AreCanonical (byte_ranges set) }
     ensures bytes_members { (set : ℕ → Bool) → members (byte_ranges set) ≡
-        only_chars (intersection set (in_range (0, 255))) }
+        only_chars (intersection set (in_range (0, LAST_BYTE))) }
 {}

@@ -2,8 +2,7 @@
 //! operand on one.
 
 ghost use Rattle.std.specs.Prelude.{◌≡◌, false, IfOk, OnOk};
-ghost use Rattle.logos_hir.specs.Words.{Set};
-ghost use Rattle.logos_hir.specs.Views.{set_of, combination, selection, effects_on};
+ghost use Rattle.logos_hir.specs.Views.{Set, set_of, combination, selection, effects_on, with_operand, Makes, made_by};
 
 use crate::sets::RangeSet;
 use std::alloc::{AllocError, Global};
@@ -61,9 +60,6 @@ fn selection(test: &RangeSet, inside: &RangeSet, outside: &RangeSet) -> Result<R
 }
 
 impl Effect {
-    ghost use Rattle.std.specs.Prelude.{◌≡◌, IfOk};
-    ghost use Rattle.logos_hir.specs.Views.{set_of, combination, with_operand, selection, Makes};
-
     /// Returns the effect of an operand after an operator.
     fn after_operator(alloc: Global, op: SetOperator, set: &RangeSet) -> Result<Effect, AllocError>
         ensures { IfOk result (λ effect. Makes effect
@@ -119,7 +115,7 @@ impl Effect {
     }
 }
 
-/// Adds an effect after those of so many operands. As a counter carries, it is put together with
+/// Appends an effect after those of so many operands. As a counter carries, it is put together with
 /// the last one for each binary digit 1 at the number's end.
 fn push_effect(effects: &mut Vec<Effect>, count: usize, effect: Effect) -> Result<(), AllocError>
     ensures { (before : Set) → OnOk result (effects_on effects.new.items before ≡
@@ -145,9 +141,6 @@ pub struct OperandRuns {
 }
 
 impl OperandRuns {
-    ghost use Rattle.std.specs.Prelude.{◌≡◌, false, IfOk, OnOk};
-    ghost use Rattle.logos_hir.specs.Views.{set_of, with_operand, made_by};
-
     /// Returns no operand.
     pub fn new(alloc: Global) -> OperandRuns
         ensures { made_by result ≡ (λ c. false) }

@@ -1,4 +1,5 @@
--- Two texts that have the same bytes at two places, and a space, a line feed or nothing behind them in the second text.
+-- Two texts that have the same bytes at two places, and a space, a line feed or nothing behind them
+-- in the second text.
 use Rattle.std.proofs.Common.{◌≡◌, ℕ, ◌+◌, ◌-◌, ◌<◌, ◌≤◌, ◌⊎◌, inl, inr, Bool, false, List, ◌∷◌, ◌++◌, length, get_or, take, drop, slice_range, IsUtf8, encode_utf8, length-append, sym, ◌∙◌, ap, arith, take-append-drop, ext_get_or}
 use Rattle.std.proofs.lemmas.List.{get_or_past}
 use Rattle.std.proofs.lemmas.List.Edits.{length-between, get_or-between}
@@ -24,7 +25,8 @@ head_fits front utf8 filled =
     let c : get_or (chars_of front) 0 0 ≡ f.0 = ap (λ (xs : List ℕ). get_or xs 0 0) (chars_past_char front f.1 f.0 utf8 f.2) in
     rw c (omega (arith, ap length f.2, length-append (encode_utf8 f.0) f.1, length-encode f.0))
 
--- the bytes of the first text from `p` are those of the second one from `q`, so many of them, and there the window ends
+-- the bytes of the first text from `p` are those of the second one from `q`, so many of them, and
+-- there the window ends
 pub record Window (a b : List ℕ) (p q k : ℕ) : Type 0 where
   pub utf8 : IsUtf8 a
   pub ends : IsCharBoundary a (p + k)

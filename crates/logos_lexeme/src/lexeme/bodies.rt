@@ -2,12 +2,16 @@
 //! here once they are found, and `logos_token` reads the values of literals with it.
 
 ghost use Rattle.std.specs.Prelude.{◌≡◌, ℕ, ◌+◌, ◌^◌, ◌<◌, ◌≤◌, ◌↔◌, ◌==◌, ◌||◌, Bool, true, List, IsTrue, IsFalse, length, slice_index, slice_range, MatchOption};
-ghost use Rattle.logos_lexeme.specs.Words.{digit_value, IsFirst, Steps};
-ghost use Rattle.logos_lexeme.specs.Views.{Ends, is_simple, simple_value, is_hex, hex_value, greatest_of, digits_between, is_blank, BreaksLine, IsEscape, IsHexEscape, IsUnicodeEscape, IsAllowed, StandsFor, IsPiece, IsCharacterPiece, IsSound, bytes_of, ReadsByte, IsPlain};
+ghost use Rattle.logos_lexeme.specs.Views.{digit_value, IsFirst, Steps, Ends, is_simple, simple_value, is_hex, hex_value, greatest_of, digits_between, is_blank, BreaksLine, IsEscape, IsHexEscape, IsUnicodeEscape, IsAllowed, StandsFor, IsPiece, IsCharacterPiece, IsSound, bytes_of, ReadsByte, IsPlain};
 
 use crate::lexeme::characters::byte_at;
 use crate::lexeme::ends::prefix_of;
 use crate::lexeme::openings::{Content, Opening};
+
+/// The letter of an escape of two hexadecimal digits, and that of an escape with braces.
+const LETTER_X: u8 = b'x';
+
+const LETTER_U: u8 = b'u';
 
 /// The value of one piece of a string.
 #[derive(Clone, Copy)]
@@ -80,7 +84,7 @@ fn greatest_of(content: Content) -> u32
 fn hex_escape(source: &str, content: Content, at: usize) -> Option<u8>
     requires within { at ≤ length source.now }
     requires backslash { slice_index source.now at ≡ 92 }
-    requires letter { slice_index source.now (at + 1) ≡ 120 }
+    requires letter { slice_index source.now (at + 1) ≡ LETTER_X }
     ensures { MatchOption result
         (IsHexEscape content source.now at → ⊥)
         (λ value. IsHexEscape content source.now at
@@ -169,7 +173,7 @@ fn number_between(source: &str, from: usize, to: usize) -> Option<u32>
 fn unicode_escape(source: &str, at: usize) -> Option<(char, usize)>
     requires within { at ≤ length source.now }
     requires backslash { slice_index source.now at ≡ 92 }
-    requires letter { slice_index source.now (at + 1) ≡ 117 }
+    requires letter { slice_index source.now (at + 1) ≡ LETTER_U }
     ensures { MatchOption result
         ((brace : ℕ) → IsUnicodeEscape source.now at brace → ⊥)
         (λ found. IsUnicodeEscape source.now at found.1

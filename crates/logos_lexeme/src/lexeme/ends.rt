@@ -2,13 +2,12 @@
 //! opening is known.
 
 ghost use Rattle.std.specs.Prelude.{◌≡◌, ◌≢◌, ℕ, ◌+◌, ◌-◌, ◌<◌, ◌≤◌, ◌↔◌, length, slice_index, MatchOption, IsTrue};
-ghost use Rattle.logos_lexeme.specs.Words.{IsCharBoundary, past, is_space, is_continuing, Run, IsFirst, Passes};
-ghost use Rattle.logos_lexeme.specs.Views.{opening_at, prefix_of, IsLineEnd, Closes, IsName, IsSuffix, has_base, GoesOn, ReachesQuote, IsRawEnd, IsQuoted, IsRaw, Ends, IsOnward};
+ghost use Rattle.logos_lexeme.specs.Views.{IsCharBoundary, past, is_space, is_continuing, Run, IsFirst, Passes, opening_at, prefix_of, IsLineEnd, Closes, IsName, IsSuffix, has_base, GoesOn, ReachesQuote, IsRawEnd, IsQuoted, IsRaw, Ends, IsOnward};
 
 use crate::lexeme::characters::{byte_at, char_at, is_continuing, is_space, past};
 use crate::lexeme::openings::{Content, Opening, name_at};
 
-/// Returns the byte offset after a run of white space.
+/// Returns the byte offset after the white space that comes first.
 fn spaces_end(source: &str, from: usize) -> usize
     requires { IsCharBoundary source.now from }
     ensures { Run (Passes is_space source.now) from result }
@@ -20,7 +19,7 @@ fn spaces_end(source: &str, from: usize) -> usize
     end
 }
 
-/// Returns the byte offset after a run of characters that continue an identifier.
+/// Returns the byte offset after the characters that continue an identifier.
 fn letters_end(source: &str, from: usize) -> usize
     requires { IsCharBoundary source.now from }
     ensures run { Run (Passes is_continuing source.now) from result }

@@ -14,28 +14,28 @@ use Rattle.logos_code.specs.declared.code.rows.Step.TheVariants.{Leads, Stays, H
 use Rattle.logos_machine.specs.declared.machine.walk.Outcome.{Outcome}
 use Rattle.logos_machine.specs.declared.machine.walk.Outcome.TheVariants.{Skips as SkipsTo, Emits as EmitsTo, Asks as AsksTo, Fails, Ends}
 
--- where the bytes end that pass a test
+-- Where the bytes end that pass a test.
 abbrev pub StopsAt : CodeValue → ℕ → List ℕ → ℕ → ℕ → Type 0
 StopsAt code test bytes from stop = stop ≡ from + prefix_len (passes_test code.bit_tables test) (drop from bytes)
 
 module _ (code : CodeValue) (bytes : List ℕ) (start : ℕ) where
-  -- the state leads to another one, whatever was passed before
+  -- The state leads to another one, whatever was passed before.
   abbrev pub LeadsOn : (state offset stop next : ℕ) → Type 0
   LeadsOn state offset stop next = (context : Option (ℕ × ℕ)) → (passed : Option (ℕ × ℕ)) ×
       Does code bytes start (record { state = state; offset = offset; context = context }) (enters (record { state = next; offset = stop + 1; context = passed }))
 
-  -- the try ends in the state with a match of the leaf up to the stop
+  -- The try ends in the state with a match of the leaf up to the stop.
   abbrev pub EndsHere : (state offset stop leaf : ℕ) → Type 0
   EndsHere state offset stop leaf = (context : Option (ℕ × ℕ)) →
       Does code bytes start (record { state = state; offset = offset; context = context }) (acts (Some (leaf, stop)) stop)
 
-  -- or in the next one, one byte later, with a match up to the end
+  -- Or in the next one, one byte later, with a match up to the end.
   abbrev pub EndsNext : (state offset stop leaf end : ℕ) → Type 0
   EndsNext state offset stop leaf end = (context : Option (ℕ × ℕ)) → (next : ℕ) × (passed : Option (ℕ × ℕ)) ×
       Does code bytes start (record { state = state; offset = offset; context = context }) (enters (record { state = next; offset = stop + 1; context = passed })) ×
       Does code bytes start (record { state = next; offset = stop + 1; context = passed }) (acts (Some (leaf, end)) (stop + 1))
 
-  -- or in the state itself, with what was passed
+  -- Or in the state itself, with what was passed.
   abbrev pub EndsStuck : (state offset stop : ℕ) → Type 0
   EndsStuck state offset stop = (context : Option (ℕ × ℕ)) → (passed : Option (ℕ × ℕ)) ×
       Does code bytes start (record { state = state; offset = offset; context = context }) (acts passed stop)
@@ -58,7 +58,8 @@ module _ (code : CodeValue) (bytes : List ℕ) (start : ℕ) where
     pub few : before + start ≤ offset
     pub goes_on : (found : Found) (n : ℕ) → Goes code bytes start (record { state = state; offset = offset; context = context }) found n → Tries code bytes start found (before + n)
 
-  -- The try comes to the state after so many others, its fast loop ends at the stop, and the entry says what the state does there.
+  -- The try comes to the state after so many others, its fast loop ends at the stop, and the entry
+  -- says what the state does there.
   pub record Reaches (state entry stop before : ℕ) : Type 0 where
     pub offset : ℕ
     pub comes : Comes state offset before
@@ -67,13 +68,13 @@ module _ (code : CodeValue) (bytes : List ℕ) (start : ℕ) where
     pub sees : (step : Step) → IsStepOf entry step → Sees state offset stop step
     pub place : LeadsToPlace entry
 
-  -- a try finds this in so many states
+  -- A try finds this in so many states.
   pub record Tried (found : Found) (steps : ℕ) : Type 0 where
     pub tries : Tries code bytes start found steps
     pub within : StaysWithin code bytes start found
     pub few : steps ≤ (length bytes - start) + 2
 
-  -- what a try finds
+  -- What a try finds.
   abbrev pub IsOutcome : Outcome → Type 0
   IsOutcome (SkipsTo to) = (leaf : ℕ) × (steps : ℕ) × Tried (matched leaf to) steps × IsUse code leaf Skips
   IsOutcome (EmitsTo leaf to steps) = Tried (matched leaf.0 to) steps × IsUse code leaf.0 Emits
@@ -85,7 +86,7 @@ module _ (code : CodeValue) (bytes : List ℕ) (start : ℕ) where
 abbrev pub GoesOnOrEnds : List ℕ → (entry stop : ℕ) → Type 0
 GoesOnOrEnds bytes entry stop = ((entry < 268435456) × (stop < length bytes)) ⊎ (536870912 ≤ entry)
 
--- what the entry at the stop says of the state that is entered at the offset
+-- What the entry at the stop says of the state that is entered at the offset.
 pub record LooksAhead (code : CodeValue) (bytes : List ℕ) (state offset entry stop : ℕ) : Type 0 where
   pub past : offset ≤ stop
   pub within : stop ≤ length bytes

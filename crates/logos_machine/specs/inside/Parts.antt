@@ -12,32 +12,32 @@ use Rattle.logos_machine.specs.declared.machine.part.Settled.{Settled}
 use Rattle.logos_machine.specs.declared.machine.part.Settled.TheVariants.{Matched, Failed, Open}
 
 module _ (code : CodeValue) (part : List ℕ) (start : ℕ) where
-  -- what the entered state does, if its fast loop ends before a byte of the part
+  -- What the entered state does, if its fast loop ends before a byte of the part.
   abbrev pub Moves : Stand → Move → Type 0
   Moves at (Enters next) = StopsWithin code part start (length part) at × Does code part start at (enters (stand_of next))
   Moves at (Acts context offset) = StopsWithin code part start (length part) at × Does code part start at (acts (context_of context) offset)
   Moves at Waits = LooksPast code part start at
 
-  -- the error ends here, whatever follows the part
+  -- The error ends here, whatever follows the part.
   pub record EndsHere (offset to : ℕ) : Type 0 where
     pub ends : EndsError code part start offset to
     pub inside : to ≤ length part
     pub within : EndsWithin code part start (length part) (failed to)
 
-  -- its end depends on what follows
+  -- Its end depends on what follows.
   pub record EndsOpen (offset : ℕ) : Type 0 where
     pub to : ℕ
     pub utf8 : IsTrue code.utf8
     pub ends : EndsError code part start offset to
     pub last : length part ≤ to
 
-  -- a try finds this in so many states, and looks at the part alone
+  -- A try finds this in so many states, and looks at the part alone.
   pub record TriedWithin (found : Found) (steps : ℕ) : Type 0 where
     pub tries : TriesWithin code part start (length part) found steps
     pub within : StaysWithin code part start found
     pub few : steps ≤ (length part - start) + 2
 
-  -- what a try finds in the part
+  -- What a try finds in the part.
   abbrev pub IsSettled : Settled → Type 0
   IsSettled (Matched leaf to steps) = TriedWithin (matched leaf.0 to) steps
   IsSettled (Failed to steps) = TriedWithin (failed to) steps

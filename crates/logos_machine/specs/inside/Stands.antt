@@ -7,20 +7,21 @@ use Rattle.logos_code.specs.Headline.{IsLate}
 use Rattle.logos_code.specs.Runs.{Stand}
 
 module _ (code : CodeValue) (bytes : List ℕ) (start : ℕ) where
-  -- a match is nonempty and ends in the input, and its leaf is there
+  -- A match is nonempty and ends in the input, and its leaf is there.
   abbrev pub IsMatch : ℕ → ℕ → Type 0
   IsMatch leaf to = (leaf < length code.leaves) × (start < to) × (to ≤ length bytes)
 
   abbrev pub IsContext : Option (ℕ × ℕ) → Type 0
   IsContext context = IfSome context (λ c. IsMatch c.0 c.1)
 
-  -- one step past the input, in a state that the end leads to
+  -- One step past the input, in a state that the end leads to.
   pub record IsPast (at : Stand) : Type 0 where
     pub offset : at.offset ≡ length bytes + 1
     pub late : IsLate code at.state
     pub last : (state_at code at.state).at_end ≡ None
 
-  -- Each state that is entered after the root takes a byte or the end; one with a late mark is at least two bytes on.
+  -- Each state that is entered after the root takes a byte or the end; one with a late mark is at
+  -- least two bytes on.
   pub record IsStand (at : Stand) : Type 0 where
     pub state : at.state < length code.states
     pub begun : start ≤ at.offset
@@ -29,7 +30,7 @@ module _ (code : CodeValue) (bytes : List ℕ) (start : ℕ) where
     pub within : (at.offset ≤ length bytes) ⊎ IsPast at
     pub context : IsContext at.context
 
-  -- what is found is nonempty and ends in the input
+  -- What is found is nonempty and ends in the input.
   abbrev pub StaysWithin : Found → Type 0
   StaysWithin ended = length bytes ≤ start
   StaysWithin (matched leaf to) = IsMatch leaf to

@@ -1,12 +1,19 @@
-//! The slow way of a try: state by state, with a note of the last mark passed.
+//! The slow way of a try: state by state, with a note of the last mark passed. `walk` takes it
+//! where entries do not say which mark was passed last, and `part` for inputs whose rest is not
+//! known.
+
 ghost use Rattle.std.specs.Prelude.{◌≡◌, ◌+◌, ◌-◌, ◌<◌, ◌≤◌, ℕ, max, length, slice_get, drop, option_map, IfSome, IsTrue, IsCharBoundary, ◌^◌, ◌↔◌};
-ghost use Rattle.logos_machine.specs.Words.{state_at, mark_by, Does, Tries, EndsError, target, looped, marked, IsStand, StaysWithin};
-ghost use Rattle.logos_machine.specs.Views.{context_of, stand_of, turn_of, found_of};
+ghost use Rattle.logos_machine.specs.Views.{state_at, mark_by, Does, Tries, EndsError, target, looped, marked, IsStand, StaysWithin, context_of, stand_of, turn_of, found_of};
 
 use super::fast_loop::stop;
 use logos_code::code::Code;
 use logos_code::code::signs::Sign;
 use logos_hir::leaf::LeafId;
+
+/// In UTF-8 the bytes from the first of these on, and below the second, continue a character.
+const CONTINUES: u8 = 128;
+
+const LEADS: u8 = 192;
 
 /// Where a try stands as it enters a state.
 #[derive(Clone, Copy)]
@@ -129,7 +136,8 @@ pub(super) fn marked(
     }
 }
 
-/// Returns the end of an error that has come to the offset: after one byte at least, and in UTF-8 mode between characters.
+/// Returns the end of an error that has come to the offset: after one byte at least, and in UTF-8
+/// mode between characters.
 #[cold]
 #[inline(never)]
 pub(super) fn error_end(code: &Code, input: &[u8], start: usize, offset: usize) -> usize
@@ -162,12 +170,13 @@ fn boundary_from(input: &[u8], from: usize) -> usize
 
 /// Returns whether the byte continues a character.
 fn is_continuation(byte: u8) -> bool
-    ensures { IsTrue result ↔ (128 ≤ byte) × (byte < 192) }
+    ensures { IsTrue result ↔ (CONTINUES ≤ byte) × (byte < LEADS) }
 {
     matches!(byte, 0x80..=0xBF)
 }
 
-/// Returns what is found from a place on, and how many states were entered, by a try that notes the marks passed.
+/// Returns what is found from a point on, and how many states were entered, by a try that notes the
+/// marks passed.
 #[cold]
 #[inline(never)]
 pub(super) fn attempt_with_marks(code: &Code, input: &[u8], start: usize) -> (Found, usize)

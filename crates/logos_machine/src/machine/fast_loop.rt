@@ -1,14 +1,14 @@
-//! Fast loops: where the bytes end that pass a test.
+//! Fast loops: where the bytes end that pass a test. Both ways of a try call it in a state that has
+//! one.
 
 ghost use Rattle.std.specs.Prelude.{◌≡◌, ◌+◌, ◌/◌, ◌%◌, ◌<◌, ◌≤◌, length, map, not, slice_index};
-ghost use Rattle.logos_machine.specs.Words.{mask_l, passes_test, NamesTest};
-ghost use Rattle.logos_machine.specs.Views.{StopsAt};
+ghost use Rattle.logos_machine.specs.Views.{mask_l, passes_test, NamesTest, StopsAt};
 
 use logos_code::code::Code;
 use std::simd::prelude::*;
 
-/// Returns the index of the first byte from `from` on that does not pass the test, or the length of the input. Sixteen
-/// bytes are tested at once, without a branch for each.
+/// Returns the index of the first byte from `from` on that does not pass the test, or the length of
+/// the input. Sixteen bytes are tested at once, without a branch for each.
 #[inline(always)]
 pub(super) fn stop(code: &Code, test: usize, input: &[u8], from: usize) -> usize
     requires test { NamesTest code.now test }
@@ -41,10 +41,11 @@ fn stopping(code: &Code, test: usize, block: &[u8; 16]) -> u64
 /// For the upper half of a byte below 128: the number that has this bit alone. For the others: 0.
 const NEAR: [u8; 16] = [1, 2, 4, 8, 16, 32, 64, 128, 0, 0, 0, 0, 0, 0, 0, 0];
 
-/// For the upper half of a byte from 128 on: the number that has the bit alone whose place is 8 less. For the others: 0.
+/// For the upper half of a byte from 128 on: the number that has the bit alone whose index is 8
+/// less. For the others: 0.
 const FAR: [u8; 16] = [0, 0, 0, 0, 0, 0, 0, 0, 1, 2, 4, 8, 16, 32, 64, 128];
 
-/// Looks up the lower half of each byte in the sixteen entries of a mask from a place on.
+/// Looks up the lower half of each byte in the sixteen entries of a mask from an index on.
 #[inline(always)]
 fn by_low(mask: &[u8; 32], at: usize, bytes: u8x16) -> u8x16
     requires { at ≤ 16 }

@@ -1,7 +1,8 @@
-//! Lexing of a part of an input, whose rest is not known.
+//! Lexing of a part of an input, whose rest is not known. `logos_stream` calls it for each item,
+//! and `logos_relex` for the items of a chunk.
+
 ghost use Rattle.std.specs.Prelude.{◌≡◌, ◌+◌, ◌<◌, ◌≤◌, length, false, MatchOption};
-ghost use Rattle.logos_machine.specs.Words.{IsStand};
-ghost use Rattle.logos_machine.specs.Views.{answers_of, stand_of, DoesWithin, EndsHere, EndsOpen, GivesWithin, IsSettled, KeepsGiven, Moves, Waits};
+ghost use Rattle.logos_machine.specs.Views.{IsStand, answers_of, stand_of, DoesWithin, EndsHere, EndsOpen, GivesWithin, IsSettled, KeepsGiven, Moves, Waits};
 
 use super::attempt::{Stand, error_end, marked, stop_of};
 use super::{Action, Item, Lexer, error, matched_item};
@@ -21,11 +22,13 @@ pub enum Within<'i> {
 }
 
 impl<'c, 's, 'i, C: Fn(LeafId, &[u8]) -> Action> Lexer<'c, 's, 'i, C> {
-    /// Returns the next item of an input of which the lexer has a part. If it is the last part, this does what `next`
-    /// does. If more may follow, an item is returned only if it is the next one whatever follows the part.
+    /// Returns the next item of an input of which the lexer has a part. If it is the last part,
+    /// this does what `next` does. If more may follow, an item is returned only if it is the next
+    /// one whatever follows the part.
     ///
-    /// After `More`, the lexer stands after the matches that give no item, with an empty span, and what the next try finds
-    /// depends on what follows. To go on, put more bytes after `remainder`, and make a lexer of these.
+    /// After `More`, the lexer stands after the matches that give no item, with an empty span, and
+    /// what the next try finds depends on what follows. To go on, put more bytes after `remainder`,
+    /// and make a lexer of these.
     pub fn next_within(&mut self, last: bool) -> Within<'i>
         requires { C.IsAlwaysCallable self.old.callback }
         ensures keeps { KeepsGiven self.old self.new }
@@ -116,8 +119,8 @@ fn move_in_part(code: &Code, part: &[u8], start: usize, at: Stand) -> Move
     }
 }
 
-/// Returns the end of an error that has come to the offset, if it is the same whatever follows the part: in UTF-8 mode the
-/// character at the part's end may not be whole.
+/// Returns the end of an error that has come to the offset, if it is the same whatever follows the
+/// part: in UTF-8 mode the character at the part's end may not be whole.
 fn error_end_in_part(code: &Code, part: &[u8], start: usize, offset: usize) -> Option<usize>
     requires start { start < length part.now }
     requires offset { offset ≤ length part.now }

@@ -1,18 +1,19 @@
-//! The fast way of a try: a look at an entry for each byte.
+//! The fast way of a try: a look at an entry for each byte. `Lexer::next` calls it for each try.
+
 ghost use Rattle.std.specs.Prelude.{◌≡◌, ◌<◌, ◌≤◌, ◌/◌, ◌%◌, length, slice_index_or};
-ghost use Rattle.logos_machine.specs.Words.{state_at, IsSound, IsEntry, IsPlace};
-ghost use Rattle.logos_machine.specs.Views.{Reaches, LooksAhead, IsOutcome};
+ghost use Rattle.logos_machine.specs.Views.{state_at, IsSound, IsEntry, IsPlace, Reaches, LooksAhead, IsOutcome};
 
 use super::attempt::{Found, attempt_with_marks, error_end};
 use super::fast_loop::stop;
 use logos_code::code::Code;
 use logos_code::code::last_marks::LastMark;
 use logos_code::code::rows::{
-    ASKS, ASKS_AFTER, CLOSES, HALTS, LATE, LEAVES, SHUTS, STAYS, STUCK, UNSAID,
+    ASKS, ASKS_AFTER, CLOSES, HALTS, LATE, LEAVES, SHUTS, STAYS, STUCK, UNSAID, WIDTH,
 };
 use logos_hir::leaf::LeafId;
 
-/// What a try finds. The numbers after leaves are the end of the match and how many states were entered.
+/// What a try finds. The numbers after leaves are the end of the match and how many states were
+/// entered.
 #[derive(Clone, Copy)]
 pub enum Outcome {
     /// A match up to this offset that is skipped.
@@ -27,7 +28,7 @@ pub enum Outcome {
     Ends(usize),
 }
 
-/// Returns what a try finds that begins at a point of the input.
+/// Returns what is found from a point of the input on.
 #[inline(always)]
 pub fn attempt(code: &Code, input: &[u8], start: usize) -> Outcome
     requires { start ≤ length input.now }
@@ -47,8 +48,9 @@ pub fn attempt(code: &Code, input: &[u8], start: usize) -> Outcome
     end_of(code, input, start, last)
 }
 
-/// Returns what is found from a place on by a try that notes the marks passed. Only that try is called out of line: its
-/// result is in memory, and this one is made anew from it, so that the compiler can hold it in registers.
+/// Returns what is found from a point on by a try that notes the marks passed. Only that try is
+/// called out of line: its result is in memory, and this one is made anew from it, so that the
+/// compiler can hold it in registers.
 #[inline(always)]
 fn attempt_slowly(code: &Code, input: &[u8], start: usize) -> Outcome
     requires { start ≤ length input.now }
@@ -61,13 +63,14 @@ fn attempt_slowly(code: &Code, input: &[u8], start: usize) -> Outcome
     }
 }
 
-/// Returns what a try finds that ends with this entry, where and after so many states, in the state at a place.
+/// Returns what a try finds that ends with this entry, where and after so many states, in the state
+/// at a point.
 #[inline(always)]
 fn end_of(code: &Code, input: &[u8], start: usize, last: (u32, usize, usize, usize)) -> Outcome
     requires sound { IsSound code.now }
     requires start { start ≤ length input.now }
-    requires reaches { Reaches code.now input.now start (last.3 / 272) last.0 last.1 last.2 }
-    requires ends { 536870912 ≤ last.0 }
+    requires reaches { Reaches code.now input.now start (last.3 / WIDTH) last.0 last.1 last.2 }
+    requires ends { LEAVES ≤ last.0 }
     ensures { IsOutcome code.now input.now start result }
 {
     let (entry, stop, before, place) = last;
@@ -97,14 +100,14 @@ fn end_of(code: &Code, input: &[u8], start: usize, last: (u32, usize, usize, usi
     attempt_slowly(code, input, start)
 }
 
-/// Returns what a try finds that ends before a byte that leads nowhere. Where the last mark passed is known of its last
-/// state, the try need not be made again.
+/// Returns what a try finds that ends before a byte that leads nowhere. Where the last mark passed
+/// is known of its last state, the try need not be made again.
 #[inline(always)]
 fn stuck(code: &Code, input: &[u8], start: usize, last: (u32, usize, usize, usize)) -> Outcome
     requires sound { IsSound code.now }
     requires start { start ≤ length input.now }
-    requires reaches { Reaches code.now input.now start (last.3 / 272) last.0 last.1 last.2 }
-    requires nowhere { (2147483648 ≤ last.0) × (last.0 < 2415919104) }
+    requires reaches { Reaches code.now input.now start (last.3 / WIDTH) last.0 last.1 last.2 }
+    requires nowhere { (STUCK ≤ last.0) × (last.0 < UNSAID) }
     requires inside { last.1 < length input.now }
     ensures { IsOutcome code.now input.now start result }
 {
@@ -116,26 +119,26 @@ fn stuck(code: &Code, input: &[u8], start: usize, last: (u32, usize, usize, usiz
     }
 }
 
-/// Returns the leaf of a match that ends before the byte, and how many states were entered after the one that has the
-/// entry, from the entry without its kind.
+/// Returns the leaf of a match that ends before the byte, and how many states were entered after
+/// the one that has the entry, from the entry without its kind.
 #[inline(always)]
 fn halted(entry: u32) -> (LeafId, usize)
-    ensures leaf { result.0.0 ≡ entry % 134217728 }
-    ensures late { result.1 ≡ entry / 134217728 }
+    ensures leaf { result.0.0 ≡ entry % LATE }
+    ensures late { result.1 ≡ entry / LATE }
 {
     (LeafId((entry % LATE) as usize), (entry / LATE) as usize)
 }
 
-/// Returns the last entry of a try, where its byte is, how many states were entered before the one that has it, and the
-/// place of this state.
+/// Returns the last entry of a try, where its byte is, how many states were entered before the one
+/// that has it, and the offset of this state.
 #[inline(always)]
 fn walk(code: &Code, input: &[u8], start: usize, first: u32) -> (u32, usize, usize, usize)
     requires sound { IsSound code.now }
     requires start { start < length input.now }
-    requires leads { first < 268435456 }
+    requires leads { first < STAYS }
     requires reaches { Reaches code.now input.now start code.now.root first start 0 }
-    ensures reaches { Reaches code.now input.now start (result.3 / 272) result.0 result.1 result.2 }
-    ensures ends { 536870912 ≤ result.0 }
+    ensures reaches { Reaches code.now input.now start (result.3 / WIDTH) result.0 result.1 result.2 }
+    ensures ends { LEAVES ≤ result.0 }
 {
     let mut place = first as usize;
     let mut at = start + 1;
@@ -168,10 +171,10 @@ fn look_far(code: &Code, input: &[u8], place: usize, at: usize, entry: u32) -> (
     requires sound { IsSound code.now }
     requires place { IsPlace code.now place }
     requires at { at < length input.now }
-    requires stays { (268435456 ≤ entry) × (entry < 536870912) }
-    requires entry { IsEntry code.now (state_at code.now (place / 272))
+    requires stays { (STAYS ≤ entry) × (entry < LEAVES) }
+    requires entry { IsEntry code.now (state_at code.now (place / WIDTH))
         (slice_index_or input.now at 0) entry }
-    ensures { LooksAhead code.now input.now (place / 272) at result.0 result.1 }
+    ensures { LooksAhead code.now input.now (place / WIDTH) at result.0 result.1 }
 {
     let stop = stop(code, (entry - STAYS) as usize, input, at + 1);
     if stop >= input.len() {

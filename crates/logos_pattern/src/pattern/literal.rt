@@ -1,7 +1,7 @@
 //! The literals of patterns, with their values.
 
-ghost use Rattle.std.specs.Prelude.{◌≡◌, ◌<◌, ◌++◌, OnOk, string_bytes};
-ghost use Rattle.logos_pattern.specs.Words.{flat_map, chars, is_metacharacter, escaped_character, upper_digit, escaped_byte, escaped_bytes};
+ghost use Rattle.std.specs.Prelude.{◌≡◌, ◌<◌, ◌++◌, OnOk, string_bytes, IfOk, IfSome, option_map};
+ghost use Rattle.logos_pattern.specs.Views.{flat_map, chars, is_metacharacter, escaped_character, upper_digit, escaped_byte, escaped_bytes, IsValue, token_of, held_value, is_unicode, held_bytes, escaped};
 
 use logos_token::error::Memory;
 use logos_token::token;
@@ -52,7 +52,7 @@ fn upper_digit(value: u8) -> char
     char::from(b'A' + (value - 10))
 }
 
-/// Pushes the text of a pattern that matches the character alone.
+/// Appends the text of a pattern that matches the character alone.
 fn push_character(text: &mut String, character: char) -> Result<(), AllocError>
     ensures { OnOk result (string_bytes text.new ≡
         string_bytes text.old ++ escaped_character character) }
@@ -63,7 +63,7 @@ fn push_character(text: &mut String, character: char) -> Result<(), AllocError>
     text.push(character)
 }
 
-/// Pushes the text of a pattern that matches the string alone.
+/// Appends the text of a pattern that matches the string alone.
 fn push_text(text: &mut String, value: &str) -> Result<(), AllocError>
     ensures { OnOk result (string_bytes text.new ≡
         string_bytes text.old ++ flat_map escaped_character (chars value.now)) }
@@ -74,7 +74,7 @@ fn push_text(text: &mut String, value: &str) -> Result<(), AllocError>
     Ok(())
 }
 
-/// Pushes a byte of a byte string as the text of a pattern. If `literal` holds, that pattern
+/// Appends a byte of a byte string as the text of a pattern. If `literal` holds, that pattern
 /// matches the byte alone.
 fn push_byte(text: &mut String, literal: bool, byte: u8) -> Result<(), AllocError>
     ensures { OnOk result (string_bytes text.new ≡
@@ -91,7 +91,7 @@ fn push_byte(text: &mut String, literal: bool, byte: u8) -> Result<(), AllocErro
     text.push(char::from(byte))
 }
 
-/// Pushes the bytes of a byte string as the text of a pattern. If `literal` holds, that pattern
+/// Appends the bytes of a byte string as the text of a pattern. If `literal` holds, that pattern
 /// matches these bytes alone.
 fn push_bytes(text: &mut String, literal: bool, value: &[u8]) -> Result<(), AllocError>
     ensures { OnOk result (string_bytes text.new ≡
@@ -104,10 +104,6 @@ fn push_bytes(text: &mut String, literal: bool, value: &[u8]) -> Result<(), Allo
 }
 
 impl<'s> Literal<'s> {
-    ghost use Rattle.std.specs.Prelude.{◌≡◌, IfOk, IfSome, option_map, string_bytes};
-    ghost use Rattle.logos_pattern.specs.Words.{IsValue};
-    ghost use Rattle.logos_pattern.specs.Views.{token_of, held_value, is_unicode, held_bytes, escaped};
-
     /// Reads the value of a token that is a string or a byte string. Returns `None` for any other
     /// literal. Does not look at the token's suffix.
     ///

@@ -17,7 +17,7 @@ use Rattle.logos_pattern_tokens.specs.Token.{Text, ◌>>=◌, cut_at}
 use Rattle.logos_pattern_tokens.specs.Escapes.{begins, escape_at}
 use Rattle.logos_pattern_tokens.specs.bracket.Spelling.{code_of, begins_operator, begins_range}
 
--- ---- items.
+-- ---- elements.
 
 -- An escape that is a character.
 abbrev pub symbol_of : Atom → Option Symbol

@@ -52,7 +52,7 @@ operator_letter Intersection = 38
 operator_letter Difference = 45
 operator_letter SymmetricDifference = 126
 
--- The text begins with no operator, no `[` and no `]`, so an item may begin here.
+-- The text begins with no operator, no `[` and no `]`, so an element may begin here.
 abbrev pub begins_operator : ℕ → Text → Bool
 begins_operator c [] = false
 begins_operator c (d ∷ rest) = (c == d) && ((c == 38) || ((c == 45) || (c == 126)))

@@ -121,7 +121,7 @@ fn range_at(alloc: Global, first: Symbol, rest: &[char]) -> Result<(BracketToken
     range_token(first, last, after)
 }
 
-/// Returns the class as an item, and the rest of the text.
+/// Returns the class as an element, and the rest of the text.
 ///
 /// # Errors
 ///
@@ -136,7 +136,7 @@ fn lone_at(item: Item, rest: &[char]) -> Result<(BracketToken, &[char]), Fault>
     Ok((BracketToken::Item(item), rest))
 }
 
-/// Reads what comes after an escape: returns the item that begins with it.
+/// Reads what comes after an escape: returns the element that begins with it.
 ///
 /// # Errors
 ///
@@ -155,11 +155,11 @@ fn escape_item(alloc: Global, atom: Atom, rest: &[char]) -> Result<(BracketToken
     }
 }
 
-/// Reads an item: a character, a range or a class.
+/// Reads an element: a character, a range or a class.
 ///
 /// # Errors
 ///
-/// Returns `Unclosed` if the text is empty; else the fault of the item, and `Memory`.
+/// Returns `Unclosed` if the text is empty; else the fault of the element, and `Memory`.
 #[tactic(auto, unfolding(crate::specs::bracket::Reader::item_at))]
 fn item_at(alloc: Global, text: &[char]) -> Result<(BracketToken, &[char]), Fault>
     ensures { Gives (λ x. (x.0, x.1.now)) result (item_at text.now) }

@@ -9,7 +9,7 @@ use unicode::sets::Set;
 pub enum Symbol {
     /// A character, or an escape of one other than `\xNN`.
     Character(char),
-    /// `\xNN`: a byte where the pattern matches bytes, else the character with this number
+    /// `\xNN`: a byte where the pattern matches bytes, else the character with this number.
     Byte(u8),
 }
 
@@ -19,7 +19,7 @@ pub enum Item {
     One(Symbol),
     /// `a-z`
     Range(Symbol, Symbol),
-    /// `\d`, `\D` and so on
+    /// `\d`, `\D` and so on.
     Perl(PerlKind, bool),
     /// `\p{..}`, `\P{..}`
     Property(Set, bool),

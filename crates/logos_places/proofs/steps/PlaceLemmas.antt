@@ -137,7 +137,8 @@ module _ (bytes : List ℕ) where
       (begins_exits a ih S i l s rs))
       (before_or_at l j (Matches-forward a l j r))
 
-  -- the pattern is left at m exactly if the places that read the last byte, and entering at m, lead out
+  -- the pattern is left at m exactly if the places that read the last byte, and entering at m, lead
+  -- out
   pub Exits-of_Leaves : (t : Core) (S : ℕ → Type 0) (m : ℕ) →
       Leaves bytes t S m → Exits t (holds_at bytes m) (λ q. Reads bytes t S q m) (S m)
   Exits-of_Leaves void S m h = h.2

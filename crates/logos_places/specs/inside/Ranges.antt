@@ -10,11 +10,11 @@ abbrev pub in_ranges : List CharRange → ℕ → Bool
 in_ranges [] c = false
 in_ranges (r ∷ rs) c = in_range r c || in_ranges rs c
 
--- the number at an offset, from `floor` on, passes the test
+-- The number at an offset, from `floor` on, passes the test.
 abbrev pub from_floor : (ℕ → Bool) → ℕ → ℕ → ℕ → Bool
 from_floor has floor start o = nat_le floor (start + o) && has (start + o)
 
--- some offset, below n
+-- Some offset, below n.
 abbrev pub IsPart : ℕ → CharRange → Type 0
 IsPart n r = (r.first ≤ r.last) × (r.last < n)
 

@@ -7,38 +7,38 @@ use Rattle.logos_hir.specs.ByteRanges.{is_in}
 use Rattle.logos_places.specs.Core.{Reader}
 use Rattle.logos_places.specs.inside.Characters.{size, Lead, lead, after_lead, after_byte, IsOpen, IsBeginningOf}
 
--- the characters of the ranges
+-- The characters of the ranges.
 abbrev pub is_char_in : List (ℕ × ℕ) → ℕ → Bool
 is_char_in ranges c = scalar c && is_in ranges c
 
--- these bytes stand from i to j
+-- These bytes stand from i to j.
 abbrev pub Spells : List ℕ → List ℕ → ℕ → ℕ → Type 0
 Spells bytes [] i j = j ≡ i
 Spells bytes (b ∷ bs) i j = (slice_get bytes i ≡ Some b) × Spells bytes bs (suc i) j
 
--- a character of the class stands from i to j
+-- A character of the class stands from i to j.
 pub record IsCharAt (c : ℕ → Bool) (bytes : List ℕ) (i j : ℕ) : Type 0 where
   pub char : ℕ
   pub scalar : IsScalar char
   pub within : c char ≡ true
   pub spelled : Spells bytes (encode_utf8 char) i j
 
--- a character of the class is begun, and not ended, from i to j
+-- A character of the class is begun, and not ended, from i to j.
 pub record IsBegunAt (c : ℕ → Bool) (bytes : List ℕ) (i j : ℕ) : Type 0 where
   pub read : List ℕ
   pub beginning : IsBeginningOf c read
   pub spelled : Spells bytes read i j
 
--- what is left of a character
+-- What is left of a character.
 pub record Remainder : Type 0 where
   pub left : ℕ
   pub has : ℕ → Bool
 
--- the offsets are the same
+-- The offsets are the same.
 abbrev pub Same : ℕ → (ℕ → Bool) → (ℕ → Bool) → Type 0
 Same n f g = (o : ℕ) → o < size n → f o ≡ g o
 
--- the remainder has n bytes and these offsets, of which there is one
+-- The remainder has n bytes and these offsets, of which there is one.
 pub record IsRest (r : Remainder) (n : ℕ) (f : ℕ → Bool) : Type 0 where
   pub left : r.left ≡ n
   pub same : Same n r.has f
@@ -47,11 +47,11 @@ pub record IsRest (r : Remainder) (n : ℕ) (f : ℕ → Bool) : Type 0 where
 abbrev pub IsShut : ℕ → (ℕ → Bool) → Type 0
 IsShut n f = (o : ℕ) → o < size n → f o ≡ false
 
--- the place that is led to, if any, is that of what is left
+-- The place that is led to, if any, is that of what is left.
 abbrev pub LeadsTo : (ℕ → Remainder) → ℕ → ℕ → (ℕ → Bool) → Option ℕ → Type 0
 LeadsTo rest others n f to = MatchOption to (IsShut n f) (λ q. (q ≤ others) × IsRest (rest q) n f)
 
--- the reader is the one for the class
+-- The reader is the one for the class.
 pub record IsReaderOf (c : ℕ → Bool) (l : Reader) : Type 0 where
   pub rest : ℕ → Remainder
   pub small : (q : ℕ) → q ≤ l.others → (rest q).left ≤ 3

@@ -1,11 +1,9 @@
-//! Building the table that reads a character of a class.
+//! Building the table that reads a character of a class. `prepare` calls it for each class of
+//! characters.
+
 ghost use Rattle.std.specs.Prelude.{zero, min, ◌≡◌, ℕ, ◌+◌, ◌-◌, ◌*◌, ◌/◌, ◌%◌, ◌^◌, ◌<◌, ◌≤◌, ◌||◌, OnOk, IfOk, IfSome, Bool, Some, None, slice_index_or, length, vec_len};
-ghost use Rattle.std.specs.Option.{MatchOption};
-ghost use Rattle.logos_places.specs.inside.Characters.{size, lead, after_byte};
-ghost use Rattle.logos_places.specs.inside.Ranges.{in_ranges, AreParts, from_floor};
+ghost use Rattle.logos_places.specs.Views.{MatchOption, size, lead, after_byte, is_char_in, IsReaderOf, pairs, in_ranges, AreParts, from_floor};
 ghost use Rattle.logos_places.specs.Table as table;
-ghost use Rattle.logos_places.specs.inside.Reader.{is_char_in, IsReaderOf};
-ghost use Rattle.logos_hir.specs.Hir.{pairs};
 
 use crate::characters::ranges::{CharRange, Window, clip, scalars};
 use crate::characters::reader::Table;
@@ -18,11 +16,13 @@ use std::alloc::{AllocError, Global};
 pub struct Rest {
     /// The number of bytes that are left.
     pub left: u8,
-    /// The characters that they can complete, as offsets in the block of numbers that they distinguish.
+    /// The characters that they can complete, as offsets in the block of numbers that they
+    /// distinguish.
     pub offsets: Vec<CharRange>,
 }
 
-/// The characters that a first byte begins: those from `floor` on, in the block from `start` on that `left` bytes distinguish.
+/// The characters that a first byte begins: those from `floor` on, in the block from `start` on
+/// that `left` bytes distinguish.
 #[derive(Clone, Copy)]
 struct Block {
     left: u8,
@@ -34,7 +34,7 @@ struct Block {
 ///
 /// # Errors
 ///
-/// Returns `AllocError` when memory runs out.
+/// Returns `AllocError` if memory runs out.
 fn number_of(rests: &mut IndexSet<Rest>, rest: Rest) -> Result<usize, AllocError>
     ensures grows { OnOk result (table.Grows rests.old.keys rests.new.keys) }
     ensures stored { IfOk result (λ i. table.IsAt rests.new.keys i (table.row_of rest)) }
@@ -53,7 +53,7 @@ fn number_of(rests: &mut IndexSet<Rest>, rest: Rest) -> Result<usize, AllocError
 ///
 /// # Errors
 ///
-/// Returns `AllocError` when memory runs out.
+/// Returns `AllocError` if memory runs out.
 fn place(
     rests: &mut IndexSet<Rest>,
     left: u8,
@@ -79,11 +79,12 @@ fn place(
     Ok(Some(i))
 }
 
-/// Returns the row for the characters of the ranges that a first byte begins, or `None` if there are none.
+/// Returns the row for the characters of the ranges that a first byte begins, or `None` if there
+/// are none.
 ///
 /// # Errors
 ///
-/// Returns `AllocError` when memory runs out.
+/// Returns `AllocError` if memory runs out.
 fn row_for(
     alloc: Global,
     rests: &mut IndexSet<Rest>,
@@ -158,7 +159,7 @@ fn block_of(byte: u8) -> Option<Block>
 ///
 /// # Errors
 ///
-/// Returns `AllocError` when memory runs out.
+/// Returns `AllocError` if memory runs out.
 fn first_for(
     alloc: Global,
     rests: &mut IndexSet<Rest>,
@@ -180,11 +181,12 @@ fn first_for(
     row_for(alloc, rests, ranges, block)
 }
 
-/// Returns the offsets that are left after the continuation byte with the number `part`, from 0 to 63.
+/// Returns the offsets that are left after the continuation byte with the number `part`, from 0 to
+/// 63.
 ///
 /// # Errors
 ///
-/// Returns `AllocError` when memory runs out.
+/// Returns `AllocError` if memory runs out.
 fn after(alloc: Global, rest: &Rest, left: u8, part: u32) -> Result<Vec<CharRange>, AllocError>
     requires small { left < 3 }
     requires part { part < 64 }
@@ -205,7 +207,7 @@ fn after(alloc: Global, rest: &Rest, left: u8, part: u32) -> Result<Vec<CharRang
 ///
 /// # Errors
 ///
-/// Returns `AllocError` when memory runs out.
+/// Returns `AllocError` if memory runs out.
 fn next_for(
     alloc: Global,
     rests: &mut IndexSet<Rest>,
@@ -253,7 +255,7 @@ fn block_size(left: u8) -> u32
 ///
 /// # Errors
 ///
-/// Returns `AllocError` when memory runs out.
+/// Returns `AllocError` if memory runs out.
 fn first_cells(
     alloc: Global,
     rests: &mut IndexSet<Rest>,
@@ -280,7 +282,7 @@ fn first_cells(
 ///
 /// # Errors
 ///
-/// Returns `AllocError` when memory runs out.
+/// Returns `AllocError` if memory runs out.
 fn follow_row(
     alloc: Global,
     rests: &mut IndexSet<Rest>,
@@ -312,7 +314,7 @@ fn follow_row(
 ///
 /// # Errors
 ///
-/// Returns `AllocError` when memory runs out.
+/// Returns `AllocError` if memory runs out.
 fn follow_cells(alloc: Global, rests: &mut IndexSet<Rest>) -> Result<Vec<Option<usize>>, AllocError>
     requires rests { table.AreRests rests.old.keys }
     requires small { table.weight 0 rests.old.keys ≤ 34_361 }
@@ -336,7 +338,7 @@ fn follow_cells(alloc: Global, rests: &mut IndexSet<Rest>) -> Result<Vec<Option<
 ///
 /// # Errors
 ///
-/// Returns `AllocError` when memory runs out.
+/// Returns `AllocError` if memory runs out.
 fn start(alloc: Global) -> Result<IndexSet<Rest>, AllocError>
     ensures rests { IfOk result (λ rests. table.AreRests rests.keys) }
     ensures weight { IfOk result (λ rests. table.weight 0 rests.keys ≡ 1) }
@@ -352,7 +354,7 @@ fn start(alloc: Global) -> Result<IndexSet<Rest>, AllocError>
 ///
 /// # Errors
 ///
-/// Returns `AllocError` when memory runs out.
+/// Returns `AllocError` if memory runs out.
 fn build(alloc: Global, ranges: &[CharRange]) -> Result<Table, AllocError>
     ensures { IfOk result (λ made. IsReaderOf (in_ranges ranges.now) (table.reader_of made)) }
 {
@@ -370,7 +372,7 @@ fn build(alloc: Global, ranges: &[CharRange]) -> Result<Table, AllocError>
 ///
 /// # Errors
 ///
-/// Returns `AllocError` when memory runs out.
+/// Returns `AllocError` if memory runs out.
 pub fn table_of(alloc: Global, ranges: &[Range]) -> Result<Table, AllocError>
     ensures { IfOk result (λ made. IsReaderOf (is_char_in (pairs ranges.now))
         (table.reader_of made)) }

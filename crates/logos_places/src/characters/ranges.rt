@@ -1,10 +1,7 @@
-//! Ranges of characters.
+//! Ranges of characters. The building of a table cuts and splits them.
+
 ghost use Rattle.std.specs.Prelude.{◌&&◌, nat_le, ◌≡◌, ℕ, ◌+◌, ◌^◌, ◌<◌, ◌≤◌, ◌||◌, OnOk, IfOk};
-ghost use lib.Utf8.{scalar};
-ghost use Rattle.logos_hir.specs.Hir.{pairs};
-ghost use Rattle.logos_hir.specs.ByteRanges.{is_in};
-ghost use Rattle.logos_places.specs.inside.Reader.{is_char_in};
-ghost use Rattle.logos_places.specs.inside.Ranges.{in_range, in_ranges, from_floor, ClipsTo, AreParts};
+ghost use Rattle.logos_places.specs.Views.{scalar, pairs, is_in, is_char_in, in_range, in_ranges, from_floor, ClipsTo, AreParts};
 
 use logos_hir::hir::Range;
 use std::alloc::{AllocError, Global};
@@ -24,7 +21,8 @@ pub struct Window {
     pub size: u32,
 }
 
-/// Returns the offsets, in the block of a window, of the numbers that are in the range and in the window.
+/// Returns the offsets, in the block of a window, of the numbers that are in the range and in the
+/// window.
 fn clip_range(range: CharRange, window: Window) -> Option<CharRange>
     requires fits { window.start + window.size < 2 ^ 32 }
     requires some { 0 < window.size }
@@ -41,11 +39,11 @@ fn clip_range(range: CharRange, window: Window) -> Option<CharRange>
     })
 }
 
-/// Adds the offsets of the numbers that are in the range and in the window.
+/// Appends the offsets of the numbers that are in the range and in the window.
 ///
 /// # Errors
 ///
-/// Returns `AllocError` when memory runs out.
+/// Returns `AllocError` if memory runs out.
 fn push_clip(out: &mut Vec<CharRange>, range: CharRange, window: Window) -> Result<(), AllocError>
     requires fits { window.start + window.size < 2 ^ 32 }
     requires some { 0 < window.size }
@@ -67,7 +65,7 @@ fn push_clip(out: &mut Vec<CharRange>, range: CharRange, window: Window) -> Resu
 ///
 /// # Errors
 ///
-/// Returns `AllocError` when memory runs out.
+/// Returns `AllocError` if memory runs out.
 pub fn clip(
     alloc: Global,
     ranges: &[CharRange],
@@ -86,11 +84,11 @@ pub fn clip(
     Ok(out)
 }
 
-/// Adds the range, unless it is empty.
+/// Appends the range, unless it is empty.
 ///
 /// # Errors
 ///
-/// Returns `AllocError` when memory runs out.
+/// Returns `AllocError` if memory runs out.
 fn push_range(out: &mut Vec<CharRange>, first: u32, last: u32) -> Result<(), AllocError>
     ensures { OnOk result ((c : ℕ) → in_ranges out.new.items c ≡
         (in_ranges out.old.items c || (nat_le first c && nat_le c last))) }
@@ -101,11 +99,11 @@ fn push_range(out: &mut Vec<CharRange>, first: u32, last: u32) -> Result<(), All
     Ok(())
 }
 
-/// Adds the characters of a range.
+/// Appends the characters of a range.
 ///
 /// # Errors
 ///
-/// Returns `AllocError` when memory runs out.
+/// Returns `AllocError` if memory runs out.
 fn push_scalars(out: &mut Vec<CharRange>, range: Range) -> Result<(), AllocError>
     ensures { OnOk result ((c : ℕ) → in_ranges out.new.items c ≡
         (in_ranges out.old.items c ||
@@ -115,11 +113,12 @@ fn push_scalars(out: &mut Vec<CharRange>, range: Range) -> Result<(), AllocError
     push_range(out, range.first.max(0xE000), range.last.min(0x10_FFFF))
 }
 
-/// Returns the characters of the ranges, without surrogates and without numbers past the last character.
+/// Returns the characters of the ranges, without surrogates and without numbers past the last
+/// character.
 ///
 /// # Errors
 ///
-/// Returns `AllocError` when memory runs out.
+/// Returns `AllocError` if memory runs out.
 pub fn scalars(alloc: Global, ranges: &[Range]) -> Result<Vec<CharRange>, AllocError>
     ensures { IfOk result (λ made. (c : ℕ) → in_ranges made.items c ≡
         is_char_in (pairs ranges.now) c) }

@@ -1,8 +1,10 @@
-//! A table that reads a character of a class, byte by byte.
+//! A table that reads a character of a class, byte by byte. Steps on a class of characters look up
+//! the next place in it.
+
 ghost use Rattle.std.specs.Prelude.{◌<◌, ◌^◌};
 
-/// A class of characters as an automaton over the bytes of UTF-8. At row 0 a whole character is read; at each other row a
-/// character is begun.
+/// A class of characters as an automaton over the bytes of UTF-8. At row 0 a whole character is
+/// read; at each other row a character is begun.
 #[derive(Drop)]
 pub struct Table {
     /// The number of rows.

@@ -1,10 +1,8 @@
-//! Steps on several trees, whose places stand one after another.
+//! Steps on several trees, whose places stand one after another. `logos_automaton` calls it for the
+//! key of each state that it meets.
+
 ghost use Rattle.std.specs.Prelude.{◌≡◌, ◌∷◌, ◌++◌, ◌^◌, ◌<◌, ◌≤◌, ◌+◌, ◌-◌, ℕ, [], IsTrue, IsFalse, IfOk, OnOk, length, map, slice_index, if◌then◌else◌};
-ghost use Rattle.logos_places.specs.Kinds.{test_at};
-ghost use Rattle.logos_places.specs.Marks.{IsRising, Has, HasBetween};
-ghost use Rattle.logos_places.specs.Node.{core_of, AreMeasured};
-ghost use Rattle.logos_places.specs.Run.{width_of};
-ghost use Rattle.logos_places.specs.Several.{ReadBy, LeftBy, AreStarts};
+ghost use Rattle.logos_places.specs.Views.{IsRising, Has, HasBetween, width_of, test_at, core_of, AreMeasured, ReadBy, LeftBy, AreStarts};
 
 use crate::node::{Node, Spot, width};
 use crate::places::exits::exits;
@@ -35,7 +33,7 @@ pub struct JointStep {
 ///
 /// # Errors
 ///
-/// Returns `AllocError` when memory runs out.
+/// Returns `AllocError` if memory runs out.
 pub fn starts_of(alloc: Global, nodes: &[Node]) -> Result<Vec<usize>, AllocError>
     requires fits { width_of (map core_of nodes.now) < 2 ^ 64 }
     requires measured { AreMeasured nodes.now }
@@ -76,7 +74,8 @@ fn tree_at(starts: &[usize], from: usize, place: usize) -> usize
     low
 }
 
-/// Returns the number of the first tree from `from` on that is entered or has a mark, or the number of trees if there is none.
+/// Returns the number of the first tree from `from` on that is entered or has a place, or the
+/// number of trees if there is none.
 pub fn next_tree(starts: &[usize], marks: &[usize], entered: bool, from: usize) -> usize
     requires rising { IsRising marks.now }
     requires within { from < length starts.now }
@@ -106,7 +105,7 @@ pub fn next_tree(starts: &[usize], marks: &[usize], entered: bool, from: usize) 
 ///
 /// # Errors
 ///
-/// Returns `AllocError` when memory runs out.
+/// Returns `AllocError` if memory runs out.
 fn note(numbers: &mut Vec<usize>, number: usize, is_one: bool) -> Result<(), AllocError>
     ensures { OnOk result (numbers.new.items ≡
         (if is_one then numbers.old.items ++ number ∷ [] else numbers.old.items)) }
@@ -121,7 +120,7 @@ fn note(numbers: &mut Vec<usize>, number: usize, is_one: bool) -> Result<(), All
 ///
 /// # Errors
 ///
-/// Returns `AllocError` when memory runs out.
+/// Returns `AllocError` if memory runs out.
 pub fn step_all(
     alloc: Global,
     forest: Forest<'_>,
@@ -160,7 +159,7 @@ pub fn step_all(
 ///
 /// # Errors
 ///
-/// Returns `AllocError` when memory runs out.
+/// Returns `AllocError` if memory runs out.
 pub fn exits_all(
     alloc: Global,
     forest: Forest<'_>,

@@ -1,12 +1,9 @@
-//! Whether a tree can be left.
+//! Whether a tree can be left. Steps ask it of each part that the next part follows, and `all` of
+//! each tree.
+
 ghost use Rattle.std.specs.Prelude.{max, ◌≡◌, ℕ, ◌+◌, ◌*◌, ◌-◌, ◌^◌, ◌<◌, ◌⊎◌, ◌↔◌, IsTrue, Bool, List, length};
+ghost use Rattle.logos_places.specs.Views.{Core, Exits, IsRising, Has, spelled, in_front, up_to, at_least, repeated, count_of, IsOrdered, Look, test_at, core_of, is_measured};
 ghost use Rattle.logos_places.specs.Core as core;
-ghost use Rattle.logos_places.specs.Core.{Core, Exits};
-ghost use Rattle.logos_places.specs.Kinds.{test_at};
-ghost use Rattle.logos_places.specs.Marks.{IsRising, Has};
-ghost use Rattle.logos_places.specs.Node.{core_of, is_measured};
-ghost use Rattle.logos_places.specs.Repeat.{spelled, in_front, up_to, at_least, repeated, count_of, IsOrdered};
-ghost use Rattle.logos_hir.specs.declared.hir.Look.{Look};
 
 use crate::node::{Copies, Node, Spot, width};
 use crate::places::look::{Context, holds};
@@ -53,7 +50,7 @@ pub(crate) fn exits(node: &Node, marks: &[usize], spot: Spot, at: Context) -> bo
     }
 }
 
-/// Returns whether a literal can be left: whether its last place is marked.
+/// Returns whether a literal can be left: whether its last place is in the set.
 fn exits_literal(text: &[u8], marks: &[usize], spot: Spot) -> bool
     requires fits { spot.base + length text.now < 2 ^ 64 }
     requires rising { IsRising marks.now }
@@ -66,7 +63,8 @@ fn exits_literal(text: &[u8], marks: &[usize], spot: Spot) -> bool
     has_mark(marks, spot.base + text.len() - 1)
 }
 
-/// Returns whether a repetition can be left: at least these copies of its body, and at most `most` if there is such a bound.
+/// Returns whether a repetition can be left: at least these copies of its body, and at most `most`
+/// if there is such a bound.
 #[cycle(exits)]
 fn exits_repeat(
     body: &Node,

@@ -1,8 +1,9 @@
-//! Where a look holds, by the kind of the byte before.
+//! Where a look holds, by the kind of the byte before. Steps and exits ask it at each look of a
+//! tree.
+
 ghost use Rattle.std.specs.Prelude.{◌≡◌, Some, is_none};
-ghost use Rattle.logos_places.specs.Kinds.{side_before, kind_of_byte, test_at, is_word_byte};
+ghost use Rattle.logos_places.specs.Views.{is_byte, side_before, kind_of_byte, test_at, is_word_byte};
 ghost use Rattle.logos_hir.specs.Looks as looks;
-ghost use Rattle.logos_hir.specs.Looks.{is_byte};
 
 use logos_hir::hir::Look;
 

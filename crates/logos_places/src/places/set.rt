@@ -1,4 +1,5 @@
-//! Sets of places, as ascending lists.
+//! Sets of places, as ascending lists. Steps look up places in them, and add places to them.
+
 ghost use Rattle.std.specs.Prelude.{◌⊎◌, OnOk, ◌^◌, ◌≡◌, ℕ, ◌+◌, ◌*◌, ◌<◌, ◌≤◌, ◌↔◌, IsTrue, IsFalse, length};
 ghost use Rattle.logos_places.specs.Marks.{IsRising, Has, HasBetween, IsFirstFrom};
 
@@ -23,7 +24,7 @@ pub fn first_from(marks: &[usize], from: usize) -> usize
     low
 }
 
-/// Returns whether the place is marked.
+/// Returns whether the place is in the set.
 pub fn has_mark(marks: &[usize], place: usize) -> bool
     requires { IsRising marks.now }
     ensures { IsTrue result ↔ Has marks.now place }
@@ -32,7 +33,7 @@ pub fn has_mark(marks: &[usize], place: usize) -> bool
     i < marks.len() && marks[i] == place
 }
 
-/// Returns whether one of the `width` places from `from` on is marked.
+/// Returns whether one of the `width` places from `from` on is in the set.
 pub fn any_mark(marks: &[usize], from: usize, width: usize) -> bool
     requires { IsRising marks.now }
     ensures { IsTrue result ↔ ((q : ℕ) × (q < width) × Has marks.now (from + q)) }
@@ -41,7 +42,8 @@ pub fn any_mark(marks: &[usize], from: usize, width: usize) -> bool
     i < marks.len() && marks[i] - from < width
 }
 
-/// Returns how many of the copies have no mark, up to the first that has one. Returns 0 if the first copy is entered.
+/// Returns how many of the copies have no place, up to the first that has one. Returns 0 if the
+/// first copy is entered.
 fn empty_copies(marks: &[usize], copies: Copies) -> usize
     requires { IsRising marks.now }
     ensures bound { result ≤ copies.count }
@@ -64,8 +66,9 @@ fn empty_copies(marks: &[usize], copies: Copies) -> usize
     ((marks[i] - copies.base) / copies.each).min(copies.count)
 }
 
-/// Returns the number of the first copy from `done` on that is entered or has a mark, or the number of copies if there is none.
-/// `entered` says whether the copy with the number `done` is entered.
+/// Returns the number of the first copy from `done` on that is entered or has a place, or the
+/// number of copies if there is none. `entered` says whether the copy with the number `done` is
+/// entered.
 pub(crate) fn next_copy(marks: &[usize], copies: Copies, done: usize, entered: bool) -> usize
     requires rising { IsRising marks.now }
     requires fits { copies.base + copies.each * copies.count < 2 ^ 64 }
@@ -92,7 +95,7 @@ pub(crate) fn next_copy(marks: &[usize], copies: Copies, done: usize, entered: b
 ///
 /// # Errors
 ///
-/// Returns `AllocError` when memory runs out.
+/// Returns `AllocError` if memory runs out.
 pub fn insert_mark(marks: &mut Vec<usize>, place: usize) -> Result<(), AllocError>
     requires { IsRising marks.old.items }
     ensures rising { OnOk result (IsRising marks.new.items) }

@@ -1,16 +1,9 @@
-//! Steps from the places that read one byte to those that read the next byte.
+//! Steps from the places that read one byte to those that read the next byte. `all` and `tree` call
+//! it on each tree.
+
 ghost use Rattle.std.specs.Prelude.{max, ◌≡◌, ℕ, ◌+◌, ◌*◌, ◌^◌, ◌<◌, ◌≤◌, ◌⊎◌, IsTrue, IfOk, OnOk, IfSome, ◌↔◌, Bool, false, Option, length};
+ghost use Rattle.logos_places.specs.Views.{Core, IsRising, IsSet, Has, spelled, in_front, up_to, at_least, repeated, count_of, IsOrdered, Stepped, Owes, is_in, pairs, Look, test_at, core_of, is_measured, reader_of};
 ghost use Rattle.logos_places.specs.Core as core;
-ghost use Rattle.logos_places.specs.Core.{Core};
-ghost use Rattle.logos_places.specs.Kinds.{test_at};
-ghost use Rattle.logos_places.specs.Marks.{IsRising, IsSet, Has};
-ghost use Rattle.logos_places.specs.Node.{core_of, is_measured};
-ghost use Rattle.logos_places.specs.Repeat.{spelled, in_front, up_to, at_least, repeated, count_of, IsOrdered};
-ghost use Rattle.logos_places.specs.inside.Stepped.{Stepped, Owes};
-ghost use Rattle.logos_places.specs.Table.{reader_of};
-ghost use Rattle.logos_hir.specs.ByteRanges.{is_in};
-ghost use Rattle.logos_hir.specs.Hir.{pairs};
-ghost use Rattle.logos_hir.specs.declared.hir.Look.{Look};
 
 use crate::characters::reader::Table;
 use crate::node::{Copies, Node, Spot, width};
@@ -44,11 +37,12 @@ pub fn has_byte(ranges: &[Range], byte: u8) -> bool
     false
 }
 
-/// Steps on the place of a class that has one byte. `fits` says whether the class has the byte that is read.
+/// Steps on the place of a class that has one byte. `fits` says whether the class has the byte that
+/// is read.
 ///
 /// # Errors
 ///
-/// Returns `AllocError` when memory runs out.
+/// Returns `AllocError` if memory runs out.
 fn step_byte(
     fits: bool,
     by: Reading<'_>,
@@ -76,7 +70,7 @@ fn step_byte(
 ///
 /// # Errors
 ///
-/// Returns `AllocError` when memory runs out.
+/// Returns `AllocError` if memory runs out.
 fn step_bytes(
     ranges: &[Range],
     by: Reading<'_>,
@@ -97,7 +91,7 @@ fn step_bytes(
 ///
 /// # Errors
 ///
-/// Returns `AllocError` when memory runs out.
+/// Returns `AllocError` if memory runs out.
 fn step_literal(
     text: &[u8],
     by: Reading<'_>,
@@ -134,7 +128,7 @@ fn step_literal(
 ///
 /// # Errors
 ///
-/// Returns `AllocError` when memory runs out.
+/// Returns `AllocError` if memory runs out.
 fn insert_row(
     row: Option<usize>,
     rows: usize,
@@ -160,7 +154,7 @@ fn insert_row(
 ///
 /// # Errors
 ///
-/// Returns `AllocError` when memory runs out.
+/// Returns `AllocError` if memory runs out.
 fn step_characters(
     table: &Table,
     by: Reading<'_>,
@@ -196,11 +190,12 @@ fn step_characters(
     Ok(left)
 }
 
-/// Adds the places of a tree that read the byte, and returns whether the tree can be left before the byte.
+/// Adds the places of a tree that read the byte, and returns whether the tree can be left before
+/// the byte.
 ///
 /// # Errors
 ///
-/// Returns `AllocError` when memory runs out.
+/// Returns `AllocError` if memory runs out.
 #[cycle(step)]
 pub(crate) fn step(
     node: &Node,
@@ -248,11 +243,12 @@ pub(crate) fn step(
     }
 }
 
-/// Steps on a repetition: at least these copies of its body, and at most `most` if there is such a bound.
+/// Steps on a repetition: at least these copies of its body, and at most `most` if there is such a
+/// bound.
 ///
 /// # Errors
 ///
-/// Returns `AllocError` when memory runs out.
+/// Returns `AllocError` if memory runs out.
 #[cycle(step)]
 fn step_repeat(
     body: &Node,
@@ -288,7 +284,7 @@ fn step_repeat(
 ///
 /// # Errors
 ///
-/// Returns `AllocError` when memory runs out.
+/// Returns `AllocError` if memory runs out.
 #[cycle(step)]
 fn step_at_least(
     body: &Node,
@@ -325,7 +321,7 @@ fn step_at_least(
 ///
 /// # Errors
 ///
-/// Returns `AllocError` when memory runs out.
+/// Returns `AllocError` if memory runs out.
 #[cycle(step)]
 fn step_copies(
     body: &Node,
@@ -356,7 +352,7 @@ fn step_copies(
 ///
 /// # Errors
 ///
-/// Returns `AllocError` when memory runs out.
+/// Returns `AllocError` if memory runs out.
 #[cycle(step)]
 fn step_up_to(
     body: &Node,
@@ -388,7 +384,7 @@ fn step_up_to(
 ///
 /// # Errors
 ///
-/// Returns `AllocError` when memory runs out.
+/// Returns `AllocError` if memory runs out.
 #[cycle(step)]
 fn step_plus(
     body: &Node,

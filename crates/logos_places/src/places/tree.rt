@@ -1,10 +1,9 @@
-//! Steps on one tree of several, whose places stand one after another.
+//! Steps on one tree of several, whose places stand one after another. `logos_automaton` calls it
+//! for the steps that it stores.
+
 ghost use Rattle.std.specs.Prelude.{◌≡◌, ◌^◌, ◌<◌, ◌≤◌, ◌↔◌, ◌+◌, ℕ, IsTrue, IfOk};
+ghost use Rattle.logos_places.specs.Views.{Has, IsRising, test_at, core_of, is_measured, IsStepOf};
 ghost use Rattle.logos_places.specs.Core as core;
-ghost use Rattle.logos_places.specs.Kinds.{test_at};
-ghost use Rattle.logos_places.specs.Marks.{Has, IsRising};
-ghost use Rattle.logos_places.specs.Node.{core_of, is_measured};
-ghost use Rattle.logos_places.specs.Several.{IsStepOf};
 
 use crate::node::{Node, Spot};
 use crate::places::set::first_from;
@@ -24,7 +23,7 @@ pub struct TreeStep {
 ///
 /// # Errors
 ///
-/// Returns `AllocError` when memory runs out.
+/// Returns `AllocError` if memory runs out.
 pub fn step_tree(
     alloc: Global,
     node: &Node,
@@ -46,11 +45,11 @@ pub fn step_tree(
     Ok(TreeStep { places, left })
 }
 
-/// Returns the marks from `low` on and below `high`.
+/// Returns the places from `low` on and below `high`.
 ///
 /// # Errors
 ///
-/// Returns `AllocError` when memory runs out.
+/// Returns `AllocError` if memory runs out.
 pub fn marks_between(
     alloc: Global,
     marks: &[usize],

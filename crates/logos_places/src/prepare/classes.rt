@@ -1,10 +1,8 @@
-//! Classes of bytes as ranges, two of them joined to one.
+//! Classes of bytes as ranges, two of them joined to one. `prepare` asks for it where it puts two
+//! trees beside each other.
+
 ghost use Rattle.std.specs.Prelude.{◌≡◌, ◌+◌, ◌<◌, ◌≤◌, ◌||◌, ℕ, IsTrue, IfOk, IfSome, OnOk, length, max, min, slice_get};
-ghost use Rattle.logos_hir.specs.ByteRanges.{is_in};
-ghost use Rattle.logos_hir.specs.Hir.{pairs};
-ghost use Rattle.logos_places.specs.Core.{byte_in};
-ghost use Rattle.logos_places.specs.Node.{core_of};
-ghost use Rattle.logos_places.specs.inside.Joined.{AreNear, IsEither, is_within};
+ghost use Rattle.logos_places.specs.Views.{is_in, pairs, byte_in, AreNear, IsEither, is_within, core_of};
 
 use crate::node::Node;
 use logos_hir::hir::Range;
@@ -28,7 +26,8 @@ fn hull(one: Range, other: Range) -> Range
     }
 }
 
-/// Returns the index of the first of the ranges that is near this one, or the number of ranges if none is.
+/// Returns the index of the first of the ranges that is near this one, or the number of ranges if
+/// none is.
 fn near_range(ranges: &[Range], range: Range) -> usize
     ensures within { result ≤ length ranges.now }
     ensures near { IfSome (slice_get ranges.now result) (λ found. AreNear found range) }
@@ -47,7 +46,7 @@ fn near_range(ranges: &[Range], range: Range) -> usize
 ///
 /// # Errors
 ///
-/// Returns `AllocError` when memory runs out.
+/// Returns `AllocError` if memory runs out.
 fn add_range(ranges: &mut Vec<Range>, range: Range) -> Result<(), AllocError>
     ensures { OnOk result ((x : ℕ) → is_in (pairs ranges.new.items) x ≡
         (is_in (pairs ranges.old.items) x || is_within range x)) }
@@ -65,7 +64,7 @@ fn add_range(ranges: &mut Vec<Range>, range: Range) -> Result<(), AllocError>
 ///
 /// # Errors
 ///
-/// Returns `AllocError` when memory runs out.
+/// Returns `AllocError` if memory runs out.
 fn union(alloc: Global, one: &[Range], other: &[Range]) -> Result<Vec<Range>, AllocError>
     ensures { IfOk result (λ ranges. (x : ℕ) → is_in (pairs ranges.items) x ≡
         (is_in (pairs one.now) x || is_in (pairs other.now) x)) }
@@ -87,11 +86,12 @@ fn ranges_of(node: &Node) -> Option<&[Range]>
     }
 }
 
-/// Returns the ranges of a class that has the bytes of both trees, or `None` if one of them is not a class of bytes.
+/// Returns the ranges of a class that has the bytes of both trees, or `None` if one of them is not
+/// a class of bytes.
 ///
 /// # Errors
 ///
-/// Returns `AllocError` when memory runs out.
+/// Returns `AllocError` if memory runs out.
 pub(crate) fn joined_class(
     alloc: Global,
     first: &Node,

@@ -1,4 +1,5 @@
--- How two states of a reduced table are distinguished: step by step, by the splits that parted them.
+-- How two states of a reduced table are distinguished: step by step, by the splits that parted
+-- them.
 use Rattle.std.proofs.Common.{◌≡◌, ◌≢◌, ℕ, zero, suc, ◌<◌, ◌≤◌, ◌+◌, ◌-◌, ◌⊎◌, inl, inr, true, false, List, [], ◌∷◌, ◌++◌, length, slice_index, Option, Some, None, option_map, option_and_then, refl, sym, ◌∙◌, ap, subst, arith}
 use Rattle.std.specs.List.{All}
 use Rattle.std.proofs.lemmas.Bool.{cases_lt}
@@ -8,7 +9,7 @@ use Rattle.logos_reduce.specs.Merge.{target_block, ArePartedBy, split_at}
 use Rattle.logos_reduce.specs.Table.{size, to, mark}
 use Rattle.logos_reduce.specs.History.{HistoryOf, GivesEvidence}
 use Rattle.logos_reduce.specs.Evidence.{mark_with_end, mark_after, IsEvidence}
-use Rattle.logos_reduce.specs.Words.{state_after, WordDistinguishes}
+use Rattle.logos_reduce.specs.SymbolWords.{state_after, WordDistinguishes}
 use Rattle.logos_reduce.specs.inside.Count.{count_blocks}
 use Rattle.logos_reduce.specs.inside.Evidence.{ArePartedAt}
 use Rattle.logos_reduce.specs.declared.reduction.Reduction.{Reduction}

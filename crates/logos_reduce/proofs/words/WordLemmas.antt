@@ -1,7 +1,7 @@
 -- States in different blocks are distinguished, by words shorter than there are blocks.
 use Rattle.std.proofs.Common.{◌≡◌, ◌≢◌, ℕ, zero, suc, ◌<◌, ◌≤◌, ◌+◌, ◌-◌, ◌⊎◌, inl, inr, true, false, nat_eq, slice_index, List, [], ◌∷◌, length, Option, Some, None, option_map, refl, sym, ◌∙◌, ap, subst, arith}
 use Rattle.std.proofs.lemmas.Bool.Decides.{eqb_tells}
-use Rattle.logos_reduce.specs.Words.{state_after, WordDistinguishes}
+use Rattle.logos_reduce.specs.SymbolWords.{state_after, WordDistinguishes}
 use Rattle.logos_reduce.specs.Merge.{target_block, ArePartedBy, split_at, IsHistory, IsMerged}
 use Rattle.logos_reduce.specs.inside.Merge.{IsFiner}
 use Rattle.logos_reduce.specs.inside.Count.{count_blocks}

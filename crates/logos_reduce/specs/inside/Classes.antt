@@ -5,16 +5,16 @@ use Rattle.logos_reduce.specs.Table.{size, to, mark}
 use Rattle.logos_reduce.specs.inside.Merge.{key_of}
 use Rattle.logos_reduce.specs.declared.table.Table.{Table}
 
--- the place of the row of a state, and its mark, as a key
+-- The index of the row of a state, and its mark, as a key.
 abbrev pub class_key : Table → ℕ → List ℕ
 class_key table s = slice_index table.rows.places.items s ∷ key_of (mark table s)
 
--- the classes of the first n states are the numbers of their keys
+-- The classes of the first n states are the numbers of their keys.
 pub record AreKeyed (table : Table) (n : ℕ) (of : List ℕ) (keys : List (List ℕ)) : Type 0 where
   pub keyed : (s : ℕ) → s < n → slice_get keys (slice_index of s) ≡ Some (class_key table s)
   pub few : length keys ≤ n
 
--- states of one class have one mark, and lead to the same states
+-- States of one class have one mark, and lead to the same states.
 pub record AreClasses (table : Table) (class : ℕ → ℕ) : Type 0 where
   pub marks : (s t : ℕ) → s < size table → t < size table → class s ≡ class t →
       mark table s ≡ mark table t

@@ -1,20 +1,20 @@
 -- How many blocks there are, and how many pairs of states are in one.
 use Rattle.std.specs.Prelude.{◌+◌, ℕ, zero, suc, Bool, false, ◌||◌, ◌==◌, if◌then◌else◌}
 
--- the sum of a function at the first numbers
+-- The sum of a function at the first numbers.
 abbrev pub sum_below : ℕ → (ℕ → ℕ) → ℕ
 sum_below zero f = 0
 sum_below (suc n) f = f n + sum_below n f
 
--- how many pairs of states are in one block
+-- How many pairs of states are in one block.
 abbrev pub pairs_together : ℕ → (ℕ → ℕ) → ℕ
 pairs_together n block = sum_below n (λ s. sum_below n (λ t. if block s == block t then 1 else 0))
 
--- one of the first n states is in the block of the state
+-- One of the first n states is in the block of the state.
 abbrev pub is_repeated : (ℕ → ℕ) → ℕ → ℕ → Bool
 is_repeated block zero s = false
 is_repeated block (suc n) s = (block n == block s) || is_repeated block n s
 
--- how many blocks the first states are in
+-- How many blocks the first states are in.
 abbrev pub count_blocks : ℕ → (ℕ → ℕ) → ℕ
 count_blocks n block = sum_below n (λ s. if is_repeated block s s then 0 else 1)

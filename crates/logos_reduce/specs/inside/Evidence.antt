@@ -4,7 +4,7 @@ use Rattle.logos_reduce.specs.Merge.{ArePartedBy, split_at}
 use Rattle.logos_reduce.specs.History.{HistoryOf}
 use Rattle.logos_reduce.specs.declared.reduction.Reduction.{Reduction}
 
--- the two states were parted when block j was parted from its parent
+-- The two states were parted when block j was parted from its parent.
 pub record ArePartedAt (r : Reduction) (s t j : ℕ) : Type 0 where
   pub some : 0 < j
   pub inside : j < length r.splits.items

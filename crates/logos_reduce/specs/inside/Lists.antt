@@ -3,19 +3,20 @@ use Rattle.std.specs.Prelude.{◌≡◌, ◌<◌, ◌⊎◌, nat_le, nat_lt, if�
 use Rattle.std.specs.declared.alloc.Global.{Global}
 use Rattle.logos_reduce.specs.Lists.{has, has_in}
 
--- each of the first n states is in the list of its block
+-- Each of the first n states is in the list of its block.
 abbrev pub AreFiled : ℕ → (ℕ → ℕ) → List (Vec ℕ Global) → Type 0
 AreFiled n block lists = (s : ℕ) → s < n → has_in lists (block s) s ≡ true
 
--- the block to which the hit states of a block go
+-- The block to which the hit states of a block go.
 abbrev pub twin_of : List ℕ → ℕ → ℕ → ℕ
 twin_of twins fresh c = if nat_le fresh (slice_index twins c) then slice_index twins c else c
 
--- the block to which a hit state goes that is now in a block, perhaps a new one
+-- The block to which a hit state goes that is now in a block, perhaps a new one.
 abbrev pub landing : List ℕ → ℕ → ℕ → ℕ
 landing twins fresh b = if nat_lt b fresh then twin_of twins fresh b else b
 
--- the first i hits are in the blocks that they go to, other states where they were, and each is in the list of its block
+-- The first i hits are in the blocks that they go to, other states where they were, and each is in
+-- the list of its block.
 pub record HaveMoved (n i fresh : ℕ) (old blocks twins hits : List ℕ)
     (lists : List (Vec ℕ Global)) : Type 0 where
   pub moved : (j : ℕ) → j < i →
@@ -26,12 +27,12 @@ pub record HaveMoved (n i fresh : ℕ) (old blocks twins hits : List ℕ)
       ⊎ ((has hits s ≡ true) × (slice_index blocks s ≡ twin_of twins fresh (slice_index old s)))
   pub filed : AreFiled n (slice_index blocks) lists
 
--- the sources have each state that leads into the block
+-- The sources have each state that leads into the block.
 abbrev pub AreSources : ℕ → (ℕ → ℕ → Option ℕ) → List ℕ → ℕ → Type 0
 AreSources n target_block sources b = (s k : ℕ) → s < n → target_block s k ≡ Some b →
     has sources s ≡ true
 
--- the hits are those of the sources that lead into the block by the symbol
+-- The hits are those of the sources that lead into the block by the symbol.
 pub record AreHits (n : ℕ) (target_block : ℕ → ℕ → Option ℕ)
     (sources hits : List ℕ) (b k : ℕ) : Type 0 where
   pub inside : (i : ℕ) → i < length hits → slice_index hits i < n

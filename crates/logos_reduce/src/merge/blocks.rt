@@ -1,4 +1,5 @@
-//! Blocks of states.
+//! Blocks of states. Merging begins with a block for each mark, and splits them.
+
 ghost use Rattle.std.specs.Prelude.{None, ◌≡◌, ◌≢◌, ℕ, ◌+◌, ◌<◌, ◌≤◌, IfOk, length, vec_len, slice_index, slice_index_or};
 ghost use Rattle.logos_reduce.specs.Merge.{AreLeaders, IsSound, split_at};
 ghost use Rattle.logos_reduce.specs.inside.Merge as inside;
@@ -13,7 +14,8 @@ use std::alloc::{AllocError, Global};
 pub struct Split {
     /// The number of the other block, which is a lower one.
     pub parent: usize,
-    /// The symbol by which states of the two lead to different blocks, or none where their marks differ.
+    /// The symbol by which states of the two lead to different blocks, or none where their marks
+    /// differ.
     pub symbol: Option<usize>,
 }
 

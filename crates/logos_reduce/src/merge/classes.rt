@@ -1,10 +1,8 @@
 //! Puts states with one mark and one row into one class, so that blocks are split by classes.
+//! `merge` does so first, where many states are alike.
+
 ghost use Rattle.std.specs.Prelude.{◌≡◌, ℕ, ◌+◌, ◌<◌, ◌≤◌, ◌^◌, Some, IfOk, length, vec_len, slice_index, option_map};
-ghost use Rattle.logos_reduce.specs.Merge.{target_block};
-ghost use Rattle.logos_reduce.specs.Rows.{target_by, target_in, target_of};
-ghost use Rattle.logos_reduce.specs.RowsView.{rows_of};
-ghost use Rattle.logos_reduce.specs.Table.{size, mark, mark_in};
-ghost use Rattle.logos_reduce.specs.inside.Classes.{AreClasses, IsClassTable};
+ghost use Rattle.logos_reduce.specs.Views.{target_by, target_in, target_of, target_block, rows_of, size, mark, mark_in, AreClasses, IsClassTable};
 ghost use Rattle.logos_reduce.specs.inside.Classes as inside;
 
 use crate::merge::blocks::{leaders_of, tagged};
@@ -25,7 +23,7 @@ pub struct Classes {
     ghost few: { count ≤ vec_len of },
 }
 
-/// Returns the place of the row of a state, and its mark, as a key.
+/// Returns the index of the row of a state, and its mark, as a key.
 fn class_key(table: &Table, s: usize) -> [usize; 5]
     requires { s < size table.now }
     ensures { result ≡ inside.class_key table.now s }
@@ -60,7 +58,7 @@ fn class_row(row: &Row, of: &Vec<usize>) -> Row
     ensures { (k : ℕ) → target_by result k
         ≡ option_map (slice_index of.now.items) (target_by row.now k) }
 {
-    let mut made = [0; 257];
+    let mut made = [0; WIDTH];
     for k in 0..WIDTH {
         made[k] = match entry_before(row, &made, k) {
             Some(entry) => entry,

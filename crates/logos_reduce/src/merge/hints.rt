@@ -1,4 +1,6 @@
-//! Chooses which part of a block becomes the new one, and which blocks to look at: no proof about blocks depends on it.
+//! Chooses which part of a block becomes the new one, and which blocks to look at: no proof about
+//! blocks depends on it.
+
 ghost use Rattle.std.specs.Prelude.{◌≡◌, ℕ, ◌+◌, ◌<◌, ◌≤◌, OnSome, IfOk, vec_len, slice_index};
 
 use std::alloc::{AllocError, Global};

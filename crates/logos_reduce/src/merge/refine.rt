@@ -1,11 +1,8 @@
-//! Splits blocks by the blocks that their states lead to.
+//! Splits blocks by the blocks that their states lead to. `merge` calls it once, with the blocks of
+//! the marks.
+
 ghost use Rattle.std.specs.Prelude.{true, ◌≡◌, ◌≢◌, ℕ, ◌+◌, ◌-◌, ◌*◌, ◌<◌, ◌≤◌, ◌↔◌, Some, OnSome, OnOk, IfOk, IsTrue, length, vec_len, slice_index, option_map};
-ghost use Rattle.logos_reduce.specs.Merge.{target_block, IsSound};
-ghost use Rattle.logos_reduce.specs.inside.Merge.{IsFiner};
-ghost use Rattle.logos_reduce.specs.Lists.{has, has_in, ArePredecessors};
-ghost use Rattle.logos_reduce.specs.inside.Lists.{AreFiled, AreSources, AreHits};
-ghost use Rattle.logos_reduce.specs.Table.{size, to};
-ghost use Rattle.logos_reduce.specs.Rows.{target_by};
+ghost use Rattle.logos_reduce.specs.Views.{has, has_in, ArePredecessors, AreFiled, AreSources, AreHits, target_by, target_block, IsSound, IsFiner, size, to};
 
 use crate::lists::{add, empty_lists, file, predecessors};
 use crate::merge::blocks::Blocks;
@@ -90,14 +87,15 @@ fn sources_of(
 /// Returns whether a state leads into the block by the symbol.
 fn leads_into(table: &Table, blocks: &Vec<usize>, s: usize, b: usize, k: usize) -> bool
     requires len { vec_len blocks.now ≡ size table.now }
-    requires k_in { k < 257 }
+    requires k_in { k < WIDTH }
     ensures { IsTrue result ↔ ((s < size table.now)
         × (target_block table.now (slice_index blocks.now.items) s k ≡ Some b)) }
 {
     s < table.len() && block_of(table.target(s, k), blocks) == Some(b)
 }
 
-/// What blocks are split by: a block, the states with an edge into it, perhaps with others, and the symbols of these edges.
+/// What blocks are split by: a block, the states with an edge into it, perhaps with others, and the
+/// symbols of these edges.
 #[derive(Drop)]
 struct Splitter {
     block: usize,
@@ -114,7 +112,7 @@ fn hits_of(
     k: usize,
 ) -> Result<Vec<usize>, AllocError>
     requires len { vec_len blocks.now ≡ size table.now }
-    requires k_in { k < 257 }
+    requires k_in { k < WIDTH }
     ensures hits { IfOk result (λ v.
         AreHits (size table.now) (target_block table.now (slice_index blocks.now.items))
         by.now.sources.items v.items by.now.block k) }
@@ -136,7 +134,7 @@ fn split_by_symbol(
     by: &Splitter,
     k: usize,
 ) -> Result<Refinement, AllocError>
-    requires k_in { k < 257 }
+    requires k_in { k < WIDTH }
     requires len { vec_len parts.filing.blocks ≡ size table.now }
     requires block_in { by.now.block < vec_len parts.cuts.splits }
     requires sources { AreSources (size table.now)
@@ -304,7 +302,8 @@ struct Edges {
     symbols: Vec<Symbols>,
 }
 
-/// Splits the blocks by the states that lead into a block, if there is such a block, and notes that it was looked at.
+/// Splits the blocks by the states that lead into a block, if there is such a block, and notes that
+/// it was looked at.
 fn look_at(
     alloc: Global,
     table: &Table,
@@ -314,7 +313,7 @@ fn look_at(
 ) -> Result<Refinement, AllocError>
     requires len { vec_len parts.filing.blocks ≡ size table.now }
     requires from_len { vec_len edges.now.from ≡ size table.now }
-    requires from { ArePredecessors (size table.now) 257 (to table.now) edges.now.from.items }
+    requires from { ArePredecessors (size table.now) WIDTH (to table.now) edges.now.from.items }
     requires sound { IsSound table.now parts.cuts.splits.items
         (slice_index parts.filing.blocks.items) }
     ensures len { IfOk result (λ w. vec_len w.filing.blocks ≡ size table.now) }
@@ -352,7 +351,7 @@ fn look_at_all(
 ) -> Result<Refinement, AllocError>
     requires len { vec_len parts.filing.blocks ≡ size table.now }
     requires from_len { vec_len edges.now.from ≡ size table.now }
-    requires from { ArePredecessors (size table.now) 257 (to table.now) edges.now.from.items }
+    requires from { ArePredecessors (size table.now) WIDTH (to table.now) edges.now.from.items }
     requires sound { IsSound table.now parts.cuts.splits.items
         (slice_index parts.filing.blocks.items) }
     ensures len { IfOk result (λ w. vec_len w.filing.blocks ≡ size table.now) }
@@ -369,7 +368,8 @@ fn look_at_all(
     Ok(split)
 }
 
-/// Splits the blocks by the blocks to which their states lead, until no block is left to be looked at.
+/// Splits the blocks by the blocks to which their states lead, until no block is left to be looked
+/// at.
 pub fn refine(alloc: Global, table: &Table, blocks: Blocks) -> Result<Blocks, AllocError>
     requires len { vec_len blocks.of ≡ size table.now }
     requires sound { IsSound table.now blocks.splits.items (slice_index blocks.of.items) }

@@ -1,4 +1,5 @@
 //! Sets of symbols, by which a block is looked at: no proof about blocks depends on them.
+
 ghost use Rattle.std.specs.Prelude.{◌<◌};
 
 use crate::rows::{Row, WIDTH, target_at};
@@ -19,14 +20,14 @@ impl Symbols {
 
     /// Returns whether a symbol is in the set.
     pub fn has(&self, k: usize) -> bool
-        requires { k < 257 }
+        requires { k < WIDTH }
     {
         (self.words[k / 64] >> (k % 64)) & 1 == 1
     }
 
     /// Adds a symbol.
     pub fn add(&mut self, k: usize)
-        requires { k < 257 }
+        requires { k < WIDTH }
     {
         self.words[k / 64] |= 1 << (k % 64);
     }
@@ -41,7 +42,7 @@ impl Symbols {
 
 /// Adds a symbol to the set of a target, if there is one.
 fn note_symbol(symbols: &mut Vec<Symbols>, target: Option<usize>, k: usize)
-    requires { k < 257 }
+    requires { k < WIDTH }
 {
     if let Some(t) = target {
         if t < symbols.len() {

@@ -1,15 +1,17 @@
-//! Cuts blocks into the states that are hit and those that are not.
+//! Cuts blocks into the states that are hit and those that are not. `refine` calls it for each
+//! block and symbol that it looks at.
+
 ghost use Rattle.std.specs.Prelude.{true, ◌≡◌, ◌≢◌, ℕ, ◌+◌, ◌-◌, ◌*◌, ◌<◌, ◌≤◌, OnOk, IfOk, length, vec_len, slice_index};
+ghost use Rattle.logos_reduce.specs.Words.{has_in, AreFiled, landing, HaveMoved};
 ghost use Rattle.logos_reduce.specs.inside.Merge.{AreTwins, Continues};
-ghost use Rattle.logos_reduce.specs.Lists.{has_in};
-ghost use Rattle.logos_reduce.specs.inside.Lists.{AreFiled, landing, HaveMoved};
 
 use crate::lists::file;
 use crate::merge::blocks::Split;
 use crate::merge::hints::Hints;
 use std::alloc::{AllocError, Global};
 
-/// The block of each state, and for each block a list that has its states, and may have states that have left it.
+/// The block of each state, and for each block a list that has its states, and may have states that
+/// have left it.
 #[derive(Drop)]
 pub struct Filing {
     /// For each state its block.

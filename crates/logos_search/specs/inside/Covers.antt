@@ -1,4 +1,5 @@
--- The search for covering inputs: all stands were met, and for some the steps from them are covered.
+-- The search for covering inputs: all stands were met, and for some the steps from them are
+-- covered.
 use Rattle.std.specs.Prelude.{◌≡◌, ◌⊎◌, ℕ, ◌<◌, Bool, true, List, ◌∷◌, ◌++◌, length, Option, Some, Contains, slice_get}
 use Rattle.logos_search.specs.Covering.{Takes, OneTakes, step_to, end_at}
 use Rattle.logos_search.specs.Machines.{IsInput}
@@ -11,35 +12,35 @@ use Rattle.logos_search.specs.declared.steps.Step.{Step}
 use Rattle.logos_search.specs.declared.visits.Stand.{Stand}
 use Rattle.logos_search.specs.declared.visits.Visit.{Visit}
 
--- these are all stands that inputs lead to from a point
+-- These are all stands that inputs lead to from a point.
 pub record IsExplored (next : Point → ℕ → Option Point) (utf8 : Bool) (start : Point) (stands : List Stand) (ways : List Visit) : Type 0 where
   pub first : slice_get stands 0 ≡ Some (stand_at start (more 0))
   pub tree : IsTree (stand_next next utf8) stands ways
   pub closed : IsClosed (stand_next next utf8) stands ways (length stands)
 
--- the bytes lead to a stand, and then by one more byte into a character that they complete
+-- The bytes lead to a stand, and then by one more byte into a character that they complete.
 pub record IsWayBy (stands : List Stand) (ways : List Visit) (number byte : ℕ) (rest : Rest) (bytes : List ℕ) : Type 0 where
   pub front : List ℕ
   pub parts : bytes ≡ front ++ byte ∷ completion rest
   pub way : (next : Stand → ℕ → Option Stand) (to : Stand) → IsTree next stands ways → slice_get stands number ≡ Some to →
       IsWayTo next stands ways number to front
 
--- an input was added, with the steps that it takes
+-- An input was added, with the steps that it takes.
 pub record Adds (next : Point → ℕ → Option Point) (start : Point) (steps : List Step) (input : List ℕ) (more : List Step) : Type 0 where
   pub only : (step : Step) → Contains more step → Contains steps step ⊎ Takes next start input step
   pub grows : (step : Step) → Contains steps step → Contains more step
   pub all : (step : Step) → Takes next start input step → Contains more step
 
--- inputs that take each of the steps
+-- Inputs that take each of the steps.
 pub record IsCover (next : Point → ℕ → Option Point) (utf8 : Bool) (start : Point) (steps : List Step) (inputs : List (List ℕ)) : Type 0 where
   pub are_inputs : (input : List ℕ) → Contains inputs input → IsInput utf8 input
   pub taken : (step : Step) → Contains steps step → OneTakes next start inputs step
 
--- the step that a byte makes from a stand is covered, if it leads on
+-- The step that a byte makes from a stand is covered, if it leads on.
 abbrev pub IsCoveredBy : (Point → ℕ → Option Point) → Bool → List Step → Stand → ℕ → Type 0
 IsCoveredBy next utf8 steps at b = (to : Stand) → stand_next next utf8 at b ≡ Some to → Contains steps (step_to at.point to.point)
 
--- all steps from a stand are covered, and its end if it is looked for
+-- All steps from a stand are covered, and its end if it is looked for.
 pub record AreCoveredAt (next : Point → ℕ → Option Point) (is_goal : Point → Bool) (utf8 : Bool) (steps : List Step) (at : Stand) : Type 0 where
   pub bytes : (b : ℕ) → b < 256 → IsCoveredBy next utf8 steps at b
   pub end : stand_goal is_goal at ≡ true → Contains steps (end_at at.point)

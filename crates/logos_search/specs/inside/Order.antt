@@ -1,7 +1,7 @@
 -- The order in which bytes are tried: letters, digits, punctuation, and then the rest.
 use Rattle.std.specs.Prelude.{◌≡◌, ℕ, ◌+◌, ◌<◌, ◌≤◌}
 
--- the byte at a place of the order
+-- The byte at an index of the order.
 pub record IsByteAt (place byte : ℕ) : Type 0 where
   pub small : place < 26 → byte ≡ 97 + place
   pub capital : 26 ≤ place → place < 52 → byte ≡ 39 + place

@@ -8,11 +8,11 @@ use Rattle.logos_search.specs.declared.visits.Stand.{Stand}
 abbrev pub stand_at : Point → Rest → Stand
 stand_at point rest = record { point = point; rest = rest }
 
--- where a byte leads from a stand
+-- Where a byte leads from a stand.
 abbrev pub stand_next : (Point → ℕ → Option Point) → Bool → Stand → ℕ → Option Stand
 stand_next next utf8 stand b =
     option_and_then (λ point. option_map (stand_at point) (rest_by utf8 stand.rest b)) (next stand.point b)
 
--- an input can end at the stand, and its point is looked for
+-- An input can end at the stand, and its point is looked for.
 abbrev pub stand_goal : (Point → Bool) → Stand → Bool
 stand_goal is_goal stand = is_goal stand.point && stand.rest.count == 0

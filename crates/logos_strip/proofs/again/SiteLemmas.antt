@@ -1,4 +1,5 @@
--- The printed text of lexemes of a source, where some are left out, and commas in front of these are alone.
+-- The printed text of lexemes of a source, where some are left out, and commas in front of these
+-- are alone.
 use Rattle.std.proofs.Common.{◌≡◌, ◌≢◌, ℕ, ◌+◌, ◌-◌, ◌<◌, ◌≤◌, ◌⊎◌, inl, inr, true, false, cond, List, [], ◌∷◌, ◌++◌, map, length, get_or, drop, slice_range, None, IsUtf8, refl, sym, ◌∙◌, ap, subst, arith, length-drop, get_or-drop}
 use Rattle.std.proofs.lemmas.Bool.{cases_lt, eq-eqb, false≢true}
 use Rattle.std.proofs.lemmas.List.{map-append}
@@ -305,7 +306,8 @@ module _ (a : List ℕ) (utf8 : IsUtf8 a) (text : HasText a) (docs : HasDocs a) 
             ∙ sym (map-append bare_lexeme (site_lexemes a s) (sites_lexemes a ss));
       }
 
-  -- where a `'` stands directly before a spot of the printed text, one stands directly before the site in the source
+  -- where a `'` stands directly before a spot of the printed text, one stands directly before the
+  -- site in the source
   abbrev pub IsAfter : ℕ → List Site → Type 0
   IsAfter q [] = Unit {0}
   IsAfter q (s ∷ ss) = follows_apostrophe b q ≡ true → follows_apostrophe a (site_from s) ≡ true

@@ -1,4 +1,5 @@
--- The lexemes of what is left are those of the whole, where some are left out, and commas in front of these are alone.
+-- The lexemes of what is left are those of the whole, where some are left out, and commas in front
+-- of these are alone.
 use Rattle.std.proofs.Common.{◌≡◌, ◌==◌, ℕ, not, Bool, true, false, List, [], ◌∷◌, ◌++◌, Option, Some, None, refl, sym, ◌∙◌, subst, append_assoc, if◌then◌else◌}
 use Rattle.std.proofs.lemmas.Bool.{false≢true, true≢false, eqb-true}
 use Rattle.logos_lexeme.specs.declared.lexeme.Span.{Span}
@@ -21,7 +22,8 @@ abbrev pub is_joint : Lexeme → Bool
 is_joint (leaf (punctuation character Joint span)) = true
 is_joint lexeme = false
 
--- of the first lexemes the second ones are left; and whether the first of all stays, if there is one
+-- of the first lexemes the second ones are left; and whether the first of all stays, if there is
+-- one
 pub data Thins : Bool → List Lexeme → List Lexeme → Type 0 where
   ended : Thins true [] []
   drops : (stays : Bool) (lexeme : Lexeme) {ls ms : List Lexeme} → Thins stays ls ms → Thins false (lexeme ∷ ls) ms

@@ -1,4 +1,5 @@
--- What the walk sees of a token that stays: not its spacing, not where it stands, and not what it holds.
+-- What the walk sees of a token that stays: not its spacing, not where it stands, and not what it
+-- holds.
 use Rattle.std.proofs.Common.{◌≡◌, Bool, true, false, List, [], ◌∷◌, Option, Some, None, refl, sym, ◌∙◌, ap}
 use Rattle.logos_lexeme.specs.declared.lexeme.Spacing.TheVariants.{Alone}
 use Rattle.logos_token.specs.Tokens.{Token, identifier, punctuation, literal, doc, group, TokenList, none}

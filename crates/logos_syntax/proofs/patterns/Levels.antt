@@ -1,4 +1,5 @@
--- The parser's states are those of patterns read so far: an open group's inside is itself a pattern.
+-- The parser's states are those of patterns read so far: an open group's inside is itself a
+-- pattern.
 use Rattle.std.proofs.Common.{◌≡◌, ℕ, suc, ◌+◌, max, Bool, false, List, [], ◌∷◌, ◌++◌, length, Option, Some, None, refl, sym, ap, ◌∙◌, arith, option_map}
 use Rattle.logos_pattern_tokens.specs.declared.token.Flags.{Flags}
 use Rattle.logos_pattern_tokens.specs.declared.token.Change.{Change}

@@ -29,7 +29,7 @@ case_closure flags set = if flags.ignore_case then (if flags.unicode then fold_c
 abbrev pub set_or_complement : Flags → Bool → Set → Set
 set_or_complement flags negated set = if negated then complement (last_of flags) set else set
 
--- The set of an item, without its negation and as if `i` were off.
+-- The set of an element, without its negation and as if `i` were off.
 abbrev pub item_test : Flags → Item → Set
 item_test flags (items.One s) = λ c. c == code_of s
 item_test flags (items.Range a b) = in_range (code_of a, code_of b)
@@ -74,7 +74,7 @@ abbrev pub symbol_fits : Flags → Symbol → Bool
 symbol_fits flags (Character c) = flags.unicode || nat_lt c 128
 symbol_fits flags (Byte b) = true
 
--- If the pattern matches bytes, an item must be ASCII and not a property.
+-- If the pattern matches bytes, an element must be ASCII and not a property.
 abbrev pub item_fits : Flags → Item → Bool
 item_fits flags (items.One s) = symbol_fits flags s
 item_fits flags (items.Range a b) = symbol_fits flags a && symbol_fits flags b

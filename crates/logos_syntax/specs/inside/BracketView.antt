@@ -35,7 +35,8 @@ frame_view f = record {
 abbrev pub frames_view : FramesValue → Frames
 frames_view m = record { top = frame_view m.top; below = reverse (map frame_view m.below.items) }
 
--- The token is no step: it is an item that the flags do not allow, or the end of the whole bracket.
+-- The token is no step: it is an element that the flags do not allow, or the end of the whole
+-- bracket.
 abbrev pub NoStep : Flags → Frames → BracketToken → Type 0
 NoStep flags s (Item item) = item_fits flags item ≡ false
 NoStep flags s (Open negated lead) = ⊥

@@ -1,8 +1,7 @@
 //! Reads a whole bracket. The parser calls it at each `[`.
 
 ghost use Rattle.std.specs.Prelude.{◌≡◌, ◌<◌, ◌≤◌};
-ghost use Rattle.logos_syntax.specs.Words.{pattern_nesting};
-ghost use Rattle.logos_syntax.specs.Views.{IsStopOf, ReadsInside, ReadsBracket};
+ghost use Rattle.logos_syntax.specs.Views.{pattern_nesting, IsStopOf, ReadsInside, ReadsBracket};
 
 use crate::bracket::stack::{BracketOpening, BracketValue, Frames, MAX_NESTING};
 use logos_pattern_tokens::bracket::reader::{bracket_token_at, open_at};

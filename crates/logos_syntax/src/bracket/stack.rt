@@ -58,8 +58,7 @@ pub(crate) struct BracketValue {
 }
 
 impl BracketFrame {
-    ghost use Rattle.logos_syntax.specs.Words.{pattern_nesting, set_of, fresh_frame, value, whole};
-    ghost use Rattle.logos_syntax.specs.Views.{frame_view};
+    ghost use Rattle.logos_syntax.specs.Views.{pattern_nesting, set_of, fresh_frame, value, whole, frame_view};
 
     /// Returns a bracket of which only the opening was read. `level` is the number of groups and
     /// brackets around its inside.
@@ -98,8 +97,7 @@ impl BracketFrame {
 
 impl Frames {
     ghost use Rattle.std.specs.Prelude.{not, ◌==◌};
-    ghost use Rattle.logos_syntax.specs.Words.{pattern_nesting, set_of, fresh_frame, whole};
-    ghost use Rattle.logos_syntax.specs.Views.{frame_view, frames_view, BracketSteps};
+    ghost use Rattle.logos_syntax.specs.Views.{pattern_nesting, set_of, fresh_frame, whole, frame_view, frames_view, BracketSteps};
 
     /// Returns a stack with this one bracket. `level` is the number of groups and brackets around
     /// its inside.
@@ -148,11 +146,11 @@ impl Frames {
         })
     }
 
-    /// Adds an item to the innermost bracket.
+    /// Adds an element to the innermost bracket.
     ///
     /// # Errors
     ///
-    /// Returns `NotInBytes` if the flags do not allow the item, and `Memory`.
+    /// Returns `NotInBytes` if the flags do not allow the element, and `Memory`.
     fn item(
         &mut self,
         alloc: Global,

@@ -1,5 +1,5 @@
-//! Turns the items of a bracket into the sets that they stand for. The stack of brackets calls it
-//! for each item.
+//! Turns the elements of a bracket into the sets that they stand for. The stack of brackets calls
+//! it for each element.
 
 ghost use Rattle.std.specs.Prelude.{◌≡◌, ◌==◌, ◌∷◌, [], IfOk, IfSome, OnOk};
 ghost use Rattle.logos_syntax.specs.Words.{pairs, only_chars, members, union, in_range, code_of, set_of, last_of, case_closure, set_or_complement, item_test, is_negated, item_set, lead_set, symbol_fits, item_fits, combination};
@@ -75,7 +75,7 @@ fn symbols_set(alloc: Global, first: Symbol, last: Symbol) -> Result<RangeSet, A
     range_set(alloc, code_of(first), code_of(last))
 }
 
-/// Returns the set of an item, without its negation and as if `i` were off.
+/// Returns the set of an element, without its negation and as if `i` were off.
 fn item_test(alloc: Global, flags: Flags, item: Item) -> Result<RangeSet, AllocError>
     ensures { IfOk result (λ set. set_of set ≡ only_chars (item_test flags item)) }
 {
@@ -88,7 +88,7 @@ fn item_test(alloc: Global, flags: Flags, item: Item) -> Result<RangeSet, AllocE
     }
 }
 
-/// Returns whether the item is negated.
+/// Returns whether the element is negated.
 fn is_negated(item: Item) -> bool
     ensures { result ≡ is_negated item }
 {
@@ -98,7 +98,7 @@ fn is_negated(item: Item) -> bool
     }
 }
 
-/// Returns the set of an item.
+/// Returns the set of an element.
 fn item_set(alloc: Global, flags: Flags, item: Item) -> Result<RangeSet, AllocError>
     ensures { IfOk result (λ set. set_of set ≡ item_set flags item) }
 {
@@ -107,8 +107,8 @@ fn item_set(alloc: Global, flags: Flags, item: Item) -> Result<RangeSet, AllocEr
     set_or_complement(flags, is_negated(item), same_letters)
 }
 
-/// Returns the ends of an item whose set is one range that needs no work: a character, a byte or a
-/// range while `i` is off.
+/// Returns the ends of an element whose set is one range that needs no work: a character, a byte or
+/// a range while `i` is off.
 fn plain_ends(flags: Flags, item: Item) -> Option<(u32, u32)>
     ensures { IfSome result (λ ends. item_set flags item ≡ members (ends ∷ [])) }
 {
@@ -122,7 +122,7 @@ fn plain_ends(flags: Flags, item: Item) -> Option<(u32, u32)>
     }
 }
 
-/// Pushes the ranges of an item's set.
+/// Appends the ranges of an element's set.
 pub(crate) fn push_item(
     alloc: Global,
     ranges: &mut Vec<Range>,
@@ -138,7 +138,7 @@ pub(crate) fn push_item(
     }
 }
 
-/// Pushes a range.
+/// Appends a range.
 fn push_range(ranges: &mut Vec<Range>, first: u32, last: u32) -> Result<(), AllocError>
     ensures { OnOk result (members (pairs ranges.new.items) ≡
         union (members (pairs ranges.old.items)) (members ((first, last) ∷ []))) }
@@ -147,7 +147,7 @@ fn push_range(ranges: &mut Vec<Range>, first: u32, last: u32) -> Result<(), Allo
     Ok(())
 }
 
-/// Pushes the ranges of a set.
+/// Appends the ranges of a set.
 pub(crate) fn push_set(ranges: &mut Vec<Range>, set: &RangeSet) -> Result<(), AllocError>
     ensures { OnOk result (members (pairs ranges.new.items) ≡
         union (members (pairs ranges.old.items)) (set_of set.now)) }
@@ -178,7 +178,7 @@ fn symbol_fits(flags: Flags, symbol: Symbol) -> bool
     }
 }
 
-/// Returns whether the item is allowed under the flags: if the pattern matches bytes, its
+/// Returns whether the element is allowed under the flags: if the pattern matches bytes, its
 /// characters must be ASCII, and it must not be a property.
 pub(crate) fn item_fits(flags: Flags, item: Item) -> bool
     ensures { result ≡ item_fits flags item }

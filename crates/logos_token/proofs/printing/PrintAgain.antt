@@ -106,7 +106,8 @@ record Begins (a b : List ℕ) (q : ℕ) (pieces : List Piece) : Type 0 where
   remade : Remade a b q pieces
   no_space : is_space (character b q) ≡ false
 
--- where a `'` stands directly before a place of the second text, one stands directly before that of the first, and another lexeme begins there
+-- where a `'` stands directly before a place of the second text, one stands directly before that of
+-- the first, and another lexeme begins there
 abbrev IsAfter : List ℕ → List ℕ → ℕ → ℕ → List Piece → Type 0
 IsAfter a b p q pieces = follows_apostrophe b q ≡ true → (follows_apostrophe a p ≡ true) × Follows pieces
 

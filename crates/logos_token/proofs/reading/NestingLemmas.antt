@@ -88,7 +88,8 @@ most_open-append (closes delimiter to ∷ front) back (innermost ∷ around) beh
     let e : suc (length around) - 1 ≡ length around = omega arith in
     omega (arith, closed-most_open front back around behind (suc (length around) - 1) (is_partner innermost.0 delimiter) e (most_open-append front back around behind) is)
 
--- The tokens of lexemes: a stack of groups that are begun, innermost first, and the tokens read behind them.
+-- The tokens of lexemes: a stack of groups that are begun, innermost first, and the tokens read
+-- behind them.
 
 -- a group that is begun: the tokens in front of it, its delimiter, and the place where it stands
 record OpenGroup : Type 0 where

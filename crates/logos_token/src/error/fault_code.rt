@@ -1,6 +1,6 @@
 //! The codes of faults.
 
-ghost use Rattle.std.specs.Prelude.{◌≡◌};
+ghost use Rattle.std.specs.Prelude.{◌≡◌, Some};
 ghost use Rattle.logos_token.specs.ViewWords.{name_of};
 
 use std::fmt;
@@ -249,9 +249,6 @@ impl FaultCode {
 }
 
 impl fmt::Display for FaultCode {
-    ghost use Rattle.std.specs.Prelude.{Some};
-    ghost use Rattle.logos_token.specs.ViewWords.{name_of};
-
     ghost output = { λ code. Some (name_of code) };
 
     fn fmt<W: fmt::Write>(&self, f: &mut fmt::Formatter<W>) -> fmt::Result {

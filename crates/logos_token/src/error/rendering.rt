@@ -1,14 +1,13 @@
 //! Renders faults as Rust text that reports them when it is compiled. `logos_codegen` prints it in
 //! place of a lexer where a source has faults.
 
-ghost use Rattle.std.specs.Prelude.{◌≡◌, ◌++◌, OnOk, string_bytes};
-ghost use Rattle.logos_token.specs.Words.{flat_map};
-ghost use Rattle.logos_token.specs.ViewWords.{faults_of, fault_of, rendered_fault};
+ghost use Rattle.std.specs.Prelude.{◌≡◌, ◌++◌, OnOk, string_bytes, IfOk, option_map};
+ghost use Rattle.logos_token.specs.ViewWords.{flat_map, faults_of, fault_of, rendered_fault, rendered};
 
 use crate::error::{Errors, Memory, SpannedError};
 use crate::util::push_escaped;
 
-/// Appends the item that reports the message of one fault.
+/// Appends the `compile_error!` that reports the message of one fault.
 fn push_fault(text: &mut String, fault: &SpannedError) -> Result<(), Memory>
     ensures { OnOk result
         (string_bytes text.new ≡ string_bytes text.old ++ rendered_fault (fault_of fault.now)) }
@@ -19,7 +18,7 @@ fn push_fault(text: &mut String, fault: &SpannedError) -> Result<(), Memory>
     Ok(())
 }
 
-/// Appends the items of all faults in order.
+/// Appends the `compile_error!` of each fault, in order.
 fn push_faults(text: &mut String, faults: &[SpannedError]) -> Result<(), Memory>
     ensures { OnOk result
         (string_bytes text.new ≡
@@ -32,9 +31,6 @@ fn push_faults(text: &mut String, faults: &[SpannedError]) -> Result<(), Memory>
 }
 
 impl Errors {
-    ghost use Rattle.std.specs.Prelude.{◌≡◌, IfOk, option_map, string_bytes};
-    ghost use Rattle.logos_token.specs.ViewWords.{rendered};
-
     /// Returns a function that does not compile and whose compiler errors are the messages of the
     /// faults. `None` if there is no fault.
     ///

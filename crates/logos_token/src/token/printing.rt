@@ -1,8 +1,7 @@
 //! Prints tokens. Callbacks, types and stripped enums are printed with it.
 
-ghost use Rattle.std.specs.Prelude.{◌≡◌, ◌<◌, ◌∷◌, [], List, ℕ, IsUtf8, IfOk, IfSome, MatchOption, string_bytes, codes, if◌then◌else◌};
-ghost use Rattle.logos_token.specs.Words.{SpellsAgain, IsRunOf, EndsJoint, Spells, TokenList, none, opening_text, closing_text, gap_after, is_line_comment, printed};
-ghost use Rattle.logos_token.specs.ViewWords.{tokens_of, printed_of, PrintsOn, LeavesFewer};
+ghost use Rattle.std.specs.Prelude.{◌≡◌, ◌<◌, ◌∷◌, [], List, ℕ, IsUtf8, IfOk, IfSome, MatchOption, string_bytes, codes, if◌then◌else◌, OnOk};
+ghost use Rattle.logos_token.specs.ViewWords.{SpellsAgain, IsRunOf, EndsJoint, Spells, TokenList, none, opening_text, closing_text, gap_after, is_line_comment, printed, encode_utf8, print_part, tokens_of, printed_of, PrintsOn, LeavesFewer, tree_of, PrintsTree};
 
 use crate::error::Memory;
 use crate::token::{Delimiter, Group, Spacing, TokenTree, Tokens};
@@ -70,10 +69,6 @@ pub fn gap_after_doc(text: &str) -> &'static str
 }
 
 impl Printer {
-    ghost use Rattle.std.specs.Prelude.{◌≡◌, [], OnOk, IfOk, string_bytes};
-    ghost use Rattle.logos_token.specs.Words.{encode_utf8, print_part};
-    ghost use Rattle.logos_token.specs.ViewWords.{tree_of, printed_of, PrintsTree};
-
     /// Returns a printer of nothing so far. It takes its memory from `alloc`.
     pub fn new(alloc: Global) -> Printer
         ensures { printed_of result ≡ record { text = []; gap = [] } }

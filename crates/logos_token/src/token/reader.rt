@@ -1,8 +1,7 @@
 //! Reads a source text into tokens. `tokenize` is the first step of each reading of a source.
 
 ghost use Rattle.std.specs.Prelude.{◌≡◌, ℕ, ◌<◌, ◌≤◌, ◌↔◌, List, [], ◌∷◌, ◌++◌, map, length, IfOk, IfErr, OnOk, MatchResult, IsTrue};
-ghost use Rattle.logos_token.specs.Words.{source_limit, delimiter_limit, IsCharBoundary, IsNext, TokenList, depth_of, Spells, RunStands};
-ghost use Rattle.logos_token.specs.ViewWords.{value_of, stream_tokens, IsRead, ReadsOn, RefusesAt, SpellsAtEnd, RefusesAtEnd, IsRefusal, SpellsNothing, IsErrOf};
+ghost use Rattle.logos_token.specs.ViewWords.{source_limit, delimiter_limit, IsCharBoundary, IsNext, TokenList, depth_of, Spells, RunStands, Memory, value_of, stream_tokens, IsRead, ReadsOn, RefusesAt, SpellsAtEnd, RefusesAtEnd, IsRefusal, SpellsNothing, IsErrOf};
 
 use crate::token::entry::Entry;
 use crate::token::views::TokenStream;
@@ -30,9 +29,6 @@ pub enum TokenError {
 }
 
 impl From<AllocError> for TokenError {
-    ghost use Rattle.std.specs.Prelude.{◌≡◌};
-    ghost use Rattle.logos_token.specs.ViewWords.{Memory};
-
     ghost from_gives = { λ _ error. error ≡ Memory };
 
     fn from(_error: AllocError) -> TokenError {
@@ -41,9 +37,6 @@ impl From<AllocError> for TokenError {
 }
 
 impl<T: Drop> From<AllocFailed<T>> for TokenError {
-    ghost use Rattle.std.specs.Prelude.{◌≡◌};
-    ghost use Rattle.logos_token.specs.ViewWords.{Memory};
-
     ghost from_gives = { λ _ error. error ≡ Memory };
 
     fn from(_error: AllocFailed<T>) -> TokenError {

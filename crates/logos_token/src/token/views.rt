@@ -51,8 +51,7 @@ pub struct TokenIter<'t, 's> {
 
 impl<'s> TokenStream<'s> {
     ghost use Rattle.std.specs.Prelude.{◌≡◌, IfOk};
-    ghost use Rattle.logos_token.specs.Words.{identifier, none, also};
-    ghost use Rattle.logos_token.specs.ViewWords.{IsFlat, tokens_in, stream_tokens, tokens_of};
+    ghost use Rattle.logos_token.specs.ViewWords.{identifier, none, also, IsFlat, tokens_in, stream_tokens, tokens_of};
 
     /// Returns the buffer with these entries.
     pub(super) fn from_entries(entries: Vec<Entry<'s>>) -> TokenStream<'s>
@@ -100,8 +99,7 @@ impl Clone for TokenStream<'_> {
 
 impl<'t, 's> Tokens<'t, 's> {
     ghost use Rattle.std.specs.Prelude.{◌≡◌, ◌↔◌, IsTrue, MatchOption, option_map, IfOk};
-    ghost use Rattle.logos_token.specs.Words.{none, also, IsRestOf, first_of, rest_of, run_span, count_of};
-    ghost use Rattle.logos_token.specs.ViewWords.{stream_tokens, tokens_of, tree_of, iter_rest, listed};
+    ghost use Rattle.logos_token.specs.ViewWords.{none, also, IsRestOf, first_of, rest_of, run_span, count_of, stream_tokens, tokens_of, tree_of, iter_rest, listed};
 
     /// Returns whether the run has no tree.
     pub fn is_empty(self) -> bool
@@ -216,8 +214,7 @@ impl<'t, 's> Group<'t, 's> {
 
 impl TokenTree<'_, '_> {
     ghost use Rattle.std.specs.Prelude.{◌≡◌};
-    ghost use Rattle.logos_token.specs.Words.{span_of};
-    ghost use Rattle.logos_token.specs.ViewWords.{tree_of};
+    ghost use Rattle.logos_token.specs.ViewWords.{span_of, tree_of};
 
     /// Returns the span of the tree in the source.
     pub fn span(self) -> Span
@@ -236,8 +233,7 @@ impl TokenTree<'_, '_> {
 impl<'t, 's> Iterator for TokenIter<'t, 's> {
     type Item = TokenTree<'t, 's>;
 
-    ghost use Rattle.logos_token.specs.Words.{YieldsFirstBy, item_count};
-    ghost use Rattle.logos_token.specs.ViewWords.{tree_of, iter_rest};
+    ghost use Rattle.logos_token.specs.ViewWords.{YieldsFirstBy, item_count, tree_of, iter_rest};
 
     ghost next_gives = { YieldsFirstBy tree_of iter_rest };
 

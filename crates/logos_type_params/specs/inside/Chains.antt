@@ -25,7 +25,7 @@ AreReached params [] (l ∷ lists) = ⊥
 AreReached params (p ∷ ps) [] = ⊥
 AreReached params (p ∷ ps) (l ∷ lists) = Reaches params (names p.type) [] l × AreReached params ps lists
 
--- For each index it is marked whether a chain leads from the name of its type back to it.
+-- For each index a flag says whether a chain leads from the name of its type back to it.
 abbrev pub AreMarked : List ParamValue → List Bool → Type 0
 AreMarked params marks = (text : List ℕ) (at : ℕ) → StandsAt params text at →
     IsTrue (slice_index_or marks at false) ↔ Leads params text text

@@ -11,13 +11,13 @@ use Rattle.logos_type_params.specs.WrittenTypes.{IsAsked}
 use Rattle.logos_type_params.specs.inside.Fronts.{AreInFront}
 use Rattle.logos_type_params.specs.inside.Chains.{AreMarked}
 
--- A name is checked by the marks of the types that lead back, unless it is one of `front`, and is
+-- A name is checked by the flags of the types that lead back, unless it is one of `front`, and is
 -- one of them afterwards.
 pub record ChecksName (params : List ParamValue) (marks : List Bool) (keys : List (Bor (List ℕ))) (named : Named) (before : List Fault) (keys' : List (Bor (List ℕ))) (after : List Fault) : Type 0 where
   pub checked : AreMarked params marks → (front : List Named) → AreInFront front keys → IsChecked params front named before after
   pub fronts : (front : List Named) → AreInFront front keys → AreInFront (front ++ named ∷ []) keys'
 
--- A name is added if it is marked that a chain leads back to it.
+-- A name is added if its flag says that a chain leads back to it.
 abbrev pub AsksName : List ParamValue → List Bool → List ℕ → List (List ℕ) → List (List ℕ) → Type 0
 AsksName params marks text held held' = AreMarked params marks → IsAsked params text held held'
 

@@ -1,9 +1,8 @@
 //! Finds the types given to the declared parameters, and the generic arguments of the enum. It runs
 //! once, for the type of the enum.
 
-ghost use Rattle.std.specs.Prelude.{◌≡◌, ◌++◌, ◌∷◌, [], map, IfOk, OnOk, option_map};
-ghost use Rattle.logos_type_params.specs.Words.{type_tree};
-ghost use Rattle.logos_type_params.specs.Views.{named_of, given_of, type_of, generics_of, no_concrete_type, and_type, and_fault, concrete_types, missing_types, between_brackets, CopiesName};
+ghost use Rattle.std.specs.Prelude.{◌≡◌, ◌++◌, ◌∷◌, [], map, IfOk, OnOk, option_map, OnErr};
+ghost use Rattle.logos_type_params.specs.Views.{type_tree, named_of, given_of, type_of, generics_of, no_concrete_type, and_type, and_fault, concrete_types, missing_types, between_brackets, CopiesName, value_of, type_at, generics};
 
 use super::TypeParams;
 use crate::reporting::report_about;
@@ -119,10 +118,6 @@ fn bracketed<'s>(lifetime: bool, types: Vec<TypeExpr<'s>>) -> Option<Generics<'s
 }
 
 impl<'s> TypeParams<'s> {
-    ghost use Rattle.std.specs.Prelude.{◌≡◌, ◌++◌, [], IfOk, OnOk, OnErr, option_map};
-    ghost use Rattle.logos_type_params.specs.Words.{type_tree};
-    ghost use Rattle.logos_type_params.specs.Views.{value_of, type_at, generics, generics_of, missing_types};
-
     /// Returns a copy of the type given to the parameter that this path names. `None` if the path
     /// is more than a name, or if no type is given to the name.
     ///

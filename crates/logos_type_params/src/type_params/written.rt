@@ -2,8 +2,7 @@
 //! for each field, once all types are given.
 
 ghost use Rattle.std.specs.Prelude.{◌≡◌, ◌++◌, ◌∷◌, [], map, IfOk, OnOk, OnErr};
-ghost use Rattle.logos_type_params.specs.Words.{type_tree};
-ghost use Rattle.logos_type_params.specs.Views.{texts, limit_type_nesting, param_value, AsksName};
+ghost use Rattle.logos_type_params.specs.Views.{type_tree, texts, limit_type_nesting, param_value, AsksName, types_of, params_with, AreHeld, GetsType};
 
 use super::TypeParams;
 use crate::reporting::report_depth;
@@ -47,10 +46,6 @@ fn leave_written<'s>(
 }
 
 impl<'s> TypeParams<'s> {
-    ghost use Rattle.std.specs.Prelude.{◌≡◌, IfOk, OnErr};
-    ghost use Rattle.logos_type_params.specs.Words.{type_tree};
-    ghost use Rattle.logos_type_params.specs.Views.{texts, types_of, params_with, AreHeld, GetsType};
-
     /// Returns the names of the parameters whose types lead back to them. `get_type` leaves these
     /// in place. This takes time linear in the sizes of all types.
     ///

@@ -79,7 +79,7 @@ acts (action.Nest l place next) run outside = nests (lead_sign l run) (to place 
 acts (action.Open place) run outside = opens_first place run outside
 acts (action.Close delimiter place) run outside = closes delimiter place outside
 
--- Whether the place is in a bound, in `for<..>` or in the type of a function.
+-- Whether the spot is in a bound, in `for<..>` or in the type of a function.
 abbrev pub is_in_bounds : Place → Bool
 is_in_bounds (place.Bound plus) = true
 is_in_bounds (place.Question plus) = true

@@ -1,8 +1,7 @@
 //! Turns an action into the next step, with the tokens that are left.
 
 ghost use Rattle.std.specs.Prelude.{◌≡◌, Ok};
-ghost use Rattle.logos_type_reader.specs.Words.{tokens_of, inside_of, sign_of};
-ghost use Rattle.logos_type_reader.specs.Views.{opens, closes, keeps, to, outside_of, spot_of, IsFirst, IsStep, lead_sign, after_lead, opens_first, opens_type, acts, begun};
+ghost use Rattle.logos_type_reader.specs.Views.{tokens_of, inside_of, sign_of, opens, closes, keeps, to, outside_of, spot_of, IsFirst, IsStep, lead_sign, after_lead, opens_first, opens_type, acts, begun};
 ghost use Rattle.logos_token.specs.Tokens.{none};
 
 use crate::table::place::{Action, Lead, Opening, Outside, Place, Spot, Start, Step, Stop};
@@ -149,7 +148,7 @@ pub(super) fn act<'t, 's>(
     }
 }
 
-/// Returns the group with which a type begins, and the place inside it.
+/// Returns the group with which a type begins, and the spot inside it.
 fn open_type<'t, 's>(place: Place, run: Tokens<'t, 's>) -> Result<Opening<'t, 's>, Stop>
     ensures { IsFirst result (opens_type place (tokens_of run.entry)) }
 {

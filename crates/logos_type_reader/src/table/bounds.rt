@@ -1,15 +1,14 @@
 //! Bounds, and the lifetimes in `for<..>`.
 
 ghost use Rattle.std.specs.Prelude.{◌≡◌};
-ghost use Rattle.logos_type_reader.specs.Words.{rest_of, tokens_of};
-ghost use Rattle.logos_type_reader.specs.Views.{after_bound, bound_lifetime_move, trait_move, question_move, bound_move, bound_end_move, further_move, enclosed_end_move, after_for, for_move, for_lifetime_move, for_list_move, for_end_move, path_move, OfBound, outside_of, spot_of, IsAction};
+ghost use Rattle.logos_type_reader.specs.Views.{rest_of, tokens_of, after_bound, bound_lifetime_move, trait_move, question_move, bound_move, bound_end_move, further_move, enclosed_end_move, after_for, for_move, for_lifetime_move, for_list_move, for_end_move, path_move, OfBound, outside_of, spot_of, IsAction};
 
 use crate::table::paths::path_step;
 use crate::table::place::{Action, Binder, BoundKind, Lead, Look, Next, PathKind, Place, Spot};
 use crate::table::tokens::{begins_bound, begins_word, look, mismatch, mismatch_after};
 use logos_token::token::Delimiter;
 
-/// Returns the place after a bound.
+/// Returns the spot after a bound.
 fn after_bound(kind: BoundKind) -> Place
     ensures { result ≡ after_bound kind }
 {
@@ -107,7 +106,7 @@ pub(super) fn enclosed_end_step(plus: bool, at: &Spot<'_, '_>) -> Next
     }
 }
 
-/// Returns the place after `for<..>`.
+/// Returns the spot after `for<..>`.
 fn after_for(binder: Binder) -> Place
     ensures { result ≡ after_for binder }
 {

@@ -1,7 +1,6 @@
 //! Function types.
 
-ghost use Rattle.logos_type_reader.specs.Words.{tokens_of};
-ghost use Rattle.logos_type_reader.specs.Views.{linked_move, unsafe_move, qualified_move, extern_move, function_move, taken_value, taken_move, typed_move, one_taken_move, variadic_move, variadic_end_move, outside_of, spot_of, IsAction};
+ghost use Rattle.logos_type_reader.specs.Views.{tokens_of, linked_move, unsafe_move, qualified_move, extern_move, function_move, taken_value, taken_move, typed_move, one_taken_move, variadic_move, variadic_end_move, outside_of, spot_of, IsAction};
 
 use crate::table::place::{Action, Lead, Look, Next, Place, Spot};
 use crate::table::tokens::{begins_dots, begins_word, is_typing, look, mismatch};

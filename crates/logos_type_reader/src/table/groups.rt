@@ -1,7 +1,6 @@
 //! References, pointers, groups, and `<T as P>`.
 
-ghost use Rattle.logos_type_reader.specs.Words.{tokens_of};
-ghost use Rattle.logos_type_reader.specs.Views.{referent_move, pointer_move, list_move, list_end_move, element_end_move, length_move, self_end_move, self_trait_end_move, self_closed_move, outside_of, spot_of, IsAction};
+ghost use Rattle.logos_type_reader.specs.Views.{tokens_of, referent_move, pointer_move, list_move, list_end_move, element_end_move, length_move, self_end_move, self_trait_end_move, self_closed_move, outside_of, spot_of, IsAction};
 
 use crate::table::place::{Action, Lead, Look, Next, PathKind, Place, Spot};
 use crate::table::tokens::{begins_colons, begins_word, look, mismatch};

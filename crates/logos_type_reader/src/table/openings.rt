@@ -1,8 +1,7 @@
 //! The beginnings of types.
 
 ghost use Rattle.std.specs.Prelude.{◌≡◌, Some, None, MatchOption};
-ghost use Rattle.logos_type_reader.specs.Words.{rest_of, tokens_of};
-ghost use Rattle.logos_type_reader.specs.Views.{first_span, reference_first, reference_lifetime_first, word_place, word_first, mark_first, begin, is_reserved, name_of, IsFirst, first_text, IsStart};
+ghost use Rattle.logos_type_reader.specs.Views.{rest_of, tokens_of, first_span, reference_first, reference_lifetime_first, word_place, word_first, mark_first, begin, is_reserved, name_of, IsFirst, first_text, IsStart};
 
 use crate::table::acting::begin_by;
 use crate::table::place::{Binder, First, Lead, Look, Opening, PathKind, Place, Start, Stop};
@@ -32,7 +31,7 @@ fn reference_lifetime(run: Tokens<'_, '_>) -> First
     }
 }
 
-/// Returns the place after the word with which a type begins.
+/// Returns the spot after the word with which a type begins.
 fn word_place(plus: bool, text: &str) -> Place
     ensures { result ≡ word_place plus text.now }
 {

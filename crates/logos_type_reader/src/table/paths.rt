@@ -1,8 +1,7 @@
 //! Paths, and their arguments.
 
 ghost use Rattle.std.specs.Prelude.{◌≡◌};
-ghost use Rattle.logos_type_reader.specs.Words.{rest_of, tokens_of};
-ghost use Rattle.logos_type_reader.specs.Views.{argued, name_end, segments_move, named_move, macro_move, output_move, inputs_move, input_end_move, colons_move, lifetime_move, argument_word, arguments_move, braced_move, equals_move, constrained_move, argument_end_move, path_move, outside_of, spot_of, first_text, IsAction};
+ghost use Rattle.logos_type_reader.specs.Views.{rest_of, tokens_of, argued, name_end, segments_move, named_move, macro_move, output_move, inputs_move, input_end_move, colons_move, lifetime_move, argument_word, arguments_move, braced_move, equals_move, constrained_move, argument_end_move, path_move, outside_of, spot_of, first_text, IsAction};
 
 use crate::table::place::{Action, Lead, Look, Next, PathKind, Place, Spot};
 use crate::table::tokens::{
@@ -211,7 +210,7 @@ pub(super) fn argument_end_step(kind: PathKind, at: &Spot<'_, '_>) -> Next
     }
 }
 
-/// Returns the step where a path begins. `next` is the place after it.
+/// Returns the step where a path begins. `next` is the spot after it.
 pub(super) fn path_step(kind: PathKind, next: Place, at: &Spot<'_, '_>) -> Next
     ensures { IsAction result (spot_of at.now) (path_move kind next (tokens_of at.now.run)) }
 {

@@ -1,4 +1,4 @@
-//! The places inside a type, and the steps that can come next there.
+//! The spots inside a type, and the steps that can come next there.
 
 use logos_token::token::{Delimiter, Spacing, Span, Tokens};
 use logos_type::Leaf;
@@ -14,7 +14,7 @@ pub(crate) enum PathKind {
     OfBound,
 }
 
-/// The kinds of places where a bound stands.
+/// The kinds of spots where a bound stands.
 #[derive(Clone, Copy)]
 pub(crate) enum BoundKind {
     /// In a list. `+` can join another bound if the flag holds.
@@ -30,7 +30,7 @@ pub(crate) enum Binder {
     OfTrait(BoundKind),
 }
 
-/// A place inside a type.
+/// A spot inside a type.
 #[derive(Clone, Copy)]
 pub(crate) enum Place {
     /// After the last token.
@@ -136,7 +136,7 @@ pub(crate) enum Place {
 /// The tokens after the group that is open, if one is.
 pub(crate) type Outside<'t, 's> = Option<Tokens<'t, 's>>;
 
-/// A place inside a type, the tokens that are left there, and, if these are inside a group, the
+/// A spot inside a type, the tokens that are left there, and, if these are inside a group, the
 /// tokens after the group.
 #[derive(Clone, Copy)]
 pub(crate) struct Spot<'t, 's> {
@@ -154,14 +154,14 @@ pub(crate) enum Step<'t, 's> {
     Take(Leaf<'s>, Spot<'t, 's>),
     /// Takes this token, which only types that are not supported have.
     Bar(Leaf<'s>, Spot<'t, 's>),
-    /// Reads a type and goes on at this place. `+` can join bounds if the flag holds.
+    /// Reads a type and goes on at this spot. `+` can join bounds if the flag holds.
     Ask(bool, Place),
-    /// Reads a type that is never replaced and goes on at this place.
+    /// Reads a type that is never replaced and goes on at this spot.
     KeepType(Place),
     /// Takes these tokens without reading types in them.
     Keep(Tokens<'t, 's>, Spot<'t, 's>),
     /// Takes this token, with which a path or bounds begin, reads these from the spot on, and goes
-    /// on at this place.
+    /// on at this spot.
     Nest(Leaf<'s>, Spot<'t, 's>, Place),
 }
 
@@ -214,22 +214,22 @@ pub(crate) enum Lead {
 pub(crate) enum Action {
     /// End what was begun.
     End,
-    /// Take this and go on after it at this place.
+    /// Take this and go on after it at this spot.
     Take(Lead, Place),
-    /// Take this, which only types that are not supported have, and go on after it at this place.
+    /// Take this, which only types that are not supported have, and go on after it at this spot.
     Bar(Lead, Place),
-    /// Read a type and go on after it at this place. `+` can join bounds if the flag holds.
+    /// Read a type and go on after it at this spot. `+` can join bounds if the flag holds.
     Ask(bool, Place),
-    /// Read a type that is never replaced and go on after it at this place.
+    /// Read a type that is never replaced and go on after it at this spot.
     KeepType(Place),
-    /// Take all tokens without reading types in them and go on at this place.
+    /// Take all tokens without reading types in them and go on at this spot.
     Keep(Place),
-    /// Take this, read what begins with it from the first place on, and go on after it at the
-    /// second place.
+    /// Take this, read what begins with it from the first spot on, and go on after it at the
+    /// second spot.
     Nest(Lead, Place, Place),
-    /// Open the group and go on inside it at this place.
+    /// Open the group and go on inside it at this spot.
     Open(Place),
-    /// Close the group and go on after it at this place.
+    /// Close the group and go on after it at this spot.
     Close(Delimiter, Place),
 }
 
@@ -245,10 +245,10 @@ pub(crate) struct Opening<'t, 's> {
 /// The beginning of a type, without its tokens.
 #[derive(Clone, Copy)]
 pub(crate) enum Start {
-    /// Begins with this and goes on at this place. The flag says whether only types that are not
+    /// Begins with this and goes on at this spot. The flag says whether only types that are not
     /// supported have it.
     Lead(bool, Lead, Place),
-    /// Begins with a group and goes on inside it at this place.
+    /// Begins with a group and goes on inside it at this spot.
     Open(Place),
 }
 
@@ -261,7 +261,7 @@ pub(crate) enum Stop {
     Mismatch(Span),
 }
 
-/// What is to be done at a place, or the reason why nothing fits.
+/// What is to be done at a spot, or the reason why nothing fits.
 pub(crate) type Next = Result<Action, Stop>;
 
 /// The beginning of a type, or the reason why none begins.

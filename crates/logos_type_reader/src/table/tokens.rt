@@ -1,8 +1,7 @@
 //! Looks at the first tokens of a run.
 
 ghost use Rattle.std.specs.Prelude.{◌≡◌};
-ghost use Rattle.logos_type_reader.specs.Words.{rest_of, tokens_of};
-ghost use Rattle.logos_type_reader.specs.Views.{mismatches, first_span, begins_colons, begins_mark, begins_arrow, begins_dots, begins_parenthesis, begins_bound, typing, goes_on, spot_of, Looks, first_text, begins_word, IsAction};
+ghost use Rattle.logos_type_reader.specs.Views.{rest_of, tokens_of, mismatches, first_span, begins_colons, begins_mark, begins_arrow, begins_dots, begins_parenthesis, begins_bound, typing, goes_on, spot_of, Looks, first_text, begins_word, IsAction};
 
 use crate::table::place::{Look, Next, Spot, Stop};
 use logos_token::token::{Delimiter, Spacing, Span, TokenTree, Tokens};

@@ -3,7 +3,8 @@ use Rattle.logos_machine.specs.LexerValue.{answers_of}
 use Rattle.logos_commands.proofs.LexingLemmas.{GoesOn}
 use Rattle.logos_commands.proofs.lexing.write_lines.Given as goal
 
--- code, input and callback stay, the block has room for a line, and what completes the rest completes the whole
+-- code, input and callback stay, the block has room for a line, and what completes the rest
+-- completes the whole
 abbrev pub invariant-loop-item : goal.invariant-loop-item
 invariant-loop-item g l = record {
   same_code : l.lexer.code ≡ l.fn.lexer.code;

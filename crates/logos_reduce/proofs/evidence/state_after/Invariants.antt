@@ -1,5 +1,5 @@
 use Rattle.std.proofs.Common.{◌≡◌, ◌<◌, Some, drop}
-use Rattle.logos_reduce.specs.Words.{state_after}
+use Rattle.logos_reduce.specs.SymbolWords.{state_after}
 use Rattle.logos_reduce.specs.Table.{size}
 use Rattle.logos_reduce.proofs.evidence.state_after.Given as goal
 

@@ -1,8 +1,7 @@
 //! Makes buffers tree by tree. Stripping and copies of types and callbacks make buffers.
 
 ghost use Rattle.std.specs.Prelude.{◌≡◌, ◌++◌, List, map, IfOk, OnOk};
-ghost use Rattle.logos_token.specs.Words.{group, none, also, append};
-ghost use Rattle.logos_token.specs.ViewWords.{value_of, flat_token, stream_tokens, tree_of, inside_of};
+ghost use Rattle.logos_token.specs.ViewWords.{group, none, also, append, value_of, flat_token, stream_tokens, tree_of, inside_of};
 
 use crate::error::Memory;
 use crate::token::entry::Entry;
@@ -10,7 +9,7 @@ use crate::token::views::{Group, TokenStream, TokenTree};
 use crate::token::{Delimiter, Span};
 use std::alloc::Global;
 
-/// Adds a tree: its entry, and after it the entries inside it.
+/// Appends a tree: its entry, and after it the entries inside it.
 fn push_tree<'s>(entries: &mut Vec<Entry<'s>>, tree: TokenTree<'_, 's>) -> Result<(), Memory>
     ensures { OnOk result (map value_of entries.new.items ≡
         map value_of entries.old.items ++ flat_token (tree_of tree.entry)) }

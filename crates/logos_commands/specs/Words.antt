@@ -1,0 +1,11 @@
+-- Definitions that clauses cite: of lower crates, and those of this one that name no type of it.
+pub use Rattle.logos_code.specs.declared.action.Action.{Action}
+pub use Rattle.logos_enum.specs.Values.{ident_slice}
+pub use Rattle.logos_graph.specs.Mermaid.{mermaid_of}
+pub use Rattle.logos_host.specs.Writers.{AppendsFront}
+pub use Rattle.logos_machine.specs.LexerValue.{answers_of, item_of}
+pub use Rattle.logos_text.specs.Standing.{StandInOrder}
+pub use Rattle.logos_text.specs.Texts.{texts_of}
+pub use Rattle.std.specs.Io.KnownBytes.{Appends, Keeps}
+pub use Rattle.std.specs.Path.{with_separator}
+pub use Rattle.logos_commands.specs.Lines.{WritesLines, emits, line_of, span_line}

@@ -1,0 +1,3 @@
+-- Definitions that clauses cite: of lower crates, and those of this one that name no type of it.
+pub use Rattle.std.specs.Io.KnownBytes.{Appends}
+pub use Rattle.logos_host.specs.Writers.{AppendsFront}
