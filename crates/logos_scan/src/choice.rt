@@ -5,11 +5,11 @@ ghost use Rattle.std.specs.Prelude.{◌≤◌, ◌+◌, length};
 use crate::tries::{Taken, tried};
 use logos_code::code::Code;
 
-/// How many bytes are looked at in one place of an input.
+/// How many bytes are looked at from one point of an input on.
 const WINDOW: usize = 2_048;
 
 /// How many bytes of input pay for the folded row of one state.
-const WORTH: usize = 16_384;
+const WORTH: usize = 8_192;
 
 /// How many items there are in a part of an input, and how many of them are errors.
 #[derive(Clone, Copy, Drop)]
@@ -22,7 +22,7 @@ struct Counts {
 /// right: both find the same items.
 ///
 /// A run loses where matches are long, where nearly each byte is one, where there are many errors,
-/// and where the input is too short for what the folded rows take. Four places of the input are
+/// and where the input is too short for what the folded rows take. Four parts of the input are
 /// looked at, and one of them may be otherwise.
 pub fn suits(code: &Code, input: &[u8]) -> bool {
     let quarter = input.len() / 4;

@@ -114,7 +114,8 @@ fn try_again(reading: &Reading, run: Run, chunk: &mut Chunk) -> (Taken, Run)
         result.0 result.1.cursor.start }
 {
     let (taken, next) = tried(reading.code, reading.input, run.cursor.start);
-    (taken, restarted(reading, run, chunk, next))
+    let after = restarted(reading, run, chunk, next);
+    (taken, after)
 }
 
 /// Begins a try at a point of the input.
@@ -218,7 +219,8 @@ impl Run {
             if base >= reading.input.len() {
                 return None;
             }
-            *self = filled(reading, chunk, base, self.cursor.start, self.place);
+            let run = filled(reading, chunk, base, self.cursor.start, self.place);
+            *self = run;
         }
     }
 

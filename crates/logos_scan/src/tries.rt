@@ -23,11 +23,11 @@ pub enum Taken {
 
 /// Returns what a try finds that begins at a point of the input, after matches that are skipped
 /// without a callback, and where the next one begins.
-pub(crate) fn tried(code: &Code, input: &[u8], from: usize) -> (Taken, usize)
-    requires { from ≤ length input.now }
-    ensures { IsTaken code.now input.now from result.0 result.1 }
+pub(crate) fn tried(code: &Code, input: &[u8], start: usize) -> (Taken, usize)
+    requires { start ≤ length input.now }
+    ensures { IsTaken code.now input.now start result.0 result.1 }
 {
-    let mut from = from;
+    let mut from = start;
     loop {
         match attempt(code, input, from) {
             Outcome::Skips(to) => from = to,

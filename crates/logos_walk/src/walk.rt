@@ -17,8 +17,8 @@ pub const ENDED: u32 = 1 << 31;
 /// The flag of an entry at whose byte there is something to do.
 pub const TOKEN: u32 = 1 << 30;
 
-/// Returns the entry of a byte in a row. The byte is added first: the offset of the row, which comes
-/// from the entry before, is known last.
+/// Returns the entry of a byte in a row. The byte is added first: the offset of the row, which
+/// comes from the entry before, is known last.
 #[inline(always)]
 pub(crate) fn entry_of(rows: &[u32], byte: u8, place: usize) -> u32
     requires { IsPlace rows.now place }

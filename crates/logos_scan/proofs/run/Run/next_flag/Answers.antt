@@ -44,8 +44,8 @@ returns-then-base-reading c =
       skips = skips_join code input c.args.self.now.cursor.start c.loop-at.self.cursor.start c.next.new.self.start i.skips o.1;
     }
 
-pub filled-requires-clause-stands : goal.filled-requires-clause-stands
-filled-requires-clause-stands c =
+pub filled-run-requires-clause-stands : goal.filled-run-requires-clause-stands
+filled-run-requires-clause-stands c =
     let code = c.args.reading.now.code.now in
     let rows = c.args.reading.now.rows.now in
     let input = c.args.reading.now.input.now in
@@ -61,11 +61,11 @@ loop-at-preserved c =
     let input = c.args.reading.now.input.now in
     let i = c.loop-at.invariant in
     let n = c.in_default.ensures in
-    let f = c.filled.ensures in
+    let f = c.filled-run.ensures in
     let o = over_found code rows c.requires.reading input (bytes_at input c.are_bytes.ensures) (with_chunk c.loop-at.chunk c.loop-at.self) c.next.new.self n.base n.stands i.ready n.next.0 n.next.2 in
     let first = c.args.self.now.cursor.start in
-    let zero : min c.filled.result.cursor.from c.filled.result.count ≡ 0 = omega (arith, f.from) in
+    let zero : min c.filled-run.result.cursor.from c.filled-run.result.count ≡ 0 = omega (arith, f.from) in
     record {
-      ready = subst (λ (k : ℕ). IsRun code rows input (with_chunk c.filled.new.chunk c.filled.result) k) (sym zero) f.run;
+      ready = subst (λ (k : ℕ). IsRun code rows input (with_chunk c.filled-run.new.chunk c.filled-run.result) k) (sym zero) f.run;
       skips = subst (λ (k : ℕ). SkipsTo code input first k) (sym f.start) (skips_join code input first c.loop-at.self.cursor.start c.next.new.self.start i.skips o.1);
     }
