@@ -6,7 +6,7 @@ use crate::tries::{Taken, tried};
 use logos_code::code::Code;
 
 /// How many bytes are looked at from one point of an input on.
-const WINDOW: usize = 2_048;
+const SAMPLE: usize = 2_048;
 
 /// How many bytes of input pay for the folded row of one state.
 const WORTH: usize = 8_192;
@@ -26,7 +26,7 @@ struct Counts {
 /// looked at, and one of them may be otherwise.
 pub fn suits(code: &Code, input: &[u8]) -> bool {
     let quarter = input.len() / 4;
-    if quarter < WINDOW || input.len() / WORTH < code.parts().states.len() {
+    if quarter < SAMPLE || input.len() / WORTH < code.parts().states.len() {
         return false;
     }
     let first = suits_at(code, input, 0);
@@ -38,11 +38,11 @@ pub fn suits(code: &Code, input: &[u8]) -> bool {
 
 /// Returns whether a run by chunks suits the bytes from a point of the input on.
 fn suits_at(code: &Code, input: &[u8], at: usize) -> bool
-    requires { at + WINDOW ≤ length input.now }
+    requires { at + SAMPLE ≤ length input.now }
 {
-    let counts = counted(code, &input[at..at + WINDOW]);
-    let short = counts.items >= WINDOW / 20;
-    let long = counts.items <= WINDOW / 3;
+    let counts = counted(code, &input[at..at + SAMPLE]);
+    let short = counts.items >= SAMPLE / 20;
+    let long = counts.items <= SAMPLE / 3;
     let errors = counts.errors <= counts.items / 32;
     short & long & errors
 }

@@ -1,4 +1,4 @@
-use Rattle.std.proofs.Common.{◌∙◌, map, arith}
+use Rattle.std.proofs.Common.{map, arith}
 use Rattle.std.proofs.lemmas.List.{map-append}
 use Rattle.logos_machine.specs.LexerValue.{answers_of, item_of}
 use Rattle.logos_machine.proofs.ItemsLemmas.{more_items, no_items}
@@ -10,7 +10,7 @@ loop-item-init g c =
     record {
       ready = run.ready;
       within = omega (arith, run.start);
-      goes_on = λ rest r. rw run.start at r;
+      goes_on = λ rest r. rw c.new-items.ensures.items (rw run.start at r);
     }
 
 pub loop-item-preserved : goal.loop-item-preserved

@@ -1,4 +1,4 @@
-use Rattle.std.proofs.Common.{◌≡◌, ◌-◌, ◌<◌, length, refl, arith}
+use Rattle.std.proofs.Common.{◌-◌, ◌<◌, length, refl, arith}
 use Rattle.logos_machine.specs.inside.Stands.{IsMatch}
 use Rattle.logos_scan.specs.Tries.{skips_none, skips_then}
 use Rattle.logos_scan.proofs.tries.tried.Goals as goal

@@ -1,4 +1,4 @@
-use Rattle.std.proofs.Common.{◌≡◌, ℕ, min, length, sym, subst, arith}
+use Rattle.std.proofs.Common.{◌≡◌, ℕ, min, sym, subst, arith}
 use Rattle.logos_scan.specs.Runs.{IsRun, with_chunk}
 use Rattle.logos_scan.specs.Tries.{StandsIn}
 use Rattle.logos_scan.proofs.LoadLemmas.{root_is_place}
