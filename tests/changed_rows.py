@@ -22,13 +22,13 @@ TOP = pathlib.Path(__file__).resolve().parents[1]
 # the file. With no text the new one is added.
 PARTS = {
     "borrows": ("tests/borrows/group_returned.edit", "borrow-e0515", "borrow-e0505"),
-    "definitions": ("docs/DEFINITIONS.md", "`IsAccepted`", "`IsAcceptable`"),
+    "definitions": ("docs/DEFINITIONS.md", "`LexemeRuns`", "`LexemeRun`"),
     "words": ("docs/GLOSSARY.md", "`tests/wrong_bodies/run.sh` |", "`tests/wrong_body/run.sh` |"),
     "parameters": ("tests/lints/parameters.py", "MOST = 6", "MOST = 5"),
     "lengths": ("tests/lints/lengths.py", "OF_A_FUNCTION = 40", "OF_A_FUNCTION = 20"),
-    "contracts": ("docs/PROOFS.md", "`generate`", "`generated`"),
+    "contracts": ("docs/PROOFS.md", "By `lexeme_at`", "By `lexeme_of`"),
     "pages": ("tests/lints/pages.py", '"README.md": 110', '"README.md": 20'),
-    "crates_page": ("crates.txt", "logos_host:\n", ""),
+    "crates_page": ("crates.txt", "logos_lines:\n", ""),
     "sources": ("tests/lints/sources.py", "crates\\.txt", "crates\\.text"),
     "rattle_examples": ("examples/config/data/expected", None, "?"),
     "memory_tools": ("tests/memory/run.py", "status == 3", "status == 4"),

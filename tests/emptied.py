@@ -73,7 +73,7 @@ def rows(folder):
 # For each part what can be taken away: how that is called, and the change.
 TAKEN = {
     "borrows": {"all edits": every(removed("tests/borrows/*.edit"), without("tests/borrows/run.sh", r'^of_(tokens|enums|pieces)=".*?"', 'of_tokens="" of_enums="" of_pieces=""'))},
-    "definitions": {"all rows but those of the first table": without("docs/DEFINITIONS.md", r"(?<=\n)## .*\Z")},
+    "definitions": {"all lists": without("docs/DEFINITIONS.md", r"(?<=\n)## .*\Z")},
     "words": {"the sources of all crates": removed("crates/*"), "the rows of the glossary": without("docs/GLOSSARY.md", r"^\| (?!Word|Not used|---)[^|]+\| [^|]+ \| [^|]+ \|\n")},
     "parameters": {"the sources of half of the crates": removed("crates/logos_[a-l]*")},
     "lengths": {"the sources of half of the crates": removed("crates/logos_[a-l]*")},
@@ -82,7 +82,7 @@ TAKEN = {
     "sources": {"a crate": removed("crates/logos_cycles")},
     "proofs": {"one crate": without("crates.txt", r"^logos_cycles:[^\n]*\n")},
     "wrong_bodies": {"all wrong bodies": removed("crates/*/must-fail/gate.md"), "one crate's": removed("crates/logos_strip/must-fail/gate.md")},
-    "contracts": {"most tables": without("docs/PROOFS.md", r"^## Tokens.*?(?=^## Only tested)")},
+    "contracts": {"most lists": without("docs/PROOFS.md", r"^## Tokens.*?(?=^## Only tested)")},
     "rattle_examples": {"all examples but the first": without("tests/rattle_examples.sh", r"^(query|log) data[^\n]*\n")},
     "memory_tools": {"all runs": without("tests/memory/run.py", r"\(cli, CLI\), \(show, SHOW\)", "()"), "the runs of logos_show": without("tests/memory/run.py", r", \(show, SHOW\)", ",")},
     "evidence": {"the sets of words": without("tests/evidence/main.py", r", \*WORDS\[::8\]", "")},

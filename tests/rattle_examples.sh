@@ -7,8 +7,9 @@
 #                                             copy of crates/ and the lines of crates.txt; and runs it. This is not in the gate
 #
 # Each example is examples/NAME/main.rt.in, with the crates that it uses, NAME.rs and the files of
-# data/, and has to print data/expected and end with status 0. The last line is
-# `rattle_examples: N passed, M failed`.
+# data/, and has to print data/expected and end with status 0. `edit` does so only if the items
+# after each edit are those of the text lexed anew. Then `log` is fed by a pipe, by
+# `tests/long_log.py`. The last line is `rattle_examples: N passed, M failed`.
 set -uo pipefail
 
 root=$(cd "$(dirname "${BASH_SOURCE[0]}")/.." && pwd)
@@ -115,7 +116,12 @@ count data/count.rs data/text.txt
 edit data/edit.rs data/text data/edits
 END
 
-[ "$mode" = run ] || prove_all > "$room/failures"
+if [ "$mode" = run ]; then
+    names+=(long_log)
+    python3 "$root/tests/long_log.py" "$built/log" || echo long_log >> "$room/failures"
+else
+    prove_all > "$room/failures"
+fi
 failed=$(wc -l < "$room/failures")
 passed=$((${#names[@]} - failed))
 sed 's/^/rattle_examples: failed: /' "$room/failures"

@@ -168,6 +168,8 @@ def judge(program, calls, seed):
         try:
             compared = compare(program, room, source, reading, inputs)
             streamed = 0 if reading.faults.list else stream(calls, source, reading, inputs, Random(seed))
+            if not reading.faults.list and not streamed:
+                raise Difference('no input is read as a stream')
         except Difference as difference:
             return [], 0, 0, [], f'seed {seed}: {difference}\n{source}'
     return [code for code, _, _ in reading.faults.list], compared, streamed, forms, None
@@ -210,7 +212,7 @@ def main(program, calls, seeds):
         print('generated: too few sources had', ', '.join(missed), file=sys.stderr)
         return 1
     print(f'generated: {refused} sources are refused and {accepted} accepted as the plain reader has it, in {compared} comparisons')
-    print(f'generated: the items of {streamed} streams that are cut into pieces are those of the whole')
+    print(f'generated: the items of {streamed} streams that are cut into pieces are those of the whole, for each of the {accepted} sources')
     print(f'{refused + accepted + streamed} passed, 0 failed')
     return 0
 

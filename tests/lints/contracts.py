@@ -3,11 +3,12 @@
 
   contracts.py
 
-The last column of each table cites functions, as `generate` or `Parser::parse_generic`, and after a
-colon clauses of the function before it. A function has to stand in the crates that its row names,
-or anywhere where it names none, and have a clause that promises something; a clause has to be one
-of its own. A type or a module counts as found where it has such a function, and a trait's word
-where some `impl` of it has one. The last line is `contracts: N passed, M failed`."""
+Each item of the lists up to the heading `Only tested` ends with `By` and functions, as `generate`
+or `Parser::parse_generic`, and after a colon clauses of the function before it. A function has to
+stand in the crates with which the item or the one around it begins, or anywhere where it names
+none, and have a clause that promises something; a clause has to be one of its own. A type or a
+module counts as found where it has such a function, and a trait's word where some `impl` of it has
+one. The last line is `contracts: N passed, M failed`."""
 import pathlib
 import re
 import sys
@@ -15,7 +16,7 @@ import sys
 TOP = pathlib.Path(__file__).resolve().parents[2]
 CRATES = TOP / "crates"
 # With fewer that pass, rows were lost, or are no longer read.
-LEAST = 150
+LEAST = 270
 FUNCTION = re.compile(r"^( *)(?:pub(?:\([^)]*\))? )?(?:const )?fn (\w+)", re.M)
 CLAUSE = re.compile(r"\b(?:ensures|ghost ensures) (\w+)? ?\{")
 
@@ -65,22 +66,36 @@ class Crate:
 
 
 def rows(text):
-    """Yields the line, the crates and the last cell of each row of the tables."""
-    crates, has_crates = [], False
-    for number, line in enumerate(text.split("\n"), 1):
-        cells = [cell.strip() for cell in line.strip("|").split(" | ")]
-        if not line.startswith("|") or set(line) <= set("|- "):
-            continue
-        if cells[-1] == "Contract":
-            has_crates, crates = cells[0] == "Crate", []
-        elif cells:
-            named = re.findall(r"`(logos_\w+)`", cells[0]) if has_crates else []
-            crates = named or (crates if has_crates else [])
-            yield number, crates, cells[-1]
+    """Yields the line, the crates and the contracts of each item of the lists; the contracts are
+    None where it names none."""
+    crates = []
+    for number, item in items(text.split("\n## Only tested")[0]):
+        if item.startswith("#"):
+            crates = []
+        elif item.lstrip().startswith("- "):
+            begins = re.match(r" *- (`logos_\w+`[^:]*):", item)
+            crates = re.findall(r"`(logos_\w+)`", begins[1]) if begins else crates if item.startswith(" ") else []
+            yield number, crates, item.rpartition(" By ")[2] if " By " in item else None
+
+
+def items(text):
+    """Yields the headings, paragraphs and items of lists of a page, each with its first line and as
+    one line."""
+    number, part = 0, []
+    for at, line in enumerate([*text.split("\n"), ""], 1):
+        if part and (not line.strip() or re.match(r" *- |#", line)):
+            yield number, " ".join(part)
+            part = []
+        if line.strip():
+            number = number if part else at
+            part.append(line.rstrip() if not part else line.strip())
 
 
 def faults_of(cell, known):
-    """Yields, for each name in a cell, what is wrong with it, or None."""
+    """Yields, for each name among the contracts of an item, what is wrong with it, or None."""
+    if cell is None:
+        yield "an item without a contract"
+        return
     for group in cell.split(";"):
         functions, _, clauses = group.partition(":`" if ":`" in group else ": ")
         last = None

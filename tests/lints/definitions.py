@@ -1,218 +1,272 @@
 #!/usr/bin/env python3
-"""Looks up every name in backticks of docs/DEFINITIONS.md in the crates, and every definition that
-a public contract cites on that page.
+"""Compares docs/DEFINITIONS.md with the definitions in `specs`.
 
-A name in a column `Definition` must be declared in one of the files that its row gives, in the
-folder that the heading above the table gives. A code of a fault must be a variant of `FaultCode`. A
-path must be that of a file or a folder. Any other name must stand somewhere in the crates. Texts in
-backticks that are no names, such as operators, are passed over, and counted apart. Prints a line
-for each name that is missing, and last how many were found and how many were not. Ends with status
-1 where one is missing, or where fewer were looked up than there must be.
+  definitions.py
 
-The other way: a definition of `specs` that a clause of a public function in a public module cites
-needs a row, in a table of its file.
-"""
+A line of a list under the heading of a crate gives files of its `specs`, and what they define.
+Looked up are
+
+- each file: it is there, and stands on the page once;
+- each definition that a clause of a public function cites: its file stands on the page, and it has
+  a comment, above itself, above the type that it belongs to, or above the block of lines in which
+  it is declared;
+- each definition that one of these needs, directly or by others: its file stands on the page;
+- each file that the reading order of a claim names: it stands on the page under its crate;
+- each code of a fault: the page has it, and the definition of its fault is declared in the file of
+  its line;
+- each other name in backticks: it is a path, or its words stand somewhere in the crates.
+
+A public function is a `pub fn` of a module that is public or that another public one hands names on
+from; all functions of a program's crate count. The last line is
+`definitions: N passed, M failed`."""
 import pathlib
 import re
 import sys
 
 TOP = pathlib.Path(__file__).resolve().parents[2]
 CRATES = TOP / "crates"
-# The page had more names than this when this number was last set. With fewer, rows were lost, or
-# are no longer read.
-AT_LEAST = 1000
+PAGE = "docs/DEFINITIONS.md"
+# With fewer that pass, lines were lost, or are no longer read.
+LEAST = 6000
+WORD = re.compile(r"[A-Za-z_][\w-]*")
+PATH = re.compile(r"[a-z_]+(/[A-Za-z_]+)+(\.\w+)?")
 NAME = re.compile(r"[A-Za-z_][A-Za-z0-9_]*(::[A-Za-z_][A-Za-z0-9_]*)*!?")
-PATH = re.compile(r"[a-z_]+(/[A-Za-z_]+)+(\.antt)?")
-DECLARED = re.compile(r"^\s*(?:abbrev |unfoldable )?(?:pub )?(?:record |data )?(?:pub )?([A-Za-z_]\w*)(?: [({].*)? :", re.M)
-# As many citations of public contracts were looked up when this number was last set.
-CITED_AT_LEAST = 280
-IMPORTS = re.compile(r"ghost use Rattle\.(logos_\w+)\.specs\.([\w.]+)\.\{([^}]*)\}")
-CONTRACT = re.compile(r"^ *pub (?:const )?fn (\w+).*?(?=^ *\{|\n\{)", re.M | re.S)
+FILE = re.compile(r"(\w+/)?[A-Z]\w*")
+USE = re.compile(r"^(?:pub )?use Rattle\.(logos_\w+)\.specs\.([\w.]+)\.\{([^}]*)\}", re.M)
+GHOST_USE = re.compile(r"^ *(?:pub(?:\([^)]*\))? )?ghost use Rattle\.(logos_\w+)\.specs\.([\w.]+?)(?:\.\{([^}]*)\}| as (\w+));", re.M)
+HEAD = re.compile(r"^( *)(?:abbrev |unfoldable )?(?:pub )?(record |data )?(?:pub )?([A-Za-z_][\w-]*)(?: [({].*)? :")
+CONTRACT = re.compile(r"^ *(pub )?(?:const )?fn (\w+).*?(?=^ *\{|\n\{)", re.M | re.S)
 CLAUSE = re.compile(r"(?:requires|ensures)[^{]*\{(.*?)\}\s*(?=requires|ensures|decreases|\Z)", re.S)
-HANDED_ON = re.compile(r"^pub use \S+\.\{([^}]*)\}", re.M)
-HANDED_FROM = re.compile(r"^pub use ([\w.]+)\.\{([^}]*)\}", re.M)
 
 
-def backticked(text):
-    """The texts between backticks."""
-    return re.findall(r"`([^`]*)`", text)
+def spec(crate, module):
+    """The file of a module of definitions, from `crates` on."""
+    return f"{crate}/specs/{module.replace('.', '/')}.antt"
 
 
-def declared(path):
-    """The names that a file of definitions declares or hands on: definitions, constructors and
-    fields."""
-    text = path.read_text(encoding="utf-8")
-    names = set(DECLARED.findall(text))
-    for handed_on in HANDED_ON.findall(text):
-        names |= {name.split(" as ")[-1].strip() for name in handed_on.split(",")}
-    return names
+def imports(listed):
+    """Yields the names of a list of imports: the one here and the one there."""
+    for entry in filter(None, map(str.strip, listed.split(","))):
+        there, _, here = entry.partition(" as ")
+        yield here.strip() or there, there.strip()
+
+
+class Specs:
+    """A file of definitions: what it imports, and what it declares, each with its text."""
+
+    def __init__(self, path):
+        text = (CRATES / path).read_text(encoding="utf-8") if (CRATES / path).is_file() else ""
+        self.lines = text.split("\n")
+        self.names = {}
+        for crate, module, listed in USE.findall(text):
+            if "declared" not in module:
+                self.names.update((here, (spec(crate, module), there)) for here, there in imports(listed))
+        self.heads = [(number, *self.head(line)) for number, line in enumerate(self.lines) if self.head(line)]
+        self.declared = {}
+        for at, (number, indent, _, name) in enumerate(self.heads):
+            ends = [other[0] for other in self.heads[at + 1 :] if other[1] <= indent and other[3] != name]
+            lines = self.lines[number : ends[0] if ends else None]
+            body = "\n".join(line for line in lines if not line.lstrip().startswith("--"))
+            self.declared.setdefault(name, (number, body))
+
+    @staticmethod
+    def head(line):
+        """The indent, whether it is a type, and the name, where a line begins a declaration."""
+        found = None if re.match(r" *--|(pub )?use ", line) else HEAD.match(line)
+        return (len(found[1]), bool(found[2]), found[3]) if found else None
+
+    def has_comment(self, name):
+        """Whether a comment says what a declared name means."""
+        number = self.declared[name][0]
+        indent = self.head(self.lines[number])[0]
+        for line in reversed(self.lines[:number]):
+            if line.lstrip().startswith("--"):
+                return True
+            if not line.strip() or line.startswith(("use ", "pub use ", "module ")):
+                break
+        outer = [head for head in self.heads if head[0] < number and head[1] < indent]
+        return bool(outer) and outer[-1][2] and self.has_comment(outer[-1][3])
+
+
+class Definitions:
+    """All definitions, read as they are asked for."""
+
+    def __init__(self):
+        self.files = {}
+
+    def of(self, path):
+        """The file at a path."""
+        return self.files.setdefault(path, None) or self.files.update({path: Specs(path)}) or self.files[path]
+
+    def origin(self, path, name):
+        """The file that declares a name of a file, and its name there; `None` for one of a library
+        or a declared type."""
+        file = self.of(path)
+        if name in file.declared:
+            return path, name
+        return self.origin(*file.names[name]) if name in file.names else None
+
+    def needed(self, path, name):
+        """Yields the definitions that a definition cites."""
+        file = self.of(path)
+        for word in set(WORD.findall(file.declared[name][1])):
+            found = (path, word) if word in file.declared else self.origin(*file.names[word]) if word in file.names else None
+            if found:
+                yield found
+
+    def all_needed(self, first):
+        """These definitions with all that they need."""
+        found, todo = set(first), list(first)
+        while todo:
+            new = set(self.needed(*todo.pop())) - found
+            found |= new
+            todo += new
+        return found
+
+    def cited(self, text, every):
+        """Yields each definition that the contract of a function of a text cites, and the
+        function."""
+        names, aliases = {}, {}
+        for crate, module, listed, alias in GHOST_USE.findall(text):
+            if "declared" not in module:
+                names.update((here, (spec(crate, module), there)) for here, there in imports(listed))
+                aliases.update({alias: spec(crate, module)} if alias else {})
+        for contract in CONTRACT.finditer(text):
+            clauses = " ".join(CLAUSE.findall(contract[0])) if contract[1] or every else ""
+            found = [names[word] for word in set(WORD.findall(clauses)) & set(names)]
+            found += [(aliases[alias], name) for alias, name in re.findall(r"\b(\w+)\.([A-Za-z_][\w-]*)", clauses) if alias in aliases]
+            for place in found:
+                if self.origin(*place):
+                    yield self.origin(*place), contract[2]
 
 
 def public_files(crate):
-    """The source files of a crate's public modules."""
+    """The source files of a crate's public modules, and of those that names are handed on from; all
+    of a program."""
+    if not (crate / "src/lib.rt").is_file():
+        return sorted((crate / "src").rglob("*.rt"))
     found, todo = [], [(crate / "src/lib.rt", crate / "src")]
     while todo:
         path, folder = todo.pop()
-        if path.is_file():
+        if path.is_file() and path not in found:
             found.append(path)
-            for name in re.findall(r"^pub mod (\w+);", path.read_text(encoding="utf-8"), re.M):
+            for name in re.findall(r"^pub (?:mod |use (?:self::|crate::)?)(\w+)(?:;|::)", path.read_text(encoding="utf-8"), re.M):
                 todo.append((folder / f"{name}.rt", folder / name))
     return found
 
 
-def origin(path, name):
-    """The file that declares a definition, and its name there, followed through the modules that
-    hand it on; `None` for one of a library or a declared type."""
-    for module, listed in HANDED_FROM.findall((CRATES / path).read_text(encoding="utf-8")) if (CRATES / path).is_file() else []:
-        for entry in map(str.strip, listed.split(",")):
-            if entry.split(" as ")[-1].strip() == name:
-                found = re.fullmatch(r"Rattle\.(logos_\w+)\.specs\.([\w.]+)", module)
-                if not found or "declared" in found[2]:
-                    return None
-                return origin(f"{found[1]}/specs/{found[2].replace('.', '/')}.antt", entry.split(" as ")[0].strip())
-    return path, name
+def items(text):
+    """Yields the headings, paragraphs and lines of lists of a page, each with its first line and as
+    one line."""
+    number, part = 0, []
+    for at, line in enumerate([*text.split("\n"), ""], 1):
+        if part and (not line.strip() or line.startswith(("- ", "#"))):
+            yield number, " ".join(part)
+            part = []
+        if line.strip():
+            number = number if part else at
+            part.append(line.strip())
 
 
-def imported(text):
-    """The names of definitions that a file imports, each with the file and the name that it has
-    there."""
-    names = {}
-    for crate, module, listed in IMPORTS.findall(text):
-        for name in filter(None, map(str.strip, listed.split(","))):
-            if "declared" not in module:
-                here = name.split(" as ")[-1].strip()
-                from_file = origin(f"{crate}/specs/{module.replace('.', '/')}.antt", name.split(" as ")[0].strip())
-                if from_file:
-                    names[here] = from_file
-    return names
-
-
-def cited():
-    """Yields each definition that a public contract cites: its file, its name, and the function."""
-    for crate in sorted(CRATES.glob("logos_*")):
-        for path in public_files(crate):
-            text = path.read_text(encoding="utf-8")
-            names = imported(text)
-            for contract in CONTRACT.finditer(text):
-                words = set(re.findall(r"[A-Za-z_][\w-]*", " ".join(CLAUSE.findall(contract[0]))))
-                for word in sorted(words & set(names)):
-                    yield (*names[word], f"{path.relative_to(CRATES)}: {contract[1]}")
-
-
-class Lookup:
-    """What was looked up so far, and where names are looked for."""
+class Page:
+    """What is looked up on the page: its files, its reading orders, its codes, its other names."""
 
     def __init__(self):
-        files = [path for path in CRATES.glob("*/s*/**/*") if path.suffix in (".rt", ".antt") and path.parts[-2] != "out"]
-        self.words = set()
-        for path in files:
-            self.words.update(re.findall(r"[A-Za-z_]\w*", path.read_text(encoding="utf-8")))
-        self.rows = set()
-        self.codes = self.variants(CRATES / "logos_token/src/error/fault_code.rt")
-        self.passed = 0
-        self.failed = 0
-        self.texts = 0
-
-    @staticmethod
-    def variants(path):
-        """The variants of the enum of codes."""
-        body = path.read_text(encoding="utf-8").split("pub enum FaultCode {", 1)[1].split("\n}", 1)[0]
-        return set(re.findall(r"^    ([A-Z]\w*),", body, re.M))
-
-    def count(self, found, line, what):
-        """Counts a name, and reports it where it was not found."""
-        if found:
-            self.passed += 1
-        else:
-            self.failed += 1
-            print(f"docs/DEFINITIONS.md:{line}: {what}")
-
-    def anywhere(self, text, line):
-        """Looks up what stands in backticks outside the columns of definitions and codes."""
-        for name in backticked(text):
-            if PATH.fullmatch(name):
-                self.count(self.is_path(name), line, f"no such path: {name}")
-            elif NAME.fullmatch(name):
-                words = re.findall(r"\w+", name)
-                self.count(all(word in self.words for word in words), line, f"nowhere in the crates: {name}")
+        self.passed, self.failed = 0, 0
+        self.listed, self.orders, self.codes, self.others = {}, [], {}, []
+        crate, heading = None, ""
+        for number, text in items((TOP / PAGE).read_text(encoding="utf-8")):
+            if text.startswith("#"):
+                heading = text
+                found = re.search(r"`crates/(\w+)/specs`", text)
+                crate = found[1] if found else None
+                self.others += [(number, name) for name in re.findall(r"`([^`]*)`", text)]
+            elif text.startswith("- ") and crate:
+                self.add_files(number, crate, text)
+            elif text.startswith("- ") and heading == "## Faults, by their codes":
+                self.add_codes(number, text)
+            elif text.startswith("- "):
+                self.add_order(number, text)
             else:
-                self.texts += 1
+                self.others += [(number, name) for name in re.findall(r"`([^`]*)`", text)]
 
-    @staticmethod
-    def is_path(name):
-        """Whether there is such a file or folder, from the top or from `crates` on."""
-        return (TOP / name).exists() or (CRATES / name).exists()
+    def count(self, found, number, what):
+        """Counts something, and reports it where it was not found."""
+        self.passed += bool(found)
+        self.failed += not found
+        if not found:
+            print(f"definitions: {PAGE}:{number}: {what}")
 
-    def files(self, folder, cell, line):
-        """The files that a row gives."""
-        found = []
-        for name in backticked(cell):
-            path = CRATES / name if name.endswith(".antt") else CRATES / folder / "specs" / f"{name}.antt"
-            self.count(path.is_file(), line, f"no such file: {name}")
-            if path.is_file():
-                found.append(path)
-        return found
+    def add_files(self, number, crate, text):
+        """Adds the files of a line."""
+        files, _, words = text.partition(": ")
+        for name in re.findall(r"`([^`]*)`", files):
+            path = spec(crate, name)
+            self.count((CRATES / path).is_file(), number, f"no such file: {path}")
+            self.count(path not in self.listed, number, f"twice on the page: {path}")
+            self.listed[path] = number
+        self.count(words, number, "nothing says what these files define")
+        self.others += [(number, name) for name in re.findall(r"`([^`]*)`", words)]
 
-    def row(self, header, cells, folder, line):
-        """Looks up a row of a table."""
-        if "File" not in header or len(cells) != len(header):
-            self.count(False, line, "not a row of a table with a column `File`")
-            return
-        names = set()
-        for path in self.files(folder, cells[header.index("File")], line):
-            names |= declared(path)
-            if "Definition" in header:
-                self.rows |= {(str(path.relative_to(CRATES)), name) for name in backticked(cells[header.index("Definition")])}
-        for title, cell in zip(header, cells):
-            if title == "Definition":
-                for name in backticked(cell):
-                    self.count(name in names, line, f"not declared in the files of its row: {name}")
-            elif title == "Code":
-                for name in backticked(cell):
-                    self.count(name in self.codes, line, f"no code of a fault: {name}")
-            elif title != "File":
-                self.anywhere(cell, line)
+    def add_codes(self, number, text):
+        """Adds the codes of a line, each with the definitions of its fault."""
+        names = re.match(r"- `([^`]*)`: (.*)", text)
+        for code, given in re.findall(r"`(\w+)`(?: \(([^)]*)\))?", names[2]):
+            small = re.sub(r"(?<!^)(?=[A-Z])", "_", code).lower()
+            self.codes.setdefault(code, []).append((number, names[1], re.findall(r"`(\w+)`", given) or [small]))
 
+    def add_order(self, number, text):
+        """Adds the files of a reading order; a name of a crate stands in front of those of its
+        `specs`."""
+        crate = None
+        for name in re.findall(r"`([^`]*)`", text):
+            if (CRATES / name).is_dir() and not FILE.fullmatch(name):
+                crate = name
+                self.others.append((number, name))
+            elif crate and FILE.fullmatch(name):
+                self.orders.append((number, spec(crate, name)))
 
-    def citations(self):
-        """Looks up each definition that a public contract cites on the page. Returns how many there
-        were."""
-        found = {}
-        for path, name, place in cited():
-            found.setdefault((path, name), place)
-        for (path, name), place in sorted(found.items()):
-            self.count((path, name) in self.rows, 0, f"no row for {name} of {path}, which {place} cites")
-        return len(found)
+    def look_up(self, definitions):
+        """Looks up what the page has, apart from its files."""
+        for number, path in self.orders:
+            self.count(path in self.listed, number, f"a file of a reading order that is not listed: {path}")
+        enum = (CRATES / "logos_token/src/error/fault_code.rt").read_text(encoding="utf-8").split("pub enum FaultCode {", 1)[1]
+        codes = set(re.findall(r"^    ([A-Z]\w*),", enum.split("\n}", 1)[0], re.M))
+        for code in sorted(codes | set(self.codes)):
+            self.count(code in codes and code in self.codes, 0, f"a code that the page or the enum lacks: {code}")
+            for number, path, names in self.codes.get(code, []):
+                self.count(path in self.listed, number, f"not listed: {path}")
+                for name in names:
+                    self.count(name in definitions.of(path).declared, number, f"{path} does not declare {name}")
+        words = set()
+        for path in CRATES.glob("*/s*/**/*"):
+            if path.suffix in (".rt", ".antt") and "out" not in path.parts:
+                words.update(re.findall(r"[A-Za-z_]\w*", path.read_text(encoding="utf-8")))
+        for number, name in self.others:
+            if PATH.fullmatch(name):
+                self.count((TOP / name).exists() or (CRATES / name).exists(), number, f"no such path: {name}")
+            elif NAME.fullmatch(name):
+                known = all(word in words for word in re.findall(r"\w+", name))
+                self.count(known or (CRATES / name).is_dir(), number, f"nowhere in the crates: {name}")
 
 
 def main():
-    lookup = Lookup()
-    header = None
-    folder = ""
-    for line, text in enumerate((TOP / "docs/DEFINITIONS.md").read_text(encoding="utf-8").splitlines(), 1):
-        cells = [cell.strip() for cell in text.strip("|").split(" | ")]
-        if text.startswith("#"):
-            header = None
-            crate = re.search(r"`crates/(\w+)/specs`", text)
-            folder = crate.group(1) if crate else ""
-            lookup.anywhere(text, line)
-        elif not text.startswith("|"):
-            header = None
-            lookup.anywhere(text, line)
-        elif header is None:
-            header = cells
-        elif not set(text) <= set("|-"):
-            lookup.row(header, cells, folder, line)
-    if lookup.citations() < CITED_AT_LEAST:
-        print(f"definitions: fewer than {CITED_AT_LEAST} citations were looked up")
-        lookup.failed += 1
-    if lookup.passed + lookup.failed < AT_LEAST:
-        print(f"definitions: fewer than {AT_LEAST} names were looked up")
-        lookup.failed += 1
-    print(f"definitions: {lookup.texts} texts that are no names were passed over")
-    print(f"definitions: {lookup.passed} passed, {lookup.failed} failed")
-    return 1 if lookup.failed else 0
+    if sys.argv[1:]:
+        sys.exit(__doc__)
+    page, definitions, cited = Page(), Definitions(), {}
+    page.look_up(definitions)
+    for crate in sorted(CRATES.glob("logos_*")):
+        for path in public_files(crate):
+            every = not (crate / "src/lib.rt").is_file()
+            for found, function in definitions.cited(path.read_text(encoding="utf-8"), every):
+                cited.setdefault(found, f"{path.relative_to(CRATES)}: {function}")
+    for (path, name), place in sorted(cited.items()):
+        page.count(definitions.of(path).has_comment(name), 0, f"no comment says what {name} of {path} means, which {place} cites")
+    for path, name in sorted(definitions.all_needed(cited)):
+        page.count(path in page.listed, 0, f"not listed: {path}, for {name}")
+    print(f"definitions: {len(page.listed)} files, {len(cited)} definitions that contracts cite")
+    print(f"definitions: {page.passed} passed, {page.failed} failed")
+    return 1 if page.failed or page.passed < LEAST else 0
 
 
-if __name__ == "__main__":
-    sys.exit(main())
+sys.exit(main())

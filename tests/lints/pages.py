@@ -4,10 +4,12 @@
   pages.py
 
 A line of prose has at most 100 columns; rows of tables, blocks of code and lines of one long word
-are left out. `LINES` and `WORDS` say how long a page may be. Each path of a crate in backticks has
-to be there, and each function of the walk in `docs/MAP.md` has to stand in its file, once on that
-page. Each page counts as one, and so does each path and each function. The last line is
-`pages: N passed, M failed`."""
+are left out. `LINES` and `WORDS` say how long a page may be, and `ALL_WORDS` how long all are
+together but the page that is made and those of wrong bodies: words are what stands between blanks,
+the bars of tables and blocks of code included. Each path of a crate in backticks has to be there,
+each page and heading to which a link leads, and each function of the walk in `docs/MAP.md` in its
+file, once on that page. Each page counts as one, and so does each path, link and function. The last
+line is `pages: N passed, M failed`."""
 import os
 import re
 import subprocess
@@ -17,8 +19,11 @@ ROOT = os.path.dirname(os.path.dirname(os.path.dirname(os.path.realpath(__file__
 WIDTH = 100
 # With fewer that pass, pages or rows were lost, or are no longer read.
 LEAST = 200
-# The most lines of a page.
+# The most lines of a page, the most words of one, and of all to be read.
 LINES = {"README.md": 110, "docs/MAP.md": 200}
+WORDS = {"docs/GUIDE.md": 4000}
+ALL_WORDS = 40000
+MADE = "crates/README.md"
 # The most functions of the walk.
 WALK = 48
 
@@ -49,9 +54,11 @@ def width_faults(path, text):
 
 def length_faults(path, text):
     """Yields what is too long about a page."""
-    lines = text.count("\n")
+    lines, words = text.count("\n"), len(text.split())
     if lines > LINES.get(path, lines):
         yield f"{path}: {lines} lines, at most {LINES[path]}"
+    if words > WORDS.get(path, words):
+        yield f"{path}: {words} words, at most {WORDS[path]}"
 
 
 def path_faults(path, text):
@@ -61,6 +68,24 @@ def path_faults(path, text):
         place = f"{ROOT}/crates/{name.removeprefix('crates/')}"
         if not re.search(r"/out(/|$)", place):
             yield None if os.path.exists(place) else f"{path}: {name} is not there"
+
+
+def headings(text):
+    """Returns the names by which links lead to the headings of a page."""
+    titles = [line.lstrip("#").strip().lower() for _, line in prose(text) if line.startswith("#")]
+    return {re.sub(r"[^\w\- ]", "", title).replace(" ", "-") for title in titles}
+
+
+def link_faults(path, text):
+    """Yields, for each link of a page to another one or to a heading, the fault if nothing is
+    there, and else None."""
+    for name, heading in re.findall(r"\]\(([^)#:\s]*)(?:#([^)\s]*))?\)", text):
+        place = os.path.normpath(f"{ROOT}/{os.path.dirname(path)}/{name}") if name else f"{ROOT}/{path}"
+        is_there = os.path.exists(place)
+        if is_there and heading:
+            with open(place, encoding="utf-8") as it:
+                is_there = heading in headings(it.read())
+        yield None if is_there else f"{path}: nothing is at {name}{'#' if heading else ''}{heading}"
 
 
 def walk_faults(text):
@@ -80,22 +105,26 @@ def walk_faults(text):
 def main():
     if sys.argv[1:]:
         sys.exit(__doc__)
-    passed, faults = 0, []
+    passed, faults, words = 0, [], 0
     for path in pages():
         with open(f"{ROOT}/{path}", encoding="utf-8") as it:
             text = it.read()
         found = [*width_faults(path, text), *length_faults(path, text)]
         passed += not found
         faults += found
-        for fault in path_faults(path, text):
+        words += 0 if path == MADE or "/must-fail/" in path else len(text.split())
+        for fault in [*path_faults(path, text), *link_faults(path, text)]:
             passed += fault is None
             faults += [fault] if fault else []
         if path == "docs/MAP.md":
             for fault in walk_faults(text):
                 passed += fault is None
                 faults += [fault] if fault else []
+    if words > ALL_WORDS:
+        faults.append(f"all pages: {words} words, at most {ALL_WORDS}")
     for fault in faults:
         print(f"pages: {fault}")
+    print(f"pages: {words} words")
     print(f"pages: {passed} passed, {len(faults)} failed")
     sys.exit(1 if faults or passed < LEAST else 0)
 

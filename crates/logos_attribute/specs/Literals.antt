@@ -17,6 +17,7 @@ pub record NamedLiteral : Type 0 where
   pub name : Slice
   pub literal : LiteralView
 
+-- The fault of a run that is no literal.
 abbrev pub literal_syntax : TokenList → Fault
 literal_syntax run = fault LiteralSyntax (codes "expected a literal") (run_span run)
 

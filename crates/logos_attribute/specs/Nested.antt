@@ -13,6 +13,7 @@ use Rattle.logos_attribute.specs.declared.nested.AttributeParser.{AttributeParse
 use Rattle.logos_attribute.specs.Slices.{ident_slice, literal_slice}
 use Rattle.logos_attribute.specs.Pieces.{PieceValue, assigned, beside, grouped, keyed, Piece, unnamed, named, unexpected, pieces, after_group, rest_after_piece, rest_after_group}
 
+-- The value of a piece that a view stands for.
 abbrev pub value_of : NestedValue → PieceValue
 value_of (Assign run) = assigned (tokens_of run)
 value_of (Literal literal) = beside (literal_slice literal)

@@ -9,6 +9,7 @@ use Rattle.logos_automaton.specs.declared.errors.GraphError.TheVariants.{NoUnive
 abbrev pub numbers : List LeafId → List ℕ
 numbers = map (λ leaf. leaf.0)
 
+-- The fault that an error names.
 abbrev pub fault_of : GraphError → Fault
 fault_of NoUniversalStart = no_universal_start
 fault_of (EmptyMatch leaf) = empty_match leaf.0

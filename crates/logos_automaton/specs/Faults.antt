@@ -6,6 +6,7 @@ use Rattle.logos_hir.specs.Passable.{passable, leads}
 use Rattle.logos_automaton.specs.Munch.{Rule}
 use Rattle.logos_automaton.specs.Ambiguity.{IsAmbiguous}
 
+-- A fault of rules, by the numbers of its rules.
 pub data Fault : Type 0 where
   -- Some tree can meet a look before its first byte.
   no_universal_start : Fault
@@ -27,9 +28,11 @@ Ascends [] = Unit {0}
 Ascends (xs ∷ []) = Unit {0}
 Ascends (xs ∷ ys ∷ rest) = IsBefore xs ys × Ascends (ys ∷ rest)
 
+-- Some tree can meet a look before its first byte.
 abbrev pub some_leads : List Rule → Bool
 some_leads rules = list_any (λ rule. leads rule.tree) rules
 
+-- Some tree can be passed without a byte.
 abbrev pub some_passable : List Rule → Bool
 some_passable rules = list_any (λ rule. passable rule.tree) rules
 

@@ -11,6 +11,7 @@ use Rattle.logos_byte_class.specs.declared.byte_class.Comparisons.{Comparisons}
 abbrev pub bounds : RangeInclusive ℕ → ℕ × ℕ
 bounds r = (range_inclusive_start r, range_inclusive_end r)
 
+-- The ranges of a class.
 abbrev pub ranges_of : ByteClass → List (ℕ × ℕ)
 ranges_of class = map bounds class.ranges.items
 
@@ -24,6 +25,7 @@ abbrev pub AreSeparatedFrom : ℕ → List (ℕ × ℕ) → Type 0
 AreSeparatedFrom least [] = Unit {0}
 AreSeparatedFrom least (r ∷ rest) = (least ≤ r.0) × (r.0 ≤ r.1) × AreSeparatedFrom (r.1 + 2) rest
 
+-- Ranges ascend, with a byte of neither between any two.
 abbrev pub AreSeparated : List (ℕ × ℕ) → Type 0
 AreSeparated = AreSeparatedFrom 0
 
@@ -33,6 +35,7 @@ pub record Comparison : Type 0 where
   pub last : ℕ
   pub except : List ℕ
 
+-- The range and the exceptions that a value of type `Comparisons` stands for.
 abbrev pub comparison_of : Comparisons → Comparison
 comparison_of c = record { first = range_inclusive_start c.range; last = range_inclusive_end c.range; except = c.except.items }
 

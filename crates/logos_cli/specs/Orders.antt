@@ -121,6 +121,7 @@ with_use given (path word) = with_path given word
 with_use given (flag option) = with_flag given option
 with_use given (value option word) = with_value given option word
 
+-- The same after what a word was found to be, or after nothing.
 abbrev pub with_found : GivenValue → Option UseValue → Option GivenValue
 with_found given None = Some given
 with_found given (Some found) = with_use given found
@@ -191,6 +192,7 @@ given_value given = record {
   progress = given.progress;
 }
 
+-- An order as a value.
 abbrev pub order_value : Order → OrderValue
 order_value order = record {
   input = order.input.now;
@@ -202,6 +204,7 @@ order_value order = record {
   color = order.color;
 }
 
+-- What is asked for, as a value.
 abbrev pub request_value : Request → Asked
 request_value requests.Help = asks_help
 request_value requests.Version = asks_version

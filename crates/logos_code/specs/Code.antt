@@ -32,6 +32,7 @@ pub record CodeState : Type 0 where
   -- Where the end leads.
   pub at_end : Option ℕ
 
+-- A code value: its states, its tables, the uses of leaves, and the header of its text.
 pub record CodeValue : Type 0 where
   pub states : List CodeState
   pub bit_tables : List (List ℕ)

@@ -49,6 +49,7 @@ state_of tables state = record {
 abbrev pub use_of : CodeLeaf → Use
 use_of leaf = record { skips = is_skip leaf.kind; asks = is_some leaf.callback }
 
+-- The code value that given parts make.
 abbrev pub code_of : CodeParts → CodeValue
 code_of code = record {
   states = map (state_of code.jump_tables.items) code.states.items;
@@ -65,6 +66,7 @@ code_of code = record {
 abbrev pub no_state : CodeState
 no_state = record { fast_loop = None; mark = None; fork = by_conditions []; at_end = None }
 
+-- The state of a number, and one without anything where there is none.
 abbrev pub state_at : CodeValue → ℕ → CodeState
 state_at code s = slice_index_or code.states s no_state
 

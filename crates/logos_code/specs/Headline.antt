@@ -19,6 +19,7 @@ pub record IsLexer (rules : List Rule) (utf8 : Bool) (code : CodeValue) : Type 0
 abbrev pub NamesState : CodeValue → ℕ → Type 0
 NamesState code s = s < length code.states
 
+-- A code value has a test with this number.
 abbrev pub NamesTest : CodeValue → ℕ → Type 0
 NamesTest code k = k < 8 * length code.bit_tables
 

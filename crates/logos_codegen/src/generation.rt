@@ -196,29 +196,6 @@ fn callback_in<'p, 's>(parser: &'p Parser<'s>) -> Option<&'p Callback<'s>>
     }
 }
 
-/// Makes the code of a graph that finds the longest matches, for the enum with this name and type.
-fn code_for<'g, 's>(
-    alloc: Global,
-    config: Config,
-    name: Ident<'s>,
-    this: &'g TypeExpr<'s>,
-    graph: &'g Graph<'s>,
-    callback: Option<&'g Callback<'s>>,
-) -> Result<Code<'s>, Memory>
-    requires of_leaves { IsGraphOf graph.now.leaves graph.now.utf8 graph.now }
-    requires faultless { graph.now.faults ≡ [] }
-    ensures lexer { IfOk result (IsLexer (rules_of graph.now.leaves) graph.now.utf8) }
-    ensures keeps { IfOk result (KeepsGiven (record {
-      shape = config;
-      name = name.entry;
-      this = this.now;
-      error_callback = option_copied callback.entry;
-    }) graph.now) }
-{
-    let mut generator = Generator::new(alloc, config, name, this, graph, callback);
-    generator.generate(alloc)
-}
-
 /// Makes the code of a graph that finds the longest matches, for the enum of an analysis.
 fn code_of<'s>(
     alloc: Global,
@@ -234,8 +211,15 @@ fn code_of<'s>(
         (parser_view analysis.now.parser) graph.now) }
 {
     let callback = callback_in(&analysis.parser);
-    let name = analysis.name;
-    code_for(alloc, config, name, &analysis.this, graph, callback)
+    let mut generator = Generator::new(
+        alloc,
+        config,
+        analysis.name,
+        &analysis.this,
+        graph,
+        callback,
+    );
+    generator.generate(alloc)
 }
 
 /// Analyzes a source, and builds the graph of its leaves, which are taken out of the analysis.

@@ -18,7 +18,7 @@ pub use logos_machine::laws::{
     tries_agree,
 };
 pub use logos_relex::laws::lexed_is_run;
-pub use logos_stream::laws::streams_are_of_the_whole;
+pub use logos_stream::laws::{all_items_are_of_the_whole, streams_are_of_the_whole};
 
 /// A source without faults has one list of rules and one mode.
 pub fn a_source_has_one_list_of_rules()

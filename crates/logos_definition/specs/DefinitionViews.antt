@@ -5,6 +5,7 @@ use Rattle.logos_attribute.specs.LiteralViews.{literal_view}
 use Rattle.logos_definition.specs.declared.definition.Definition.{Definition}
 use Rattle.logos_definition.specs.Definitions.{DefinitionView}
 
+-- A definition as a value.
 abbrev pub definition_view : Definition → DefinitionView
 definition_view d = record {
   literal = literal_view d.literal;

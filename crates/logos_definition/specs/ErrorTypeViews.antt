@@ -14,5 +14,6 @@ abbrev pub run_in : MaybeVoid → Option TokenList
 run_in (SomeTokens stream) = Some (stream_tokens stream)
 run_in Void = None
 
+-- An error type as a value.
 abbrev pub error_view : ErrorType → ErrorView
 error_view e = record { type_run = run_in e.ty; type = option_map type_tree e.type_expr; callback = option_map callback_view e.callback }

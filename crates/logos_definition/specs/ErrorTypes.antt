@@ -43,6 +43,7 @@ abbrev pub type_or_run : Option Tree → Option TokenList → List ℕ
 type_or_run (Some tree) run = printed_type tree
 type_or_run None run = run_text run
 
+-- The printed text of an error type.
 abbrev pub error_text : ErrorView → List ℕ
 error_text e = type_or_run e.type e.type_run
 
@@ -51,6 +52,7 @@ abbrev pub run_place : Option TokenList → Span
 run_place (Some run) = run_span run
 run_place None = run_span none
 
+-- The span of an error type.
 abbrev pub error_span : ErrorView → Span
 error_span e = run_place e.type_run
 

@@ -33,6 +33,7 @@ abbrev pub inside_meta : Option TokenList → Option Meta
 inside_meta None = None
 inside_meta (Some run) = meta_inside run
 
+-- The name and the arguments of an attribute whose path is one identifier.
 abbrev pub meta_of : AttributeValue → Option Meta
 meta_of attribute = inside_meta attribute.inside
 
@@ -40,5 +41,6 @@ abbrev pub arguments_view : Option Tokens → Option TokenList
 arguments_view None = None
 arguments_view (Some tokens) = Some (tokens_of tokens)
 
+-- These as a value.
 abbrev pub meta_view : MetaView → Meta
 meta_view meta = record { name = ident_slice meta.name; arguments = arguments_view meta.arguments }

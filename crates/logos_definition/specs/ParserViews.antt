@@ -16,6 +16,7 @@ mode_view mode = record { value = mode.value; span = mode.span }
 abbrev pub export_view : ExportPath → ExportView
 export_view export = record { path = string_bytes export.path; span = export.span }
 
+-- The options that a parser has read.
 abbrev pub parser_view : Parser → OptionsView
 parser_view p = record {
   utf8 = option_map mode_view p.utf8_mode;

@@ -33,8 +33,10 @@ abbrev pub inside_value : Option Tokens → Option TokenList
 inside_value None = None
 inside_value (Some tokens) = Some (tokens_of tokens)
 
+-- The attribute that a value stands for.
 abbrev pub attribute_value : Attribute → AttributeValue
 attribute_value attribute = record { span = attribute.span; inside = inside_value attribute.inside }
 
+-- The same with the run that is left.
 abbrev pub split_value : Attribute × Tokens → SplitAttribute
 split_value read = record { attribute = attribute_value read.0; rest = tokens_of read.1 }

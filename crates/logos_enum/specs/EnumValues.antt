@@ -35,6 +35,7 @@ pub record VariantValue : Type 0 where
   pub name : Slice
   pub fields : FieldsValue
 
+-- An enum by its names, its types and the runs of tokens that are handed out.
 pub record EnumValue : Type 0 where
   pub attributes : TokenList
   pub name : Slice
@@ -55,6 +56,7 @@ fields_value (Named span list) = in_braces span (map field_value list.items)
 abbrev pub variant_value : Variant → VariantValue
 variant_value variant = record { attributes = tokens_of variant.attributes; name = ident_slice variant.name; fields = fields_value variant.fields }
 
+-- The enum that a value stands for.
 abbrev pub enum_value : ItemEnum → EnumValue
 enum_value item =
     record {

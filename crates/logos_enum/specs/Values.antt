@@ -24,6 +24,7 @@ pub record ParameterValue : Type 0 where
   pub name : Slice
   pub run : TokenList
 
+-- The text of an identifier and its span.
 abbrev pub ident_slice : Ident → Slice
 ident_slice ident = record { text = ident.text.now; span = ident.span }
 

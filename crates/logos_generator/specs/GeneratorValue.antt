@@ -25,9 +25,11 @@ pub record LeafValue : Type 0 where
   pub kind : KindValue
   pub callback : Option CallbackValue
 
+-- The kind of a graph's leaf, and the tokens of its callback.
 abbrev pub leaf_value : Leaf → LeafValue
 leaf_value leaf = record { kind = kind_value leaf.kind; callback = option_map callback_value leaf.callback }
 
+-- The same for the leaf of a code.
 abbrev pub code_leaf_value : CodeLeaf → LeafValue
 code_leaf_value leaf = record { kind = kind_value leaf.kind; callback = option_map callback_value leaf.callback }
 

@@ -1,5 +1,5 @@
 -- What an early mark of a reduced graph promises.
-use Rattle.std.proofs.Common.{◌≡◌, ◌↔◌, ℕ, ◌<◌, ◌≤◌, Bool, false, List, length, Option, Some, None, IsSomeAnd, slice_get, arith}
+use Rattle.std.proofs.Common.{◌≡◌, ◌↔◌, ℕ, ◌<◌, Bool, false, List, length, Option, Some, None, IsSomeAnd, slice_get, arith}
 use Rattle.logos_hir.specs.Text.{IsBytes}
 use Rattle.logos_automaton.specs.Munch.{Rule, Finds, matched}
 use Rattle.logos_automaton.proofs.munch.Unique.{rule_within}

@@ -13,6 +13,7 @@ use Rattle.logos_automaton.specs.Automaton.{Automaton, IsTotal, ReadsOneByteLate
 use Rattle.logos_automaton.specs.declared.errors.BuildError.{BuildError}
 use Rattle.logos_automaton.specs.declared.errors.BuildError.TheVariants.{LimitSize, LimitStates, Memory}
 
+-- What a graph promises of its leaves.
 pub record IsGraphOf (leaves : List Leaf) (utf8 : Bool) (graph : GraphValue) : Type 0 where
   pub leaves_are : graph.leaves ≡ leaves
   pub mode : graph.utf8 ≡ utf8

@@ -12,6 +12,7 @@ use Rattle.logos_graph.specs.declared.graph.StateData.{StateData}
 abbrev pub leaf_number : LeafId → ℕ
 leaf_number leaf = leaf.0
 
+-- The number of a state.
 abbrev pub state_number : State → ℕ
 state_number state = state.0
 
@@ -22,6 +23,7 @@ state_type_of type = record { accept = option_map leaf_number type.accept; early
 abbrev pub edge_of : ByteClass × State → List (ℕ × ℕ) × ℕ
 edge_of edge = (ranges_of edge.0, state_number edge.1)
 
+-- The marks and the edges that a state shows.
 abbrev pub graph_state_of : StateData → GraphState
 graph_state_of state = record {
   state_type = state_type_of state.state_type;

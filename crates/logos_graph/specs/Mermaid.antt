@@ -89,5 +89,6 @@ abbrev pub lines_from : ℕ → List GraphState → List ℕ
 lines_from s [] = []
 lines_from s (state ∷ states) = state_lines s state ++ lines_from (s + 1) states
 
+-- The whole chart, state by state.
 abbrev pub mermaid_of : List GraphState → List ℕ
 mermaid_of states = codes "flowchart TB" ++ 10 ∷ [] ++ lines_from 0 states

@@ -25,6 +25,7 @@ pub record IsFirstEdge (graph : List GraphState) (t s label : ℕ) : Type 0 wher
   pub edge : HasEdge graph s label t
   pub first : (other at : ℕ) → HasEdge graph other at t → (s < other) ⊎ ((s ≡ other) × (label ≤ at))
 
+-- The marks, the edges and the numbers of a finished graph.
 pub record IsReduced (rules : List Rule) (graph : List GraphState) : Type 0 where
   -- A state reached by bytes alone is early for the leaf that is settled there, and for no other.
   pub early : (bytes : List ℕ) (s leaf : ℕ) → IsBytes bytes → walk graph 0 bytes false ≡ Some s →

@@ -11,9 +11,11 @@ use Rattle.logos_automaton.specs.Automaton.{Automaton}
 abbrev pub rule_of : Leaf → Rule
 rule_of leaf = record { tree = pattern_tree leaf.pattern; priority = leaf.priority; use_of = record { skips = is_skip leaf.kind; asks = asks leaf } }
 
+-- The rules that leaves stand for.
 abbrev pub rules_of : List Leaf → List Rule
 rules_of = map rule_of
 
+-- A graph: its leaves, its mode, its faults, its states and its automaton.
 pub record GraphValue : Type 0 where
   pub leaves : List Leaf
   pub utf8 : Bool

@@ -7,7 +7,6 @@ mod evidence;
 mod making;
 mod mermaid;
 mod printing;
-mod reduction;
 mod states;
 mod value;
 

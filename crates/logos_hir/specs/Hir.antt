@@ -27,6 +27,7 @@ node_tree (Hir-F.Capture sub) = capture sub.value
 node_tree (Hir-F.Concat parts) = concat (trees parts.items)
 node_tree (Hir-F.Alternation branches) = alternation (trees branches.items)
 
+-- The tree that a `Hir` holds.
 abbrev pub tree_of : Hir → Tree
 tree_of = fold-Hir Tree node_tree
 

@@ -8,9 +8,11 @@ Set = ℕ → Bool
 
 -- ---- operations.
 
+-- The members of either set.
 abbrev pub union : Set → Set → Set
 union a b c = a c || b c
 
+-- The members of both sets.
 abbrev pub intersection : Set → Set → Set
 intersection a b c = a c && b c
 
@@ -32,6 +34,7 @@ complement last set c = scalar c && (nat_le c last && not (set c))
 
 -- ---- ranges, each with its first and its last number.
 
+-- What lies in a range, with both of its ends.
 abbrev pub in_range : ℕ × ℕ → Set
 in_range r c = nat_le r.0 c && nat_le c r.1
 

@@ -3,6 +3,7 @@ use Rattle.std.specs.Prelude.{ℕ, Bool, List, [], ◌∷◌, Option}
 use Rattle.logos_hir.specs.declared.hir.Look.{Look}
 
 mutual
+  -- A pattern as a tree.
   pub data Tree : Type 0 where
     -- The empty text.
     empty : Tree

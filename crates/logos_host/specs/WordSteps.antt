@@ -76,5 +76,6 @@ use_value (uses.Path word) = path word.now
 use_value (uses.Flag option) = flag option
 use_value (uses.Value option word) = value option word.now
 
+-- What a word gives, as a value.
 abbrev pub step_value : Step → StepValue
 step_value next = record { progress = next.progress; found = option_map use_value next.found }

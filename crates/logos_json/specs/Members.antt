@@ -8,12 +8,15 @@ use Rattle.json.specs.Token.{Token, begin_array, begin_object, boolean, end_arra
 abbrev pub text_member : List ℕ → List ℕ → List Token
 text_member name text = key name ∷ string text ∷ []
 
+-- A member with a number.
 abbrev pub number_member : List ℕ → ℕ → List Token
 number_member name value = key name ∷ number (decimal value) ∷ []
 
+-- A member with true or false.
 abbrev pub bool_member : List ℕ → Bool → List Token
 bool_member name value = key name ∷ boolean value ∷ []
 
+-- A member with null.
 abbrev pub null_member : List ℕ → List Token
 null_member name = key name ∷ null ∷ []
 
@@ -34,10 +37,12 @@ abbrev pub maybe_text : List ℕ → Option (List ℕ) → List Token
 maybe_text name (Some text) = text_member name text
 maybe_text name None = null_member name
 
+-- A member with a number, or with null.
 abbrev pub maybe_number : List ℕ → Option ℕ → List Token
 maybe_number name (Some value) = number_member name value
 maybe_number name None = null_member name
 
+-- A member with bytes, or with null.
 abbrev pub maybe_bytes : List ℕ → Option (List ℕ) → List Token
 maybe_bytes name (Some bytes) = bytes_member name bytes
 maybe_bytes name None = null_member name

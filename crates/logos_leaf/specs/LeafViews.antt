@@ -5,6 +5,7 @@ use Rattle.logos_pattern.specs.declared.leaf.Leaf.{Leaf}
 use Rattle.logos_attribute.specs.CallbackViews.{callback_view}
 use Rattle.logos_leaf.specs.Leaves.{LeafView}
 
+-- A leaf as a value.
 abbrev pub leaf_view : Leaf → LeafView
 leaf_view leaf = record {
   is_token = is_token leaf.pattern;

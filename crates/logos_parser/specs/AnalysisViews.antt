@@ -7,6 +7,7 @@ use Rattle.logos_leaf.specs.LeafViews.{leaf_view}
 use Rattle.logos_parser.specs.declared.analysis.Analysis.{Analysis}
 use Rattle.logos_parser.specs.Analyses.{AnalysisView}
 
+-- An analysis as a value.
 abbrev pub analysis_view : Analysis → AnalysisView
 analysis_view analysis = record {
   name = ident_slice analysis.name;

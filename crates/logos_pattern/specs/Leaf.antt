@@ -41,6 +41,7 @@ pub data KindValue : Type 0 where
   holding : (name : Ident) (type : TypeTree) → KindValue
   skipped : KindValue
 
+-- The kind of a leaf as a value.
 abbrev pub kind_value : VariantKind → KindValue
 kind_value (UnitVariant name) = plain name
 kind_value (Value name type) = holding name (type_tree type)

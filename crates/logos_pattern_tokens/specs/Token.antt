@@ -43,6 +43,7 @@ opening_view Capture = capturing
 opening_view (Named name) = named name.now
 opening_view (Plain change) = plain change
 
+-- A token as definitions see it.
 abbrev pub token_view : TokenValue → Token
 token_view (values.Atom a) = atom a
 token_view values.Bar = bar

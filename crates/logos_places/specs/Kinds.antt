@@ -24,6 +24,7 @@ side_before kind.Other = Some 32
 abbrev pub test_at : Context → Look → Bool
 test_at at l = holds_between l (side_before at.before) at.after
 
+-- The kind of a byte, which decides the looks after it.
 abbrev pub kind_of_byte : ℕ → Kind
 kind_of_byte b = if is_word_byte b then kind.Word else if b == 13 then kind.Cr else if b == 10 then kind.Lf else kind.Other
 

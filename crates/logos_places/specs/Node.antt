@@ -44,12 +44,15 @@ node_sized (Node-F.Repeat least most each body) = record {
 abbrev pub sized_of : Node → Sized
 sized_of = fold-Node Sized node_sized
 
+-- The written-out tree that a node stands for.
 abbrev pub core_of : Node → Core
 core_of node = (sized_of node).written
 
+-- The numbers of places stored in a node are right.
 abbrev pub is_measured : Node → Bool
 is_measured node = (sized_of node).measured
 
+-- The numbers of places stored in several nodes are right.
 abbrev pub AreMeasured : List Node → Type 0
 AreMeasured [] = Unit {0}
 AreMeasured (node ∷ nodes) = IsTrue (is_measured node) × AreMeasured nodes

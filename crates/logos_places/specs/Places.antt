@@ -55,6 +55,7 @@ abbrev mutual
       ⊎ SomeReads branches (n + 1) bytes from place at
 
 abbrev mutual
+  -- A tree has a look.
   pub has_look : Tree → Bool
   has_look empty = false
   has_look (literal text) = false

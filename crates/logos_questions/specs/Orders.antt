@@ -209,6 +209,7 @@ abbrev pub asked_given : Option GivenValue → Option Asked
 asked_given None = None
 asked_given (Some given) = answer_given given given.answer
 
+-- What these words ask for, if they are a command.
 abbrev pub asked : List (List ℕ) → Option Asked
 asked words = asked_given (with_words (Some given_nothing) words)
 
@@ -248,6 +249,7 @@ order_value order = record {
   color = order.color;
 }
 
+-- What is asked for, as a value.
 abbrev pub request_value : Request → Asked
 request_value Help = asks_help
 request_value Version = asks_version

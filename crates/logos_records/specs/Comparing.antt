@@ -10,6 +10,7 @@ abbrev pub finding_members : Finding → List Token
 finding_members finding =
     maybe_number (codes "leaf") finding.leaf ++ (maybe_text (codes "variant") (option_map (λ text. text.now) finding.variant) ++ bytes_member (codes "text") finding.bytes.now)
 
+-- A member with what a lexer finds.
 abbrev pub finding_member : List ℕ → Finding → List Token
 finding_member name finding = key name ∷ object (finding_members finding)
 

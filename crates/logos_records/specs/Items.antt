@@ -13,5 +13,6 @@ abbrev pub kind_members : ItemRecord → List Token
 kind_members item =
     maybe_number (codes "leaf") item.leaf ++ (maybe_text (codes "variant") (option_map (λ text. text.now) item.variant) ++ bytes_member (codes "text") item.bytes.now)
 
+-- An item: where it begins, what it is, and its text.
 abbrev pub item_members : ItemRecord → List Token
 item_members item = place_members item ++ kind_members item

@@ -74,5 +74,6 @@ faults_texts is_colored source begin sizes faults = texts_after is_colored sourc
 abbrev pub count_text : ℕ → List ℕ
 count_text count = codes ": aborting due to " ++ (decimal count ++ (if count == 1 then codes " previous error" else codes " previous errors"))
 
+-- The same as a whole line.
 abbrev pub summary_line : Bool → ℕ → List ℕ
 summary_line is_colored count = painted is_colored Error (codes "error") ++ (painted is_colored Strong (count_text count) ++ codes "\n")

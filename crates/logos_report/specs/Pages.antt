@@ -47,6 +47,7 @@ abbrev pub begun : Bool → Style → List ℕ
 begun true style = style_text style
 begun false style = []
 
+-- What ends a part, with or without colors.
 abbrev pub ended : Bool → List ℕ
 ended true = 27 ∷ codes "[0m"
 ended false = []

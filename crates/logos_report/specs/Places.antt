@@ -29,6 +29,7 @@ shown_place source begin offset = shown_position source.path (place_at source.te
 abbrev pub arrow_line : Bool → List ℕ → Position → List ℕ
 arrow_line is_colored path place = painted is_colored Frame (codes "-->") ++ (codes " " ++ (shown_position path place ++ codes "\n"))
 
+-- The same for an offset in a part of a file.
 abbrev pub place_line : Bool → SourceValue → ℕ → ℕ → List ℕ
 place_line is_colored source begin offset = arrow_line is_colored source.path (place_at source.text (in_file begin offset))
 

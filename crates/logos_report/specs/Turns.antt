@@ -16,9 +16,11 @@ pub record TurnValue : Type 0 where
 abbrev pub size_of : Meeting → ℕ
 size_of meeting = length meeting.names.items
 
+-- How many leaves each set has of which something is known.
 abbrev pub sizes_of : Clues → List ℕ
 sizes_of clues = map size_of clues.meetings.items
 
+-- What comes next, as a value.
 abbrev pub turn_value : Turn → TurnValue
 turn_value turn = record { sizes = map size_of turn.meetings.now; passed = turn.passed }
 
@@ -31,6 +33,7 @@ abbrev pub stepped : TurnValue → List ℕ → TurnValue
 stepped turn [] = turn
 stepped turn (size ∷ rest) = if nat_lt turn.passed (size - 1) then record { sizes = turn.sizes; passed = turn.passed + 1 } else record { sizes = rest; passed = 0 }
 
+-- What comes next after one more fault.
 abbrev pub turn_after : TurnValue → Fault → TurnValue
 turn_after turn fault = if is_ambiguity fault.code then stepped turn turn.sizes else turn
 

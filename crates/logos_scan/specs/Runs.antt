@@ -30,6 +30,7 @@ pub record WithChunk : Type 0 where
   pub place : ℕ
   pub low : ℕ
 
+-- The same, put together.
 abbrev pub with_chunk : Chunk → Run → WithChunk
 with_chunk chunk run = record { chunk = chunk; cursor = run.cursor; count = run.count; place = run.place; low = run.low }
 

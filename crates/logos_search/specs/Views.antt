@@ -1,4 +1,4 @@
--- Definitions that clauses cite: those of `Words`, and those that name types of this crate.
+-- Definitions that clauses cite, and that name types of this crate.
 pub use Rattle.logos_search.specs.Covering.{AreCovering, end_at}
 pub use Rattle.logos_search.specs.Rests.{more}
 pub use Rattle.logos_search.specs.declared.steps.Step.{Step}

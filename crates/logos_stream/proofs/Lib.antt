@@ -3,3 +3,4 @@ pub mod TailLemmas
 pub mod WindowLemmas
 pub mod NextLemmas
 pub mod WholeLemmas
+pub mod LeftLemmas

@@ -6,4 +6,5 @@ pub mod StreamValue
 pub mod Moves
 pub mod Nexts
 pub mod Wholes
+pub mod Lefts
 pub mod Views

@@ -1,7 +1,7 @@
 //! Laws of the definitions. The contract of a function here is a law. To use it in a proof, call
 //! the function: the call does nothing.
 
-ghost use Rattle.logos_stream.specs.Views.{answers_of, StreamsAreOfTheWhole};
+ghost use Rattle.logos_stream.specs.Views.{answers_of, AllAreOfTheWhole, StreamsAreOfTheWhole};
 
 use logos_code::action::Action;
 use logos_hir::leaf::LeafId;
@@ -10,4 +10,13 @@ use std::io::Read;
 /// The items that a stream gives, however it is read, are the items of all that was read.
 pub fn streams_are_of_the_whole<R: Read, C: Fn(LeafId, &[u8]) -> Action>(_reader: &R, callback: &C)
     ensures { StreamsAreOfTheWhole R.remaining (answers_of C.Fn callback.now) }
+{}
+
+/// All items of a stream, returned at once by `Stream::items`, are those of a run on all bytes that
+/// its reader had, if these are known.
+pub fn all_items_are_of_the_whole<R: Read, C: Fn(LeafId, &[u8]) -> Action>(
+    _reader: &R,
+    callback: &C,
+)
+    ensures { AllAreOfTheWhole R.remaining (answers_of C.Fn callback.now) }
 {}

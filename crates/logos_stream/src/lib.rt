@@ -4,6 +4,7 @@
 
 mod front;
 mod item;
+mod items;
 pub mod laws;
 mod stream;
 mod tail;

@@ -3,6 +3,7 @@ use Rattle.std.specs.Prelude.{ℕ, List, Option}
 use Rattle.logos_lexeme.specs.declared.lexeme.Span.{Span}
 use Rattle.logos_token.specs.declared.error.fault_code.FaultCode.{FaultCode}
 
+-- A fault: its code, its text, its span, and perhaps a second span.
 pub record Fault : Type 0 where
   pub code : FaultCode
   pub message : List ℕ

@@ -13,16 +13,19 @@ pub record Part : Type 0 where
   pub text : List ℕ
   pub gap : List ℕ
 
+-- The text of an opening delimiter.
 abbrev pub opening_text : Delimiter → List ℕ
 opening_text Parenthesis = codes "("
 opening_text Bracket = codes "["
 opening_text Brace = codes "{"
 
+-- The text of a closing delimiter.
 abbrev pub closing_text : Delimiter → List ℕ
 closing_text Parenthesis = codes ")"
 closing_text Bracket = codes "]"
 closing_text Brace = codes "}"
 
+-- The gap after punctuation.
 abbrev pub gap_after : Spacing → List ℕ
 gap_after Alone = codes " "
 gap_after Joint = []
@@ -55,6 +58,7 @@ pub record Printed : Type 0 where
   pub text : List ℕ
   pub gap : List ℕ
 
+-- What is printed after one more lexeme, with the gap before it.
 abbrev pub print_part : Printed → Part → Printed
 print_part printed part = record { text = (printed.text ++ printed.gap) ++ part.text; gap = part.gap }
 

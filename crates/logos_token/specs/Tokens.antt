@@ -14,10 +14,12 @@ mutual
     -- The span reaches from the opening delimiter to the closing one.
     group : (delimiter : Delimiter) (span : Span) (inside : TokenList) → Token
 
+  -- A run of tokens: none, or a token and more after it.
   pub data TokenList : Type 0 where
     none : TokenList
     also : Token → TokenList → TokenList
 
+-- The span of a token.
 abbrev pub span_of : Token → Span
 span_of (identifier text span) = span
 span_of (punctuation character spacing span) = span

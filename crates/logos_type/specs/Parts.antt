@@ -70,5 +70,6 @@ node_tree (Part-F.Name text) = name text.now
 node_tree (Part-F.Whole parts) = whole (trees parts.items)
 node_tree (Part-F.Still parts) = still (trees parts.items)
 
+-- The tree that a part holds.
 abbrev pub tree_of : Part → Tree
 tree_of = fold-Part Tree node_tree

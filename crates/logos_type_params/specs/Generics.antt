@@ -26,6 +26,7 @@ pub record GenericsValue : Type 0 where
   pub lifetime : Bool
   pub types : List Tree
 
+-- The generic arguments as a value.
 abbrev pub generics_of : Generics → GenericsValue
 generics_of generics = record { lifetime = generics.lifetime; types = map type_tree generics.types.items }
 

@@ -9,6 +9,7 @@ pub record Named : Type 0 where
   pub text : List ℕ
   pub at : Span
 
+-- A name with its span.
 abbrev pub named_of : Ident → Named
 named_of ident = record { text = ident.text.now; at = ident.span }
 

@@ -23,6 +23,7 @@ pub record ParamValue : Type 0 where
   pub name : List ℕ
   pub type : Tree
 
+-- A name and the type that is given to it.
 abbrev pub param_value : Bor (List ℕ) × TypeParam → ParamValue
 param_value entry = record { name = entry.0.now; type = tree_of entry.1.part }
 

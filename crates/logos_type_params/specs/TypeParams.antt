@@ -31,6 +31,7 @@ pub record Value : Type 0 where
   pub types : List Given
   pub lifetime : Bool
 
+-- The declared names, and what was given to them, as a value.
 abbrev pub value_of : TypeParams → Value
 value_of params = record { names = map named_of params.names.list.items; types = map given_of params.types.entries; lifetime = params.lifetime }
 
@@ -66,6 +67,7 @@ with_lifetime (name text) = name text
 with_lifetime (whole parts) = whole (own_lifetimes parts)
 with_lifetime (still parts) = still parts
 
+-- A fault with a code, a message and a span, and without a second span.
 abbrev pub fault : FaultCode → List ℕ → Span → Fault
 fault code message span = record { code = code; message = message; span = span; also = None }
 
@@ -73,6 +75,7 @@ fault code message span = record { code = code; message = message; span = span; 
 abbrev pub about : FaultCode → List ℕ → Named → List ℕ → Fault
 about code before named after = fault code ((before ++ named.text) ++ after) named.at
 
+-- The fault of a second lifetime.
 abbrev pub many_lifetimes : Span → Fault
 many_lifetimes span = fault ManyLifetimes (codes "Logos types can only have one lifetime") span
 
@@ -82,12 +85,14 @@ not_type_parameter named = about NotTypeParameter [] named (codes " is not a dec
 abbrev pub type_twice : Named → Fault
 type_twice named = about TypeTwice [] named (codes " can only have one type assigned to it")
 
+-- The fault that says where something was set before.
 abbrev pub previous : Span → Fault
 previous span = fault Previous (codes "Previously assigned here") span
 
 abbrev pub type_syntax : Span → Fault
 type_syntax at = fault TypeSyntax (codes "not a type") at
 
+-- The message of a type that nests too deep.
 abbrev pub type_nesting_text : List ℕ
 type_nesting_text = codes "limit LimitTypeNesting passed"
 

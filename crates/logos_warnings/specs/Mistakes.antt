@@ -87,6 +87,7 @@ pub data MistakeValue : Type 0 where
   -- The enum whose name has this span has helper attributes and does not derive `Logos`.
   no_derive : (span : Span) → MistakeValue
 
+-- A mistake as a value.
 abbrev pub mistake_value : Mistake → MistakeValue
 mistake_value (Misspelled name intended span) = misspelled name.now intended span
 mistake_value (Qualified span) = qualified span

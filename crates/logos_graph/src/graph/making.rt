@@ -4,7 +4,6 @@ ghost use Rattle.std.specs.Prelude.{◌≡◌, ◌^◌, ◌<◌, ◌≤◌, [], 
 ghost use Rattle.logos_graph.specs.Words.{dfa_of, AreFaults, AllStart, fault_of, IsGraphOf, AreFindings, Refuses, size_of, rules_of, IsTotal, ReadsOneByteLate, Memory, LimitSize};
 ghost use Rattle.logos_automaton.specs.View as views;
 
-use super::reduction::least_table;
 use super::{BuildError, Config, Graph, GraphError};
 use crate::leaves::{is_size_within, rule_views};
 use crate::raw_table::raw_table;
@@ -13,6 +12,7 @@ use logos_automaton::dfa::build::{MAX_STATES, build};
 use logos_automaton::faults::graph_errors;
 use logos_automaton::rule::{RuleView, some_leads, some_passable};
 use logos_pattern::leaf::Leaf;
+use logos_reduce::reduction::reduce;
 use std::alloc::Global;
 
 /// Returns the automaton of no rules.
@@ -91,7 +91,7 @@ fn finished<'s>(
     ensures err { IfErr result (λ e. e ≡ Memory) }
 {
     let table = raw_table(alloc, &leaves, &dfa)?;
-    let reduced = least_table(alloc, table, 0)?;
+    let reduced = reduce(alloc, table, 0)?;
     Ok(Graph::finished(alloc, leaves, config, dfa, reduced)?)
 }
 

@@ -101,6 +101,7 @@ inner_at text = unwrap_or (class_at text) (tokens.Open (open_at text).0 (open_at
 abbrev pub operator_of : ℕ → SetOperator
 operator_of c = if c == 38 then Intersection else if c == 45 then Difference else SymmetricDifference
 
+-- The token at the front of a text inside brackets, and the text after it.
 unfoldable pub bracket_token_at : Text → Option (BracketToken × Text)
 bracket_token_at [] = None
 bracket_token_at (c ∷ rest) =

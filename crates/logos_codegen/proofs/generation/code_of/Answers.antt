@@ -1,10 +1,10 @@
-use Rattle.std.proofs.Common.{◌≡◌, map, Result, Ok, Err, IfOk}
+use Rattle.std.proofs.Common.{◌≡◌, map, Result, Ok, Err, IfOk, rules}
 use Rattle.logos_graph.specs.View.{rule_of, rules_of}
 use Rattle.logos_code.specs.Code.{CodeValue}
 use Rattle.logos_code.specs.Headline.{IsLexer}
 use Rattle.logos_generator.specs.Runs.{RunsAs}
 use Rattle.logos_generator.proofs.Compose.{is_lexer_of}
-use Rattle.logos_codegen.proofs.generation.code_for.Goals as goal
+use Rattle.logos_codegen.proofs.generation.code_of.Goals as goal
 
 -- what holds of a result by three facts about it
 together : {T E : Type 0} (P Q R S : T → Type 0) (result : Result T E) → ((x : T) → P x → Q x → R x → S x) → IfOk result P → IfOk result Q → IfOk result R → IfOk result S
@@ -19,4 +19,4 @@ returns-clause-lexer c =
     (rw c.new-generator.ensures at c.generate.ensures.runs) (rw c.new-generator.ensures at c.generate.ensures.mode) (rw c.new-generator.ensures at c.generate.ensures.uses)
 
 pub returns-clause-keeps : goal.returns-clause-keeps
-returns-clause-keeps c = rw c.new-generator.ensures at c.generate.ensures.keeps
+returns-clause-keeps c = search (rules, rw c.new-generator.ensures at c.generate.ensures.keeps)
