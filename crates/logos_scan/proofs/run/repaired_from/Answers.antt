@@ -1,12 +1,13 @@
 use Rattle.std.proofs.Common.{◌≡◌, ◌+◌, ◌-◌, ◌/◌, take, drop, length, sym, refl, subst, rules, arith}
 use Rattle.logos_walk.specs.Walk.{Walked}
+use Rattle.logos_scan.specs.Runs.{with_chunk}
 use Rattle.logos_scan.proofs.LoadLemmas.{walked_text, walked_suffix, rest_there, rest_long, marks_beside, repaired_run}
-use Rattle.logos_scan.proofs.run.Run.repair_from.Goals as goal
+use Rattle.logos_scan.proofs.run.repaired_from.Goals as goal
 
 pub repair-repaired-requires-clause-holds : goal.repair-repaired-requires-clause-holds
 repair-repaired-requires-clause-holds c =
     let input = c.args.reading.now.input.now in
-    let run = c.args.self.now in
+    let run = (with_chunk c.args.chunk.now c.args.run) in
     let base = run.cursor.base in
     let h = c.requires.held in
     let r = h.stands in
@@ -26,7 +27,7 @@ repair-repaired-requires-clause-holds c =
 
 pub mark-requires-clause-others : goal.mark-requires-clause-others
 mark-requires-clause-others c =
-    let run = c.args.self.now in
+    let run = (with_chunk c.args.chunk.now c.args.run) in
     let r = c.requires.held.stands in
     let ch = r.in_chunk in
     let m = ch.marked in
@@ -42,10 +43,10 @@ returns-clause-run c =
     let code = c.args.reading.now.code.now in
     let rows = c.args.reading.now.rows.now in
     let input = c.args.reading.now.input.now in
-    let run = c.args.self.now in
+    let run = (with_chunk c.args.chunk.now c.args.run) in
     let r = c.requires.held.stands in
     let rep = c.repair-repaired in
     let e = rep.ensures in
-    let cur = c.new-self.ensures in
+    let cur = c.new-cursor.ensures in
     repaired_run code rows input run _ c.args.from rep.result.stop rep.new.trace c.requires.reading r.in_chunk c.mark.ensures.entries cur.base cur.start refl refl (omega (arith, c.requires.inside)) e.within
     e.beside c.mark.ensures.marked cur.stands e.stays (subst (λ p. Walked rows (take (length input - run.cursor.base) (drop run.cursor.base input)) p rep.new.trace c.args.from run.count rep.result.place) c.root_place-root.ensures.place e.walked)
