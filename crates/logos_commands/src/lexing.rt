@@ -91,34 +91,17 @@ fn lex_by_code<O: Write>(
     ensures silent { IfErr result (λ failure. status_of failure ≡ 1 →
         Keeps (O.contents out.old) (O.contents out.new)) }
 {
+    let mut block = Vec::with_capacity(alloc, BLOCK + LONGEST)?;
     let emit = |_leaf: LeafId, _slice: &[u8]| Action::Emit;
     match Lexer::new_bytes(code, input, emit) {
         Ok(lexer) => {
             let mut lexer = lexer;
-            write_items(alloc, &mut lexer, out)
+            write_lines(&mut lexer, &mut block, out)
         }
         Err(error) => Err(Failure::NotUtf8 {
             valid_up_to: error.valid_up_to,
         }),
     }
-}
-
-/// Writes a line for each further item of a lexer whose callback answers `Emit` alone, and flushes
-/// the writer.
-fn write_items<C: Fn(LeafId, &[u8]) -> Action, O: Write>(
-    alloc: Global,
-    lexer: &mut Lexer<'_, '_, '_, C>,
-    out: &mut O,
-) -> Result<(), Failure<'static>>
-    requires callable { C.IsAlwaysCallable lexer.old.callback }
-    requires emits { (leaf : ℕ) (slice : List ℕ) (answer : Answer) →
-        answers_of C.Fn lexer.old.callback leaf slice answer → emits leaf slice answer }
-    ensures lines { OnOk result (WritesLines lexer.old.code emits lexer.old.input lexer.old.to []
-        (O.contents out.old) (O.contents out.new)) }
-    ensures failed { IfErr result (λ failure. status_of failure ≡ 3) }
-{
-    let mut block = Vec::with_capacity(alloc, BLOCK + LONGEST)?;
-    write_lines(lexer, &mut block, out)
 }
 
 /// Writes a line for each further item of a lexer, collected in a block, and flushes the writer.

@@ -1,4 +1,4 @@
-use Rattle.std.proofs.Common.{rules, arith, ◌≡◌, ◌+◌, ◌≤◌, length, ℕ}
+use Rattle.std.proofs.Common.{rules, arith, ◌≡◌, ◌+◌, ◌≤◌, length}
 use Rattle.std.specs.Fmt.{decimal}
 use Rattle.logos_commands.proofs.LineLemmas.{few_digits}
 use Rattle.logos_commands.proofs.lines.write_line.Goals as goal

@@ -1,4 +1,4 @@
-use Rattle.std.proofs.Common.{rules, arith, ◌≡◌, ◌+◌, ◌≤◌, ◌++◌, ◌∙◌, ap, length, drop, ℕ, List, [], ◌∷◌}
+use Rattle.std.proofs.Common.{rules, arith, ◌≡◌, ◌+◌, ◌≤◌, ◌++◌, ◌∙◌, ap, length, drop, [], ◌∷◌}
 use Rattle.std.specs.Fmt.{decimal}
 use Rattle.logos_commands.proofs.LineLemmas.{few_digits, nothing_left}
 use Rattle.logos_commands.proofs.lines.write_span.Goals as goal
