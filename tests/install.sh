@@ -42,6 +42,19 @@ says_checks() {
     [ "$(grep -c "$said at run time" "$room/said")" = 3 ]
 }
 
+tells_words() {
+    bash "$root/tools/install.sh" --help > "$room/help" || return
+    local word
+    for word in 'PREFIX is' '  --proved' '  --built FOLDER' '  --only NAME' '  -h, --help'; do
+        grep -q -e "$word" "$room/help" || return
+    done
+}
+
+refuses_word() {
+    bash "$root/tools/install.sh" --to "$room/to" > /dev/null 2>&1
+    [ $? = 2 ] && [ ! -e "$room/to" ]
+}
+
 rows() {
     python3 "$root/tests/rows/run.py" commands "$bin/$1" "$root/tests/rows/$1"/*.rows > "$room/rows" && return
     grep -v ' passed' "$room/rows" | head -n 20
@@ -128,6 +141,8 @@ else
     expect 'the programs are installed' bash "$root/tools/install.sh" --built "$built" "$room/prefix" > "$room/said"
 fi
 cat "$room/said"
+expect 'the help tells each word' tells_words
+expect 'another word is refused' refuses_word
 expect 'the items in README.md' shows_readme
 for name in logos logos_cli logos_show; do
     expect "the rows of $name" rows "$name"

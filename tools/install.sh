@@ -1,21 +1,38 @@
 #!/usr/bin/env bash
-# Puts the programs `logos_cli`, `logos_show` and `logos` into PREFIX/bin: tools/install.sh
-# [--proved | --built FOLDER] [--only NAME] [PREFIX]
+# Puts the programs `logos_cli`, `logos_show` and `logos` into a folder: `--help` says which words it
+# takes.
 #
-# PREFIX is ~/.local if it is not given. Without --proved the programs are built from the same
-# sources, optimised and unproved, in a few minutes: without checks at run time where the crates are
-# those of proved.sums, which the gate compares with what it proved, and with them else. With
-# --proved, every crate is proved first, which takes about an hour, and the programs are those that
-# the gate builds. With --built they are taken from a folder in which they were built. With --only
-# just the program with this name is installed.
+# Without --proved they are built without checks at run time where the crates are those of
+# proved.sums, which the gate compares with what it proved, and with checks else. With --proved they
+# are those that the gate builds.
 set -euo pipefail
 
 root=$(cd "$(dirname "${BASH_SOURCE[0]}")/.." && pwd)
+usage='usage: tools/install.sh [--proved | --built FOLDER] [--only NAME] [PREFIX]'
 proved=no
 built=
 names=(logos_cli logos_show logos)
+
+help() {
+    cat <<END
+$usage
+
+Puts the programs logos_cli, logos_show and logos into PREFIX/bin, from the
+sources of this clone. PREFIX is ~/.local if it is not given. Without --proved
+they are optimised and not proved, and built in a few minutes.
+
+  --proved        prove every crate first, which takes about an hour
+  --built FOLDER  take the programs from a folder in which they were built
+  --only NAME     install the program NAME alone
+  -h, --help      print this text
+END
+}
+
 while [[ ${1-} = -* ]]; do
     case $1 in
+        -h | --help)
+            help
+            exit 0 ;;
         --proved) proved=yes ;;
         --built)
             shift
@@ -24,7 +41,7 @@ while [[ ${1-} = -* ]]; do
             shift
             names=("${1-}") ;;
         *)
-            echo 'usage: tools/install.sh [--proved | --built FOLDER] [--only NAME] [PREFIX]' >&2
+            echo "$usage" >&2
             exit 2 ;;
     esac
     shift

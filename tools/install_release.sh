@@ -6,6 +6,11 @@
 # is installed where a file is not as its sum says.
 set -euo pipefail
 
+case ${1-} in
+    -*)
+        echo 'usage: bash install.sh [PREFIX]' >&2
+        exit 2 ;;
+esac
 here=$(cd "$(dirname "${BASH_SOURCE[0]}")" && pwd)
 prefix=${1:-$HOME/.local}
 (cd "$here" && sha256sum --quiet -c SHA256SUMS) || {

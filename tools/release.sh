@@ -19,7 +19,7 @@ if [ "${1-}" = --built ] && [ $# = 3 ]; then
     built=$(realpath -m "$2")
     shift 2
 fi
-if [ $# != 1 ]; then
+if [ $# != 1 ] || [[ $1 = -* ]]; then
     echo 'usage: tools/release.sh [--built FOLDER] FOLDER' >&2
     exit 2
 fi
