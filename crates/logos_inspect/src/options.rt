@@ -54,7 +54,7 @@ fn rest_at(text: &str, from: usize) -> &str {
 
 /// Reads one more word; `None` at the end of the delimiters around all words, or of the text.
 fn after_word<'t>(reading: Reading<'t>) -> Option<Reading<'t>> {
-    if reading.rest.is_empty() {
+    if reading.rest.is_empty() || !reading.rest.is_char_boundary(0) {
         return None;
     }
     let Ok((kind, to)) = lexeme_at(reading.rest, 0) else {

@@ -1,5 +1,5 @@
 -- Cutting a word at its first `=`.
-use Rattle.std.proofs.Common.{◌≡◌, ◌≢◌, ◌<◌, ℕ, List, length, Option, Some, None, refl, arith, eq-eqb, ne_eqb}
+use Rattle.std.proofs.Common.{◌≡◌, ◌≢◌, ◌<◌, ℕ, List, length, Some, None, refl, arith, eq-eqb, ne_eqb}
 use Rattle.std.specs.List.{after_first, before_first, position_or_len}
 use Rattle.logos_options.specs.WordSteps.{is_equals, split_at_equals}
 

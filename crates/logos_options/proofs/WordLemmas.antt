@@ -1,5 +1,5 @@
 -- The words of a command line, one after another.
-use Rattle.std.proofs.Common.{◌≡◌, ◌<◌, ◌+◌, ℕ, suc, List, [], ◌∷◌, Option, Some, None, length, get_or, drop, map, sym, ap, ◌∙◌, refl, arith}
+use Rattle.std.proofs.Common.{◌≡◌, ◌<◌, ◌+◌, ℕ, suc, List, [], ◌∷◌, Some, None, length, get_or, drop, map, sym, ap, ◌∙◌, refl, arith}
 use Rattle.std.proofs.Math.Seq.{drop-cons}
 use Rattle.logos_options.specs.Given.{GivenValue, with_word, with_words}
 use Rattle.logos_options.specs.declared.program.Program.{Program}

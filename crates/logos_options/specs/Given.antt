@@ -1,5 +1,5 @@
 -- What the words of a command line give.
-use Rattle.std.specs.Prelude.{ℕ, List, [], ◌∷◌, Bool, true, false, Option, Some, None, if◌then◌else◌, option_map, is_some}
+use Rattle.std.specs.Prelude.{ℕ, List, [], ◌∷◌, true, false, Option, Some, None, if◌then◌else◌, option_map, is_some}
 use Rattle.logos_host.specs.Colors.{color_named}
 use Rattle.logos_host.specs.Formats.{format_named}
 use Rattle.logos_host.specs.declared.color.Color.{Color}

@@ -1,5 +1,5 @@
 -- The words of a command line, one after another.
-use Rattle.std.specs.Prelude.{ℕ, ◌==◌, List, [], ◌∷◌, Bool, true, false, Option, Some, None, if◌then◌else◌, option_map, bytes_eq, codes, length}
+use Rattle.std.specs.Prelude.{ℕ, ◌==◌, List, ◌∷◌, Bool, true, false, Option, Some, None, if◌then◌else◌, option_map, bytes_eq, codes, length}
 use Rattle.std.specs.List.{after_first, before_first, position_or_len}
 use Rattle.logos_options.specs.declared.options.OptionName.{OptionName}
 use Rattle.logos_options.specs.declared.word_steps.Progress.{Progress}

@@ -72,7 +72,7 @@ fn levels_of<'t>(alloc: Global, text: &'t str) -> Result<Vec<&'t str>, Memory> {
 
 /// Returns the first lexeme of a text, unless the text is empty or no Rust.
 fn first_word<'t>(text: &'t str) -> Option<Word<'t>> {
-    if text.is_empty() {
+    if text.is_empty() || !text.is_char_boundary(0) {
         return None;
     }
     let Ok((kind, to)) = lexeme_at(text, 0) else {
