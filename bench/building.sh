@@ -5,8 +5,12 @@
 # grows with its keywords. Of three runs the fastest counts. Rows of long times have a number that
 # they may not pass there: each one that passes it is named at the end, and the status is 1.
 #
-# It needs python3. `bench/program.sh` builds the program of bench/building. The variable BUILDING
-# names a program to measure in its place, which can be one that is not proved.
+# A second table has ASCII words beside what flex and re2c need for the same rules, in processor
+# seconds of the whole program. 4000 words may take 1.2 times as long as the faster of the two.
+#
+# It needs python3, and Debian's packages flex and re2c for the second table. `bench/program.sh`
+# builds the program of bench/building. The variable BUILDING names a program to measure in its
+# place, which can be one that is not proved.
 set -euo pipefail
 
 . "$(dirname "${BASH_SOURCE[0]}")/program.sh"
@@ -56,6 +60,42 @@ measure "80 rules of class sets" class_sets 80 7.5
 measure "200 regexes that begin alike" beginnings 200 0.5
 measure "what stands in log lines" log_lines 0 0.2
 measure "249 groups around 520000 branches" groups 520000 1.2
+measure "\`(?:\w?){300}!\`" optional_words 300
+measure "\`(?:a?){4000}b\`" optional_letters 4000
+measure "10 leaves of overlapping sets" overlapping 10 0.2
+
+# PROGRAM KIND SIZE WORD ..: the least processor seconds of three runs on the words of a kind, or a
+# dash where the program is missing or refuses them.
+other() {
+    local source="$copy/words.$1" TIMEFORMAT=%U
+    python3 "$bench/building/source.py" "$2" "$3" "$1" > "$source"
+    for _ in 1 2 3; do
+        { time "$1" "${@:4}" -o "$copy/words.c" "$source" > "$copy/said" 2>&1 || echo - >> "$copy/refused.$1"; } 2>&1
+    done | sort -n | head -n 1 > "$copy/least"
+    if [ -e "$copy/refused.$1" ]; then echo -; else cat "$copy/least"; fi
+    rm -f "$copy/refused.$1"
+}
+
+# NAME KIND SIZE [MOST]: a row of the second table, which may take at most MOST times as long as the
+# faster of the other programs.
+beside() {
+    local own flex re2c
+    own=$(fastest "$2" "$3" | cut -d " " -f 1)
+    flex=$(other flex "$2" "$3" -CF)
+    re2c=$(other re2c "$2" "$3")
+    awk -v name="$1" -v own="$own" -v flex="$flex" -v re2c="$re2c" -v most="${4:-0}" -v slow="$copy/slow" 'BEGIN {
+        least = flex == "-" || (re2c != "-" && re2c + 0 < flex + 0) ? re2c : flex
+        by = least == "-" ? "-" : sprintf("%.2f", own / least)
+        printf "| %s | %.3f | %s | %s | %s |\n", name, own, flex, re2c, by
+        if (most > 0 && by != "-" && by + 0 > most) print name ": more than " most " times the faster one" > slow
+    }'
+}
+
+echo
+print_head "Words" "Seconds" "flex -CF" "re2c" "By the faster one"
+beside "1000 keywords" keywords 1000
+beside "4000 keywords" keywords 4000 1.2
+beside "4000 words in one regex" one_regex 4000 1.2
 if [ -e "$copy/slow" ]; then
     cat "$copy/slow" >&2
     exit 1

@@ -26,6 +26,7 @@ PARTS = {
     "words": ("docs/GLOSSARY.md", "`tests/wrong_bodies/run.sh` |", "`tests/wrong_body/run.sh` |"),
     "parameters": ("tests/lints/parameters.py", "MOST = 6", "MOST = 5"),
     "lengths": ("tests/lints/lengths.py", "OF_A_FUNCTION = 40", "OF_A_FUNCTION = 20"),
+    "type_names": ("tests/lints/type_names.py", '"Literal": ', '"Literals": '),
     "contracts": ("docs/PROOFS.md", "By `lexeme_at`", "By `lexeme_of`"),
     "pages": ("tests/lints/pages.py", '"README.md": 110', '"README.md": 20'),
     "crates_page": ("crates.txt", "logos_lines:\n", ""),

@@ -77,6 +77,7 @@ TAKEN = {
     "words": {"the sources of all crates": removed("crates/*"), "the rows of the glossary": without("docs/GLOSSARY.md", r"^\| (?!Word|Not used|---)[^|]+\| [^|]+ \| [^|]+ \|\n")},
     "parameters": {"the sources of half of the crates": removed("crates/logos_[a-l]*")},
     "lengths": {"the sources of half of the crates": removed("crates/logos_[a-l]*")},
+    "type_names": {"the sources of half of the crates": removed("crates/logos_[a-l]*")},
     "pages": {"the map": removed("docs/MAP.md"), "all pages of docs": removed("docs/*.md")},
     "crates_page": {"all crates": every(without("crates.txt", r"^logos_.*?\n"), without("crates/README.md", r"^\*\*`.*\Z"))},
     "sources": {"a crate": removed("crates/logos_cycles")},

@@ -1,5 +1,6 @@
 """Writes the source of an enum to the standard output: of the kind that the first argument names,
-and of the size that the second one says."""
+and of the size that the second one says. With a third argument, `flex` or `re2c`, it writes the
+same words as a source of that program; this is there for `keywords` and `one_regex`."""
 import itertools
 import random
 import sys
@@ -153,16 +154,57 @@ def groups(rng, count):
     return regexes(["(?:k|" * 249 + branches + ")" * 249])
 
 
+def optional_words(rng, count):
+    """Optional characters in a row, and then a sign."""
+    return regexes([r"(?:\w?){%d}!" % count])
+
+
+def optional_letters(rng, count):
+    """Optional letters in a row, and then another one."""
+    return regexes(["(?:a?){%d}b" % count])
+
+
+def overlapping(rng, count):
+    """Rules of the same letters, each without one of them, so that any two or more meet."""
+    letters = LETTERS[:count]
+    return regexes([f"[[a-{letters[-1]}]--{letter}]+" for letter in letters])
+
+
 KINDS = {
     kind.__name__: kind
     for kind in (
         keywords, beside_names, short, one_regex, repeated, plain, unicode_names, sql, sql_unicode, rust_like, class_sets, beginnings, log_lines, groups,
+        optional_words, optional_letters, overlapping,
     )
 }
 
 
+# What stands before the rules of another program, between the words and the number of their rule,
+# after that number, and after the rules.
+FRAMES = {
+    "flex": ("%option noyywrap\n%%\n", " return ", ";\n", ".|\\n return 0;\n%%\n"),
+    "re2c": (
+        "int lex(const unsigned char *YYCURSOR) {\nconst unsigned char *YYMARKER;\n/*!re2c\n"
+        "re2c:define:YYCTYPE = 'unsigned char';\nre2c:yyfill:enable = 0;\n",
+        " { return ", "; }\n", "* { return 0; }\n*/\n}\n",
+    ),
+}
+
+
+def other_source(program, kind, count):
+    """Returns the words of a kind as rules of another program: one rule, or one for each."""
+    words = [f'"{word}"' for word in long_words(random.Random(1), count)]
+    rules = words if kind == "keywords" else ["|".join(words)]
+    head, before, after, foot = FRAMES[program]
+    return head + "".join(f"{rule}{before}{number + 1}{after}" for number, rule in enumerate(rules)) + foot
+
+
 def main():
-    definitions = KINDS[sys.argv[1]](random.Random(1), int(sys.argv[2]))
+    kind, count = sys.argv[1], int(sys.argv[2])
+    if len(sys.argv) > 3:
+        sys.stdout.write(other_source(sys.argv[3], kind, count))
+        return
+    definitions = KINDS[kind](random.Random(1), count)
     sys.stdout.write("#[derive(Logos)]\nenum Token {\n" + "".join(definitions) + "}\n")
 
 

@@ -18,6 +18,7 @@ printf 'enum \xff' > torn.rs
 mkdir folder
 usage='usage: logos_cli INPUT [-o FILE] [-c] [--shape tables|tailcall|state_machine]
                  [--color always|never|auto]
+       logos_cli INPUT.. -o FOLDER/ [-c] [--shape SHAPE] [--color WHEN]
        logos_cli --derive [--shape SHAPE] [--message-format human|json] -'
 met=0
 
@@ -152,7 +153,27 @@ gives 0 '' source.rs --output links/link.rs
 same links/real.rs whole
 only links link.rs real.rs
 
-# So does one that leads to no file yet, which is made, also over several links and folders.
+# A file that may not be written is replaced all the same, and keeps its mode and its owner. Another
+# name of it keeps the old content.
+mkdir kept
+printf old > kept/out.rs
+chmod 444 kept/out.rs
+ln kept/out.rs kept/other.rs
+gives 0 '' source.rs --output kept/out.rs
+same kept/out.rs whole
+printf old | same kept/other.rs -
+[ "$(stat -c %a kept/out.rs)" = 444 ] || fail "the permissions have changed"
+if [ "$(id -u)" = 0 ]; then
+    printf old > kept/owned.rs
+    chown 12345:54321 kept/owned.rs
+    chmod 4755 kept/owned.rs
+    gives 0 '' source.rs --output kept/owned.rs
+    same kept/owned.rs whole
+    [ "$(stat -c '%u:%g %a' kept/owned.rs)" = '12345:54321 4755' ] || fail "the owner or the permissions have changed"
+fi
+
+# A link that leads to no file yet stays a link, too; the file is made, also over several links and
+# folders.
 mkdir links/deep
 ln -s to.rs links/dangling.rs
 gives 0 '' source.rs --output links/dangling.rs
@@ -213,12 +234,67 @@ wants "$status" 0 ''
 same out whole
 [ -p pipe ] || fail "a pipe was replaced"
 
+# Several files go into a folder, each whole or not at all.
+mkdir -p several/in
+for name in one two; do
+    cp source.rs "several/in/$name.rs"
+    sed "1s/ from source.rs,/ from $name.rs,/" whole > "several/$name"
+done
+printf 'fn f() {}\n' > several/in/small.rs
+gives 0 '' several/in/one.rs several/in/two.rs --output several/out/
+same several/out/one.rs several/one
+same several/out/two.rs several/two
+only several/out one.rs two.rs
+touch -d 2001-01-01 several/out/one.rs
+printf old > several/out/two.rs
+chmod 640 several/out/two.rs
+gives 0 '' several/in/one.rs several/in/two.rs --output several/out/
+same several/out/two.rs several/two
+[ "$(stat -c %Y several/out/one.rs)" = "$(date -d 2001-01-01 +%s)" ] || fail "a file with the same content was written"
+[ "$(stat -c %a several/out/two.rs)" = 640 ] || fail "the permissions have changed"
+gives 0 '' several/in/one.rs - -o several/mixed/ < source.rs
+same several/mixed/stdin whole_of_stdin
+only several/mixed one.rs stdin
+mkdir several/full
+printf old > several/full/two.rs
+status=0
+(trap '' XFSZ; ulimit -f 1; exec "$program" several/in/one.rs several/in/small.rs several/in/two.rs -o several/full/ 2> err) || status=$?
+wants "$status" 3 "error: cannot write several/full/one.rs: the file is too large
+warning: no enum in several/in/small.rs derives \`Logos\`
+error: cannot write several/full/two.rs: the file is too large"
+printf old | same several/full/two.rs -
+same several/full/small.rs several/in/small.rs
+only several/full small.rs two.rs
+
+# No result takes the place of a file that is read, whatever link leads there, and then none is
+# written.
+mkdir several/led
+ln -s ../in/two.rs several/led/one.rs
+gives 2 'error: several/led/one.rs is the input and the output' several/in/small.rs several/in/one.rs several/in/two.rs -o several/led/
+only several/led one.rs
+same several/in/two.rs source.rs
+ln several/in/two.rs several/led/small.rs
+rm several/led/one.rs
+gives 2 'error: several/led/small.rs is the input and the output' several/in/small.rs several/in/two.rs -o several/led/
+same several/in/two.rs source.rs
+
 # Faults write nothing.
 printf old > kept.rs
 status=0
 "$program" faulty.rs --output kept.rs > out 2> err || status=$?
 [ "$status" = 1 ] && [ ! -s out ] && grep -q '^error\[TokenForm\]' err || fail "faults end with status $status"
 printf old | same kept.rs -
+
+# 400 KB of faulty source on one line: little time, memory and text.
+many() { yes "$2" | head -n "$1" | tr -d '\n' || true; }
+many 9000 '#[derive(Logos)] enum E { #[regex("[")] A } ' > enums.rs
+{ printf '#[derive(Logos)] enum E { '; many 22000 '#[regex(".*")] V, '; printf '}\n'; } > variants.rs
+for name in enums variants; do
+    status=0
+    (ulimit -t 5 -v 200000; exec "$program" "$name.rs" > out 2> err) || status=$?
+    [ "$status" = 1 ] && [ ! -s out ] && [ "$(wc -c < err)" -lt 1000000 ] && grep -q ' more are not shown$' err || fail "$name.rs: status $status"
+    met=$((met + 1))
+done
 
 # Standard output is full, closed, read slowly, or read no more.
 status=0

@@ -7,10 +7,10 @@
 # conditions, callbacks, comments, documentation of the file itself, and line ends of all kinds.
 # Beside it stands an input. The derive is expanded in all three shapes; lines outside of the enums
 # have to stay; another file includes the results, and rustc and clippy accept them where all
-# warnings are errors; a result is as rustfmt leaves it where its source is. What each lexer finds
-# in its input is compared with what `logos_show` prints, line by line: callbacks give an item for
-# each match. So is what `scan` finds, in the shape that has it. The tables have to compile over a
-# runtime without `scan`, too.
+# warnings are errors. A result is as rustfmt leaves it, but that of `dense`, whose own items stand
+# on one line: rustfmt changes only those. What each lexer finds in its input is compared with what
+# `logos_show` prints, line by line: callbacks give an item for each match. So is what `scan` finds,
+# in the shape that has it. The tables have to compile over a runtime without `scan`, too.
 #
 # It needs rustc, and the programs that the gate has built, or the first two arguments. Where
 # rustfmt or clippy is missing it says so.
@@ -21,7 +21,7 @@ here=$root/tests/lexers
 cli=$(realpath -m "${1:-$root/crates/logos_cli/out/logos_cli}")
 show=$(realpath -m "${2:-$root/crates/logos_show/out/logos_show}")
 lexers=40
-settled=33
+settled=39
 scanning=8
 shapes='state_machine tailcall tables'
 # The enum of a file whose items are compared, where that is not the last one.
@@ -109,10 +109,13 @@ arm() {
     [ -z "${4:-}" ] || printf '"%s_scan" => print(&mut out, &bytes, <expanded::%s::%s as logos::Scan>::scan(%s)),\n' "${1%_tables}" "$1" "$2" "$source"
 }
 
-# Fails unless a result is as rustfmt leaves it, where its source is. Says whether that is so.
+# Says whether a result is as rustfmt leaves it. Fails if it is not, and its source is.
 stays_settled() {
-    rustfmt --edition 2021 --check "$1" > /dev/null 2>&1 || return 1
-    rustfmt --edition 2021 --check "$2" > "$room/difference" 2>&1 || { cat "$room/difference" >&2; fail "rustfmt changes $2"; }
+    local options=(--edition 2021 --check)
+    [ "$(basename "$1")" != tabs.rs ] || options+=(--config hard_tabs=true)
+    ! rustfmt "${options[@]}" "$2" > "$room/difference" 2>&1 || return 0
+    ! rustfmt "${options[@]}" "$1" > /dev/null 2>&1 || { cat "$room/difference" >&2; fail "rustfmt changes $2"; }
+    return 1
 }
 
 lay_out

@@ -19,8 +19,6 @@ OF_A_FUNCTION = 40
 OF_A_FILE = 400
 OF_A_BLOCK = 4
 OF_ALL_BLOCKS = 900
-# The crates in whose clauses such numbers still stand.
-NUMBERS_NOT_YET = "logos_walk logos_fold logos_scan".split()
 CLAUSE = re.compile(r"\s*(?:ensures|requires|invariant)\b")
 NUMBER = re.compile(r"(?<![\w.])(?!256\b)\d{3,}(?!\w)")
 GHOST = re.compile(r"\s*(ghost\b|ensures\b|requires\b|invariant\b|decreases\b|#!?\[tactic)")
@@ -95,10 +93,6 @@ def main():
         of_blocks += sum(count for _, _, count in walls)
         high = [f"{os.path.relpath(path, ROOT)}:{line}: {count} lines of ghost use" for path, line, count in walls if count > OF_A_BLOCK]
         bare = [f"{os.path.relpath(path, ROOT)}:{line}: a number without a name stands in a clause" for path in files for line in numbers(path)]
-        if bare and crate in NUMBERS_NOT_YET:
-            bare = []
-        elif crate in NUMBERS_NOT_YET:
-            print(f"lengths: {crate} has no number left in its clauses, and leaves the list NUMBERS_NOT_YET")
         for faults in high, bare, long, [f"{os.path.relpath(path, ROOT)} has {len(lines)} lines" for path, lines in files.items() if len(lines) > OF_A_FILE]:
             passed += not faults
             failed += faults

@@ -14,7 +14,7 @@ use std::alloc::{AllocError, Global};
 
 /// An offset of an input, from which leaves match.
 #[derive(Clone, Copy)]
-struct Start<'a, 's> {
+struct MatchStart<'a, 's> {
     leaves: &'a [Leaf<'s>],
     input: &'a [u8],
     from: usize,
@@ -40,7 +40,7 @@ pub fn push_matches(
     ensures err { OnErr result (page.new ≡ page.old) }
 {
     let matches = matches_from(alloc, graph, input, from)?;
-    let start = Start {
+    let start = MatchStart {
         leaves: graph.leaves(),
         input,
         from,
@@ -110,7 +110,7 @@ fn set_longest(longest: &mut Vec<Option<Match>>, found: Match)
 }
 
 /// Appends the lines of the leaves that match.
-fn push_lines(page: &mut Page, start: Start<'_, '_>, longest: &[Option<Match>])
+fn push_lines(page: &mut Page, start: MatchStart<'_, '_>, longest: &[Option<Match>])
     ensures { Gains (shown.lines_of start.entry.leaves.now start.entry.input.now start.entry.from
         longest.now) page.old page.new }
 {
@@ -120,7 +120,7 @@ fn push_lines(page: &mut Page, start: Start<'_, '_>, longest: &[Option<Match>])
 }
 
 /// Appends the line of a leaf, if it matches.
-fn push_found(page: &mut Page, start: Start<'_, '_>, found: Option<Match>)
+fn push_found(page: &mut Page, start: MatchStart<'_, '_>, found: Option<Match>)
     ensures { Gains (shown.line_or_none start.entry.leaves.now start.entry.input.now start.entry.from
         found) page.old page.new }
 {
@@ -130,7 +130,7 @@ fn push_found(page: &mut Page, start: Start<'_, '_>, found: Option<Match>)
 }
 
 /// Appends the line of a match.
-fn push_line(page: &mut Page, start: Start<'_, '_>, found: Match)
+fn push_line(page: &mut Page, start: MatchStart<'_, '_>, found: Match)
     ensures { Gains (shown.match_line start.entry.leaves.now start.entry.input.now start.entry.from
         found) page.old page.new }
 {
@@ -153,7 +153,7 @@ pub(crate) fn push_head(page: &mut Page, leaves: &[Leaf<'_>], leaf: usize)
 }
 
 /// Appends how long a match is, and its text.
-fn push_extent(page: &mut Page, start: Start<'_, '_>, end: usize)
+fn push_extent(page: &mut Page, start: MatchStart<'_, '_>, end: usize)
     ensures { Gains (shown.extent_text start.entry.input.now start.entry.from end) page.old page.new }
 {
     push_length(page, length_from(start.from, end));

@@ -7,11 +7,15 @@ use std::cmp::max;
 /// How many columns of a page a tab is shown in.
 const TAB: usize = 4;
 
+/// How many bytes of a pattern or a callback are shown.
+const MOST: usize = 60;
+
 /// How many characters the columns of a table have.
 #[derive(Clone, Copy)]
 struct Widths {
     variant: usize,
     pattern: usize,
+    priority: usize,
     callback: usize,
 }
 
@@ -46,6 +50,17 @@ fn pattern_cell<'l>(row: LeafRow<'l>) -> &'l str {
     first_line(row.pattern)
 }
 
+/// Returns what follows the literal in the column of patterns: the options of the definition, as
+/// its attribute has them.
+fn options_cell(row: LeafRow<'_>) -> &'static str {
+    match (row.options.ignores_case, row.options.allows_greedy) {
+        (false, false) => "",
+        (true, false) => ", ignore(case)",
+        (false, true) => ", allow_greedy = true",
+        (true, true) => ", ignore(case), allow_greedy = true",
+    }
+}
+
 /// Returns what stands in the column of callbacks: the first line of the callback, or `-`.
 fn callback_cell<'l>(row: LeafRow<'l>) -> &'l str {
     match row.callback {
@@ -67,6 +82,7 @@ fn widths_of(rows: &[LeafRow<'_>]) -> Widths {
     let mut widths = Widths {
         variant: 7,
         pattern: 7,
+        priority: 6,
         callback: 8,
     };
     for row in rows {
@@ -79,9 +95,30 @@ fn widths_of(rows: &[LeafRow<'_>]) -> Widths {
 fn widened(widths: Widths, row: LeafRow<'_>) -> Widths {
     Widths {
         variant: max(widths.variant, width_of(variant_cell(row))),
-        pattern: max(widths.pattern, width_of(pattern_cell(row))),
-        callback: max(widths.callback, width_of(callback_cell(row))),
+        pattern: max(widths.pattern, pattern_width(row)),
+        priority: max(widths.priority, digits(row.priority)),
+        callback: max(widths.callback, cut_width(callback_cell(row))),
     }
+}
+
+/// Returns how many characters the pattern of a leaf is shown with, with its options.
+fn pattern_width(row: LeafRow<'_>) -> usize {
+    cut_width(pattern_cell(row)).saturating_add(options_cell(row).len())
+}
+
+/// Returns how many characters a text is shown with that is cut where it is long.
+fn cut_width(text: &str) -> usize {
+    match long_front(text) {
+        Some(front) => width_of(front).saturating_add(2),
+        None => width_of(text),
+    }
+}
+
+/// Returns the front of a text that is shown with two dots after it, if the text is longer than
+/// that.
+fn long_front(text: &str) -> Option<&str> {
+    let (front, rest) = text.split_at_checked(text.floor_char_boundary(MOST))?;
+    if rest.is_empty() { None } else { Some(front) }
 }
 
 /// Returns how many characters a text is shown with.
@@ -104,7 +141,7 @@ fn push_heads(page: &mut Page, widths: Widths) {
     push_cell(page, "variant", widths.variant);
     push_cell(page, "kind", 5);
     push_cell(page, "pattern", widths.pattern);
-    push_cell(page, "priority", 16);
+    push_cell(page, "priority", widths.priority.saturating_add(10));
     push_cell(page, "callback", widths.callback);
     page.push("line\n");
 }
@@ -114,10 +151,19 @@ fn push_row(page: &mut Page, number: usize, row: LeafRow<'_>, widths: Widths) {
     push_right(page, number, 4);
     push_cell(page, variant_cell(row), widths.variant);
     push_cell(page, if row.is_token { "token" } else { "regex" }, 5);
-    push_cell(page, pattern_cell(row), widths.pattern);
-    push_right(page, row.priority, 6);
+    push_cut(page, pattern_cell(row));
+    let left = widths.pattern.saturating_sub(cut_width(pattern_cell(row)));
+    push_cell(page, options_cell(row), left);
+    push_right(page, row.priority, widths.priority);
     push_cell(page, if row.is_default { "default" } else { "" }, 8);
-    push_cell(page, callback_cell(row), widths.callback);
+    push_cut(page, callback_cell(row));
+    push_cell(
+        page,
+        "",
+        widths
+            .callback
+            .saturating_sub(cut_width(callback_cell(row))),
+    );
     page.push_number(row.line);
     page.push("\n");
 }
@@ -126,6 +172,17 @@ fn push_row(page: &mut Page, number: usize, row: LeafRow<'_>, widths: Widths) {
 fn push_cell(page: &mut Page, text: &str, width: usize) {
     page.push_shown(text);
     page.push_times(" ", width.saturating_sub(width_of(text)).saturating_add(2));
+}
+
+/// Appends a text as a terminal can show it, cut where it is long.
+fn push_cut(page: &mut Page, text: &str) {
+    match long_front(text) {
+        Some(front) => {
+            page.push_shown(front);
+            page.push("..");
+        }
+        None => page.push_shown(text),
+    }
 }
 
 /// Appends a number, with spaces in front of it up to a width, and two spaces after it.

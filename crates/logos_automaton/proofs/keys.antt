@@ -6,3 +6,4 @@ pub mod MarkLemmas
 pub mod StepsLemmas
 pub mod TargetLemmas
 pub mod TreeStepsLemmas
+pub mod WalkLemmas

@@ -7,20 +7,20 @@ use Rattle.logos_places.specs.Marks.{Has, IsRising}
 use Rattle.logos_places.specs.Several.{ReadBy, LeftBy}
 use Rattle.logos_automaton.specs.Automaton.{Automaton}
 use Rattle.logos_automaton.specs.declared.key.Key.{Key}
-use Rattle.logos_places.specs.declared.places.look.Kind.{Kind}
-use Rattle.logos_places.specs.declared.places.look.Kind.TheVariants as kind
+use Rattle.logos_places.specs.declared.places.look.ByteKind.{ByteKind}
+use Rattle.logos_places.specs.declared.places.look.ByteKind.TheVariants as kind
 
 -- What a key stands for.
 pub record State : Type 0 where
   pub places : List ℕ
-  pub kind : Kind
+  pub kind : ByteKind
   pub matches : List ℕ
 
 abbrev pub state_of : Key → State
 state_of k = record { places = k.places.items; kind = k.kind; matches = k.matches.items }
 
 -- Nothing was read.
-abbrev pub is_start : Kind → Bool
+abbrev pub is_start : ByteKind → Bool
 is_start kind.Start = true
 is_start kind.Unseen = false
 is_start kind.Word = false
@@ -38,7 +38,7 @@ dead_state = record { places = []; kind = kind.Unseen; matches = [] }
 
 -- What is remembered of the byte x, read at these places: its kind, if there are places and some
 -- tree has a look.
-abbrev pub next_kind : Bool → List ℕ → ℕ → Kind
+abbrev pub next_kind : Bool → List ℕ → ℕ → ByteKind
 next_kind looks [] x = kind.Unseen
 next_kind false (p ∷ places) x = kind.Unseen
 next_kind true (p ∷ places) x = kind_of_byte x
@@ -102,10 +102,10 @@ pub record LeadsTo (ts : List Core) (looks : Bool) (ks : List Key) (i x j : ℕ)
   pub next : IsNext ts looks from x to
 
 -- Each byte that the state i distinguishes from the byte before has its flag set.
-pub record AreFirstIn (ts : List Core) (ks : List Key) (i : ℕ) (first : List Bool) : Type 0 where
+pub record AreFirstIn (ts : List Core) (looks : Bool) (ks : List Key) (i : ℕ) (first : List Bool) : Type 0 where
   pub state : State
   pub at : IsAt ks i state
-  pub are : AreFirstBytes ts (Has state.places) (IsTrue (is_start state.kind)) first
+  pub are : AreFirstBytes ts looks (Has state.places) (IsTrue (is_start state.kind)) first
 
 -- The end leads from the state i to the state j.
 pub record EndsIn (ts : List Core) (ks : List Key) (i j : ℕ) : Type 0 where

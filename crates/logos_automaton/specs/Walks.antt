@@ -3,7 +3,7 @@ use Rattle.std.specs.Prelude.{ℕ, ◌-◌, List, [], ◌∷◌, ◌++◌, Optio
 use Rattle.std.specs.List.{range_with_len}
 use Rattle.logos_automaton.specs.declared.dfa.walks.Matches.{Matches}
 use Rattle.logos_automaton.specs.declared.dfa.walks.Children.{Children}
-use Rattle.logos_automaton.specs.declared.dfa.walks.States.{States}
+use Rattle.logos_automaton.specs.declared.dfa.walks.DfaStates.{DfaStates}
 
 -- The numbers of leaves.
 abbrev pub matches_left : Matches → List ℕ
@@ -19,5 +19,5 @@ abbrev pub children_left : Children → List ℕ
 children_left children = children.row.now ++ at_most_one children.end
 
 -- The numbers of states, ascending.
-abbrev pub states_left : States → List ℕ
+abbrev pub states_left : DfaStates → List ℕ
 states_left states = range_with_len states.next (states.count - states.next)

@@ -5,7 +5,7 @@ pub use Rattle.logos_hir.specs.Tree.{trees}
 pub use Rattle.logos_places.specs.Core.{Core, byte_in}
 pub use Rattle.logos_places.specs.Kinds.{kind_of_byte}
 pub use Rattle.logos_places.specs.Marks.{Has, IsRising}
-pub use Rattle.logos_places.specs.Node.{AreMeasured, core_of}
+pub use Rattle.logos_places.specs.Node.{AreMeasured, core_of, is_measured}
 pub use Rattle.logos_places.specs.Repeat.{spelled}
 pub use Rattle.logos_places.specs.Run.{width_of}
 pub use Rattle.logos_places.specs.Size.{size, sizes}
@@ -18,6 +18,6 @@ pub use Rattle.logos_automaton.specs.Faults.{AllStart, AreAmbiguous, AreFaults, 
 pub use Rattle.logos_automaton.specs.Measures.{IsWithinLimit, size_of}
 pub use Rattle.logos_automaton.specs.Munch.{priority_of}
 pub use Rattle.logos_automaton.specs.Reach.{AreReachable, IsReachable}
-pub use Rattle.logos_automaton.specs.Rules.{AreRuleCores}
+pub use Rattle.logos_automaton.specs.Rules.{AreFree, AreRuleCores}
 pub use Rattle.logos_automaton.specs.Targets.{AreByteRows, EndWithin, LeadWithin}
 pub use Rattle.logos_automaton.specs.inside.TopSets.{AreTopSets, IsTopIn, IsTopSet, highest_of, top_of, with_priority}

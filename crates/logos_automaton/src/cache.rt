@@ -4,7 +4,7 @@
 ghost use Rattle.std.specs.Prelude.{◌≡◌, ◌∷◌, ◌++◌, ◌+◌, ◌<◌, ◌≤◌, ◌↔◌, List, ℕ, [], false, IfOk, IsTrue, OnOk, length, slice_index, slice_index_or, if◌then◌else◌};
 ghost use Rattle.logos_automaton.specs.Views.{Node, kind_of_byte, Has, IsRising, state_of, Trees, AreKindBytes, IsPrepared, IsCacheOf, AreAlmostCached, AreCached, AreLive, HasSteps, IsTreeState, Keeps, state_after, step_of, tree_view};
 
-use crate::alike::add_bytes;
+use crate::alike::{add_bytes, first_by_kind};
 use crate::key::{Key, next_kind};
 use crate::tree_steps::making::steps_of;
 use crate::tree_steps::{TreeState, TreeSteps};
@@ -207,16 +207,6 @@ fn push_if(numbers: &mut Vec<usize>, number: usize, is_one: bool) -> Result<(), 
         numbers.push(number)?;
     }
     Ok(())
-}
-
-/// Sets the flags of the bytes that looks can distinguish from the byte before, if some tree has a
-/// look.
-fn first_by_kind(looks: bool, kinds: &[bool; 256]) -> [bool; 256]
-    requires kinds { AreKindBytes kinds.now }
-    ensures { (x : ℕ) → x + 1 < 256 → slice_index_or result (x + 1) false ≡ false →
-        IsTrue looks → kind_of_byte x ≡ kind_of_byte (x + 1) }
-{
-    if looks { *kinds } else { [false; 256] }
 }
 
 /// Sets the flags of the bytes whose step on a tree differs from that of the byte before.

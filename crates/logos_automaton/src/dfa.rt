@@ -11,7 +11,7 @@ pub mod walks;
 use crate::key::Key;
 pub use crate::row::Row;
 use indexmap::IndexSet;
-pub use walks::{Children, Matches, StateId, States};
+pub use walks::{Children, DfaStates, Matches, StateId};
 
 /// An automaton that reads bytes and the end of the input. A state lists the leaves that match all
 /// bytes read but the last one, or all of them if the end was read. Each state has a target by each

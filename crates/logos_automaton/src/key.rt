@@ -8,8 +8,8 @@ ghost use Rattle.logos_automaton.specs.Keys as keys;
 use crate::trees::Trees;
 use indexmap::IndexSet;
 use logos_places::places::all::{Forest, exits_all, step_all};
-use logos_places::places::look::{Context, Kind, kind_of};
-use logos_places::places::step::Reading;
+use logos_places::places::look::{ByteKind, Context, kind_of};
+use logos_places::places::step::ReadByte;
 use std::alloc::{AllocError, Global};
 
 /// What an automaton remembers of the bytes read so far: the key of a state.
@@ -18,7 +18,7 @@ pub struct Key {
     /// The places that can have read the last byte, ascending.
     pub places: Vec<usize>,
     /// The kind of that byte, if it is remembered.
-    pub kind: Kind,
+    pub kind: ByteKind,
     /// The numbers of the trees that match all bytes before that byte, or all bytes if the end was
     /// read, ascending.
     pub matches: Vec<usize>,
@@ -26,21 +26,21 @@ pub struct Key {
 
 /// Returns what is remembered of a byte that is read at these places: its kind, if there are places
 /// and some tree has a look.
-pub fn next_kind(looks: bool, places: &[usize], byte: u8) -> Kind
+pub fn next_kind(looks: bool, places: &[usize], byte: u8) -> ByteKind
     ensures { result ≡ keys.next_kind looks places.now byte }
 {
     if looks && !places.is_empty() {
         kind_of(byte)
     } else {
-        Kind::Unseen
+        ByteKind::Unseen
     }
 }
 
 /// Returns whether nothing was read.
-pub fn is_start(kind: Kind) -> bool
+pub fn is_start(kind: ByteKind) -> bool
     ensures { result ≡ keys.is_start kind }
 {
-    matches!(kind, Kind::Start)
+    matches!(kind, ByteKind::Start)
 }
 
 /// Returns the key of the state before the first byte.
@@ -49,7 +49,7 @@ pub fn start_key(alloc: Global) -> Key
 {
     Key {
         places: Vec::new(alloc),
-        kind: Kind::Start,
+        kind: ByteKind::Start,
         matches: Vec::new(alloc),
     }
 }
@@ -69,7 +69,7 @@ pub fn step_key(trees: &Trees<'_>, key: &Key, byte: u8) -> Result<Key, AllocErro
         before: key.kind,
         after: Some(byte),
     };
-    let by = Reading {
+    let by = ReadByte {
         byte,
         marks: &key.places,
         at,
@@ -108,7 +108,7 @@ pub fn end_key(trees: &Trees<'_>, key: &Key) -> Result<Key, AllocError>
     let matches = exits_all(trees.alloc, forest, &key.places, at, is_start(key.kind))?;
     Ok(Key {
         places: Vec::new(trees.alloc),
-        kind: Kind::Unseen,
+        kind: ByteKind::Unseen,
         matches,
     })
 }

@@ -14,3 +14,4 @@ mod row;
 pub mod rule;
 mod tree_steps;
 mod trees;
+mod walk;

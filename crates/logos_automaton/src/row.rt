@@ -112,7 +112,7 @@ fn first_in(trees: &Trees<'_>, states: &IndexSet<Key>, state: usize) -> [bool; 2
     requires prepared { IsPrepared trees.now }
     requires within { state < length states.now.keys }
     requires rising { AreRising states.now.keys }
-    ensures { AreFirstIn (cores_of trees.now) states.now.keys state result }
+    ensures { AreFirstIn (cores_of trees.now) trees.now.looks states.now.keys state result }
 {
     match states.get_index(state) {
         Some(key) => first_bytes(trees, &key.places, is_start(key.kind)),

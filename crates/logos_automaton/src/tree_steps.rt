@@ -4,7 +4,7 @@ ghost use Rattle.logos_automaton.specs.inside.Alike.{AreChangesOf};
 
 pub mod making;
 
-use logos_places::places::look::Kind;
+use logos_places::places::look::ByteKind;
 use logos_places::places::tree::TreeStep;
 
 /// A state of one tree that is not entered: all that its steps depend on.
@@ -15,7 +15,7 @@ pub struct TreeState {
     /// The places of the tree that read the last byte, ascending.
     pub places: Vec<usize>,
     /// The kind of that byte, if it is remembered.
-    pub kind: Kind,
+    pub kind: ByteKind,
 }
 
 /// The steps of one tree from one of its states, by each byte.

@@ -1,6 +1,5 @@
 //! The input of the building of states. `dfa::build` puts it together before its loop.
 
-use crate::alike::ClassStarts;
 use logos_places::node::Node;
 use std::alloc::Global;
 
@@ -15,8 +14,6 @@ pub struct Trees<'n> {
     pub starts: &'n [usize],
     /// Whether some tree has a look, so that states remember the kind of the last byte.
     pub looks: bool,
-    /// The bytes that each tree distinguishes from the byte before.
-    pub class_starts: &'n [ClassStarts],
     /// Sets the flags of the bytes that looks can distinguish from the byte before.
     pub kinds: &'n [bool; 256],
 }

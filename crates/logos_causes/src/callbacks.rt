@@ -15,23 +15,22 @@ pub(crate) fn add_callbacks(
     warnings: &mut Vec<Warning>,
 ) -> Result<(), Memory> {
     for leaf in leaves {
-        if let Some(callback) = &leaf.callback {
-            add_callback(alloc, source, callback, warnings)?;
-        }
+        add_callback(alloc, source, leaf.callback.as_ref(), warnings)?;
     }
     Ok(())
 }
 
-/// Adds the warnings of a callback.
-fn add_callback(
+/// Adds the warnings of a callback, if there is one.
+pub(crate) fn add_callback(
     alloc: Global,
     source: &str,
-    callback: &Callback<'_>,
+    callback: Option<&Callback<'_>>,
     warnings: &mut Vec<Warning>,
 ) -> Result<(), Memory> {
     match callback {
-        Callback::Label(label) => add_label(label.run(), warnings),
-        Callback::Inline(closure) => add_closure(alloc, source, closure, warnings),
+        Some(Callback::Label(label)) => add_label(label.run(), warnings),
+        Some(Callback::Inline(closure)) => add_closure(alloc, source, closure, warnings),
+        None => Ok(()),
     }
 }
 
@@ -69,11 +68,27 @@ fn add_label(label: Tokens<'_, '_>, warnings: &mut Vec<Warning>) -> Result<(), M
         return add(
             span,
             "this callback is neither the path of a function nor a closure",
-            PATH,
+            help_for_label(label),
             warnings,
         );
     }
     Ok(())
+}
+
+/// Returns what to do about a callback that is neither a path nor a closure, by its first token.
+fn help_for_label(label: Tokens<'_, '_>) -> &'static str {
+    match label.first() {
+        Some(TokenTree::Ident(name)) if is_option(name.text) => {
+            "write the `=`, as in `priority = 3` or `callback = |lex| ..`"
+        }
+        Some(TokenTree::Literal(literal)) if literal.text.contains('"') => {
+            "write an attribute for each text, and a callback as a path or as `|lex| ..`"
+        }
+        Some(TokenTree::Literal(_)) => {
+            "write `priority = 3` for a priority, and a callback as a path or as `|lex| ..`"
+        }
+        _ => PATH,
+    }
 }
 
 /// Returns whether a run is the name of an option alone.
@@ -190,7 +205,7 @@ fn add_group(
 fn loses_brackets(delimiter: Delimiter, inside: Tokens<'_, '_>) -> bool {
     match delimiter {
         Delimiter::Bracket => true,
-        Delimiter::Parenthesis => inside.is_empty() | has_comma(inside),
+        Delimiter::Parenthesis => has_comma(inside),
         _ => false,
     }
 }

@@ -1,12 +1,13 @@
 //! What is known of a source that is refused, and what warnings a lexer has.
 
-use crate::callbacks::add_callbacks;
+use crate::callbacks::{add_callback, add_callbacks};
 use crate::hidden::add_hidden;
 use crate::meetings::meetings_of;
 use crate::starts::starts_of;
 use logos_graph::graph::{BuildError, Config, Graph};
 use logos_parser::analysis::{Analysis, analyze};
 use logos_parser::refusal::Refusal;
+use logos_pattern::leaf::Callback;
 use logos_report::{Clues, Warning};
 use logos_token::error::Memory;
 use std::alloc::{AllocError, Global};
@@ -45,9 +46,18 @@ fn explain_analysis(
     analysis: &mut Analysis<'_>,
 ) -> Result<Explained, Memory> {
     let mut warnings = Vec::new(alloc);
+    add_callback(alloc, source, callback_of(analysis), &mut warnings)?;
     add_callbacks(alloc, source, &analysis.leaves, &mut warnings)?;
     let clues = clues_of_analysis(alloc, analysis)?;
     Ok(Explained { clues, warnings })
+}
+
+/// Returns the callback for errors of an analysis, if there is one.
+fn callback_of<'a, 's>(analysis: &'a Analysis<'s>) -> Option<&'a Callback<'s>> {
+    match &analysis.parser.error_type {
+        Some(error) => error.callback.as_ref(),
+        None => None,
+    }
 }
 
 /// Returns what is known of the faults of the graph of an analysis, whose leaves are taken out of
@@ -70,8 +80,8 @@ fn clues_of(alloc: Global, graph: &Graph<'_>) -> Result<Clues, AllocError> {
     })
 }
 
-/// Returns the warnings of a lexer without faults: those of its callbacks, and those of leaves that
-/// are never found. `source` is the text of its enum.
+/// Returns the warnings of a lexer without faults: those of its callbacks, of which one may be for
+/// errors, and those of leaves that are never found. `source` is the text of its enum.
 ///
 /// # Errors
 ///
@@ -80,8 +90,10 @@ pub fn lexer_warnings(
     alloc: Global,
     source: &str,
     graph: &Graph<'_>,
+    error: Option<&Callback<'_>>,
 ) -> Result<Vec<Warning>, Memory> {
     let mut warnings = Vec::new(alloc);
+    add_callback(alloc, source, error, &mut warnings)?;
     add_callbacks(alloc, source, graph.leaves(), &mut warnings)?;
     add_hidden(alloc, graph, &mut warnings)?;
     Ok(warnings)

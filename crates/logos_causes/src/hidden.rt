@@ -2,6 +2,7 @@
 
 use crate::names::{name_of, text_with};
 use crate::quoting::push_quoted;
+use logos_automaton::dfa::{Dfa, Matches, StateId};
 use logos_evidence::{loses, matches_from, winner};
 use logos_graph::graph::Graph;
 use logos_inspect::marked_leaves;
@@ -81,27 +82,67 @@ fn explain(
     let Some(other) = graph.leaves().get(taken.leaf) else {
         return Ok(());
     };
-    let is_same = has_pattern(graph.leaves(), number, other.pattern.source());
-    warning.note = Some(note_of(alloc, &bytes, other, is_same)?);
+    let likeness = likeness_of(graph, number, taken.leaf);
+    warning.note = Some(note_of(alloc, &bytes, other, likeness)?);
     warning.also = Some(other.span);
     Ok(())
 }
 
-/// Returns whether the leaf with a number has a pattern that is written like this.
-fn has_pattern(leaves: &[Leaf<'_>], number: usize, pattern: &str) -> bool {
-    match leaves.get(number) {
-        Some(leaf) => leaf.pattern.source() == pattern,
-        None => false,
+/// Returns how the pattern of a leaf is like that of another one, as the end of a sentence.
+fn likeness_of(graph: &Graph<'_>, one: usize, other: usize) -> &'static str {
+    if is_written_alike(graph.leaves(), one, other) {
+        ": its pattern is the same"
+    } else if are_twins(graph.dfa(), one, other) {
+        ": its pattern matches the same texts"
+    } else {
+        ""
     }
 }
 
-/// Returns which leaf is found in place of another one, on what text, and whether their
-/// patterns are the same.
+/// Returns whether two leaves have patterns that are written alike.
+fn is_written_alike(leaves: &[Leaf<'_>], one: usize, other: usize) -> bool {
+    match (leaves.get(one), leaves.get(other)) {
+        (Some(one), Some(other)) => one.pattern.source() == other.pattern.source(),
+        _ => false,
+    }
+}
+
+/// Returns whether two leaves match the same texts: whether each state lists both or neither.
+fn are_twins(dfa: &Dfa, one: usize, other: usize) -> bool {
+    for state in dfa.get_states() {
+        if parts_leaves(dfa, state, one, other) {
+            return false;
+        }
+    }
+    true
+}
+
+/// Returns whether a state lists one of two leaves without the other.
+fn parts_leaves(dfa: &Dfa, state: StateId, one: usize, other: usize) -> bool {
+    if !dfa.contains(state) {
+        return false;
+    }
+    let matches = dfa.iter_matches(state);
+    lists(matches, one) != lists(matches, other)
+}
+
+/// Returns whether a leaf is one of these.
+fn lists(leaves: Matches<'_>, number: usize) -> bool {
+    for leaf in leaves {
+        if leaf.0 == number {
+            return true;
+        }
+    }
+    false
+}
+
+/// Returns which leaf is found in place of another one, on what text, and how their patterns are
+/// alike.
 fn note_of(
     alloc: Global,
     bytes: &[u8],
     other: &Leaf<'_>,
-    is_same: bool,
+    likeness: &str,
 ) -> Result<String, AllocError> {
     let mut page = Page::new(alloc, false);
     page.push("on ");
@@ -110,8 +151,6 @@ fn note_of(
     page.push(name_of(other));
     page.push("` is found, with priority ");
     page.push_number(other.priority);
-    if is_same {
-        page.push(": its pattern is the same");
-    }
+    page.push(likeness);
     page.finish()
 }

@@ -7,6 +7,7 @@ use crate::explaining::lexer_warnings;
 use logos_graph::graph::Graph;
 use logos_host::MessageFormat;
 use logos_messages::push_warning_messages;
+use logos_pattern::leaf::Callback;
 use logos_report::{Page, Part, Source, Warning, push_warnings};
 use logos_rust_file::FoundEnum;
 use logos_token::error::Memory;
@@ -70,14 +71,16 @@ pub fn add_text(
     add_warnings(offset, warnings, warned)
 }
 
-/// Adds the warnings of the lexer of an enum, whose text begins at an offset of a file.
+/// Adds the warnings of the lexer of an enum, whose text begins at an offset of a file. It may have
+/// a callback for errors.
 pub fn add_lexer(
     text: &str,
     offset: usize,
     graph: &Graph<'_>,
+    error: Option<&Callback<'_>>,
     warned: &mut Vec<Warning>,
 ) -> Result<(), Memory> {
-    let warnings = lexer_warnings(*warned.allocator(), text, graph)?;
+    let warnings = lexer_warnings(*warned.allocator(), text, graph, error)?;
     add_warnings(offset, warnings, warned)
 }
 

@@ -2,8 +2,8 @@
 use Rattle.std.proofs.Common.{ℕ, List, Option, Result, Ok, Err, IfOk}
 use Rattle.logos_code.specs.Code.{CodeValue}
 use Rattle.logos_cli.specs.Deriving.{IsDerived, IsDerivedBy}
-use Rattle.logos_cli.specs.Expanding.{config_of}
-use Rattle.logos_cli.specs.declared.options.Shape.{Shape}
+use Rattle.logos_expand.specs.Expanding.{config_of}
+use Rattle.logos_expand.specs.declared.shape.Shape.{Shape}
 use Rattle.logos_codegen.specs.Given.{IsGiven}
 use Rattle.logos_derive.specs.declared.answering.Answer.{Answer}
 use Rattle.logos_enum.specs.Values.{Slice}

@@ -1,6 +1,4 @@
-pub mod GatherLemmas
-pub mod RunLemmas
-pub mod ShownLemmas
-pub mod WordLemmas
+pub mod BatchLemmas
+pub mod CutLemmas
 pub mod DeriveLemmas
-pub mod LineLemmas
+pub mod RunLemmas

@@ -8,8 +8,8 @@ use Rattle.logos_host.specs.declared.failure.Failure.TheVariants.{Misuse, Unknow
 use Rattle.logos_host.specs.Failures.{status_of}
 use Rattle.logos_host.specs.Messages.{message_of}
 use Rattle.logos_host.specs.Reading.{Reads}
-use Rattle.logos_cli.specs.Expanding.{IsExpanded}
-use Rattle.logos_cli.specs.Gathering.{FailsBy, FailsFor, IsCause, IsRefusedFor}
+use Rattle.logos_expand.specs.Expanding.{IsExpanded}
+use Rattle.logos_expand.specs.Gathering.{FailsBy, FailsFor, IsCause, IsRefusedFor}
 use Rattle.logos_cli.specs.Orders.{OrderValue}
 use Rattle.logos_cli.specs.Runs.{IsCarriedOut, IsDelivered, IsDeniedOrder, IsOther}
 

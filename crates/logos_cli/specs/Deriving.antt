@@ -1,15 +1,18 @@
 -- The answer to the derive macro.
 use Rattle.std.specs.Prelude.{◌≡◌, ◌++◌, ℕ, List, Bool, codes}
 use Rattle.logos_code.specs.Code.{CodeValue}
-use Rattle.logos_cli.specs.Expanding.{IsLexerText, IsShown}
+use Rattle.logos_expand.specs.Expanding.{IsLexerText, IsShown}
 use Rattle.logos_host.specs.declared.message_format.MessageFormat.{MessageFormat}
 use Rattle.logos_host.specs.declared.message_format.MessageFormat.TheVariants.{Human, Json}
-use Rattle.logos_cli.specs.declared.options.Shape.{Shape}
+use Rattle.logos_expand.specs.declared.shape.Shape.{Shape}
 use Rattle.logos_derive.specs.Answers.{IsAnswer}
 use Rattle.logos_derive.specs.declared.answering.Answer.{Answer}
 use Rattle.logos_messages.specs.Answers.{version_tokens}
 use Rattle.logos_messages.specs.Lines.{IsLine}
 use Rattle.logos_messages.specs.Messages.{AreMessages}
+use Rattle.logos_messages.specs.Warnings.{AreWarnings}
+use Rattle.logos_report.specs.declared.warnings.Warning.{Warning}
+use Rattle.logos_report.specs.Warnings.{shown_of}
 use Rattle.logos_report.specs.Faults.{faults_texts}
 use Rattle.logos_report.specs.Pages.{StandInOrder}
 use Rattle.logos_report.specs.Places.{SourceValue}
@@ -31,13 +34,16 @@ pub record IsDerivedBy (shape : Shape) (code : CodeValue) (source : List ℕ) (a
   pub shown : IsShown shape code text
   pub is : IsAnswer source text answer
 
--- These are the line that names the protocol and the program, and a line of JSON for each fault, in
--- order.
+-- These are the line that names the protocol and the program, a line of JSON for each warning that
+-- is shown, and one for each fault, in order.
 pub record AreFaultLines (source : SourceValue) (faults : List Fault) (lines : List ℕ) : Type 0 where
   pub version : List ℕ
+  pub warned : List Warning
+  pub warnings : List ℕ
   pub messages : List ℕ
-  pub is : lines ≡ version ++ messages
+  pub is : lines ≡ version ++ (warnings ++ messages)
   pub line : IsLine (version_tokens (codes "logos_cli 0.1.0")) version
+  pub are_warnings : AreWarnings source 0 (shown_of warned) warnings
   pub are : AreMessages source 0 faults messages
 
 -- What is shown of the faults of an enum: a report of all of them, in order, with or without

@@ -1,24 +1,22 @@
 -- What the words of a command line ask for.
-use Rattle.std.specs.Prelude.{ℕ, ◌&&◌, ◌||◌, List, [], ◌∷◌, Bool, true, false, Option, Some, None, if◌then◌else◌, option_map, bytes_eq, codes, is_some, not}
+use Rattle.std.specs.Prelude.{ℕ, ◌&&◌, ◌||◌, ◌==◌, ◌-◌, ◌++◌, List, Bool, true, false, Option, Some, None, if◌then◌else◌, option_map, bytes_eq, codes, is_some, length, map, not, slice_index, string_bytes}
+use Rattle.std.specs.Path.{rsplit_once}
 use Rattle.logos_host.specs.declared.color.Color.{Color}
 use Rattle.logos_host.specs.declared.color.Color.TheVariants.{Auto}
-use Rattle.logos_host.specs.declared.options.OptionName.{OptionName}
-use Rattle.logos_host.specs.declared.options.OptionName.TheVariants as options
-use Rattle.logos_host.specs.declared.word_steps.Progress.{Progress}
-use Rattle.logos_host.specs.Colors.{color_named}
-use Rattle.logos_host.specs.Formats.{format_named}
-use Rattle.logos_host.specs.WordSteps.{StepValue, UseValue, path, flag, value, step}
-use Rattle.logos_cli.specs.declared.options.Shape.{Shape}
-use Rattle.logos_cli.specs.declared.options.Shape.TheVariants.{Code, Tables}
-use Rattle.logos_cli.specs.declared.options.Order.{Order}
-use Rattle.logos_cli.specs.declared.options.Request.{Request}
-use Rattle.logos_cli.specs.declared.options.DeriveOrder.{DeriveOrder}
 use Rattle.logos_host.specs.declared.message_format.MessageFormat.{MessageFormat}
 use Rattle.logos_host.specs.declared.message_format.MessageFormat.TheVariants.{Human}
+use Rattle.logos_options.specs.Given.{GivenValue, given_of, given_or}
+use Rattle.logos_options.specs.Paths.{paths_of}
+use Rattle.logos_options.specs.declared.given.Answer.{Answer}
+use Rattle.logos_options.specs.declared.given.Answer.TheVariants as answers
+use Rattle.logos_options.specs.declared.program.Program.TheVariants.{Cli}
+use Rattle.logos_cli.specs.declared.options.Batch.{Batch}
+use Rattle.logos_cli.specs.declared.options.DeriveOrder.{DeriveOrder}
+use Rattle.logos_cli.specs.declared.options.Order.{Order}
+use Rattle.logos_cli.specs.declared.options.Request.{Request}
 use Rattle.logos_cli.specs.declared.options.Request.TheVariants as requests
-use Rattle.logos_cli.specs.declared.options.Given.{Given}
-use Rattle.logos_cli.specs.declared.options.Answer.{Answer}
-use Rattle.logos_cli.specs.declared.options.Answer.TheVariants as answers
+use Rattle.logos_expand.specs.declared.shape.Shape.{Shape}
+use Rattle.logos_expand.specs.declared.shape.Shape.TheVariants.{Code, Tables}
 
 -- A file to expand: its path, the path of the file for the result, whether that is only compared,
 -- the shape of the lexers, how messages are written, whether warnings are denied, and when messages
@@ -37,6 +35,7 @@ pub data Asked : Type 0 where
   asks_help : Asked
   asks_version : Asked
   asks_expansion : (order : OrderValue) → Asked
+  asks_each : (orders : List OrderValue) → Asked
   asks_derive : (order : DeriveOrder) → Asked
 
 -- The shapes of lexers, by their names.
@@ -47,152 +46,80 @@ shape_named name =
     else (if bytes_eq name (codes "tables") then Some Tables
     else None))
 
--- What the words so far give. After an option that asks for a text no word is read.
-pub record GivenValue : Type 0 where
-  pub input : Option (List ℕ)
-  pub output : Option (List ℕ)
-  pub is_check : Bool
-  pub shape : Option Shape
-  pub color : Option Color
-  pub is_derive : Bool
-  pub denies : Bool
-  pub format : Option MessageFormat
-  pub answer : Option Answer
-  pub progress : Progress
+-- The shape with the name that is given, or tables.
+abbrev pub named_shape : Option (List ℕ) → Option Shape
+named_shape None = Some Tables
+named_shape (Some name) = shape_named name
 
--- What no words give.
-abbrev pub given_nothing : GivenValue
-given_nothing = record { input = None; output = None; is_check = false; shape = None; color = None; is_derive = false; denies = false; format = None; answer = None; progress = record { pending = None; is_over = false } }
+-- A path that ends in `/` is that of a folder.
+abbrev pub is_folder : List ℕ → Bool
+is_folder path = slice_index path (length path - 1) == 47
 
--- What is given, or this.
-abbrev pub given_or : {A : Type 0} → A → Option A → A
-given_or other None = other
-given_or other (Some given) = given
+abbrev pub name_after : List ℕ → Option (List ℕ × List ℕ) → List ℕ
+name_after path None = path
+name_after path (Some parts) = parts.1
 
--- The path that a word is: `-` is standard input.
-abbrev pub path_named : List ℕ → List ℕ
-path_named word = if bytes_eq word (codes "-") then codes "/dev/stdin" else word
+-- The name of the file at a path: what follows the last `/`.
+abbrev pub file_name : List ℕ → List ℕ
+file_name path = name_after path (rsplit_once 47 path)
 
--- The path of the input, of which there is one.
-abbrev pub with_path : GivenValue → List ℕ → Option GivenValue
-with_path given word = if is_some given.input then None else Some (record given { input = Some (path_named word) })
+-- The same of another file, whose result goes into a folder under the name of that file.
+abbrev pub order_into : OrderValue → List ℕ → List ℕ → OrderValue
+order_into order folder path = record order { input = path; output = Some (folder ++ file_name path) }
 
--- An option without a value.
-abbrev pub with_flag : GivenValue → OptionName → Option GivenValue
-with_flag given options.Help = Some (record given { answer = Some answers.Help })
-with_flag given options.Version = Some (record given { answer = Some answers.Version })
-with_flag given options.Check = if given.is_check then None else Some (record given { is_check = true })
-with_flag given options.DenyWarnings = if given.denies then None else Some (record given { denies = true })
-with_flag given options.Derive = if given.is_derive then None else Some (record given { is_derive = true })
-with_flag given option = None
+-- The same of several files.
+abbrev pub orders_into : OrderValue → List ℕ → List (List ℕ) → List OrderValue
+orders_into order folder paths = map (order_into order folder) paths
 
--- The file for the result, of which there is one.
-abbrev pub with_output : GivenValue → List ℕ → Option GivenValue
-with_output given word = if is_some given.output then None else Some (record given { output = Some word })
+-- A file to expand, which is the only one.
+abbrev pub one_order : OrderValue → Option (List ℕ) → Option Asked
+one_order order None = Some (asks_expansion order)
+one_order order (Some second) = None
 
--- The shape, of which there is one.
-abbrev pub with_shape : GivenValue → Option Shape → Option Shape → Option GivenValue
-with_shape given (Some shape) named = None
-with_shape given None None = None
-with_shape given None (Some shape) = Some (record given { shape = Some shape })
+-- The same, or all files of the words, whose results go into a folder.
+abbrev pub placed : List (List ℕ) → OrderValue → Option (List ℕ) → Option (List ℕ) → Option Asked
+placed words order None second = one_order order second
+placed words order (Some output) second =
+    if is_folder output then Some (asks_each (orders_into order output (paths_of words))) else one_order order second
 
--- When messages have colors, which is given once.
-abbrev pub with_color : GivenValue → Option Color → Option Color → Option GivenValue
-with_color given (Some color) named = None
-with_color given None None = None
-with_color given None (Some color) = Some (record given { color = Some color })
-
--- How messages are written, which is given once.
-abbrev pub with_format : GivenValue → Option MessageFormat → Option MessageFormat → Option GivenValue
-with_format given (Some format) named = None
-with_format given None None = None
-with_format given None (Some format) = Some (record given { format = Some format })
-
--- An option with its value.
-abbrev pub with_value : GivenValue → OptionName → List ℕ → Option GivenValue
-with_value given options.Output word = with_output given word
-with_value given options.Shape word = with_shape given given.shape (shape_named word)
-with_value given options.Color word = with_color given given.color (color_named word)
-with_value given options.MessageFormat word = with_format given given.format (format_named word)
-with_value given option word = None
-
-abbrev pub with_use : GivenValue → UseValue → Option GivenValue
-with_use given (path word) = with_path given word
-with_use given (flag option) = with_flag given option
-with_use given (value option word) = with_value given option word
-
--- The same after what a word was found to be, or after nothing.
-abbrev pub with_found : GivenValue → Option UseValue → Option GivenValue
-with_found given None = Some given
-with_found given (Some found) = with_use given found
-
-abbrev pub with_step : GivenValue → Option StepValue → Option GivenValue
-with_step given None = None
-with_step given (Some next) = with_found (record given { progress = next.progress }) next.found
-
--- One more word.
-abbrev pub with_word : GivenValue → List ℕ → Option GivenValue
-with_word given word = if is_some given.answer then Some given else with_step given (step given.progress word)
-
--- All these words, one after another.
-abbrev pub with_words : Option GivenValue → List (List ℕ) → Option GivenValue
-with_words given [] = given
-with_words None (word ∷ rest) = None
-with_words (Some given) (word ∷ rest) = with_words (with_word given word) rest
-
--- A file to expand; what is only compared needs a file for the result.
-abbrev pub file_given : GivenValue → List ℕ → Option Asked
-file_given given input =
-    if given.is_check && not (is_some given.output) then None
-    else Some (asks_expansion (record { input = input; output = given.output; is_check = given.is_check; shape = given_or Tables given.shape; format = given_or Human given.format; denies = given.denies; color = given_or Auto given.color }))
+-- Files to expand; what is only compared needs a file for the result.
+abbrev pub file_given : List (List ℕ) → GivenValue → List ℕ → Shape → Option Asked
+file_given words given input shape =
+    if given.flags.is_check && not (is_some given.values.output) then None
+    else placed words (record { input = input; output = given.values.output; is_check = given.flags.is_check; shape = shape; format = given_or Human given.values.format; denies = given.flags.denies; color = given_or Auto given.values.color }) given.values.output given.second
 
 -- An enum to answer about, which is read from standard input; the answer is not for a file.
-abbrev pub enum_given : GivenValue → List ℕ → Option Asked
-enum_given given input =
-    if given.is_check || is_some given.output then None
-    else (if given.denies then None
-    else (if bytes_eq input (codes "/dev/stdin") then Some (asks_derive (record { shape = given_or Tables given.shape; format = given_or Human given.format; color = given_or Auto given.color }))
-    else None))
+abbrev pub enum_given : GivenValue → List ℕ → Shape → Option Asked
+enum_given given input shape =
+    if given.flags.is_check || is_some given.values.output then None
+    else (if given.flags.denies then None
+    else (if is_some given.second then None
+    else (if bytes_eq input (codes "/dev/stdin") then Some (asks_derive (record { shape = shape; format = given_or Human given.values.format; color = given_or Auto given.values.color }))
+    else None)))
+
+abbrev pub shaped_given : List (List ℕ) → GivenValue → List ℕ → Option Shape → Option Asked
+shaped_given words given input None = None
+shaped_given words given input (Some shape) = if given.flags.is_derive then enum_given given input shape else file_given words given input shape
 
 -- What is asked of the input, if there is one.
-abbrev pub order_given : GivenValue → Option (List ℕ) → Option Asked
-order_given given None = None
-order_given given (Some input) = if given.is_derive then enum_given given input else file_given given input
+abbrev pub order_given : List (List ℕ) → GivenValue → Option (List ℕ) → Option Asked
+order_given words given None = None
+order_given words given (Some input) = shaped_given words given input (named_shape given.values.shape)
 
--- No option waits for a value.
-abbrev pub settled_given : GivenValue → Option OptionName → Option Asked
-settled_given given (Some option) = None
-settled_given given None = order_given given given.input
-
-abbrev pub answer_given : GivenValue → Option Answer → Option Asked
-answer_given given (Some answers.Help) = Some asks_help
-answer_given given (Some answers.Version) = Some asks_version
-answer_given given None = settled_given given given.progress.pending
+abbrev pub answer_given : List (List ℕ) → GivenValue → Option Answer → Option Asked
+answer_given words given (Some answers.Help) = Some asks_help
+answer_given words given (Some answers.Version) = Some asks_version
+answer_given words given None = order_given words given given.first
 
 -- What the words ask for.
-abbrev pub asked_given : Option GivenValue → Option Asked
-asked_given None = None
-asked_given (Some given) = answer_given given given.answer
+abbrev pub asked_given : List (List ℕ) → Option GivenValue → Option Asked
+asked_given words None = None
+asked_given words (Some given) = answer_given words given given.answer
 
 abbrev pub asked : List (List ℕ) → Option Asked
-asked words = asked_given (with_words (Some given_nothing) words)
+asked words = asked_given words (given_of Cli words)
 
 -- The same of what the program keeps.
-abbrev pub given_value : Given → GivenValue
-given_value given = record {
-  input = option_map (λ path. path.now) given.input;
-  output = option_map (λ path. path.now) given.output;
-  is_check = given.is_check;
-  shape = given.shape;
-  color = given.color;
-  is_derive = given.is_derive;
-  denies = given.denies;
-  format = given.format;
-  answer = given.answer;
-  progress = given.progress;
-}
-
--- An order as a value.
 abbrev pub order_value : Order → OrderValue
 order_value order = record {
   input = order.input.now;
@@ -204,9 +131,14 @@ order_value order = record {
   color = order.color;
 }
 
+-- What is asked for each of several files, as values.
+abbrev pub batch_value : Batch → List OrderValue
+batch_value batch = orders_into (order_value batch.order) batch.folder.now (paths_of (map string_bytes batch.words.now))
+
 -- What is asked for, as a value.
 abbrev pub request_value : Request → Asked
 request_value requests.Help = asks_help
 request_value requests.Version = asks_version
 request_value (requests.Expand order) = asks_expansion (order_value order)
+request_value (requests.ExpandEach batch) = asks_each (batch_value batch)
 request_value (requests.Derive order) = asks_derive order

@@ -1,19 +1,20 @@
--- What the program does, by what its files give. `gives` holds of files, a path, all bytes
+-- What a run of the program does, by what its files give. `gives` holds of files, a path, all bytes
 -- that are read there, and the files after that; `makes` of files, a path, the bytes of the file
 -- there from then on, and the files after that; `finds` of files, a path, some bytes, how the file
 -- there compares with them, and the files after that.
-use Rattle.std.specs.Prelude.{◌≡◌, ◌≢◌, ◌⊎◌, ℕ, List, Bool, true, false, IsTrue, Option, Some, None, IfSome, codes, string_bytes}
+use Rattle.std.specs.Prelude.{◌≡◌, ◌≢◌, ◌⊎◌, ◌++◌, ◌||◌, ℕ, List, [], ◌∷◌, All, Bool, Contains, true, false, IsTrue, Option, Some, None, IfSome, bytes_eq, codes, map, string_bytes, unwrap_or}
 use Rattle.std.specs.Io.KnownBytes.{Appends, Keeps}
 use Rattle.logos_host.specs.declared.comparing.Standing.{Standing}
 use Rattle.logos_host.specs.declared.comparing.Standing.TheVariants.{Same}
 use Rattle.logos_host.specs.Reading.{Reads}
-use Rattle.logos_cli.specs.Expanding.{IsExpanded}
-use Rattle.logos_cli.specs.Gathering.{IsCause}
+use Rattle.logos_expand.specs.Expanding.{IsExpanded}
+use Rattle.logos_expand.specs.Gathering.{IsCause}
 use Rattle.logos_cli.specs.Deriving.{IsDerived, ShowsErrors, standard_input}
-use Rattle.logos_cli.specs.Orders.{Asked, asks_help, asks_version, asks_expansion, asks_derive, OrderValue}
+use Rattle.logos_cli.specs.Orders.{Asked, asks_help, asks_version, asks_expansion, asks_each, asks_derive, OrderValue}
 use Rattle.logos_cli.specs.declared.options.DeriveOrder.{DeriveOrder}
 use Rattle.logos_codegen.specs.Source.{IsRefused}
 use Rattle.logos_derive.specs.declared.answering.Answer.{Answer}
+use Rattle.logos_text.specs.Standing.{StandInOrder}
 use Rattle.logos_token.specs.Faults.{Fault}
 
 -- A file has other bytes than these, or cannot be read.
@@ -59,11 +60,18 @@ module _ {F : Type 0} (gives makes : F → List ℕ → List ℕ → F → Type 
   IsCarriedOut order files after old new =
       Reads gives files order.input (λ text read. (bytes : List ℕ) × IsExpanded order.shape text bytes × IsDelivered order order.output bytes read after old new)
 
+  -- Files are read and expanded one after another, and each result is where it was asked for.
+  abbrev pub AreCarriedOut : List OrderValue → F → F → Option (List ℕ) → Option (List ℕ) → Type 0
+  AreCarriedOut [] files after old new = (after ≡ files) × (new ≡ old)
+  AreCarriedOut (order ∷ rest) files after old new =
+      (between : F) × (middle : Option (List ℕ)) × IsCarriedOut order files between old middle × AreCarriedOut rest between after middle new
+
   -- What is asked for is done.
   abbrev pub IsDone : Asked → F → F → Option (List ℕ) → Option (List ℕ) → Type 0
   IsDone asks_help files after old new = after ≡ files
   IsDone asks_version files after old new = after ≡ files
   IsDone (asks_expansion order) files after old new = IsCarriedOut order files after old new
+  IsDone (asks_each orders) files after old new = AreCarriedOut orders files after old new
   IsDone (asks_derive order) files after old new = IsAnswered gives order files after old new
 
   -- The file is read, and has faults, which this text shows, or warnings, which are denied; or its
@@ -73,24 +81,67 @@ module _ {F : Type 0} (gives makes : F → List ℕ → List ℕ → F → Type 
       Reads gives files order.input (λ text read. ((after ≡ read) × IsCause order.format order.denies order.shape (record { path = order.input; text = text }) shown)
       ⊎ (IsTrue order.is_check × ((bytes : List ℕ) × IsExpanded order.shape text bytes × IfSome order.output (λ path. IsOther finds path bytes read after))))
 
+  -- What is asked of a file is done, or it is refused, for what a text says.
+  abbrev pub EndsOne : OrderValue → F → F → List (List ℕ) → Type 0
+  EndsOne order files after texts =
+      ((old new : Option (List ℕ)) × IsCarriedOut order files after old new × (texts ≡ [])) ⊎ ((shown : List ℕ) × IsDeniedOrder order files after shown × (texts ≡ shown ∷ []))
+
+  -- The same of files one after another, of which these texts say why they are refused.
+  abbrev pub AreEnded : List OrderValue → F → F → List (List ℕ) → Type 0
+  AreEnded [] files after texts = (after ≡ files) × (texts ≡ [])
+  AreEnded (order ∷ rest) files after texts =
+      (between : F) × (first more : List (List ℕ)) × (texts ≡ first ++ more) × EndsOne order files between first × AreEnded rest between after more
+
+  -- Some of these files are refused, for texts that stand in this one, in order, and what is asked
+  -- of the others is done.
+  abbrev pub AreDenied : List OrderValue → F → F → List ℕ → Type 0
+  AreDenied orders files after shown = (texts : List (List ℕ)) × (texts ≢ []) × AreEnded orders files after texts × StandInOrder texts shown
+
   -- What is asked for is refused, for what this text says.
   abbrev pub IsDenied : Asked → F → F → List ℕ → Type 0
   IsDenied asks_help files after shown = ⊥
   IsDenied asks_version files after shown = ⊥
   IsDenied (asks_expansion order) files after shown = IsDeniedOrder order files after shown
+  IsDenied (asks_each orders) files after shown = AreDenied orders files after shown
   IsDenied (asks_derive order) files after shown = IsDeniedAnswer gives order files after shown
 
--- The file for the result is the file that is read; `same` holds of files, two paths, and whether
--- these lead to one file.
-abbrev pub IsOwnOutput : {F : Type 0} → (F → List ℕ → List ℕ → Bool → Type 0) → Asked → F → Type 0
-IsOwnOutput same asks_help files = ⊥
-IsOwnOutput same asks_version files = ⊥
-IsOwnOutput same (asks_derive order) files = ⊥
-IsOwnOutput same (asks_expansion order) files = IfSome order.output (λ path. same files order.input path true)
+-- The path of the file for a result, of which there is one.
+abbrev pub output_of : OrderValue → List ℕ
+output_of order = unwrap_or order.output []
 
--- It is another file.
-abbrev pub IsApart : {F : Type 0} → (F → List ℕ → List ℕ → Bool → Type 0) → Asked → F → Type 0
-IsApart same asks_help files = Unit {0}
-IsApart same asks_version files = Unit {0}
-IsApart same (asks_derive order) files = Unit {0}
-IsApart same (asks_expansion order) files = IfSome order.output (λ path. same files order.input path false)
+-- A path is one of these.
+abbrev pub is_among : List ℕ → List (List ℕ) → Bool
+is_among path [] = false
+is_among path (other ∷ rest) = bytes_eq other path || is_among path rest
+
+-- Two of these paths are equal.
+abbrev pub has_twins : List (List ℕ) → Bool
+has_twins [] = false
+has_twins (path ∷ rest) = is_among path rest || has_twins rest
+
+module _ {F : Type 0} (same : F → List ℕ → List ℕ → Bool → Type 0) where
+  -- The file at a path is none of those that are read; `same` holds of files, two paths, and
+  -- whether these lead to one file.
+  abbrev pub IsNoInput : List OrderValue → F → List ℕ → Type 0
+  IsNoInput orders files path = All (λ order. same files order.input path false) orders
+
+  -- It is one of those.
+  abbrev pub IsInput : List OrderValue → F → List ℕ → Type 0
+  IsInput orders files path = (order : OrderValue) × Contains orders order × same files order.input path true
+
+  -- A file for a result is a file that is read, or that for another result.
+  abbrev pub IsOwnOutput : Asked → F → Type 0
+  IsOwnOutput asks_help files = ⊥
+  IsOwnOutput asks_version files = ⊥
+  IsOwnOutput (asks_derive order) files = ⊥
+  IsOwnOutput (asks_expansion order) files = IfSome order.output (λ path. same files order.input path true)
+  IsOwnOutput (asks_each orders) files =
+      ((order : OrderValue) × Contains orders order × IsInput orders files (output_of order)) ⊎ (has_twins (map output_of orders) ≡ true)
+
+  -- Each is another file.
+  abbrev pub IsApart : Asked → F → Type 0
+  IsApart asks_help files = Unit {0}
+  IsApart asks_version files = Unit {0}
+  IsApart (asks_derive order) files = Unit {0}
+  IsApart (asks_expansion order) files = IfSome order.output (λ path. same files order.input path false)
+  IsApart (asks_each orders) files = All (λ order. IsNoInput orders files (output_of order)) orders × (has_twins (map output_of orders) ≡ false)

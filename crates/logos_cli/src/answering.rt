@@ -5,13 +5,15 @@ ghost use Rattle.std.specs.Prelude.{◌≡◌, ◌≢◌, ◌⊎◌, ◌≤◌, 
 ghost use Rattle.logos_cli.specs.Views.{Appends, Keeps, Fault, IsRefused, Answer as AnswerValue, IsDerived, ShowsErrors, standard_input, IsAnswered, IsDeniedAnswer};
 
 use crate::implementation::{answer_lines, derived, refusal_lines};
-use crate::options::{DeriveOrder, STANDARD_INPUT};
+use crate::options::DeriveOrder;
 use crate::running::{Ending, failed, print_bytes};
+use logos_causes::Showing;
 use logos_codegen::Refusal;
 use logos_codegen::error::{Errors, Memory};
 use logos_derive::Answer;
-use logos_host::{Failure, Files, MessageFormat, read_text, write_through};
-use logos_report::Source;
+use logos_host::{Failure, Files, read_text, write_through};
+use logos_options::STANDARD_INPUT;
+use logos_report::{Source, Warning};
 use std::alloc::{AllocError, Global};
 use std::io::{IsTerminal, Write};
 
@@ -60,17 +62,38 @@ fn answer_source<O: Write, E: Write + IsTerminal>(
     ensures silent { result.status ≡ 1 → Keeps (O.contents out.old) (O.contents out.new) }
     ensures known { (result.status ≤ 3) × (result.status ≢ 2) }
 {
-    match derived(alloc, order.shape, source) {
-        Ok(answer) => print_answer(order.format, &answer, out, err),
-        Err(Refusal::Errors(errors)) => refuse(order, source, &errors, err),
+    let showing = Showing {
+        alloc,
+        format: order.format,
+        is_colored: order.color.is_on(err.is_terminal()),
+        denies: false,
+    };
+    let mut warned = Vec::new(alloc);
+    match derived(order.shape, source, &mut warned) {
+        Ok(answer) => match answered(source, showing, &answer, &warned) {
+            Ok(lines) => print_answer(&answer, &lines, out, err),
+            Err(Memory) => failed(&Failure::Memory, err),
+        },
+        Err(Refusal::Errors(errors)) => refuse(source, showing, &errors, err),
         Err(Refusal::Memory) => failed(&Failure::Memory, err),
     }
 }
 
+/// Returns what standard error gets with an answer.
+fn answered(
+    source: &str,
+    showing: Showing,
+    answer: &Answer,
+    warned: &[Warning],
+) -> Result<Vec<u8>, Memory> {
+    let source = Source::new(showing.alloc, INPUT_NAME, source)?;
+    answer_lines(&source, showing, answer, warned)
+}
+
 /// Prints an answer, and writes the lines that go with it.
 fn print_answer<O: Write, E: Write>(
-    format: MessageFormat,
     answer: &Answer,
+    lines: &[u8],
     out: &mut O,
     err: &mut E,
 ) -> Ending
@@ -78,48 +101,33 @@ fn print_answer<O: Write, E: Write>(
         (string_bytes answer.now.text) }
     ensures known { (result.status ≡ 0) ⊎ (result.status ≡ 3) }
 {
-    let lines = match answer_lines(*answer.text.allocator(), format, answer) {
-        Ok(lines) => lines,
-        Err(Memory) => return failed(&Failure::Memory, err),
-    };
     match print_bytes(answer.text.as_bytes(), out) {
-        Ok(()) => end_with(0, &lines, err),
+        Ok(()) => end_with(0, lines, err),
         Err(failure) => failed(&failure, err),
     }
 }
 
 /// Writes what is wrong with an enum.
-fn refuse<E: Write + IsTerminal>(
-    order: DeriveOrder,
-    source: &str,
-    errors: &Errors,
-    err: &mut E,
-) -> Ending
+fn refuse<E: Write>(source: &str, showing: Showing, errors: &Errors, err: &mut E) -> Ending
     ensures denied { result.status ≡ 1 → (shown : List ℕ)
-        × ShowsErrors order.format (standard_input source.now) errors.now shown
+        × ShowsErrors showing.format (standard_input source.now) errors.now shown
         × (IsTrue result.is_written →
         Appends (E.contents err.old) (E.contents err.new) shown) }
     ensures known { (result.status ≡ 1) ⊎ (result.status ≡ 3) }
 {
-    let is_colored = order.color.is_on(err.is_terminal());
-    match lines_of(order.format, is_colored, source, errors) {
+    match lines_of(source, showing, errors) {
         Ok(lines) => end_with(1, &lines, err),
         Err(Memory) => failed(&Failure::Memory, err),
     }
 }
 
 /// Returns what is written of the faults of an enum.
-fn lines_of(
-    format: MessageFormat,
-    is_colored: bool,
-    source: &str,
-    errors: &Errors,
-) -> Result<Vec<u8>, Memory>
+fn lines_of(source: &str, showing: Showing, errors: &Errors) -> Result<Vec<u8>, Memory>
     ensures { IfOk result (λ lines.
-        ShowsErrors format (standard_input source.now) errors.now lines.items) }
+        ShowsErrors showing.format (standard_input source.now) errors.now lines.items) }
 {
     match Source::new(errors.alloc(), INPUT_NAME, source) {
-        Ok(source) => refusal_lines(format, &source, is_colored, errors),
+        Ok(source) => refusal_lines(&source, showing, errors),
         Err(AllocError) => Err(Memory),
     }
 }

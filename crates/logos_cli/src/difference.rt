@@ -1,10 +1,9 @@
 //! How a file differs from the result that it is compared with.
 
 ghost use Rattle.std.specs.Prelude.{⊤};
-ghost use Rattle.logos_cli.specs.Gathering.{FailsBy, IsRefusedFor};
+ghost use Rattle.logos_cli.specs.Views.{FailsBy, IsRefusedFor};
 
-use crate::head::shape_name;
-use crate::options::Shape;
+use logos_expand::{Shape, shape_name};
 use logos_host::{ComparableFiles, Failure, Standing};
 use logos_report::Page;
 use std::alloc::{AllocError, Global};

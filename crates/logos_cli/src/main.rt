@@ -3,12 +3,10 @@
 #![tactic(auto)]
 
 mod answering;
+mod batch;
 mod difference;
-mod expanding;
-mod head;
 mod implementation;
 mod options;
-mod printing;
 mod running;
 
 use logos_host::{SourceDisk, refuse_words, words};

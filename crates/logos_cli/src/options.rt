@@ -1,13 +1,12 @@
 //! What the words of a command line ask for.
 
 ghost use Rattle.std.specs.Prelude.{◌≡◌, IfErr, IfOk, None, Some, is_some, map, option_map, string_bytes};
-ghost use Rattle.logos_cli.specs.Views.{status_of, use_value, color_named, format_named, asked, asked_given, given_nothing, given_value, order_given, enum_given, file_given, with_format, given_or, path_named, request_value, shape_named, with_flag, with_found, with_output, with_path, with_shape, with_color, with_value, with_word, with_words};
+ghost use Rattle.logos_cli.specs.Views.{asked, asked_given, enum_given, file_given, given_value, is_folder, named_shape, order_given, order_value, placed, request_value, shape_named, status_of};
 
 use logos_codegen::generator::Config;
-use logos_host::{
-    Color, Failure, MessageFormat, OptionName, Progress, Use, color_by_name, format_by_name,
-    next_step,
-};
+use logos_expand::Shape;
+use logos_host::{Color, Failure, MessageFormat};
+use logos_options::{Answer, Given, Program, STANDARD_INPUT, given_by, misuse};
 
 /// What is asked for.
 #[derive(Clone, Copy)]
@@ -15,17 +14,10 @@ pub(crate) enum Request<'w> {
     Help,
     Version,
     Expand(Order<'w>),
+    /// The results of files go into a folder.
+    ExpandEach(Batch<'w>),
     /// The answer to the derive macro.
     Derive(DeriveOrder),
-}
-
-/// How lexers are printed.
-#[derive(Clone, Copy)]
-pub(crate) enum Shape {
-    /// As code, in one of its shapes.
-    Code(Config),
-    /// As tables with a loop over them.
-    Tables,
 }
 
 /// A file to expand.
@@ -47,6 +39,17 @@ pub(crate) struct Order<'w> {
     pub(crate) color: Color,
 }
 
+/// Files to expand, whose results go into a folder.
+#[derive(Clone, Copy)]
+pub(crate) struct Batch<'w> {
+    /// The words of the command line, which have the paths of the files.
+    pub(crate) words: &'w [String],
+    /// What is asked for each of them, as for the first one.
+    pub(crate) order: Order<'w>,
+    /// The path of the folder, which ends in `/`.
+    pub(crate) folder: &'w str,
+}
+
 /// An enum on standard input whose implementation is printed with placeholders.
 #[derive(Clone, Copy)]
 pub(crate) struct DeriveOrder {
@@ -57,44 +60,6 @@ pub(crate) struct DeriveOrder {
     /// When messages have colors.
     pub(crate) color: Color,
 }
-
-/// Options that ask for a text.
-#[derive(Clone, Copy)]
-enum Answer {
-    Help,
-    Version,
-}
-
-/// What the words so far give.
-#[derive(Clone, Copy)]
-struct Given<'w> {
-    input: Option<&'w str>,
-    output: Option<&'w str>,
-    is_check: bool,
-    shape: Option<Shape>,
-    color: Option<Color>,
-    is_derive: bool,
-    denies: bool,
-    format: Option<MessageFormat>,
-    answer: Option<Answer>,
-    progress: Progress,
-}
-
-/// The options that the program takes.
-pub(crate) const TAKEN: [OptionName; 9] = [
-    OptionName::Check,
-    OptionName::Color,
-    OptionName::DenyWarnings,
-    OptionName::Derive,
-    OptionName::Help,
-    OptionName::MessageFormat,
-    OptionName::Output,
-    OptionName::Shape,
-    OptionName::Version,
-];
-
-/// The path of standard input.
-pub(crate) const STANDARD_INPUT: &str = "/dev/stdin";
 
 /// Returns what the words ask for.
 ///
@@ -107,246 +72,134 @@ pub(crate) fn request_of(words: &[String]) -> Result<Request<'_>, Failure<'_>>
     ensures misuse { IfErr result (λ failure.
         (asked (map string_bytes words.now) ≡ None) × (status_of failure ≡ 2)) }
 {
-    match read_words(words) {
-        Ok(given) => request_given(given),
+    match given_by(Program::Cli, words) {
+        Ok(given) => request_given(words, given),
         Err(failure) => Err(failure),
     }
 }
 
-/// Reads all words.
-fn read_words(words: &[String]) -> Result<Given<'_>, Failure<'_>>
-    ensures given { IfOk result (λ given.
-        with_words (Some given_nothing) (map string_bytes words.now) ≡ Some (given_value given)) }
-    ensures misuse { IfErr result (λ failure.
-        (with_words (Some given_nothing) (map string_bytes words.now) ≡ None)
-        × (status_of failure ≡ 2)) }
-{
-    let mut given = Given {
-        input: None,
-        output: None,
-        is_check: false,
-        shape: None,
-        color: None,
-        is_derive: false,
-        denies: false,
-        format: None,
-        answer: None,
-        progress: Progress {
-            pending: None,
-            is_over: false,
-        },
-    };
-    for word in words {
-        given = match read_word(given, word.as_str()) {
-            Ok(next) => next,
-            Err(failure) => return Err(failure),
-        };
-    }
-    Ok(given)
-}
-
 /// Returns what the words ask for, by what they give.
-fn request_given(given: Given<'_>) -> Result<Request<'_>, Failure<'_>>
-    ensures asked { IfOk result (λ request.
-        asked_given (Some (given_value given.entry)) ≡ Some (request_value request)) }
-    ensures misuse { IfErr result (λ failure.
-        (asked_given (Some (given_value given.entry)) ≡ None) × (status_of failure ≡ 2)) }
+fn request_given<'w>(words: &'w [String], given: Given<'w>) -> Result<Request<'w>, Failure<'w>>
+    ensures asked { IfOk result (λ request. asked_given (map string_bytes words.now)
+        (Some (given_value given.entry)) ≡ Some (request_value request)) }
+    ensures misuse { IfErr result (λ failure. (asked_given (map string_bytes words.now)
+        (Some (given_value given.entry)) ≡ None) × (status_of failure ≡ 2)) }
 {
     match given.answer {
         Some(Answer::Help) => Ok(Request::Help),
         Some(Answer::Version) => Ok(Request::Version),
-        None => match given.progress.pending {
-            Some(option) => Err(misuse("a value is missing after", option.word())),
-            None => order_given(given),
-        },
+        None => order_given(words, given),
     }
 }
 
-/// Returns the file to expand, or the enum to answer about.
-fn order_given(given: Given<'_>) -> Result<Request<'_>, Failure<'_>>
-    ensures asked { IfOk result (λ request. order_given (given_value given.entry)
-        (given_value given.entry).input ≡ Some (request_value request)) }
-    ensures misuse { IfErr result (λ failure. (order_given (given_value given.entry)
-        (given_value given.entry).input ≡ None) × (status_of failure ≡ 2)) }
+/// Returns the files to expand, or the enum to answer about.
+fn order_given<'w>(words: &'w [String], given: Given<'w>) -> Result<Request<'w>, Failure<'w>>
+    ensures asked { IfOk result (λ request. order_given (map string_bytes words.now)
+        (given_value given.entry) (given_value given.entry).first
+        ≡ Some (request_value request)) }
+    ensures misuse { IfErr result (λ failure. (order_given (map string_bytes words.now)
+        (given_value given.entry) (given_value given.entry).first ≡ None)
+        × (status_of failure ≡ 2)) }
 {
-    let Some(input) = given.input else {
+    let Some(input) = given.first else {
         return Err(misuse("no input file", ""));
     };
-    if given.is_derive {
-        return enum_given(given, input);
+    let shape = match shape_given(given.values.shape) {
+        Ok(shape) => shape,
+        Err(failure) => return Err(failure),
+    };
+    if given.flags.is_derive {
+        return enum_given(given, input, shape);
     }
-    file_given(given, input)
+    file_given(words, given, input, shape)
 }
 
-/// Returns the file to expand.
-fn file_given<'w>(given: Given<'w>, input: &'w str) -> Result<Request<'w>, Failure<'w>>
-    ensures asked { IfOk result (λ request. file_given (given_value given.entry) input.now
-        ≡ Some (request_value request)) }
-    ensures misuse { IfErr result (λ failure. (file_given (given_value given.entry) input.now
-        ≡ None) × (status_of failure ≡ 2)) }
+/// Returns the files to expand.
+fn file_given<'w>(
+    words: &'w [String],
+    given: Given<'w>,
+    input: &'w str,
+    shape: Shape,
+) -> Result<Request<'w>, Failure<'w>>
+    ensures asked { IfOk result (λ request. file_given (map string_bytes words.now)
+        (given_value given.entry) input.now shape ≡ Some (request_value request)) }
+    ensures misuse { IfErr result (λ failure. (file_given (map string_bytes words.now)
+        (given_value given.entry) input.now shape ≡ None) × (status_of failure ≡ 2)) }
 {
-    if given.is_check & !is_given(given.output) {
+    if given.flags.is_check & !is_given(given.values.output) {
         return Err(misuse("`--check` needs `--output FILE`", ""));
     }
-    Ok(Request::Expand(Order {
+    let order = Order {
         input,
-        output: given.output,
-        is_check: given.is_check,
-        shape: shape_or_tables(given.shape),
-        format: format_or_human(given.format),
-        denies: given.denies,
-        color: color_or_auto(given.color),
-    }))
+        output: given.values.output,
+        is_check: given.flags.is_check,
+        shape,
+        format: given.values.format_or_human(),
+        denies: given.flags.denies,
+        color: given.values.color_or_auto(),
+    };
+    placed(words, order, given.second)
+}
+
+/// Returns the file to expand, or the files whose results go into a folder.
+fn placed<'w>(
+    words: &'w [String],
+    order: Order<'w>,
+    second: Option<&'w str>,
+) -> Result<Request<'w>, Failure<'w>>
+    ensures asked { IfOk result (λ request. placed (map string_bytes words.now)
+        (order_value order.entry) (order_value order.entry).output
+        (option_map (λ path. path.now) second.entry) ≡ Some (request_value request)) }
+    ensures misuse { IfErr result (λ failure. (placed (map string_bytes words.now)
+        (order_value order.entry) (order_value order.entry).output
+        (option_map (λ path. path.now) second.entry) ≡ None) × (status_of failure ≡ 2)) }
+{
+    match (order.output, second) {
+        (Some(folder), _) if is_folder(folder) => Ok(Request::ExpandEach(Batch {
+            words,
+            order,
+            folder,
+        })),
+        (_, None) => Ok(Request::Expand(order)),
+        (_, Some(_)) => Err(misuse("several inputs need `--output FOLDER/`", "")),
+    }
+}
+
+/// Returns whether a path is that of a folder: whether it ends in `/`.
+fn is_folder(path: &str) -> bool
+    ensures { result ≡ is_folder path.now }
+{
+    path.ends_with('/')
 }
 
 /// Returns the enum to answer about, which is read from standard input.
-fn enum_given<'w>(given: Given<'w>, input: &'w str) -> Result<Request<'w>, Failure<'w>>
-    ensures asked { IfOk result (λ request. enum_given (given_value given.entry) input.now
+fn enum_given<'w>(
+    given: Given<'w>,
+    input: &'w str,
+    shape: Shape,
+) -> Result<Request<'w>, Failure<'w>>
+    ensures asked { IfOk result (λ request. enum_given (given_value given.entry) input.now shape
         ≡ Some (request_value request)) }
     ensures misuse { IfErr result (λ failure. (enum_given (given_value given.entry) input.now
-        ≡ None) × (status_of failure ≡ 2)) }
+        shape ≡ None) × (status_of failure ≡ 2)) }
 {
-    if given.is_check | is_given(given.output) {
+    if given.flags.is_check | is_given(given.values.output) {
         return Err(misuse("`--derive` writes no file", ""));
     }
-    if given.denies {
+    if given.flags.denies {
         return Err(misuse("`--derive` denies no warnings", ""));
+    }
+    if let Some(path) = given.second {
+        return Err(misuse("a second input file", path));
     }
     if input != STANDARD_INPUT {
         return Err(misuse("`--derive` reads standard input, which is `-`, not", input));
     }
     Ok(Request::Derive(DeriveOrder {
-        shape: shape_or_tables(given.shape),
-        format: format_or_human(given.format),
-        color: color_or_auto(given.color),
+        shape,
+        format: given.values.format_or_human(),
+        color: given.values.color_or_auto(),
     }))
-}
-
-/// Returns how messages are written: as is given, or as a report.
-fn format_or_human(format: Option<MessageFormat>) -> MessageFormat
-    ensures { result ≡ given_or MessageFormat.Human format }
-{
-    match format {
-        Some(format) => format,
-        None => MessageFormat::Human,
-    }
-}
-
-/// Returns the shape that is given, or tables.
-fn shape_or_tables(shape: Option<Shape>) -> Shape
-    ensures { result ≡ given_or Shape.Tables shape }
-{
-    match shape {
-        Some(shape) => shape,
-        None => Shape::Tables,
-    }
-}
-
-/// Returns when messages have colors: as is given, or on a terminal.
-fn color_or_auto(color: Option<Color>) -> Color
-    ensures { result ≡ given_or Color.Auto color }
-{
-    match color {
-        Some(color) => color,
-        None => Color::Auto,
-    }
-}
-
-/// Returns the error of words that are not a command.
-fn misuse<'w>(what: &'static str, word: &'w str) -> Failure<'w>
-    ensures { status_of result ≡ 2 }
-{
-    Failure::Misuse { what, word }
-}
-
-/// Returns the error of an option that is given twice.
-fn twice<'w>(option: OptionName) -> Failure<'w>
-    ensures { status_of result ≡ 2 }
-{
-    misuse("given twice:", option.word())
-}
-
-/// Returns the error of an option that the program does not take.
-fn unknown<'w>(option: OptionName) -> Failure<'w>
-    ensures { status_of result ≡ 2 }
-{
-    Failure::UnknownOption {
-        word: option.word(),
-        nearest: "",
-    }
-}
-
-/// Reads one more word. After `--help` and `--version` no word is read.
-fn read_word<'w>(given: Given<'w>, word: &'w str) -> Result<Given<'w>, Failure<'w>>
-    ensures given { IfOk result (λ next.
-        with_word (given_value given.entry) word.now ≡ Some (given_value next)) }
-    ensures misuse { IfErr result (λ failure.
-        (with_word (given_value given.entry) word.now ≡ None) × (status_of failure ≡ 2)) }
-{
-    if is_answered(given.answer) {
-        return Ok(given);
-    }
-    match next_step(given.progress, word) {
-        Ok(next) => read_found(
-            Given {
-                progress: next.progress,
-                ..given
-            },
-            next.found,
-        ),
-        Err(failure) => Err(failure),
-    }
-}
-
-/// Returns whether a text is asked for.
-fn is_answered(answer: Option<Answer>) -> bool
-    ensures { result ≡ is_some answer }
-{
-    match answer {
-        Some(_) => true,
-        None => false,
-    }
-}
-
-/// Reads what a word gives.
-fn read_found<'w>(given: Given<'w>, found: Option<Use<'w>>) -> Result<Given<'w>, Failure<'w>>
-    ensures given { IfOk result (λ next. with_found (given_value given.entry)
-        (option_map use_value found.entry) ≡ Some (given_value next)) }
-    ensures misuse { IfErr result (λ failure. (with_found (given_value given.entry)
-        (option_map use_value found.entry) ≡ None) × (status_of failure ≡ 2)) }
-{
-    match found {
-        None => Ok(given),
-        Some(Use::Path(path)) => read_path(given, path),
-        Some(Use::Flag(option)) => read_flag(given, option),
-        Some(Use::Value(option, value)) => read_value(given, option, value),
-    }
-}
-
-/// Reads the path of the input.
-fn read_path<'w>(given: Given<'w>, path: &'w str) -> Result<Given<'w>, Failure<'w>>
-    ensures given { IfOk result (λ next.
-        with_path (given_value given.entry) path.now ≡ Some (given_value next)) }
-    ensures misuse { IfErr result (λ failure.
-        (with_path (given_value given.entry) path.now ≡ None) × (status_of failure ≡ 2)) }
-{
-    if is_given(given.input) {
-        return Err(misuse("a second input file", path));
-    }
-    Ok(Given {
-        input: Some(path_by_word(path)),
-        ..given
-    })
-}
-
-/// Returns the path that a word is: `-` is standard input.
-fn path_by_word(word: &str) -> &str
-    ensures { result.now ≡ path_named word.now }
-{
-    if word == "-" {
-        return STANDARD_INPUT;
-    }
-    word
 }
 
 /// Returns whether there is a path.
@@ -359,135 +212,23 @@ fn is_given(path: Option<&str>) -> bool
     }
 }
 
-/// Reads an option without a value.
-fn read_flag<'w>(given: Given<'w>, option: OptionName) -> Result<Given<'w>, Failure<'w>>
-    ensures given { IfOk result (λ next.
-        with_flag (given_value given.entry) option ≡ Some (given_value next)) }
+/// Returns the shape with the name that is given, or tables.
+fn shape_given<'w>(name: Option<&'w str>) -> Result<Shape, Failure<'w>>
+    ensures shape { IfOk result (λ shape.
+        named_shape (option_map (λ name. name.now) name.entry) ≡ Some shape) }
     ensures misuse { IfErr result (λ failure.
-        (with_flag (given_value given.entry) option ≡ None) × (status_of failure ≡ 2)) }
-{
-    match option {
-        OptionName::Help => Ok(Given {
-            answer: Some(Answer::Help),
-            ..given
-        }),
-        OptionName::Version => Ok(Given {
-            answer: Some(Answer::Version),
-            ..given
-        }),
-        OptionName::Check if given.is_check => Err(twice(option)),
-        OptionName::Check => Ok(Given {
-            is_check: true,
-            ..given
-        }),
-        OptionName::DenyWarnings if given.denies => Err(twice(option)),
-        OptionName::DenyWarnings => Ok(Given {
-            denies: true,
-            ..given
-        }),
-        OptionName::Derive if given.is_derive => Err(twice(option)),
-        OptionName::Derive => Ok(Given {
-            is_derive: true,
-            ..given
-        }),
-        _ => Err(unknown(option)),
-    }
-}
-
-/// Reads an option with its value.
-fn read_value<'w>(
-    given: Given<'w>,
-    option: OptionName,
-    value: &'w str,
-) -> Result<Given<'w>, Failure<'w>>
-    ensures given { IfOk result (λ next.
-        with_value (given_value given.entry) option value.now ≡ Some (given_value next)) }
-    ensures misuse { IfErr result (λ failure.
-        (with_value (given_value given.entry) option value.now ≡ None)
+        (named_shape (option_map (λ name. name.now) name.entry) ≡ None)
         × (status_of failure ≡ 2)) }
 {
-    match option {
-        OptionName::Output => read_output(given, value),
-        OptionName::Shape => read_shape(given, value),
-        OptionName::Color => read_color(given, value),
-        OptionName::MessageFormat => read_format(given, value),
-        _ => Err(unknown(option)),
-    }
-}
-
-/// Reads the path of the file for the result.
-fn read_output<'w>(given: Given<'w>, path: &'w str) -> Result<Given<'w>, Failure<'w>>
-    ensures given { IfOk result (λ next.
-        with_output (given_value given.entry) path.now ≡ Some (given_value next)) }
-    ensures misuse { IfErr result (λ failure.
-        (with_output (given_value given.entry) path.now ≡ None) × (status_of failure ≡ 2)) }
-{
-    if is_given(given.output) {
-        return Err(twice(OptionName::Output));
-    }
-    Ok(Given {
-        output: Some(path),
-        ..given
-    })
-}
-
-/// Reads the name of a shape.
-fn read_shape<'w>(given: Given<'w>, name: &'w str) -> Result<Given<'w>, Failure<'w>>
-    ensures given { IfOk result (λ next.
-        with_shape (given_value given.entry) given.entry.shape (shape_named name.now)
-        ≡ Some (given_value next)) }
-    ensures misuse { IfErr result (λ failure.
-        (with_shape (given_value given.entry) given.entry.shape (shape_named name.now) ≡ None)
-        × (status_of failure ≡ 2)) }
-{
-    match (given.shape, shape_by_name(name)) {
-        (Some(_), _) => Err(twice(OptionName::Shape)),
-        (None, Some(shape)) => Ok(Given {
-            shape: Some(shape),
-            ..given
-        }),
-        (None, None) => Err(misuse(
+    let Some(name) = name else {
+        return Ok(Shape::Tables);
+    };
+    match shape_by_name(name) {
+        Some(shape) => Ok(shape),
+        None => Err(misuse(
             "`--shape` is `tables`, `tailcall` or `state_machine`, not",
             name,
         )),
-    }
-}
-
-/// Reads when messages have colors.
-fn read_color<'w>(given: Given<'w>, name: &'w str) -> Result<Given<'w>, Failure<'w>>
-    ensures given { IfOk result (λ next.
-        with_color (given_value given.entry) given.entry.color (color_named name.now)
-        ≡ Some (given_value next)) }
-    ensures misuse { IfErr result (λ failure.
-        (with_color (given_value given.entry) given.entry.color (color_named name.now) ≡ None)
-        × (status_of failure ≡ 2)) }
-{
-    match (given.color, color_by_name(name)) {
-        (Some(_), _) => Err(twice(OptionName::Color)),
-        (None, Some(color)) => Ok(Given {
-            color: Some(color),
-            ..given
-        }),
-        (None, None) => Err(misuse("`--color` is `always`, `never` or `auto`, not", name)),
-    }
-}
-
-/// Reads how messages are written.
-fn read_format<'w>(given: Given<'w>, name: &'w str) -> Result<Given<'w>, Failure<'w>>
-    ensures given { IfOk result (λ next.
-        with_format (given_value given.entry) given.entry.format (format_named name.now)
-        ≡ Some (given_value next)) }
-    ensures misuse { IfErr result (λ failure.
-        (with_format (given_value given.entry) given.entry.format (format_named name.now) ≡ None)
-        × (status_of failure ≡ 2)) }
-{
-    match (given.format, format_by_name(name)) {
-        (Some(_), _) => Err(twice(OptionName::MessageFormat)),
-        (None, Some(format)) => Ok(Given {
-            format: Some(format),
-            ..given
-        }),
-        (None, None) => Err(misuse("`--message-format` is `human` or `json`, not", name)),
     }
 }
 

@@ -4,13 +4,13 @@ ghost use Rattle.std.specs.Prelude.{◌≡◌, ◌≢◌, ◌≤◌, ◌++◌, �
 ghost use Rattle.logos_cli.specs.Views.{Appends, Keeps, status_of, message_of, Reads, asked, order_value, request_value, IsCarriedOut, IsDelivered, IsDenied, IsDeniedOrder, IsDone, IsApart, IsOwnOutput, IsSettled, IsExpanded, FailsBy, IsRefusedFor, IsOther};
 
 use crate::answering::run_derive;
+use crate::batch::run_batch;
 use crate::difference::{Compared, difference};
-use crate::expanding::{Expansion, expand};
-use crate::options::{Order, Request, TAKEN, request_of};
+use crate::options::{Order, Request, request_of};
 use logos_causes::Showing;
-use logos_host::{
-    ComparableFiles, Failure, Files, Standing, read_text, report, with_nearest, write_through,
-};
+use logos_expand::{Expansion, expand};
+use logos_host::{ComparableFiles, Failure, Files, Standing, read_text, report, write_through};
+use logos_options::{Program, with_nearest};
 use logos_report::Source;
 use std::alloc::{AllocError, Global};
 use std::io::{IsTerminal, Write};
@@ -18,13 +18,14 @@ use std::io::{IsTerminal, Write};
 pub(crate) const USAGE: &str = "\
 usage: logos_cli INPUT [-o FILE] [-c] [--shape tables|tailcall|state_machine]
                  [--color always|never|auto]
+       logos_cli INPUT.. -o FOLDER/ [-c] [--shape SHAPE] [--color WHEN]
        logos_cli --derive [--shape SHAPE] [--message-format human|json] -
 ";
 
 const HELP: &str = "\
 logos_cli: a Rust file with the derive of `Logos` expanded
 
-usage: logos_cli INPUT [OPTIONS]
+usage: logos_cli INPUT.. [OPTIONS]
 
 Prints the file INPUT with each enum that derives `Logos` replaced by the enum
 without what belongs to the derive, and by the implementation. All other text
@@ -32,7 +33,9 @@ stays as it is. INPUT may be `-`, which is standard input.
 
 options:
   -o, --output FILE  write to FILE, if its content is another
-  -c, --check        write nothing; status 1 if FILE is missing or differs
+               FOLDER/
+                     write the result of each INPUT to FOLDER, under its name
+  -c, --check        write nothing; status 1 if a file is missing or differs
       --shape SHAPE  tables: tables, and one loop over them (the default)
                      tailcall: a function for each state
                      state_machine: one loop over a state
@@ -98,8 +101,9 @@ pub(crate) fn run<F: ComparableFiles, O: Write, E: Write + IsTerminal>(
         Ok(Request::Help) => ended(print_bytes(HELP.as_bytes(), out), err),
         Ok(Request::Version) => ended(print_bytes(VERSION.as_bytes(), out), err),
         Ok(Request::Expand(order)) => run_order(alloc, order, files, out, err),
+        Ok(Request::ExpandEach(batch)) => run_batch(alloc, batch, files, out, err),
         Ok(Request::Derive(order)) => run_derive(alloc, order, files, out, err),
-        Err(failure) => failed(&with_nearest(failure, &TAKEN), err),
+        Err(failure) => failed(&with_nearest(failure, Program::Cli), err),
     }
 }
 
@@ -129,7 +133,7 @@ pub(crate) fn failed<E: Write>(failure: &Failure<'_>, err: &mut E) -> Ending
     }
 }
 
-/// Expands a file, and delivers the result.
+/// Expands a file, and delivers the result. The output is not the input.
 fn run_order<F: ComparableFiles, O: Write, E: Write + IsTerminal>(
     alloc: Global,
     order: Order<'_>,
@@ -155,6 +159,28 @@ fn run_order<F: ComparableFiles, O: Write, E: Write + IsTerminal>(
     if let Some(path) = own_output(order, files) {
         return failed(&Failure::OwnOutput(path), err);
     }
+    carry_out(alloc, order, files, out, err)
+}
+
+/// Expands a file, and delivers the result.
+pub(crate) fn carry_out<F: ComparableFiles, O: Write, E: Write + IsTerminal>(
+    alloc: Global,
+    order: Order<'_>,
+    files: &mut F,
+    out: &mut O,
+    err: &mut E,
+) -> Ending
+    ensures done { result.status ≡ 0 → IsCarriedOut F.read_gives F.write_makes F.compare_finds
+        (order_value order.entry) files.old files.new (O.contents out.old) (O.contents out.new) }
+    ensures denied { result.status ≡ 1 → (shown : List ℕ) × IsDeniedOrder F.read_gives F.write_makes
+        F.compare_finds (order_value order.entry) files.old files.new shown
+        × (IsTrue result.is_written → (front : List ℕ)
+        × Appends (E.contents err.old) (E.contents err.new) (front ++ shown)) }
+    ensures silent { result.status ≡ 1 → Keeps (O.contents out.old) (O.contents out.new) }
+    ensures messages { IsTrue result.is_written → (text : List ℕ)
+        × Appends (E.contents err.old) (E.contents err.new) text }
+    ensures known { (result.status ≤ 3) × (result.status ≢ 2) }
+{
     let is_colored = order.color.is_on(err.is_terminal());
     match expansion_of(alloc, order, is_colored, files) {
         Ok(expansion) => deliver_and_end(alloc, order, &expansion, files, out, err),
@@ -223,6 +249,8 @@ fn deliver_and_end<F: ComparableFiles, O: Write, E: Write>(
         expansion.now.bytes.items files.old files.new) × (IsTrue result.is_written → (front : List ℕ)
         × Appends (E.contents err.old) (E.contents err.new) (front ++ shown)) }
     ensures silent { result.status ≡ 1 → Keeps (O.contents out.old) (O.contents out.new) }
+    ensures messages { IsTrue result.is_written → (text : List ℕ)
+        × Appends (E.contents err.old) (E.contents err.new) text }
     ensures known { (result.status ≤ 3) × (result.status ≢ 2) }
 {
     let is_warned = warn(&expansion.warnings, err);

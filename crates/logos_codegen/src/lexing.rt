@@ -9,6 +9,7 @@ use logos_generator::generator::Config;
 use logos_generator::machine::{Action, Item, Lexer, NotUtf8};
 use logos_hir::leaf::LeafId;
 use logos_parser::refusal::Refusal;
+use logos_scan::items::items;
 use logos_token::error::Errors;
 use std::alloc::{AllocError, AllocFailed, Global};
 
@@ -75,7 +76,7 @@ fn lex_input<'i, C: Fn(LeafId, &[u8]) -> Action + Drop>(
     ensures err { IfErr result (IsUnlexed code.now input.now) }
 {
     let lexer = Lexer::new_bytes(code, input, callbacks)?;
-    Ok(lexer.items(alloc)?)
+    Ok(items(alloc, lexer)?)
 }
 
 /// Returns the items of an input, by the leaves of a source.

@@ -31,7 +31,7 @@ pub struct Named<'g, 's> {
 /// A machine that follows two graphs, and looks for inputs at whose beginning they find different
 /// things.
 #[derive(Clone, Copy)]
-struct Pair<'g> {
+struct GraphPair<'g> {
     one: &'g [&'g StateData],
     names: &'g [usize],
     other: &'g [&'g StateData],
@@ -64,7 +64,7 @@ fn one_leads(next: Option<usize>, twin: Option<usize>) -> bool
     (next.is_some() & !twin.is_some()) | (!next.is_some() & twin.is_some())
 }
 
-impl Pair<'_> {
+impl GraphPair<'_> {
     /// Returns what is known of the difference after one more step with these marks, where errors
     /// may part.
     fn differs_after(
@@ -86,7 +86,7 @@ impl Pair<'_> {
     }
 }
 
-impl Machine for Pair<'_> {
+impl Machine for GraphPair<'_> {
     ghost leads = { λ it. pair_next (shown it.one.now) (shown it.other.now) it.names.now it.others.now it.utf8 };
 
     ghost goal = { λ it. pair_goal (shown it.one.now) (shown it.other.now) it.names.now it.others.now it.utf8 };
@@ -143,7 +143,7 @@ pub fn compare(
     let states = states_of(alloc, one.graph)?;
     let twins = states_of(alloc, other.graph)?;
     let utf8 = one.graph.utf8_mode();
-    let machine = Pair {
+    let machine = GraphPair {
         one: &states,
         names: one.names,
         other: &twins,

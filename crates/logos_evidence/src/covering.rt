@@ -11,11 +11,11 @@ use std::alloc::{AllocError, Global};
 
 /// A machine that follows the edges of a graph.
 #[derive(Clone, Copy)]
-struct Edges<'g> {
+struct EdgeMachine<'g> {
     states: &'g [&'g StateData],
 }
 
-impl Machine for Edges<'_> {
+impl Machine for EdgeMachine<'_> {
     ghost leads = { λ it. edge_next (shown it.states.now) };
 
     ghost goal = { λ it. edge_goal (shown it.states.now) };
@@ -47,7 +47,7 @@ pub fn covering_inputs(alloc: Global, graph: &Graph<'_>) -> Result<Vec<Vec<u8>>,
         (map (λ v. v.items) inputs.items)) }
 {
     let states = states_of(alloc, graph)?;
-    let machine = Edges { states: &states };
+    let machine = EdgeMachine { states: &states };
     let inputs = covering(alloc, &machine, graph.utf8_mode(), point_from(0))?;
     Ok(inputs)
 }

@@ -14,6 +14,12 @@ use logos_walk::walk::{ENDED, TOKEN};
 /// The flag of an entry before whose byte a match ends that may be up to a callback.
 pub const CALLS: u32 = 1 << 29;
 
+/// How many entries a kind of the rows of a code has.
+const NAMED: u32 = 1 << 28;
+
+/// How many entries folded rows can have.
+pub(crate) const ENTRIES: usize = 1 << 20;
+
 /// How many leaves entries can name.
 const LEAVES_NAMED: usize = 512;
 
@@ -41,7 +47,7 @@ fn step_of(entry: u32) -> Step
 
 /// Returns the step of a match that ends before its byte, from the entry without its kind.
 fn before(named: u32, used: MatchUse) -> Step
-    requires { named < 268435456 }
+    requires { named < NAMED }
     ensures { IsStepOf (first_halting used + named) result }
 {
     if named < LATE {
@@ -104,8 +110,8 @@ fn flags(used: MatchUse) -> u32
 /// Returns the entry of a byte before which a match ends, and after which the next try stands at
 /// the offset.
 fn ended(leaf: LeafId, used: MatchUse, place: usize) -> u32
-    requires leaf { leaf.0 < 512 }
-    requires place { place < 1048576 }
+    requires leaf { leaf.0 < LEAVES_NAMED }
+    requires place { place < ENTRIES }
     ensures { IsEnded result leaf.0 used place }
 {
     flags(used) + LEAF * leaf.0 as u32 + place as u32

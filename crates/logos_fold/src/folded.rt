@@ -3,14 +3,11 @@
 ghost use Rattle.std.specs.Prelude.{◌≡◌, IfOk, IfSome, length};
 ghost use Rattle.logos_fold.specs.Words.{AreFolded, IsFew};
 
-use crate::entries::row_of;
+use crate::entries::{ENTRIES, row_of};
 use logos_code::code::Code;
 use logos_code::code::rows::WIDTH;
 use std::alloc::{AllocError, Global};
 use std::marker::Model;
-
-/// How many entries folded rows can have.
-const ENTRIES: usize = 1 << 20;
 
 /// A code with its folded rows. `rows` describes the entries.
 #[derive(Drop)]

@@ -11,7 +11,7 @@ mod states;
 mod value;
 
 pub use evidence::Telling;
-pub use logos_automaton::dfa::{Children, Dfa, Matches, StateId, States as DfaStates};
+pub use logos_automaton::dfa::{Children, Dfa, DfaStates, Matches, StateId};
 pub use logos_automaton::errors::{BuildError, GraphError};
 pub use logos_byte_class::byte_class::{ByteClass, Comparisons};
 use logos_hir::leaf::LeafId;

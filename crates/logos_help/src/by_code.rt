@@ -2,14 +2,16 @@
 //! `tests/lints/faults.py` compares them.
 
 use crate::by_sight::{
-    help_for_body, help_for_closure, help_for_empty, help_for_ignore, help_for_named,
-    help_for_nested, help_for_source,
+    help_for_body, help_for_closure, help_for_empty, help_for_ignore, help_for_literal,
+    help_for_name, help_for_named, help_for_nested, help_for_source, help_for_unknown,
 };
 use crate::for_pattern::{help_for_dot, help_for_kind};
 use crate::sight::Sight;
 use logos_token::error::{FaultCode, SpannedError};
 
 const TWICE: &str = "keep one of them";
+
+const DOUBLE: &str = "put it in double quotes, as in `\"..\"`";
 
 const NEST: &str = "nest less deep";
 
@@ -24,6 +26,9 @@ pub fn help_for(fault: &SpannedError, sight: Sight<'_>) -> Option<&'static str> 
         FaultCode::Regex => help_for_kind(fault.message.as_str(), sight),
         FaultCode::GreedyDot => help_for_dot(sight),
         FaultCode::InvalidNested => help_for_nested(sight),
+        FaultCode::UnknownLogos => help_for_unknown(sight),
+        FaultCode::LiteralSyntax => help_for_literal(sight),
+        FaultCode::UnknownNested => help_for_name(fault.message.as_str(), sight),
         FaultCode::SourceOld => help_for_source(sight),
         FaultCode::NamedExpected => help_for_named(sight),
         FaultCode::CallbackClosure => help_for_closure(sight),
@@ -37,7 +42,9 @@ pub fn help_for(fault: &SpannedError, sight: Sight<'_>) -> Option<&'static str> 
 
 /// Returns what to do about a source that is not made of tokens. Its message ends with the kind.
 fn help_for_lexical(message: &str, sight: Sight<'_>) -> &'static str {
-    if message.ends_with("BadCharacter") {
+    if sight.text.starts_with('\'') {
+        DOUBLE
+    } else if message.ends_with("BadCharacter") {
         "remove this character: no token of Rust begins with it"
     } else if message.ends_with("Unterminated") {
         "close the string or the comment that begins here"
@@ -94,9 +101,6 @@ fn help_for_type(code: FaultCode) -> &'static str {
 fn help_for_option(code: FaultCode) -> &'static str {
     match code {
         FaultCode::LogosForm => "write `#[logos(..)]`, or drop it",
-        FaultCode::UnknownLogos => {
-            "the options are `crate`, `error`, `export_dir`, `extras`, `skip`, `subpattern`, `type` and `utf8`"
-        }
         FaultCode::CrateForm => "write `crate = path::to::logos`",
         FaultCode::ErrorTwice => TWICE,
         FaultCode::ErrorEmpty => "write `error(SomeType)`, or `error(SomeType, callback)`",
@@ -121,14 +125,8 @@ fn help_for_argument(code: FaultCode) -> &'static str {
     match code {
         FaultCode::TokenForm => "write `#[token(\"..\")]`",
         FaultCode::RegexForm => "write `#[regex(\"..\")]`",
-        FaultCode::LiteralSyntax => {
-            "write a string or a byte string, as `\"..\"`, `r\"..\"` or `b\"..\"`"
-        }
-        FaultCode::NotText => "put it in quotes",
+        FaultCode::NotText => DOUBLE,
         FaultCode::UnexpectedToken => "remove it, or write the comma in front of it",
-        FaultCode::UnknownNested => {
-            "the arguments are `priority`, `callback`, `ignore` and `allow_greedy`"
-        }
         FaultCode::PriorityValue => {
             "write a whole number, as in `priority = 3`, without `_` and without a suffix"
         }

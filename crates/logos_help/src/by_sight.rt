@@ -10,6 +10,8 @@ pub(crate) fn help_for_nested(sight: Sight<'_>) -> &'static str {
         "remove it: one comma between options is enough"
     } else if text.contains('>') {
         "write an alias for a type with a comma in it: a comma cuts, also between `<` and `>`"
+    } else if has_colon(text) {
+        "write `=` for the `:`"
     } else if text == "skip" {
         "write the pattern after it, as in `skip \"..\"`"
     } else if text.ends_with('"') & !text.contains('=') {
@@ -19,6 +21,47 @@ pub(crate) fn help_for_nested(sight: Sight<'_>) -> &'static str {
     } else {
         "write an option with its value, as in `utf8 = false`"
     }
+}
+
+/// Returns whether a part of `logos(..)` other than a skip has a colon where `=` belongs.
+fn has_colon(text: &str) -> bool {
+    text.contains(':') & !text.contains("::") & !text.starts_with("skip")
+}
+
+/// Returns what to do where a literal is wanted and something else stands.
+pub(crate) fn help_for_literal(sight: Sight<'_>) -> &'static str {
+    if sight.text.contains("\" | ") {
+        "write an attribute for each of them"
+    } else {
+        "write a string or a byte string, as `\"..\"`, `r\"..\"` or `b\"..\"`"
+    }
+}
+
+/// Returns what to do about an argument that there is not, by the names that there are and by what
+/// follows it.
+pub(crate) fn help_for_name(message: &str, sight: Sight<'_>) -> &'static str {
+    if !message.contains("priority, ") {
+        "write `callback = ..`, or the callback alone"
+    } else if sight.after.starts_with('(') {
+        "name a function without calling it, as in `callback = parse`"
+    } else {
+        "the arguments are `priority`, `callback`, `ignore` and `allow_greedy`"
+    }
+}
+
+/// Returns what to do about an option that there is not, by its name.
+pub(crate) fn help_for_unknown(sight: Sight<'_>) -> &'static str {
+    if is_argument(sight.text) {
+        "write it in the parentheses of `skip(\"..\", ..)`"
+    } else {
+        "the options are `crate`, `error`, `export_dir`, `extras`, `skip`, `subpattern`, `type` and `utf8`"
+    }
+}
+
+/// Returns whether a name is that of an argument of a pattern.
+fn is_argument(name: &str) -> bool {
+    let is_value = (name == "priority") | (name == "callback") | (name == "allow_greedy");
+    is_value | (name == "ignore")
 }
 
 /// Returns what to do about the option `source`, by its value.

@@ -4,7 +4,7 @@
 use crate::sight::{Sight, between_quotes};
 
 /// The kinds of pattern faults, with what to do.
-const KINDS: [(&str, &str); 17] = [
+const KINDS: [(&str, &str); 14] = [
     (
         "Unclosed",
         "close it, or write `\\(`, `\\[` or `\\{` for the character",
@@ -12,7 +12,7 @@ const KINDS: [(&str, &str); 17] = [
     ("Unopened", "remove it, or write `\\)` for the character"),
     (
         "NothingToRepeat",
-        "write something in front of it, or `\\*` for the character",
+        "write something in front of it, or a backslash for the character, as in `\\*`",
     ),
     (
         "CountSyntax",
@@ -23,14 +23,6 @@ const KINDS: [(&str, &str); 17] = [
     (
         "FlagUnsupported",
         "drop the flag `x`, and write the pattern without blanks and comments",
-    ),
-    (
-        "FlagSyntax",
-        "write one of `i m s U u R`, as in `(?i)`, or `(?:..)` for a group",
-    ),
-    (
-        "EscapeUnknown",
-        "write the character alone or by its number, as in `\\x1B`; nothing refers back",
     ),
     (
         "HexSyntax",
@@ -54,10 +46,6 @@ const KINDS: [(&str, &str); 17] = [
     ),
     ("NotInBytes", "put it in `(?u:..)`, as in `(?u:\\pL)`"),
     (
-        "UnicodeWordBoundary",
-        "write `(?-u:\\b)`, the boundary of ASCII words",
-    ),
-    (
         "WordBoundaryForm",
         "write `(?-u:\\b)`, with the next character after it",
     ),
@@ -71,7 +59,87 @@ pub(crate) fn help_for_kind(message: &str, sight: Sight<'_>) -> &'static str {
             return row.1;
         }
     }
-    help_for_group(sight.text)
+    if message.ends_with("FlagSyntax") {
+        help_for_flag(sight.text)
+    } else if message.ends_with("EscapeUnknown") {
+        help_for_escape(sight.text)
+    } else if message.ends_with("UnicodeWordBoundary") {
+        help_for_boundary(between_quotes(sight.text))
+    } else {
+        help_for_group(sight.text)
+    }
+}
+
+/// Returns what to do about a group that does not begin with a flag, by its literal.
+fn help_for_flag(literal: &str) -> &'static str {
+    if literal.contains("(?P=") {
+        REFERENCE
+    } else if literal.contains("(?#") {
+        "leave the comment out"
+    } else {
+        "write one of `i m s U u R`, as in `(?i)`, or `(?:..)` for a group"
+    }
+}
+
+const REFERENCE: &str = "write again what may stand there: nothing refers back";
+
+/// The escapes of other languages of patterns, with what to do.
+const ESCAPES: [(&str, &str); 5] = [
+    ("\\k", REFERENCE),
+    ("\\h", "write `[ \\t]` for a blank"),
+    ("\\R", "write `\\r?\\n` for a line end"),
+    ("\\Z", "write `\\z` for the end of the input"),
+    (
+        "\\Q",
+        "write a backslash in front of each special character",
+    ),
+];
+
+/// Returns what to do about an escape that there is not, by its literal.
+fn help_for_escape(literal: &str) -> &'static str {
+    for row in &ESCAPES {
+        if literal.contains(row.0) {
+            return row.1;
+        }
+    }
+    if refers_back(literal) {
+        REFERENCE
+    } else {
+        "write the character alone or by its number, as in `\\x1B`"
+    }
+}
+
+/// Returns whether a literal has a backslash with one or two digits after it, as a pattern that
+/// refers back has. With more they are the number of a character.
+fn refers_back(literal: &str) -> bool {
+    for piece in literal.split('\\').skip(1) {
+        let count = digits_of(piece);
+        if ((count == 1) | (count == 2)) & !piece.starts_with('0') {
+            return true;
+        }
+    }
+    false
+}
+
+/// Returns how many digits a text begins with.
+fn digits_of(text: &str) -> usize {
+    let mut count: usize = 0;
+    for byte in text.bytes() {
+        if !byte.is_ascii_digit() {
+            return count;
+        }
+        count = count.saturating_add(1);
+    }
+    count
+}
+
+/// Returns what to do about a boundary of words, by its pattern.
+fn help_for_boundary(pattern: &str) -> &'static str {
+    if pattern.starts_with('\\') {
+        "leave it out: a match begins where the one before it ended"
+    } else {
+        "write `(?-u:\\b)`, the boundary of ASCII words"
+    }
 }
 
 /// Returns what to do about a group that is neither plain nor named.

@@ -2,6 +2,4 @@
 pub use Rattle.logos_host.specs.Words.{Appends}
 pub use Rattle.logos_host.specs.Failures.{status_of}
 pub use Rattle.logos_host.specs.Messages.{hint_line, message_of, misuse_line}
-pub use Rattle.logos_host.specs.Options.{option_named}
-pub use Rattle.logos_host.specs.WordSteps.{begins_option, split_at_equals, step, step_value, with_assigned, with_option, with_written}
 pub use Rattle.logos_host.specs.declared.failure.Failure.TheVariants.{Memory}

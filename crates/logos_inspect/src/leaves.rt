@@ -3,6 +3,7 @@
 ghost use Rattle.std.specs.Prelude.{◌≡◌, ◌↔◌, IsTrue, IfOk, Some, option_map, option_copied};
 ghost use Rattle.logos_inspect.specs.Views.{place_at, held, IsRowOf, IsTextAt, ShowsCallback, default_priority, held_priority, moved, variant_name};
 
+use crate::options::{LeafOptions, options_from};
 use logos_lines::LineIndex;
 use logos_pattern::leaf::{Callback, Leaf, VariantKind};
 use logos_pattern::pattern::Pattern;
@@ -19,6 +20,8 @@ pub struct LeafRow<'l> {
     pub is_token: bool,
     /// Its literal as it is written, with the quotes.
     pub pattern: &'l str,
+    /// The options of its definition.
+    pub options: LeafOptions,
     pub priority: usize,
     /// Whether the priority is the one that the leaf has when none is given.
     pub is_default: bool,
@@ -50,6 +53,7 @@ pub fn row_of<'l>(
         variant: variant_name(&leaf.kind),
         is_token: leaf.pattern.is_literal(),
         pattern: leaf.pattern.source(),
+        options: options_from(text, leaf.span.to),
         priority: leaf.priority,
         is_default,
         callback: callback_text(text, leaf.callback.as_ref()),

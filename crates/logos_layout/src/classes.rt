@@ -4,7 +4,7 @@ use logos_token::token::{Delimiter, Spacing};
 
 /// What a lexeme is to the lexemes beside it.
 #[derive(Clone, Copy, PartialEq, Eq)]
-pub(crate) enum Class {
+pub(crate) enum LexemeClass {
     /// No lexeme: the text begins.
     Start,
     /// A name that is declared, or one whose first letter is large and whose second one is small.
@@ -74,29 +74,29 @@ const KEYWORDS: [&str; 18] = [
 ];
 
 /// Returns the class of a name after a lexeme of the class `last`.
-pub(crate) fn class_of_name(name: &str, last: Class) -> Class {
+pub(crate) fn class_of_name(name: &str, last: LexemeClass) -> LexemeClass {
     match last {
-        Class::Sign(Role::Apostrophe) => Class::Lifetime,
-        Class::Declaring => Class::TypeName,
+        LexemeClass::Sign(Role::Apostrophe) => LexemeClass::Lifetime,
+        LexemeClass::Declaring => LexemeClass::TypeName,
         _ => class_of_word(name),
     }
 }
 
 /// Returns the class of a keyword or a name.
-fn class_of_word(name: &str) -> Class {
+fn class_of_word(name: &str) -> LexemeClass {
     if name == "else" {
-        return Class::Else;
+        return LexemeClass::Else;
     }
     if is_in(name, &DECLARING) {
-        return Class::Declaring;
+        return LexemeClass::Declaring;
     }
     if is_in(name, &KEYWORDS) {
-        return Class::Keyword;
+        return LexemeClass::Keyword;
     }
     if is_type_name(name.as_bytes()) {
-        return Class::TypeName;
+        return LexemeClass::TypeName;
     }
-    Class::Name
+    LexemeClass::Name
 }
 
 /// Returns whether a name is one of these words.
@@ -120,13 +120,13 @@ fn is_type_name(name: &[u8]) -> bool {
 
 /// A character of punctuation, and what is before it.
 #[derive(Clone, Copy)]
-pub(crate) struct Sign {
+pub(crate) struct Punctuation {
     /// The character.
     pub(crate) character: u8,
     /// Whether more punctuation follows directly.
     pub(crate) spacing: Spacing,
     /// The last lexeme.
-    pub(crate) last: Class,
+    pub(crate) last: LexemeClass,
     /// Whether that is punctuation without a gap after it.
     pub(crate) is_second: bool,
     /// Whether a list of types is open.
@@ -134,7 +134,7 @@ pub(crate) struct Sign {
 }
 
 /// Returns what a character of punctuation does.
-pub(crate) fn role_of(sign: Sign) -> Role {
+pub(crate) fn role_of(sign: Punctuation) -> Role {
     let last = sign.last;
     match sign.character {
         b',' => Role::Comma,
@@ -155,48 +155,53 @@ pub(crate) fn role_of(sign: Sign) -> Role {
 }
 
 /// Returns what a `:` does: the second of two ends the `::` of a path.
-fn colon_role(last: Class) -> Role {
+fn colon_role(last: LexemeClass) -> Role {
     match last {
-        Class::Sign(Role::Colon) => Role::PathMark,
+        LexemeClass::Sign(Role::Colon) => Role::PathMark,
         _ => Role::Colon,
     }
 }
 
 /// Returns what a `<` does: after the name of a type or the `::` of a path it opens a list of
 /// types, and where an operand can stand too.
-fn less_role(last: Class, is_second: bool) -> Role {
+fn less_role(last: LexemeClass, is_second: bool) -> Role {
     match last {
-        Class::TypeName | Class::Declaring | Class::Sign(Role::PathMark) => Role::OpensTypes,
+        LexemeClass::TypeName | LexemeClass::Declaring | LexemeClass::Sign(Role::PathMark) =>
+            Role::OpensTypes,
         _ if is_prefix(last, is_second) => Role::OpensTypes,
         _ => Role::Operator,
     }
 }
 
 /// Returns what a `>` does: it closes a list of types, unless it ends an arrow.
-fn greater_role(last: Class, has_types: bool) -> Role {
+fn greater_role(last: LexemeClass, has_types: bool) -> Role {
     match last {
-        Class::Sign(Role::Arrow) => Role::Operator,
+        LexemeClass::Sign(Role::Arrow) => Role::Operator,
         _ if has_types => Role::ClosesTypes,
         _ => Role::Operator,
     }
 }
 
 /// Returns whether a `!` ends the name of a macro: it is alone, and after a name.
-fn is_macro_mark(last: Class, spacing: Spacing) -> bool {
-    matches!(last, Class::Name | Class::TypeName) & matches!(spacing, Spacing::Alone)
+fn is_macro_mark(last: LexemeClass, spacing: Spacing) -> bool {
+    matches!(last, LexemeClass::Name | LexemeClass::TypeName) & matches!(spacing, Spacing::Alone)
 }
 
 /// Returns whether a character stands before an operand, and is not the second one of an operator.
-fn is_prefix(last: Class, is_second: bool) -> bool {
-    let is_operator = matches!(last, Class::Sign(Role::Operator | Role::Arrow));
+fn is_prefix(last: LexemeClass, is_second: bool) -> bool {
+    let is_operator = matches!(last, LexemeClass::Sign(Role::Operator | Role::Arrow));
     is_before_operand(last) & !(is_operator & is_second)
 }
 
 /// Returns whether an operand can follow a lexeme of this class.
-fn is_before_operand(last: Class) -> bool {
+fn is_before_operand(last: LexemeClass) -> bool {
     match last {
-        Class::Start | Class::Else | Class::Keyword | Class::Comment | Class::Opening(_) => true,
-        Class::Sign(role) => !matches!(
+        LexemeClass::Start
+        | LexemeClass::Else
+        | LexemeClass::Keyword
+        | LexemeClass::Comment
+        | LexemeClass::Opening(_) => true,
+        LexemeClass::Sign(role) => !matches!(
             role,
             Role::Question | Role::PathMark | Role::ClosesTypes | Role::MacroMark
         ),

@@ -20,8 +20,8 @@ pub struct Note {
 /// How a text is laid out, apart from its tokens.
 #[derive(Clone, Copy)]
 pub struct Setting<'n> {
-    /// How many blanks stand before each line.
-    pub margin: usize,
+    /// The blanks that stand before each line: spaces and tabs.
+    pub margin: &'n str,
     /// The comments that are put in, in the order of their offsets.
     pub notes: &'n [Note],
 }

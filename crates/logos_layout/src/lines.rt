@@ -8,7 +8,7 @@ const MAX_LINE: usize = 100;
 
 /// What stands before a word.
 #[derive(Clone, Copy)]
-pub(crate) enum Lead {
+pub(crate) enum WordLead {
     /// A blank, or a line end where the line would be too long, and then so many levels.
     Blank { depth: usize },
     /// A line end and so many levels, perhaps with an empty line before them.
@@ -19,33 +19,33 @@ pub(crate) enum Lead {
 
 /// Lines that are filled word by word. A word is lexemes without a blank between them.
 #[derive(Drop)]
-pub(crate) struct Lines {
+pub(crate) struct WordLines {
     /// The lines so far, without the last word.
     text: String,
-    /// How many blanks stand before each line.
-    margin: usize,
+    /// The blanks that stand before each line.
+    margin: String,
     /// How many bytes the last line has.
     column: usize,
     /// What stands before the last word.
-    lead: Lead,
+    lead: WordLead,
     /// The last word.
     word: String,
 }
 
-impl Lines {
-    /// Returns no lines. Before each one so many blanks will stand, and before the first one too.
-    pub(crate) fn new(alloc: Global, margin: usize) -> Lines {
-        Lines {
+impl WordLines {
+    /// Returns no lines. Before each one these blanks will stand, and before the first one too.
+    pub(crate) fn new(alloc: Global, margin: &str) -> Result<WordLines, Memory> {
+        Ok(WordLines {
             text: String::new(alloc),
-            margin,
+            margin: String::from_str(alloc, margin)?,
             column: 0,
-            lead: Lead::Nothing,
+            lead: WordLead::Nothing,
             word: String::new(alloc),
-        }
+        })
     }
 
     /// Begins a word.
-    pub(crate) fn begin(&mut self, lead: Lead) -> Result<(), Memory> {
+    pub(crate) fn begin(&mut self, lead: WordLead) -> Result<(), Memory> {
         self.put_word()?;
         self.lead = lead;
         Ok(())
@@ -81,10 +81,10 @@ impl Lines {
     /// Puts what stands before the word.
     fn put_lead(&mut self) -> Result<(), Memory> {
         match self.lead {
-            Lead::Nothing => self.put_margin(),
-            Lead::Blank { depth: _ } if self.has_room() => self.put_blank(),
-            Lead::Blank { depth } => self.put_line(depth),
-            Lead::Line { depth, is_apart } => {
+            WordLead::Nothing => self.put_margin(),
+            WordLead::Blank { depth: _ } if self.has_room() => self.put_blank(),
+            WordLead::Blank { depth } => self.put_line(depth),
+            WordLead::Line { depth, is_apart } => {
                 self.put_empty_line(is_apart)?;
                 self.put_line(depth)
             }
@@ -124,10 +124,8 @@ impl Lines {
 
     /// Puts the blanks that stand before each line.
     fn put_margin(&mut self) -> Result<(), Memory> {
-        for _ in 0..self.margin {
-            self.text.push(' ')?;
-        }
-        self.column = self.margin;
+        self.text.push_str(self.margin.as_str())?;
+        self.column = self.margin.len();
         Ok(())
     }
 }

@@ -1,8 +1,8 @@
 //! What the lexemes so far say of the next one.
 
 use crate::blanks::is_blank;
-use crate::classes::{Class, Role};
-use crate::lines::Lead;
+use crate::classes::{LexemeClass, Role};
+use crate::lines::WordLead;
 use logos_token::token::Delimiter;
 
 /// What the innermost open delimiter encloses.
@@ -33,7 +33,7 @@ pub(crate) enum Gap {
 
 /// What ends with the last lexeme.
 #[derive(Clone, Copy, PartialEq, Eq)]
-pub(crate) enum End {
+pub(crate) enum LastEnd {
     /// Nothing.
     Nothing,
     /// A line.
@@ -46,99 +46,103 @@ pub(crate) enum End {
 
 /// What the lexemes so far say of the next one.
 #[derive(Clone, Copy)]
-pub(crate) struct State {
+pub(crate) struct LayoutState {
     /// How many blocks are open.
     pub(crate) depth: usize,
     /// How many lists of types are open.
     pub(crate) types: usize,
     /// The last lexeme.
-    pub(crate) last: Class,
+    pub(crate) last: LexemeClass,
     /// The gap after it.
     pub(crate) gap: Gap,
     /// What ends with it.
-    pub(crate) end: End,
+    pub(crate) end: LastEnd,
     /// What the innermost open delimiter encloses.
     pub(crate) inner: Open,
 }
 
-impl State {
+impl LayoutState {
     /// Returns the state before the first lexeme.
-    pub(crate) fn new() -> State {
-        State {
+    pub(crate) fn new() -> LayoutState {
+        LayoutState {
             depth: 0,
             types: 0,
-            last: Class::Start,
+            last: LexemeClass::Start,
             gap: Gap::Nothing,
-            end: End::Nothing,
+            end: LastEnd::Nothing,
             inner: Open::Block,
         }
     }
 
     /// Returns what stands before the next lexeme, or `None` if it goes on with the word.
-    pub(crate) fn lead(self, next: Class) -> Option<Lead> {
-        if matches!(self.last, Class::Start) {
+    pub(crate) fn lead(self, next: LexemeClass) -> Option<WordLead> {
+        if matches!(self.last, LexemeClass::Start) {
             return None;
         }
         if self.is_line_before(next) {
-            return Some(Lead::Line {
+            return Some(WordLead::Line {
                 depth: self.depth_before(next),
                 is_apart: matches!(self.gap, Gap::EmptyLine),
             });
         }
         if is_blank(self.last, next, !matches!(self.gap, Gap::Nothing)) {
             let depth = self.depth.saturating_add(1);
-            return Some(Lead::Blank { depth });
+            return Some(WordLead::Blank { depth });
         }
         None
     }
 
     /// Returns whether the next lexeme begins a line.
-    fn is_line_before(self, next: Class) -> bool {
+    fn is_line_before(self, next: LexemeClass) -> bool {
         if closes_block(self.inner, next) {
             return true;
         }
         match self.end {
-            End::Nothing => matches!(self.gap, Gap::Line | Gap::EmptyLine),
-            End::Line => true,
-            End::Block => !goes_on(next),
-            End::Short => !matches!(self.inner, Open::Group) & !goes_on(next),
+            LastEnd::Nothing => matches!(self.gap, Gap::Line | Gap::EmptyLine),
+            LastEnd::Line => true,
+            LastEnd::Block => !goes_on(next),
+            LastEnd::Short => !matches!(self.inner, Open::Group) & !goes_on(next),
         }
     }
 
     /// Returns how many levels the line has that the next lexeme begins.
-    fn depth_before(self, next: Class) -> usize {
+    fn depth_before(self, next: LexemeClass) -> usize {
         if closes_block(self.inner, next) {
             return self.depth.saturating_sub(1);
         }
-        if matches!(next, Class::Closing(_)) {
+        if matches!(next, LexemeClass::Closing(_)) {
             return self.depth;
         }
-        if matches!(self.inner, Open::Group) | matches!(self.end, End::Nothing) {
+        if matches!(self.inner, Open::Group) | matches!(self.end, LastEnd::Nothing) {
             return self.depth.saturating_add(1);
         }
         self.depth
     }
 
     /// Returns the state after an opening delimiter, inside which this is open.
-    pub(crate) fn after_opening(self, delimiter: Delimiter, inner: Open) -> State {
+    pub(crate) fn after_opening(self, delimiter: Delimiter, inner: Open) -> LayoutState {
         let is_block = matches!(inner, Open::Block);
-        State {
+        LayoutState {
             depth: self.depth.saturating_add(usize::from(is_block)),
             types: types_inside(delimiter, self.types),
-            last: Class::Opening(delimiter),
+            last: LexemeClass::Opening(delimiter),
             gap: Gap::Nothing,
-            end: if is_block { End::Line } else { End::Nothing },
+            end: if is_block {
+                LastEnd::Line
+            } else {
+                LastEnd::Nothing
+            },
             inner,
         }
     }
 
     /// Returns the state after a closing delimiter, where this is what is open around it.
-    pub(crate) fn after_closing(self, delimiter: Delimiter, outer: Open) -> State {
+    pub(crate) fn after_closing(self, delimiter: Delimiter, outer: Open) -> LayoutState {
         let is_block = matches!(self.inner, Open::Block);
-        State {
+        LayoutState {
             depth: self.depth.saturating_sub(usize::from(is_block)),
             types: types_inside(delimiter, self.types),
-            last: Class::Closing(delimiter),
+            last: LexemeClass::Closing(delimiter),
             gap: Gap::Nothing,
             end: end_of(self.inner),
             inner: outer,
@@ -146,8 +150,8 @@ impl State {
     }
 
     /// Returns the state after a lexeme that is not a delimiter.
-    pub(crate) fn after(self, next: Class) -> State {
-        State {
+    pub(crate) fn after(self, next: LexemeClass) -> LayoutState {
+        LayoutState {
             types: types_after(next, self.types),
             last: next,
             gap: Gap::Nothing,
@@ -157,26 +161,30 @@ impl State {
     }
 
     /// Returns what ends with a lexeme that is not a delimiter.
-    fn end_at(self, next: Class) -> End {
+    fn end_at(self, next: LexemeClass) -> LastEnd {
         let ends = match next {
-            Class::Comment => true,
-            Class::Sign(Role::Semicolon) => matches!(self.inner, Open::Block | Open::Short),
-            Class::Sign(Role::Comma) => matches!(self.inner, Open::Block) & (self.types == 0),
+            LexemeClass::Comment => true,
+            LexemeClass::Sign(Role::Semicolon) => matches!(self.inner, Open::Block | Open::Short),
+            LexemeClass::Sign(Role::Comma) => matches!(self.inner, Open::Block) & (self.types == 0),
             _ => false,
         };
-        if ends { End::Line } else { End::Nothing }
+        if ends {
+            LastEnd::Line
+        } else {
+            LastEnd::Nothing
+        }
     }
 }
 
 /// Returns whether the lexeme closes the block that is open.
-fn closes_block(inner: Open, next: Class) -> bool {
-    matches!(inner, Open::Block) & matches!(next, Class::Closing(_))
+fn closes_block(inner: Open, next: LexemeClass) -> bool {
+    matches!(inner, Open::Block) & matches!(next, LexemeClass::Closing(_))
 }
 
 /// Returns whether a lexeme goes on with the line of closing braces.
-fn goes_on(next: Class) -> bool {
+fn goes_on(next: LexemeClass) -> bool {
     match next {
-        Class::Sign(role) => matches!(
+        LexemeClass::Sign(role) => matches!(
             role,
             Role::Comma
                 | Role::Semicolon
@@ -186,18 +194,18 @@ fn goes_on(next: Class) -> bool {
                 | Role::Operator
                 | Role::ClosesTypes
         ),
-        Class::Closing(_) | Class::Else => true,
+        LexemeClass::Closing(_) | LexemeClass::Else => true,
         _ => false,
     }
 }
 
 /// Returns what closing delimiters around this end.
-fn end_of(inner: Open) -> End {
+fn end_of(inner: Open) -> LastEnd {
     match inner {
-        Open::Block => End::Block,
-        Open::Short => End::Short,
-        Open::Attribute => End::Line,
-        Open::Group => End::Nothing,
+        Open::Block => LastEnd::Block,
+        Open::Short => LastEnd::Short,
+        Open::Attribute => LastEnd::Line,
+        Open::Group => LastEnd::Nothing,
     }
 }
 
@@ -210,22 +218,22 @@ fn types_inside(delimiter: Delimiter, types: usize) -> usize {
 }
 
 /// Returns how many lists of types are open after a lexeme.
-fn types_after(next: Class, types: usize) -> usize {
+fn types_after(next: LexemeClass, types: usize) -> usize {
     match next {
-        Class::Sign(Role::Semicolon) => 0,
-        Class::Sign(Role::OpensTypes) => types.saturating_add(1),
-        Class::Sign(Role::ClosesTypes) => types.saturating_sub(1),
+        LexemeClass::Sign(Role::Semicolon) => 0,
+        LexemeClass::Sign(Role::OpensTypes) => types.saturating_add(1),
+        LexemeClass::Sign(Role::ClosesTypes) => types.saturating_sub(1),
         _ => types,
     }
 }
 
 /// Returns what a delimiter opens after a lexeme of the class `last`, where these bytes follow it,
 /// and so many have room in the line.
-pub(crate) fn opened(last: Class, delimiter: Delimiter, ahead: &[u8], room: usize) -> Open {
+pub(crate) fn opened(last: LexemeClass, delimiter: Delimiter, ahead: &[u8], room: usize) -> Open {
     match delimiter {
         Delimiter::Brace if is_short(ahead, room) => Open::Short,
         Delimiter::Brace => Open::Block,
-        Delimiter::Bracket if matches!(last, Class::Sign(Role::Hash)) => Open::Attribute,
+        Delimiter::Bracket if matches!(last, LexemeClass::Sign(Role::Hash)) => Open::Attribute,
         _ => Open::Group,
     }
 }

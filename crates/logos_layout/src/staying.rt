@@ -6,7 +6,7 @@ use std::alloc::Global;
 
 /// What follows a group, and where the group around it ends.
 #[derive(Clone, Copy)]
-struct Outer<'t, 's> {
+struct Enclosing<'t, 's> {
     rest: Tokens<'t, 's>,
     to: usize,
 }
@@ -19,7 +19,7 @@ pub(crate) struct Staying<'t, 's> {
     /// The byte offset at which that group ends.
     to: usize,
     /// What follows it, and the groups around it, from the outermost on.
-    outer: Vec<Outer<'t, 's>>,
+    outer: Vec<Enclosing<'t, 's>>,
 }
 
 impl<'t, 's> Staying<'t, 's> {
@@ -51,7 +51,7 @@ impl<'t, 's> Staying<'t, 's> {
             self.rest = rest;
             return Ok(());
         };
-        self.outer.push(Outer { rest, to: self.to })?;
+        self.outer.push(Enclosing { rest, to: self.to })?;
         self.rest = group.run();
         self.to = group.span.to;
         Ok(())

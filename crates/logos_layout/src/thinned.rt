@@ -8,7 +8,7 @@ use std::alloc::Global;
 
 /// A text from which lexemes are left out, with the gaps around them.
 #[derive(Drop)]
-struct Rest {
+struct Thinned {
     text: String,
     /// The gap after it.
     gap: String,
@@ -28,7 +28,7 @@ pub(crate) fn text_without(
     source: &str,
     left: Tokens<'_, '_>,
 ) -> Result<String, Memory> {
-    let mut thinned = Rest::new(alloc);
+    let mut thinned = Thinned::new(alloc);
     let mut staying = Staying::new(alloc, left);
     let mut from = 0;
     while from < source.len() {
@@ -50,10 +50,10 @@ fn stays(staying: &mut Staying<'_, '_>, kind: Kind, span: Span) -> Result<bool, 
     }
 }
 
-impl Rest {
+impl Thinned {
     /// Returns an empty text.
-    fn new(alloc: Global) -> Rest {
-        Rest {
+    fn new(alloc: Global) -> Thinned {
+        Thinned {
             text: String::new(alloc),
             gap: String::new(alloc),
             has_line: false,

@@ -1,9 +1,9 @@
 //! Goes through the lexemes of a text and puts them into lines.
 
-use crate::classes::{Class, Role, Sign, class_of_name, role_of};
+use crate::classes::{LexemeClass, Punctuation, Role, class_of_name, role_of};
 use crate::laying::{Note, Setting};
-use crate::lines::Lines;
-use crate::state::{Gap, Open, State, opened};
+use crate::lines::WordLines;
+use crate::state::{Gap, LayoutState, Open, opened};
 use logos_lexeme::lexeme::{Kind, lexeme_at};
 use logos_token::error::Memory;
 use logos_token::token::{Delimiter, Spacing};
@@ -12,8 +12,8 @@ use std::alloc::Global;
 /// Lexemes that are put into lines.
 #[derive(Drop)]
 struct Layout {
-    lines: Lines,
-    state: State,
+    lines: WordLines,
+    state: LayoutState,
     /// What the open delimiters enclose, without the innermost one, from the outermost on.
     outer: Vec<Open>,
 }
@@ -21,8 +21,8 @@ struct Layout {
 /// Returns a text in lines, or as much of it as can be read into lexemes.
 pub(crate) fn lines_of(alloc: Global, text: &str, setting: Setting<'_>) -> Result<String, Memory> {
     let mut layout = Layout {
-        lines: Lines::new(alloc, setting.margin),
-        state: State::new(),
+        lines: WordLines::new(alloc, setting.margin)?,
+        state: LayoutState::new(),
         outer: Vec::new(alloc),
     };
     let mut notes = setting.notes;
@@ -45,11 +45,11 @@ impl Layout {
         match kind {
             Kind::Gap => self.add_gap(piece),
             Kind::Identifier => self.add(class_of_name(piece, last), piece),
-            Kind::Literal => self.add(Class::Literal, piece),
-            Kind::Doc => self.add(Class::Comment, piece),
+            Kind::Literal => self.add(LexemeClass::Literal, piece),
+            Kind::Doc => self.add(LexemeClass::Comment, piece),
             Kind::Punctuation(spacing) => {
                 let role = self.role(first_byte(piece), spacing);
-                self.add(Class::Sign(role), piece)
+                self.add(LexemeClass::Sign(role), piece)
             }
             Kind::Opening(delimiter) => self.open(delimiter, piece, ahead),
             Kind::Closing(delimiter) => self.close(delimiter, piece),
@@ -67,7 +67,7 @@ impl Layout {
             [note, rest @ ..] if note.offset <= from => {
                 let line = note.line;
                 let comment = format!(in alloc; "// line {line}")?;
-                self.add(Class::Comment, comment.as_str())?;
+                self.add(LexemeClass::Comment, comment.as_str())?;
                 Ok(rest)
             }
             _ => Ok(notes),
@@ -76,7 +76,7 @@ impl Layout {
 
     /// Returns what a character of punctuation does.
     fn role(&self, character: u8, spacing: Spacing) -> Role {
-        role_of(Sign {
+        role_of(Punctuation {
             character,
             spacing,
             last: self.state.last,
@@ -86,7 +86,7 @@ impl Layout {
     }
 
     /// Adds a lexeme that is not a delimiter.
-    fn add(&mut self, next: Class, lexeme: &str) -> Result<(), Memory> {
+    fn add(&mut self, next: LexemeClass, lexeme: &str) -> Result<(), Memory> {
         self.put(next, lexeme)?;
         self.state = self.state.after(next);
         Ok(())
@@ -95,7 +95,7 @@ impl Layout {
     /// Adds an opening delimiter.
     fn open(&mut self, delimiter: Delimiter, lexeme: &str, ahead: &[u8]) -> Result<(), Memory> {
         let last = self.state.last;
-        self.put(Class::Opening(delimiter), lexeme)?;
+        self.put(LexemeClass::Opening(delimiter), lexeme)?;
         let inner = opened(last, delimiter, ahead, self.lines.room());
         self.outer.push(self.state.inner)?;
         self.state = self.state.after_opening(delimiter, inner);
@@ -104,7 +104,7 @@ impl Layout {
 
     /// Adds a closing delimiter.
     fn close(&mut self, delimiter: Delimiter, lexeme: &str) -> Result<(), Memory> {
-        self.put(Class::Closing(delimiter), lexeme)?;
+        self.put(LexemeClass::Closing(delimiter), lexeme)?;
         let outer = match self.outer.pop() {
             Some(outer) => outer,
             None => Open::Block,
@@ -114,7 +114,7 @@ impl Layout {
     }
 
     /// Puts a lexeme into a line.
-    fn put(&mut self, next: Class, lexeme: &str) -> Result<(), Memory> {
+    fn put(&mut self, next: LexemeClass, lexeme: &str) -> Result<(), Memory> {
         if let Some(lead) = self.state.lead(next) {
             self.lines.begin(lead)?;
         }
@@ -124,7 +124,7 @@ impl Layout {
     /// Adds a gap: a comment, or white space.
     fn add_gap(&mut self, piece: &str) -> Result<(), Memory> {
         if first_byte(piece) == b'/' {
-            return self.add(Class::Comment, piece);
+            return self.add(LexemeClass::Comment, piece);
         }
         self.state.gap = gap_of(piece.as_bytes());
         Ok(())

@@ -1,5 +1,6 @@
 -- The offsets at which the lines of a text begin.
-use Rattle.std.specs.Prelude.{◌≡◌, ℕ, ◌+◌, ◌<◌, ◌⊎◌, List, length, get_or, take, drop, IsCharBoundary}
+use Rattle.std.specs.Prelude.{◌≡◌, ℕ, ◌+◌, ◌*◌, ◌<◌, ◌⊎◌, List, length, get_or, take, drop, IsCharBoundary}
+use Rattle.logos_lines.specs.declared.place.Position.{Position}
 use Rattle.logos_lines.specs.Places.{place_at, line_length}
 
 -- A line with this number begins here.
@@ -27,3 +28,8 @@ pub record IsLineOf (text : List ℕ) (line : ℕ) (shown : List ℕ) : Type 0 w
   pub from : ℕ
   pub start : IsStart text line from
   pub shows : shown ≡ take (line_length (drop from text)) (drop from text)
+
+-- These are the positions of the offsets 0, 256, 512 .. of the text, up to its end.
+pub record AreStops (text : List ℕ) (stops : List Position) : Type 0 where
+  pub whole : length text < length stops * 256
+  pub each : (k : ℕ) (other : Position) → k < length stops → get_or stops k other ≡ place_at text (k * 256)

@@ -1,8 +1,8 @@
 //! A position in a text that moves forward. A table whose rows ascend moves one cursor in place of
 //! a search for each row.
 
-ghost use Rattle.std.specs.Prelude.{◌≡◌, max, min, length};
-ghost use Rattle.logos_lines.specs.Views.{place_at, IsStart};
+ghost use Rattle.std.specs.Prelude.{◌≡◌, ◌≤◌, max, min, length};
+ghost use Rattle.logos_lines.specs.Views.{place_at};
 
 use crate::place::Position;
 use std::marker::Model;
@@ -41,15 +41,16 @@ impl<'t> Cursor<'t> {
         }
     }
 
-    /// Returns a cursor at the start of a line, by its offset and its number.
-    pub(crate) fn at_line(bytes: &'t [u8], offset: usize, line: usize) -> Cursor<'t>
-        requires { IsStart bytes.now line offset }
+    /// Returns a cursor at an offset of a text that has this position.
+    pub(crate) fn at(bytes: &'t [u8], offset: usize, position: Position) -> Cursor<'t>
+        requires inside { offset ≤ length bytes.now }
+        requires place { position ≡ place_at bytes.now offset }
         ensures { result ≡ record { text = bytes.now; at = offset } }
     {
         Cursor {
             bytes,
             offset,
-            position: Position { line, column: 1 },
+            position,
         }
     }
 

@@ -1,31 +1,38 @@
 //! The lines of a text. Reports and tables make one for each file that they show.
 
-ghost use Rattle.std.specs.Prelude.{◌≡◌, ◌<◌, ◌≤◌, ◌+◌, ◌^◌, ◌∷◌, [], ℕ, List, Some, None, IfOk, IfSome, MatchOption, OnOk, IsCharBoundary, ◌++◌, ◌==◌, if◌then◌else◌, length, drop, slice_index};
-ghost use Rattle.logos_lines.specs.Views.{place_at, ends_line, line_length, ends_search, next_column, AreStarts, IsLineOf, IsNoLine, IsStart};
+ghost use Rattle.std.specs.Prelude.{◌≡◌, ◌<◌, ◌≤◌, ◌+◌, ◌^◌, ◌∷◌, [], ℕ, List, Some, None, IfOk, IfSome, MatchOption, OnOk, IsCharBoundary, ◌++◌, ◌==◌, if◌then◌else◌, length, drop};
+ghost use Rattle.logos_lines.specs.Views.{place_at, ends_line, line_length, ends_search, next_column, AreStarts, AreStops, IsLineOf, IsNoLine, IsStart};
 
 use crate::cursor::Cursor;
 use crate::place::{Position, continues};
 use std::alloc::{AllocError, Global};
 use std::marker::Model;
 
+/// How many bytes lie from one stop to the next.
+const STEP: usize = 256;
+
 /// A text with the offsets at which its lines begin. A line ends in LF or CR LF.
 ///
-/// Offsets count bytes from 0, lines count from 1, and columns count characters from 1.
+/// Offsets count bytes from 0, lines count from 1, and columns count characters from 1. The
+/// position of an offset is found in the same time wherever it is, also in a text of one long line.
 #[derive(Drop)]
 pub struct LineIndex<'t> {
     text: &'t str,
     starts: Vec<usize>,
+    /// The positions of the offsets 0, 256, 512 .. of the text.
+    stops: Vec<Position>,
 }
 
 impl<'t> Model for LineIndex<'t> {
     ghost use Rattle.std.specs.Prelude.{ℕ, List, IsUtf8};
-    ghost use Rattle.logos_lines.specs.Views.{AreStarts};
+    ghost use Rattle.logos_lines.specs.Views.{AreStarts, AreStops};
 
     ghost Value = { List ℕ };
 
     ghost view = { λ index. index.text.now };
 
-    ghost invariant = { λ index. AreStarts index.text.now index.starts.items };
+    ghost invariant = { λ index. AreStarts index.text.now index.starts.items
+        × AreStops index.text.now index.stops.items };
 }
 
 impl<'t> LineIndex<'t> {
@@ -38,7 +45,12 @@ impl<'t> LineIndex<'t> {
         ensures { IfOk result (λ index. index ≡ text.now) }
     {
         let starts = line_starts(alloc, text)?;
-        Ok(LineIndex { text, starts })
+        let stops = stops_of(alloc, text.as_bytes())?;
+        Ok(LineIndex {
+            text,
+            starts,
+            stops,
+        })
     }
 
     /// Returns the line and the column of an offset. An offset past the end of the text has those
@@ -46,8 +58,9 @@ impl<'t> LineIndex<'t> {
     pub fn line_column(&self, offset: usize) -> Position
         ensures { result ≡ place_at self.now offset }
     {
-        let last = last_start(&self.starts, offset);
-        let mut cursor = Cursor::at_line(self.text.as_bytes(), self.starts[last], last + 1);
+        let bytes = self.text.as_bytes();
+        let stop = offset.min(bytes.len()) / STEP;
+        let mut cursor = Cursor::at(bytes, stop * STEP, self.stops[stop]);
         cursor.go_to(offset);
         cursor.position()
     }
@@ -72,6 +85,16 @@ impl<'t> LineIndex<'t> {
     {
         let start = self.start_of(line)?;
         let end = line_end(self.text, start);
+        Some(&self.text[start..end])
+    }
+
+    /// Returns the text of a line without LF or CR LF, if it has no more than `most` bytes. It
+    /// looks at no more than these.
+    pub fn short_line(&self, line: usize, most: usize) -> Option<&'t str>
+        ensures { IfSome result (λ text. IsLineOf self.now line text.now) }
+    {
+        let start = self.start_of(line)?;
+        let end = near_end(self.text, start, most)?;
         Some(&self.text[start..end])
     }
 
@@ -109,25 +132,17 @@ fn push_start(starts: &mut Vec<usize>, at: usize, byte: u8) -> Result<(), AllocE
     Ok(())
 }
 
-/// Returns the index of an offset in `starts` that is at most `offset`: of the last one, if they
-/// are in order.
-fn last_start(starts: &[usize], offset: usize) -> usize
-    requires some { 0 < length starts.now }
-    requires first { slice_index starts.now 0 ≡ 0 }
-    ensures inside { result < length starts.now }
-    ensures before { slice_index starts.now result ≤ offset }
+/// Returns the positions of the offsets 0, 256, 512 .. of a text.
+fn stops_of(alloc: Global, bytes: &[u8]) -> Result<Vec<Position>, AllocError>
+    ensures { IfOk result (λ stops. AreStops bytes.now stops.items) }
 {
-    let mut low = 0;
-    let mut high = starts.len();
-    while high - low > 1 {
-        let middle = low + (high - low) / 2;
-        if starts[middle] <= offset {
-            low = middle;
-        } else {
-            high = middle;
-        }
+    let mut cursor = Cursor::new(bytes);
+    let mut stops = Vec::new(alloc);
+    for stop in 0..bytes.len() / STEP + 1 {
+        cursor.go_to(stop * STEP);
+        stops.push(cursor.position())?;
     }
-    low
+    Ok(stops)
 }
 
 /// Returns whether the search for a column ends before a character that begins with this byte.
@@ -188,4 +203,23 @@ fn line_end(text: &str, start: usize) -> usize
         end += 1;
     }
     end
+}
+
+/// Returns the offset at which the text of a line ends, by the offset at which it begins, if it has
+/// no more than `most` bytes.
+fn near_end(text: &str, start: usize, most: usize) -> Option<usize>
+    requires { start ≤ length text.now }
+    ensures value { IfSome result (λ end. end ≡ start + line_length (drop start text.now)) }
+    ensures after { IfSome result (λ end. start ≤ end) }
+    ensures boundary { IfSome result (λ end. IsCharBoundary text.now end) }
+{
+    let bytes = text.as_bytes();
+    let mut end = start;
+    while end < bytes.len() && !ends_line(bytes, end) {
+        if end - start >= most {
+            return None;
+        }
+        end += 1;
+    }
+    Some(end)
 }

@@ -6,7 +6,7 @@ ghost use Rattle.logos_machine.specs.Views.{IsValidUpTo, asks_for, token, error,
 mod attempt;
 mod fast_loop;
 mod part;
-mod walk;
+pub mod walk;
 
 pub use logos_code::action::Action;
 use logos_code::code::Code;
@@ -202,6 +202,27 @@ impl<'c, 's, 'i, C: Fn(LeafId, &[u8]) -> Action> Lexer<'c, 's, 'i, C> {
         &self.input[self.to..]
     }
 
+    /// Returns the code.
+    pub fn code(&self) -> &'c Code<'s>
+        ensures { result.now ≡ self.now.code }
+    {
+        self.code
+    }
+
+    /// Returns the whole input.
+    pub fn input(&self) -> &'i [u8]
+        ensures { result.now ≡ self.now.input }
+    {
+        self.input
+    }
+
+    /// Returns the callback.
+    pub fn callback(&self) -> &C
+        ensures { result.now ≡ self.now.callback }
+    {
+        &self.callback
+    }
+
     /// Returns how many states the last try entered, 0 before the first.
     pub fn steps(&self) -> usize
         ensures { result ≡ self.now.steps }
@@ -230,7 +251,7 @@ fn check_utf8(input: &[u8]) -> Result<(), NotUtf8>
 
 /// Returns the token of a match.
 #[inline(always)]
-fn token<'i>(input: &'i [u8], leaf: LeafId, span: Span) -> Item<'i>
+pub fn token<'i>(input: &'i [u8], leaf: LeafId, span: Span) -> Item<'i>
     requires order { span.from ≤ span.to }
     requires within { span.to ≤ length input.now }
     ensures { item_of result ≡ token leaf.0 span.from span.to
@@ -244,7 +265,7 @@ fn token<'i>(input: &'i [u8], leaf: LeafId, span: Span) -> Item<'i>
 }
 
 /// Returns the error of bytes that no leaf matches.
-fn error<'i>(input: &'i [u8], span: Span) -> Item<'i>
+pub fn error<'i>(input: &'i [u8], span: Span) -> Item<'i>
     requires order { span.from ≤ span.to }
     requires within { span.to ≤ length input.now }
     ensures { item_of result ≡ error None span.from span.to
@@ -259,7 +280,7 @@ fn error<'i>(input: &'i [u8], span: Span) -> Item<'i>
 
 /// Returns the item of a match, if it is not skipped.
 #[inline(always)]
-fn matched_item<'i, C: Fn(LeafId, &[u8]) -> Action>(
+pub fn matched_item<'i, C: Fn(LeafId, &[u8]) -> Action>(
     code: &Code,
     input: &'i [u8],
     callback: &C,

@@ -12,7 +12,7 @@ use Rattle.logos_messages.specs.Lines.{AreQuiet, Finishes, Gains, IsLine, LineVa
 use Rattle.logos_messages.specs.Shown.{AreLines, Marked, Note}
 use Rattle.logos_messages.specs.Tokens.{list_member, marked_tokens, note_tokens}
 use Rattle.logos_messages.specs.Growing.{GivesLines, GivesNotes}
-use Rattle.logos_report.specs.Places.{IsShownLine}
+use Rattle.logos_lines.specs.Starts.{IsLineOf}
 
 quiet_both : (one other : List Token) → AreQuiet one → AreQuiet other → AreQuiet (one ++ other)
 quiet_both [] other a b = b
@@ -54,7 +54,7 @@ lines_then {text} {old} {middle} {new} a b = record {
 }
 
 -- One line.
-pub one_line : {text shown : List ℕ} (number from to : ℕ) {old new : LineValue} → IsShownLine text number shown → Gains (marked_tokens (record { text = shown; from = from; to = to })) old new → GivesLines text old new
+pub one_line : {text shown : List ℕ} (number from to : ℕ) {old new : LineValue} → IsLineOf text number shown → Gains (marked_tokens (record { text = shown; from = from; to = to })) old new → GivesLines text old new
 one_line {text} {shown} number from to is g =
     let line : Marked = record { text = shown; from = from; to = to } in
     record { lines = line ∷ []; are = ((number, is), tt); gained = one_item marked_tokens line g }

@@ -1,6 +1,7 @@
 -- What is shown of a fault beside itself.
 use Rattle.std.specs.Prelude.{ℕ, List, [], ◌∷◌, Option, IfSome, false}
-use Rattle.logos_report.specs.Places.{IsShownLine, SourceValue}
+use Rattle.logos_lines.specs.Starts.{IsLineOf}
+use Rattle.logos_report.specs.Places.{SourceValue}
 use Rattle.logos_report.specs.Pages.{StandInOrder}
 use Rattle.logos_report.specs.Faults.{fault_texts}
 use Rattle.logos_token.specs.Faults.{Fault}
@@ -27,7 +28,7 @@ pub record Shown : Type 0 where
 -- These are lines of a file.
 abbrev pub AreLines : List ℕ → List Marked → Type 0
 AreLines text [] = Unit {0}
-AreLines text (line ∷ lines) = ((number : ℕ) × IsShownLine text number line.text) × AreLines text lines
+AreLines text (line ∷ lines) = ((number : ℕ) × IsLineOf text number line.text) × AreLines text lines
 
 -- This may be shown of a fault of the part of a file that begins at an offset: the lines are lines
 -- of the file, and the report has the line of the fault and the one that names its position.

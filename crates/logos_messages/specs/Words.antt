@@ -2,7 +2,6 @@
 pub use Rattle.json.specs.Token.{begin_array, begin_object, boolean, end_array, end_object, key, null, number, string}
 pub use Rattle.logos_report.specs.Faults.{fault_texts}
 pub use Rattle.logos_report.specs.Pages.{StandInOrder}
-pub use Rattle.logos_report.specs.Places.{IsShownLine}
 pub use Rattle.logos_report.specs.Warnings.{shown_of, warning_texts}
 pub use Rattle.logos_token.specs.FaultNames.{name_of}
 pub use Rattle.logos_token.specs.FaultView.{fault_of, faults_of}

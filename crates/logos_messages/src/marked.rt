@@ -1,7 +1,7 @@
 //! Lines of a file, and the columns of a span in them.
 
 ghost use Rattle.std.specs.Prelude.{◌≡◌, [], ◌∷◌};
-ghost use Rattle.logos_messages.specs.Words.{IsShownLine, Gains, GivesLineList, GivesLines, marked_tokens};
+ghost use Rattle.logos_messages.specs.Words.{Gains, GivesLineList, GivesLines, marked_tokens};
 
 use crate::line::Line;
 use logos_lines::Position;
@@ -46,8 +46,7 @@ fn push_each_line(line: &mut Line, source: &Source<'_>, reach: Reach)
 fn push_line(line: &mut Line, source: &Source<'_>, reach: Reach, number: usize)
     ensures { GivesLines source.now.text line.old line.new }
 {
-    let text = source.line(number);
-    if text.len() <= LONG {
+    if let Some(text) = source.short_line(number, LONG) {
         push_marked(
             line,
             text,

@@ -154,5 +154,6 @@ pub(crate) fn has_long_line(part: Part<'_, '_>, span: Span) -> bool {
 
 /// Returns whether the line of an offset is long.
 fn is_long(part: Part<'_, '_>, offset: usize) -> bool {
-    part.source.line(part.position(offset).line).len() > LONG
+    let line = part.position(offset).line;
+    part.source.short_line(line, LONG).is_none()
 }

@@ -1,3 +1,4 @@
+pub mod AlikeLemmas
 pub mod CharStepLemmas
 pub mod JumpLemmas
 pub mod LookLemmas

@@ -1,4 +1,5 @@
 pub mod Joined
+pub mod Repeated
 pub mod Stepped
 pub mod Characters
 pub mod Ranges

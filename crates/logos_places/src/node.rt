@@ -1,10 +1,10 @@
 //! Trees, prepared for the automaton. `prepare` makes them, and steps read them.
 
-ghost use Rattle.std.specs.Prelude.{◌≡◌, ◌+◌, ◌*◌, ◌^◌, ◌<◌, IsTrue};
+ghost use Rattle.std.specs.Prelude.{◌≡◌, ◌+◌, ◌*◌, ◌^◌, ◌<◌, ◌≤◌, ◌-◌, IsTrue};
 ghost use Rattle.logos_places.specs.Views.{count_of, core_of, is_measured};
 ghost use Rattle.logos_places.specs.Core as core;
 
-use crate::characters::reader::Table;
+use crate::characters::reader::CharacterTable;
 use logos_hir::hir::{Look, Range};
 
 /// A tree whose parts and branches are in pairs, with their numbers of places.
@@ -19,7 +19,7 @@ pub enum Node {
     /// One byte of these ranges.
     Bytes(Vec<Range>),
     /// One character of a class.
-    Characters(Table),
+    Characters(CharacterTable),
     /// A look: a condition on a position in the input.
     Look(Look),
     /// One tree after the other.
@@ -80,21 +80,21 @@ pub fn width(node: &Node) -> usize
 
 /// Where a tree stands in a step: at which place its own begin, and whether it is entered.
 #[derive(Clone, Copy)]
-pub(crate) struct Spot {
+pub struct TreeSpot {
     /// The first place of the tree.
     pub base: usize,
     /// Whether a match of the tree begins at the position of the step.
     pub entered: bool,
 }
 
-impl Spot {
+impl TreeSpot {
     /// Returns the spot after the next `width` places.
-    pub fn after(self, width: usize, entered: bool) -> Spot
+    pub fn after(self, width: usize, entered: bool) -> TreeSpot
         requires { self.base + width < 2 ^ 64 }
         ensures base { result.base ≡ self.base + width }
         ensures entered { result.entered ≡ entered }
     {
-        Spot {
+        TreeSpot {
             base: self.base + width,
             entered,
         }
@@ -103,7 +103,7 @@ impl Spot {
 
 /// Copies of the body of a repetition, one after another.
 #[derive(Clone, Copy)]
-pub(crate) struct Copies {
+pub struct Copies {
     /// The first place of the first copy.
     pub base: usize,
     /// The number of places of each copy.
@@ -116,7 +116,7 @@ pub(crate) struct Copies {
 
 impl Copies {
     /// Returns `count` copies of a body with `each` places, the first of which stands at `spot`.
-    pub fn new(spot: Spot, each: usize, count: usize) -> Copies
+    pub fn new(spot: TreeSpot, each: usize, count: usize) -> Copies
         ensures base { result.base ≡ spot.base }
         ensures entered { result.entered ≡ spot.entered }
         ensures each { result.each ≡ each }
@@ -130,13 +130,30 @@ impl Copies {
         }
     }
 
+    /// Returns the copies from this number on. `entered` says whether the first one is entered.
+    pub fn from(self, number: usize, entered: bool) -> Copies
+        requires fits { self.base + self.each * number < 2 ^ 64 }
+        requires within { number ≤ self.count }
+        ensures base { result.base ≡ self.base + self.each * number }
+        ensures each { result.each ≡ self.each }
+        ensures count { result.count ≡ self.count - number }
+        ensures entered { result.entered ≡ entered }
+    {
+        Copies {
+            base: self.base + self.each * number,
+            each: self.each,
+            count: self.count - number,
+            entered,
+        }
+    }
+
     /// Returns the spot of the copy with this number.
-    pub fn at(self, number: usize, entered: bool) -> Spot
+    pub fn at(self, number: usize, entered: bool) -> TreeSpot
         requires { self.base + self.each * number < 2 ^ 64 }
         ensures base { result.base ≡ self.base + self.each * number }
         ensures entered { result.entered ≡ entered }
     {
-        Spot {
+        TreeSpot {
             base: self.base + self.each * number,
             entered,
         }

@@ -3,6 +3,6 @@
 pub mod all;
 pub(crate) mod exits;
 pub mod look;
-pub(crate) mod set;
+pub mod set;
 pub mod step;
 pub mod tree;

@@ -2,6 +2,6 @@
 
 #![tactic(auto)]
 
-mod options;
+mod questions;
 
-pub use options::{Order, Question, Request, STANDARD_INPUT, TAKEN, request_of};
+pub use questions::{Order, Question, Request, request_of};

@@ -12,7 +12,7 @@ use std::alloc::{AllocError, Global};
 
 /// An offset of an input, from which leaves match, and the leaf whose match a lexer takes.
 #[derive(Clone, Copy)]
-struct Start<'a, 's> {
+struct StartRecord<'a, 's> {
     leaves: &'a [Leaf<'s>],
     input: &'a [u8],
     from: usize,
@@ -61,7 +61,7 @@ fn push_match_records(
         return Ok(());
     };
     let longest = longest_of(alloc, graph.leaves().len(), &matches)?;
-    let start = Start {
+    let start = StartRecord {
         leaves: graph.leaves(),
         input,
         from,
@@ -72,7 +72,7 @@ fn push_match_records(
 }
 
 /// Appends the objects of the leaves that match.
-fn push_each(lines: &mut JsonLines, start: Start<'_, '_>, longest: &[Option<Match>])
+fn push_each(lines: &mut JsonLines, start: StartRecord<'_, '_>, longest: &[Option<Match>])
     ensures { Puts (flat_map (match_lines start.entry.leaves.now start.entry.input.now
         start.entry.from start.entry.winner) longest.now) lines.old lines.new }
 {
@@ -82,7 +82,7 @@ fn push_each(lines: &mut JsonLines, start: Start<'_, '_>, longest: &[Option<Matc
 }
 
 /// Appends the object of a leaf, if it matches.
-fn push_found(lines: &mut JsonLines, start: Start<'_, '_>, found: Option<Match>)
+fn push_found(lines: &mut JsonLines, start: StartRecord<'_, '_>, found: Option<Match>)
     ensures { Puts (match_lines start.entry.leaves.now start.entry.input.now start.entry.from
         start.entry.winner found) lines.old lines.new }
 {
@@ -93,7 +93,7 @@ fn push_found(lines: &mut JsonLines, start: Start<'_, '_>, found: Option<Match>)
 }
 
 /// Appends the object of a match.
-fn push_match(lines: &mut JsonLines, start: Start<'_, '_>, found: Match)
+fn push_match(lines: &mut JsonLines, start: StartRecord<'_, '_>, found: Match)
     ensures { Puts (match_lines start.entry.leaves.now start.entry.input.now start.entry.from
         start.entry.winner (Some found)) lines.old lines.new }
 {
@@ -114,7 +114,7 @@ pub(crate) fn push_leaf_members(lines: &mut JsonLines, leaves: &[Leaf<'_>], leaf
 }
 
 /// Appends how far a match goes, its text, and whether a lexer takes it.
-fn push_end(lines: &mut JsonLines, start: Start<'_, '_>, found: Match)
+fn push_end(lines: &mut JsonLines, start: StartRecord<'_, '_>, found: Match)
     ensures { Gains (end_members start.entry.input.now start.entry.from start.entry.winner found)
         lines.old lines.new }
 {

@@ -3,6 +3,7 @@ pub mod Order
 pub mod Prune
 pub mod Lists
 pub mod Merge
+pub mod Refinements
 pub mod Count
 pub mod Classes
 pub mod Evidence

@@ -1,9 +1,10 @@
 -- The faults of a file, one after another.
-use Rattle.std.proofs.Common.{◌≡◌, Bool, ◌≤◌, ◌<◌, ◌+◌, ℕ, suc, List, [], ◌∷◌, ◌++◌, length, get_or, drop, take, refl, sym, ap, ◌∙◌, arith, subst}
+use Rattle.std.proofs.Common.{◌≡◌, Bool, ◌≤◌, ◌<◌, ◌+◌, ℕ, suc, List, [], ◌∷◌, ◌++◌, length, get_or, drop, take, refl, sym, ap, ◌∙◌, append_assoc, arith, subst}
 use Rattle.std.proofs.Math.Seq.{drop-cons}
 use Rattle.std.proofs.lemmas.List.{map_more}
 use Rattle.std.proofs.Math.ListN.{drop_of_length-le}
 use Rattle.logos_token.specs.declared.error.SpannedError.{SpannedError}
+use Rattle.logos_token.specs.Faults.{Fault}
 use Rattle.logos_token.specs.FaultView.{fault_of, faults_of}
 use Rattle.logos_report.specs.Faults.{counted_texts, texts_after}
 use Rattle.logos_report.specs.Pages.{PageValue, Shows}
@@ -18,25 +19,26 @@ next_left faults i d l =
     let k : suc i ≡ i + 1 = omega arith in
     drop-cons faults i d l ∙ ap (λ n. get_or faults i d ∷ drop n faults) k
 
--- those in front with the next one
-pub next_front : (faults : List SpannedError) (i : ℕ) (d : SpannedError) → i < length faults → faults_of (take (i + 1) faults) ≡ faults_of (take i faults) ++ fault_of (get_or faults i d) ∷ []
-next_front faults i d l = map_more fault_of faults i d l
+-- those in front with the next one, where `earlier` stand before all of them
+pub next_front : (earlier : List Fault) (faults : List SpannedError) (i : ℕ) (d : SpannedError) → i < length faults →
+    earlier ++ faults_of (take (i + 1) faults) ≡ (earlier ++ faults_of (take i faults)) ++ fault_of (get_or faults i d) ∷ []
+next_front earlier faults i d l = ap (λ list. earlier ++ list) (map_more fault_of faults i d l) ∙ sym (append_assoc earlier (faults_of (take i faults)) (fault_of (get_or faults i d) ∷ []))
 
 -- the next fault, and those after it
-pub next_shown : (is_colored : Bool) (source : SourceValue) (begin : ℕ) (faults : List SpannedError) (i : ℕ) (d : SpannedError) (turn : TurnValue) (old middle new : PageValue) → i < length faults →
-    Shows (counted_texts is_colored source begin (faults_of faults) (faults_of (take i faults)) turn (fault_of (get_or faults i d))) old middle →
-    Shows (texts_after is_colored source begin (faults_of faults) (faults_of (take (i + 1) faults)) (turn_after turn (fault_of (get_or faults i d))) (faults_of (drop (i + 1) faults))) middle new →
-    Shows (texts_after is_colored source begin (faults_of faults) (faults_of (take i faults)) turn (faults_of (drop i faults))) old new
-next_shown is_colored source begin faults i d turn old middle new l s t =
+pub next_shown : (is_colored : Bool) (source : SourceValue) (begin : ℕ) (all earlier : List Fault) (faults : List SpannedError) (i : ℕ) (d : SpannedError) (turn : TurnValue) (old middle new : PageValue) → i < length faults →
+    Shows (counted_texts is_colored source begin all (earlier ++ faults_of (take i faults)) turn (fault_of (get_or faults i d))) old middle →
+    Shows (texts_after is_colored source begin all (earlier ++ faults_of (take (i + 1) faults)) (turn_after turn (fault_of (get_or faults i d))) (faults_of (drop (i + 1) faults))) middle new →
+    Shows (texts_after is_colored source begin all (earlier ++ faults_of (take i faults)) turn (faults_of (drop i faults))) old new
+next_shown is_colored source begin all earlier faults i d turn old middle new l s t =
     let next = turn_after turn (fault_of (get_or faults i d)) in
-    let rest = subst (λ front. Shows (texts_after is_colored source begin (faults_of faults) front next (faults_of (drop (i + 1) faults))) middle new) (next_front faults i d l) t in
-    subst (λ list. Shows (texts_after is_colored source begin (faults_of faults) (faults_of (take i faults)) turn (faults_of list)) old new) (sym (next_left faults i d l)) (shows_then s rest)
+    let rest = subst (λ front. Shows (texts_after is_colored source begin all front next (faults_of (drop (i + 1) faults))) middle new) (next_front earlier faults i d l) t in
+    subst (λ list. Shows (texts_after is_colored source begin all (earlier ++ faults_of (take i faults)) turn (faults_of list)) old new) (sym (next_left faults i d l)) (shows_then s rest)
 
 -- no fault is left
-pub none_shown : (is_colored : Bool) (source : SourceValue) (begin : ℕ) (faults : List SpannedError) (i : ℕ) (turn : TurnValue) (page : PageValue) → length faults ≤ i →
-    Shows (texts_after is_colored source begin (faults_of faults) (faults_of (take i faults)) turn (faults_of (drop i faults))) page page
-none_shown is_colored source begin faults i turn page l =
-    subst (λ list. Shows (texts_after is_colored source begin (faults_of faults) (faults_of (take i faults)) turn (faults_of list)) page page) (sym (drop_of_length-le faults l)) (shows_nothing page)
+pub none_shown : (is_colored : Bool) (source : SourceValue) (begin : ℕ) (all front : List Fault) (faults : List SpannedError) (i : ℕ) (turn : TurnValue) (page : PageValue) → length faults ≤ i →
+    Shows (texts_after is_colored source begin all front turn (faults_of (drop i faults))) page page
+none_shown is_colored source begin all front faults i turn page l =
+    subst (λ list. Shows (texts_after is_colored source begin all front turn (faults_of list)) page page) (sym (drop_of_length-le faults l)) (shows_nothing page)
 
 -- the reports that begin with the next fault, and with those after it
 pub next_errors : (faults : List SpannedError) (i : ℕ) (d : SpannedError) (turn : TurnValue) → i < length faults →

@@ -1,5 +1,5 @@
 -- What is shown of faults.
-use Rattle.std.specs.Prelude.{ℕ, ◌-◌, min, ◌==◌, nat_lt, Bool, List, [], ◌∷◌, ◌++◌, if◌then◌else◌, codes, decimal}
+use Rattle.std.specs.Prelude.{ℕ, ◌-◌, ◌^◌, min, ◌==◌, nat_lt, Bool, List, [], ◌∷◌, ◌++◌, if◌then◌else◌, codes, decimal}
 use Rattle.std.specs.List.{before_first, count_by}
 use Rattle.std.specs.Str.{bytes_eq}
 use Rattle.logos_token.specs.Faults.{Fault}
@@ -51,12 +51,16 @@ abbrev pub listed_texts : Bool → SourceValue → ℕ → TurnValue → Fault �
 listed_texts is_colored source begin turn fault =
     if follows turn fault then place_line is_colored source begin fault.span.from ∷ [] else fault_texts is_colored source begin fault
 
+-- How many of all faults are left out, or the largest number without those that are shown.
+abbrev pub left_out : FaultCode → List Fault → ℕ
+left_out code all = min (count_by (has_name (name_of code)) all) (2 ^ 64 - 1) - 50
+
 -- What is shown of a fault of a list, after those in front of it: its lines, if fewer than 50 in
 -- front have its code; and in place of the next one how many of all are left out.
 abbrev pub counted_texts : Bool → SourceValue → ℕ → List Fault → List Fault → TurnValue → Fault → List (List ℕ)
 counted_texts is_colored source begin all front turn fault =
     if nat_lt (seen_of fault.code front) 50 then listed_texts is_colored source begin turn fault
-    else if seen_of fault.code front == 50 then rest_line is_colored fault.code (count_by (has_name (name_of fault.code)) all - 50) ∷ []
+    else if seen_of fault.code front == 50 then rest_line is_colored fault.code (left_out fault.code all) ∷ []
     else []
 
 -- The same for the faults after some in front, in order.

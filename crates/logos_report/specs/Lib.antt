@@ -4,6 +4,7 @@ pub mod Shown
 pub mod Pages
 pub mod Places
 pub mod Faults
+pub mod Parts
 pub mod Warnings
 pub mod Words
 pub mod Views

@@ -1,8 +1,7 @@
 -- Places of a file, as they are shown.
-use Rattle.std.specs.Prelude.{◌≡◌, ◌⊎◌, ℕ, ◌+◌, ◌-◌, ◌^◌, min, Bool, List, [], ◌++◌, decimal, codes}
+use Rattle.std.specs.Prelude.{ℕ, ◌+◌, ◌-◌, ◌^◌, min, Bool, List, ◌++◌, decimal, codes}
 use Rattle.logos_lines.specs.declared.place.Position.{Position}
 use Rattle.logos_lines.specs.Places.{place_at}
-use Rattle.logos_lines.specs.Starts.{IsLineOf, IsNoLine}
 use Rattle.logos_report.specs.declared.page.Style.TheVariants.{Frame}
 use Rattle.logos_report.specs.Pages.{painted}
 use Rattle.logos_report.specs.Shown.{shown_text}
@@ -32,7 +31,3 @@ arrow_line is_colored path place = painted is_colored Frame (codes "-->") ++ (co
 -- The same for an offset in a part of a file.
 abbrev pub place_line : Bool → SourceValue → ℕ → ℕ → List ℕ
 place_line is_colored source begin offset = arrow_line is_colored source.path (place_at source.text (in_file begin offset))
-
--- This is the text of a line of a file, or nothing where the file has no such line.
-abbrev pub IsShownLine : List ℕ → ℕ → List ℕ → Type 0
-IsShownLine text line shown = IsLineOf text line shown ⊎ (IsNoLine text line × (shown ≡ []))

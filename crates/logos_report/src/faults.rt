@@ -1,19 +1,20 @@
 //! The faults of a file.
 
-ghost use Rattle.std.specs.Prelude.{◌≡◌, ◌++◌, ◌==◌, ◌∷◌, [], codes, if◌then◌else◌};
-ghost use Rattle.logos_report.specs.Views.{count_by, name_of, fault_of, faults_of, is_error, shown_text, code_text, count_text, counted_texts, fault_texts, faults_texts, texts_after, first_line, has_name, head_line, rest_line, rest_text, seen_of, summary_line, begins_error, errors_after, first_turn, sizes_of, turn_value, Gains, Shows, painted, place_line};
+ghost use Rattle.std.specs.Prelude.{◌≡◌, ◌≤◌, ◌++◌, ◌==◌, ◌∷◌, [], codes, if◌then◌else◌, length, take};
+ghost use Rattle.logos_report.specs.Views.{count_by, name_of, fault_of, faults_of, is_error, shown_text, code_text, count_text, counted_texts, fault_texts, faults_texts, texts_after, first_line, has_name, head_line, rest_line, rest_text, seen_of, summary_line, all_faults, listed_faults, begins_error, errors_after, first_turn, sizes_of, turn_value, Gains, Shows, painted, place_line};
 
 use crate::clues::{Clues, Turn, first_turn};
 use crate::frame::{Marks, push_frame_with, push_offset};
 use crate::inner::caret_span;
 use crate::notes::{Shown, push_notes};
 use crate::page::{Page, Style};
+use crate::refused::{Listing, count_in, seen_in};
 use crate::sets::push_listed;
 use crate::source::Part;
 use logos_token::error::{Errors, FaultCode, SpannedError};
 
-/// How many faults of one code are shown of a part of a file.
-const MOST: usize = 50;
+/// How many faults of one code are shown of a file.
+pub(crate) const MOST: usize = 50;
 
 /// Appends the faults of a part of a file, in order. For each, a line with the name of its code and
 /// the first line of its message, and one with its position in the file stand in what is pushed. Of
@@ -23,46 +24,51 @@ pub fn push_faults(page: &mut Page, part: Part<'_, '_>, errors: &Errors, clues: 
     ensures { Shows (faults_texts page.old.is_colored part.entry.source.now part.entry.offset
         (sizes_of clues.now) errors.now) page.old page.new }
 {
-    push_all(page, part, errors.list(), first_turn(clues));
+    let listing = Listing {
+        earlier: &[],
+        faults: errors.list(),
+        later: &[],
+    };
+    push_all(page, part, listing, first_turn(clues));
 }
 
-/// Appends these faults, of which sets of ambiguous leaves come first in this turn.
-fn push_all(page: &mut Page, part: Part<'_, '_>, faults: &[SpannedError], first: Turn<'_>)
+/// Appends the faults of a part, of which sets of ambiguous leaves come first in this turn.
+pub(crate) fn push_all(page: &mut Page, part: Part<'_, '_>, listing: Listing<'_>, first: Turn<'_>)
     ensures { Shows (texts_after page.old.is_colored part.entry.source.now part.entry.offset
-        (faults_of faults.now) [] (turn_value first.entry) (faults_of faults.now)) page.old page.new }
+        (listed_faults listing.entry) (all_faults listing.entry.earlier.now)
+        (turn_value first.entry) (faults_of listing.entry.faults.now)) page.old page.new }
 {
     let mut number = 0;
     let mut turn = first;
-    for fault in faults {
-        push_counted(page, part, faults, &faults[..number], fault, turn);
+    for fault in listing.faults {
+        push_counted(page, part, listing, number, fault, turn);
         turn = turn.after(fault);
         number += 1;
     }
 }
 
-/// Appends a fault, which is one of `faults`, after those in front of it. Of the faults of one code
-/// 50 are shown. In place of the next one stands how many are left out.
+/// Appends a fault of a part, which has this number there. Of the faults of one code 50 are shown.
+/// In place of the next one stands how many are left out.
 fn push_counted(
     page: &mut Page,
     part: Part<'_, '_>,
-    faults: &[SpannedError],
-    front: &[SpannedError],
+    listing: Listing<'_>,
+    number: usize,
     fault: &SpannedError,
     turn: Turn<'_>,
 )
+    requires { number ≤ length listing.faults.now }
     ensures { Shows (counted_texts page.old.is_colored part.entry.source.now part.entry.offset
-        (faults_of faults.now) (faults_of front.now) (turn_value turn.entry) (fault_of fault.now))
-        page.old page.new }
+        (listed_faults listing.entry)
+        (all_faults listing.entry.earlier.now ++ faults_of (take number listing.entry.faults.now))
+        (turn_value turn.entry) (fault_of fault.now)) page.old page.new }
 {
-    let seen = seen_of(front, fault.code);
+    let code = fault.code;
+    let seen = seen_in(listing.earlier, &listing.faults[..number], code);
     if seen < MOST {
-        push_listed(page, part, faults, fault, turn);
+        push_listed(page, part, listing.faults, fault, turn);
     } else if seen == MOST {
-        push_rest(
-            page,
-            fault.code,
-            count_code(faults, fault.code).saturating_sub(MOST),
-        );
+        push_rest(page, code, count_in(listing, code).saturating_sub(MOST));
     }
 }
 
@@ -95,7 +101,7 @@ fn push_rest_text(page: &mut Page, count: usize)
 }
 
 /// Returns how many of these faults have a code.
-fn count_code(faults: &[SpannedError], code: FaultCode) -> usize
+pub(crate) fn count_code(faults: &[SpannedError], code: FaultCode) -> usize
     ensures { result ≡ count_by (has_name (name_of code)) (faults_of faults.now) }
 {
     let mut count = 0;
@@ -108,7 +114,7 @@ fn count_code(faults: &[SpannedError], code: FaultCode) -> usize
 /// Returns how many of these faults have a code, but no more than one above the number that is
 /// shown. It looks from the last one on, so that the time of all these calls is linear in the
 /// number of faults.
-fn seen_of(faults: &[SpannedError], code: FaultCode) -> usize
+pub(crate) fn seen_of(faults: &[SpannedError], code: FaultCode) -> usize
     ensures { result ≡ seen_of code (faults_of faults.now) }
 {
     let mut left = faults.len();

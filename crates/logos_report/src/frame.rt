@@ -5,7 +5,7 @@ ghost use Rattle.logos_report.specs.Views.{shown_text, Gains, Shows, arrow_line,
 
 use crate::page::{Page, Style};
 use crate::source::{Part, Source};
-use crate::window::{Window, window_at};
+use crate::window::{Spot, Window, window_at};
 use logos_lines::Position;
 use logos_token::token::Span;
 
@@ -14,9 +14,9 @@ use logos_token::token::Span;
 struct Frame<'p, 't> {
     source: &'p Source<'t>,
     /// Where the span begins.
-    first: Position,
+    first: Spot,
     /// Where it ends.
-    last: Position,
+    last: Spot,
     /// How wide the column of line numbers is.
     width: usize,
     /// The style of the carets and of the label.
@@ -69,28 +69,36 @@ pub(crate) fn push_frame_with(
 
 /// Returns how a span of a part of a file is shown.
 fn frame_of<'p, 't>(part: Part<'p, 't>, marks: Marks<'p>) -> Frame<'p, 't> {
-    let first = part.position(marks.span.from);
-    let last = last_shown(first, part.position(marks.span.to));
+    let first = spot_in(part, marks.span.from);
+    let last = last_shown(part.source, first, spot_in(part, marks.span.to));
     Frame {
         source: part.source,
         first,
         last,
-        width: digits(last.line),
+        width: digits(last.position.line),
         style: marks.style,
         label: marks.label,
     }
 }
 
+/// Returns the spot in the file of an offset of a part.
+fn spot_in(part: Part<'_, '_>, offset: usize) -> Spot {
+    Spot {
+        offset: offset.saturating_add(part.offset),
+        position: part.position(offset),
+    }
+}
+
 /// Returns where what is shown of a span ends: at the end of the line before, where it ends with a
 /// line.
-fn last_shown(first: Position, end: Position) -> Position {
-    if (end.column == 1) & (first.line < end.line) {
-        Position {
-            line: end.line.saturating_sub(1),
-            column: usize::MAX,
-        }
-    } else {
-        end
+fn last_shown(source: &Source<'_>, first: Spot, end: Spot) -> Spot {
+    if (end.position.column > 1) | (lines_after(first, end) == 0) {
+        return end;
+    }
+    let offset = end.offset.saturating_sub(1);
+    Spot {
+        offset,
+        position: source.position(offset),
     }
 }
 
@@ -137,7 +145,7 @@ fn push_lines(page: &mut Page, frame: Frame<'_, '_>)
 {
     push_margin(page, frame.width);
     page.push("\n");
-    if frame.first.line == frame.last.line {
+    if frame.first.position.line == frame.last.position.line {
         push_only_line(page, frame);
     } else {
         push_first_line(page, frame);
@@ -150,18 +158,18 @@ fn push_lines(page: &mut Page, frame: Frame<'_, '_>)
 fn push_only_line(page: &mut Page, frame: Frame<'_, '_>)
     ensures { Shows [] page.old page.new }
 {
-    let Position { line, column } = frame.first;
-    let window = window_at(frame.source.line(line), column);
+    let Position { line, column } = frame.first.position;
+    let window = window_at(frame.source, frame.first);
     push_line(page, frame, line, window);
-    push_carets(page, frame, window, column, frame.last.column);
+    push_carets(page, frame, window, column, frame.last.position.column);
 }
 
 /// Appends the line at which a span begins that ends on a later one.
 fn push_first_line(page: &mut Page, frame: Frame<'_, '_>)
     ensures { Shows [] page.old page.new }
 {
-    let Position { line, column } = frame.first;
-    let window = window_at(frame.source.line(line), column);
+    let Position { line, column } = frame.first.position;
+    let window = window_at(frame.source, frame.first);
     push_line(page, frame, line, window);
     let frame = Frame { label: "", ..frame };
     push_carets(page, frame, window, column, usize::MAX);
@@ -171,18 +179,23 @@ fn push_first_line(page: &mut Page, frame: Frame<'_, '_>)
 fn push_dots(page: &mut Page, frame: Frame<'_, '_>)
     ensures { Shows [] page.old page.new }
 {
-    if frame.last.line.saturating_sub(frame.first.line) > 1 {
+    if lines_after(frame.first, frame.last) > 1 {
         page.paint(Style::Frame, "...");
         page.push("\n");
     }
+}
+
+/// Returns how many lines a spot is below another one.
+fn lines_after(first: Spot, last: Spot) -> usize {
+    last.position.line.saturating_sub(first.position.line)
 }
 
 /// Appends the line at which a span ends that began on an earlier one.
 fn push_last_line(page: &mut Page, frame: Frame<'_, '_>)
     ensures { Shows [] page.old page.new }
 {
-    let Position { line, column } = frame.last;
-    let window = window_at(frame.source.line(line), column);
+    let Position { line, column } = frame.last.position;
+    let window = window_at(frame.source, frame.last);
     push_line(page, frame, line, window);
     push_carets(page, frame, window, 1, column);
 }
@@ -200,7 +213,7 @@ fn push_line(page: &mut Page, frame: Frame<'_, '_>, line: usize, window: Window<
     ensures { Shows [] page.old page.new }
 {
     push_line_number(page, line, frame.width);
-    if !window.text.is_empty() {
+    if !window.is_empty() {
         page.push(" ");
         window.push(page);
     }

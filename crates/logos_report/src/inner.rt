@@ -26,6 +26,55 @@ pub(crate) fn caret_span(part: Part<'_, '_>, fault: &SpannedError) -> Span {
     }
 }
 
+/// A subpattern that is put into a pattern in front of the byte at which it is faulty.
+#[derive(Clone, Copy)]
+pub(crate) struct PutIn<'t> {
+    pub(crate) name: &'t str,
+    /// Where it is defined, in bytes of the part of the file, if that is found.
+    pub(crate) definition: Option<usize>,
+}
+
+/// Returns the first subpattern that is put into the pattern of a fault in front of its byte, if
+/// there is one.
+pub(crate) fn put_in<'t>(part: Part<'_, 't>, fault: &SpannedError) -> Option<PutIn<'t>> {
+    if !matches!(fault.code, FaultCode::Regex) {
+        return None;
+    }
+    let byte = byte_of(fault.message.as_str())?;
+    let sight = sight_at(part, fault.span);
+    if piece_at(sight, byte).is_some() {
+        return None;
+    }
+    let (_, rest) = sight.text.split_once("(?&")?;
+    let (name, _) = rest.split_once(')')?;
+    let front = sight.before.get(part.offset..)?;
+    Some(PutIn {
+        name,
+        definition: definition_in(front, name),
+    })
+}
+
+/// Returns where the name of a subpattern stands at its definition in a text.
+fn definition_in(text: &str, name: &str) -> Option<usize> {
+    let mut offset: usize = 0;
+    for piece in text.split("subpattern") {
+        let word = piece.trim_start();
+        if defines(word, name) {
+            return Some(offset.saturating_add(piece.len().saturating_sub(word.len())));
+        }
+        offset = offset.saturating_add(piece.len()).saturating_add(10);
+    }
+    None
+}
+
+/// Returns whether a text begins with a name and `=`.
+fn defines(text: &str, name: &str) -> bool {
+    match text.strip_prefix(name) {
+        Some(rest) => rest.trim_start().starts_with('='),
+        None => false,
+    }
+}
+
 /// Returns the byte that the message of a pattern fault names.
 fn byte_of(message: &str) -> Option<usize> {
     let rest = message.strip_prefix("regex fault at byte ")?;

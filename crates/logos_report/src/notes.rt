@@ -4,6 +4,7 @@ ghost use Rattle.std.specs.Prelude.{[]};
 ghost use Rattle.logos_report.specs.Pages.{Shows};
 
 use crate::frame::push_place;
+use crate::inner::put_in;
 use crate::page::{Page, Style};
 use crate::sight::help_of;
 use crate::source::Part;
@@ -26,9 +27,33 @@ pub(crate) fn push_notes(page: &mut Page, shown: Shown<'_, '_, '_>)
     ensures { Shows [] page.old page.new }
 {
     push_other_lines(page, shown);
+    push_put_in(page, shown);
     push_other_place(page, shown);
     push_help(page, shown);
     page.push("\n");
+}
+
+/// Appends which subpattern is put in, if that is why carets stand under all of a literal.
+fn push_put_in(page: &mut Page, shown: Shown<'_, '_, '_>)
+    ensures { Shows [] page.old page.new }
+{
+    if let Some(put) = put_in(shown.part, shown.fault) {
+        push_note(page, shown.width, "note", "the byte counts with `(?&");
+        page.push_shown(put.name);
+        page.push(")` put in");
+        push_definition(page, shown.part, put.definition);
+        page.push("\n");
+    }
+}
+
+/// Appends where a subpattern is defined, if that is known.
+fn push_definition(page: &mut Page, part: Part<'_, '_>, definition: Option<usize>)
+    ensures { Shows [] page.old page.new }
+{
+    if let Some(offset) = definition {
+        page.push(", which is defined at ");
+        push_place(page, part, offset);
+    }
 }
 
 /// Appends the beginning of a line under a fault.

@@ -1,7 +1,7 @@
 //! Files whose positions are shown.
 
-ghost use Rattle.std.specs.Prelude.{◌≡◌, IfOk};
-ghost use Rattle.logos_report.specs.Views.{place_at, IsShownLine, in_file};
+ghost use Rattle.std.specs.Prelude.{◌≡◌, IfOk, IfSome};
+ghost use Rattle.logos_report.specs.Views.{IsLineOf, place_at, in_file};
 
 use logos_lines::{LineIndex, Position};
 use std::alloc::{AllocError, Global};
@@ -80,13 +80,11 @@ impl<'t> Source<'t> {
         self.index.line_column(offset)
     }
 
-    /// Returns the text of a line, or an empty one if the file has no such line.
-    pub fn line(&self, line: usize) -> &'t str
-        ensures { IsShownLine self.now.text line result.now }
+    /// Returns the text of a line, if it has no more than `most` bytes. It looks at no more than
+    /// these.
+    pub fn short_line(&self, line: usize, most: usize) -> Option<&'t str>
+        ensures { IfSome result (λ shown. IsLineOf self.now.text line shown.now) }
     {
-        match self.index.line_text(line) {
-            Some(text) => text,
-            None => "",
-        }
+        self.index.short_line(line, most)
     }
 }

@@ -1,10 +1,13 @@
-//! What is shown of a line: all of it, or about 140 columns around a column of it.
+//! What is shown of a line: all of it, or about 140 columns around a spot in it. Only what is near
+//! the spot is looked at, however long the line is.
 
 ghost use Rattle.std.specs.Prelude.{◌≡◌, []};
 ghost use Rattle.logos_report.specs.Pages.{Shows};
 
 use crate::page::Page;
 use crate::shown::columns_of;
+use crate::source::Source;
+use logos_lines::Position;
 
 /// How many columns of a line are shown.
 const COLUMNS: usize = 140;
@@ -12,25 +15,113 @@ const COLUMNS: usize = 140;
 const NEAR: usize = 100;
 /// How many columns are shown in front of the first caret, if more are left out.
 const FRONT: usize = 60;
+/// How many bytes on either side of a spot are looked at. The columns that are shown have fewer,
+/// but for characters that take no column.
+const FAR: usize = 800;
 
-/// A line, and how much of it is left out in front.
+/// A spot in a file: its offset and its position.
 #[derive(Clone, Copy)]
-pub(crate) struct Window<'t> {
-    pub(crate) text: &'t str,
-    /// How many characters are left out in front.
-    skipped: usize,
+pub(crate) struct Spot {
+    /// In bytes of the file.
+    pub(crate) offset: usize,
+    pub(crate) position: Position,
 }
 
-/// Returns what is shown of a line around the character at a column, which counts from 1.
-pub(crate) fn window_at(text: &str, column: usize) -> Window<'_> {
-    let before = columns(text, 0, column.saturating_sub(1));
-    let is_near = before <= NEAR;
-    let skipped = if is_near | (columns(text, 0, usize::MAX) <= COLUMNS) {
+/// What is near a spot in a line, and how much of it is left out.
+#[derive(Clone, Copy)]
+pub(crate) struct Window<'t> {
+    /// What is near the spot.
+    text: &'t str,
+    /// How many characters of the line stand in front of it.
+    front: usize,
+    /// How many of its own characters are left out in front.
+    skipped: usize,
+    /// Whether the line goes on after it.
+    goes_on: bool,
+}
+
+/// Returns what is shown of the line of a spot of a file.
+pub(crate) fn window_at<'t>(source: &Source<'t>, spot: Spot) -> Window<'t> {
+    let text = source.text();
+    let bytes = text.as_bytes();
+    let from = character_at(text, near_start(bytes, spot.offset));
+    let to = near_end(bytes, from, spot.offset.saturating_add(FAR));
+    let near = text.get(from..character_at(text, to)).unwrap_or("");
+    let before = text.get(from..spot.offset).unwrap_or("").chars().count();
+    let window = Window {
+        text: near,
+        front: spot
+            .position
+            .column
+            .saturating_sub(1)
+            .saturating_sub(before),
+        skipped: 0,
+        goes_on: !ends_at(bytes, to),
+    };
+    Window {
+        skipped: skipped_of(window, before),
+        ..window
+    }
+}
+
+/// Returns where what is near an offset begins: with its line, or so many bytes in front of it.
+fn near_start(bytes: &[u8], offset: usize) -> usize {
+    let least = offset.saturating_sub(FAR);
+    let mut from = offset.min(bytes.len());
+    while from > least {
+        if bytes[from - 1] == b'\n' {
+            return from;
+        }
+        from -= 1;
+    }
+    from
+}
+
+/// Returns where what is near an offset ends: with its line, or at a last offset.
+fn near_end(bytes: &[u8], from: usize, last: usize) -> usize {
+    let mut to = from;
+    while to < last {
+        if ends_at(bytes, to) {
+            return to;
+        }
+        to += 1;
+    }
+    to
+}
+
+/// Returns whether a line ends at an offset.
+fn ends_at(bytes: &[u8], at: usize) -> bool {
+    match bytes.get(at) {
+        Some(b'\n') => true,
+        Some(b'\r') => bytes.get(at.saturating_add(1)) == Some(&b'\n'),
+        Some(_) => false,
+        None => true,
+    }
+}
+
+/// Returns the first offset from this one on at which a character begins or the text ends.
+fn character_at(text: &str, offset: usize) -> usize {
+    let mut at = offset;
+    while at < text.len() {
+        if text.is_char_boundary(at) {
+            return at;
+        }
+        at += 1;
+    }
+    at
+}
+
+/// Returns how many characters of a window are left out in front of the spot that has so many in
+/// front of it.
+fn skipped_of(window: Window<'_>, before: usize) -> usize {
+    let width = columns(window.text, 0, before);
+    let is_whole = (window.front == 0) & !window.goes_on;
+    let is_near = (window.front == 0) & (width <= NEAR);
+    if is_near | (is_whole & (columns(window.text, 0, usize::MAX) <= COLUMNS)) {
         0
     } else {
-        characters_in(text, before.saturating_sub(FRONT))
-    };
-    Window { text, skipped }
+        characters_in(window.text, width.saturating_sub(FRONT))
+    }
 }
 
 /// Returns how many columns so many characters of a text take, from the one with this number on.
@@ -57,42 +148,59 @@ fn characters_in(text: &str, columns: usize) -> usize {
 }
 
 impl Window<'_> {
+    /// Returns whether nothing is shown.
+    pub(crate) fn is_empty(self) -> bool {
+        self.text.is_empty()
+    }
+
+    /// Returns whether the line is cut in front.
+    fn is_cut(self) -> bool {
+        (self.skipped > 0) | (self.front > 0)
+    }
+
     /// Appends the part of the line that is shown, with dots where it is cut.
     pub(crate) fn push(self, page: &mut Page)
         ensures { Shows [] page.old page.new }
     {
-        if self.skipped > 0 {
+        if self.is_cut() {
             page.push("...");
         }
-        self.push_characters(page);
+        if self.push_characters(page) {
+            page.push("...");
+        }
     }
 
-    /// Appends the part of the line that is shown, with dots where it is cut at its end.
-    fn push_characters(self, page: &mut Page)
+    /// Appends the part of the line that is shown. Returns whether it is cut at its end.
+    fn push_characters(self, page: &mut Page) -> bool
         ensures { Shows [] page.old page.new }
     {
         let mut total: usize = 0;
         for character in self.text.chars().skip(self.skipped) {
             if total >= COLUMNS {
-                page.push("...");
-                return;
+                return true;
             }
             page.push_shown_char(character);
             total = total.saturating_add(columns_of(character));
         }
+        self.goes_on
+    }
+
+    /// Returns how many characters of the window are in front of a column of the line.
+    fn characters_before(self, column: usize) -> usize {
+        column.saturating_sub(1).saturating_sub(self.front)
     }
 
     /// Returns how many columns are shown in front of a column.
     pub(crate) fn columns_before(self, column: usize) -> usize {
-        let dots = if self.skipped > 0 { 3 } else { 0 };
-        let shown = column.saturating_sub(1).saturating_sub(self.skipped);
+        let dots = if self.is_cut() { 3 } else { 0 };
+        let shown = self.characters_before(column).saturating_sub(self.skipped);
         columns(self.text, self.skipped, shown).saturating_add(dots)
     }
 
     /// Returns how many columns are shown from a column to another one.
     pub(crate) fn columns_between(self, from: usize, to: usize) -> usize {
-        let first = from.saturating_sub(1).max(self.skipped);
-        let count = to.saturating_sub(1).saturating_sub(first);
+        let first = self.characters_before(from).max(self.skipped);
+        let count = self.characters_before(to).saturating_sub(first);
         let before = self.columns_before(from).min(COLUMNS);
         columns(self.text, first, count.min(COLUMNS)).min(COLUMNS - before)
     }

@@ -7,7 +7,9 @@ mod finding;
 mod fronts;
 pub mod laws;
 mod names;
+mod paths;
 mod replacing;
 
 pub use finding::{FoundEnum, enums_in};
+pub use paths::path_of;
 pub use replacing::{Replacement, replace};

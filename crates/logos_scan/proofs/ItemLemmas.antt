@@ -1,18 +1,19 @@
 -- Items by what a run takes.
-use Rattle.std.proofs.Common.{◌≡◌, ℕ, ◌≤◌, List, [], ◌∷◌, length, None, refl, slice_range, arith}
+use Rattle.std.proofs.Common.{◌≡◌, ℕ, ◌<◌, ◌≤◌, List, [], ◌∷◌, length, None, refl, slice_range, arith}
 use Rattle.logos_automaton.specs.Munch.{matched, failed, ended}
 use Rattle.logos_code.specs.declared.action.Action.{Action}
 use Rattle.logos_code.specs.Items.{Callback, Item, token, error, MayAnswer, items_of}
 use Rattle.logos_code.specs.Rows.{IsUse}
 use Rattle.logos_code.specs.declared.code.rows.MatchUse.TheVariants.{Emits}
 use Rattle.logos_machine.specs.inside.Looks.{Tried}
-use Rattle.logos_machine.specs.inside.Stands.{IsMatch}
+use Rattle.logos_machine.specs.inside.Stands.{IsMatch, StaysWithin}
 use Rattle.logos_machine.specs.LexerValue.{LexerValue, HasSpan, Gives, Ends}
 use Rattle.logos_machine.proofs.LexerLemmas.{GoesOn, goes_past, goes_past_skip, gives_item, gives_token, gives_error, ends_run, moved}
 use Rattle.logos_scan.specs.Tries.{SkipsTo, skips_none, skips_then}
 use Rattle.logos_code.specs.Code.{CodeValue}
-use Rattle.logos_scan.specs.Runs.{IsRun}
-use Rattle.logos_scan.specs.declared.run.Run.{Run}
+use Rattle.logos_scan.specs.Runs.{IsRun, IsTaken, WithChunk}
+use Rattle.logos_scan.specs.declared.tries.Taken.{Taken}
+use Rattle.logos_scan.specs.declared.tries.Taken.TheVariants.{Emits as TakenEmits, Asks as TakenAsks, Fails as TakenFails, Ends as TakenEnds}
 
 module _ {C : Type 0} (callback : Callback) (old : LexerValue C) where
   -- what goes on goes on after what is skipped
@@ -74,7 +75,7 @@ module _ {C : Type 0} (callback : Callback) (old : LexerValue C) where
       record { from = e.from; to = e.to; over = e.over }
 
 -- a run's try begins in the input
-pub start_within : (code : CodeValue) (rows input : List ℕ) (run : Run) (at : ℕ) → IsRun code rows input run at → run.cursor.start ≤ length input
+pub start_within : (code : CodeValue) (rows input : List ℕ) (run : WithChunk) (at : ℕ) → IsRun code rows input run at → run.cursor.start ≤ length input
 start_within code rows input run at r =
     let s = r.stands in
     let past = s.past in
@@ -92,3 +93,33 @@ skips_le code bytes from to (skips_none at) = omega arith
 skips_le code bytes from to (skips_then first mid end leaf steps s tried is) =
     let fits : IsMatch code bytes mid leaf end = tried.within in
     omega (arith, skips_le code bytes first mid s, fits.1)
+
+-- and ends in the input
+skips_within : (code : CodeValue) (bytes : List ℕ) (from to : ℕ) → from ≤ length bytes → SkipsTo code bytes from to → to ≤ length bytes
+skips_within code bytes from to h (skips_none at) = h
+skips_within code bytes from to h (skips_then first mid end leaf steps s tried is) =
+    let fits : IsMatch code bytes mid leaf end = tried.within in
+    fits.2
+
+-- what is taken ends in the input, and after where it was looked for, or at the end
+pub taken_past : (code : CodeValue) (bytes : List ℕ) (from : ℕ) (taken : Taken) (next : ℕ) → from ≤ length bytes → IsTaken code bytes from taken next →
+    (next ≤ length bytes) × (from < length bytes → from < next)
+taken_past code bytes from (TakenEmits leaf span) next h t =
+    let tried = t.1.1 in
+    let fits : IsMatch code bytes span.from leaf.0 span.to = tried.within in
+    let le = skips_le code bytes from span.from t.0 in
+    (omega (arith, fits.2, t.3), λ l. omega (arith, fits.1, t.3, le))
+taken_past code bytes from (TakenAsks leaf span) next h t =
+    let tried = t.1.1 in
+    let fits : IsMatch code bytes span.from leaf.0 span.to = tried.within in
+    let le = skips_le code bytes from span.from t.0 in
+    (omega (arith, fits.2, t.2), λ l. omega (arith, fits.1, t.2, le))
+taken_past code bytes from (TakenFails span) next h t =
+    let tried = t.1.1 in
+    let fits : StaysWithin code bytes span.from (failed span.to) = tried.within in
+    let le = skips_le code bytes from span.from t.0 in
+    (omega (arith, fits.1, t.2), λ l. omega (arith, fits.0, t.2, le))
+taken_past code bytes from TakenEnds next h t =
+    let tried = t.1.1 in
+    let over : length bytes ≤ next = tried.within in
+    (skips_within code bytes from next h t.0, λ l. omega (arith, over, l))

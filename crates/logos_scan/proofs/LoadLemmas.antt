@@ -15,11 +15,10 @@ use Rattle.logos_fold.specs.Folds.{AreFolded, HasUse, leaf_of}
 use Rattle.logos_machine.specs.inside.Looks.{Tried}
 use Rattle.logos_machine.proofs.WalkLemmas.{comes_first}
 use Rattle.logos_scan.specs.Tries.{StandsIn, SkipsTo, skips_none, skips_then}
-use Rattle.logos_scan.specs.Runs.{IsChunk, IsLoaded, IsRun, IsTaken, point_of}
-use Rattle.logos_scan.specs.declared.run.Taken.{Taken}
-use Rattle.logos_scan.specs.declared.run.Taken.TheVariants.{Emits as TakenEmits, Asks as TakenAsks, Fails as TakenFails, Ends as TakenEnds}
+use Rattle.logos_scan.specs.Runs.{IsChunk, IsLoaded, IsRun, IsTaken, WithChunk, point_of}
+use Rattle.logos_scan.specs.declared.tries.Taken.{Taken}
+use Rattle.logos_scan.specs.declared.tries.Taken.TheVariants.{Emits as TakenEmits, Asks as TakenAsks, Fails as TakenFails, Ends as TakenEnds}
 use Rattle.logos_scan.specs.declared.run.Loaded.{Loaded}
-use Rattle.logos_scan.specs.declared.run.Run.{Run}
 use Rattle.logos_scan.proofs.RunLemmas.{Holds, later_at, starts_same, starts_short, tried, ends_as, holds_next}
 use Rattle.logos_scan.proofs.TryLemmas.{stands_begun}
 use Rattle.logos_walk.specs.declared.cursor.Cursor.{Cursor}
@@ -72,7 +71,7 @@ root_is_place code rows folded =
     omega (arith, folded.count, there)
 
 -- a run from what was loaded
-pub loaded_run : (code : CodeValue) (rows input : List ℕ) (run : Run) (base place : ℕ) (entries : List ℕ) (loaded : Loaded) → IsLoaded rows input base place entries loaded →
+pub loaded_run : (code : CodeValue) (rows input : List ℕ) (run : WithChunk) (base place : ℕ) (entries : List ℕ) (loaded : Loaded) → IsLoaded rows input base place entries loaded →
     run.chunk.entries ≡ entries → run.cursor.base ≡ base → run.count ≡ loaded.count → run.place ≡ loaded.place → run.low ≡ 0 → IsMarked run.chunk → Stands run.chunk.entries run.cursor → HasRoom base →
     StandsIn code input run.cursor.start base place → IsRun code rows input run 0
 loaded_run code rows input run base place entries loaded l ee eb ec ep el marked stands room s =
@@ -107,7 +106,7 @@ marks_beside flag from stop words old new w word same le out m i l =
     ])))
 
 -- a run that was stepped over again from an entry on
-pub repaired_run : (code : CodeValue) (rows input : List ℕ) (old run : Run) (from stop : ℕ) (entries : List ℕ) → AreFolded code rows → IsChunk rows input old →
+pub repaired_run : (code : CodeValue) (rows input : List ℕ) (old run : WithChunk) (from stop : ℕ) (entries : List ℕ) → AreFolded code rows → IsChunk rows input old →
     run.chunk.entries ≡ entries → run.cursor.base ≡ old.cursor.base → run.cursor.start ≡ old.cursor.base + from → run.count ≡ old.count → run.low ≡ from → from ≤ old.count → stop ≤ old.count →
     IsSameBeside from stop old.chunk.entries entries → IsMarked run.chunk → Stands run.chunk.entries run.cursor → IsPlace rows run.place →
     Walked rows (take (length input - old.cursor.base) (drop old.cursor.base input)) (272 * code.root) entries from old.count run.place → IsRun code rows input run from
@@ -136,7 +135,7 @@ repaired_run code rows input old run from stop entries folded c ee eb es ec el l
     }
 
 -- the run with another cursor
-abbrev pub moved : Run → Cursor → Run
+abbrev pub moved : WithChunk → Cursor → WithChunk
 moved run cursor = record { chunk = run.chunk; cursor = cursor; count = run.count; place = run.place; low = run.low }
 
 -- skipped, and then skipped again
@@ -144,7 +143,7 @@ pub skips_join : (code : CodeValue) (bytes : List ℕ) (from mid to : ℕ) → S
 skips_join code bytes from mid to a (skips_none at) = a
 skips_join code bytes from mid to a (skips_then m n t leaf steps b tried is) = skips_then from n to leaf steps (skips_join code bytes from m n a b) tried is
 
-module _ (code : CodeValue) (rows : List ℕ) (folded : AreFolded code rows) (input : List ℕ) (are : (k : ℕ) → get_or input k 0 < 256) (run : Run) where
+module _ (code : CodeValue) (rows : List ℕ) (folded : AreFolded code rows) (input : List ℕ) (are : (k : ℕ) → get_or input k 0 < 256) (run : WithChunk) where
   abbrev base : ℕ
   base = run.cursor.base
 

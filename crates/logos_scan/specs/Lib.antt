@@ -1,4 +1,3 @@
-pub mod Attempts
 pub mod Tries
 pub mod Runs
 pub mod Items

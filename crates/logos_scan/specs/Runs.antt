@@ -10,15 +10,29 @@ use Rattle.logos_scan.specs.Tries.{StandsIn, SkipsTo}
 use Rattle.logos_scan.specs.declared.run.Loaded.{Loaded}
 use Rattle.logos_scan.specs.declared.run.Reading.{Reading}
 use Rattle.logos_scan.specs.declared.run.Run.{Run}
-use Rattle.logos_scan.specs.declared.run.Taken.{Taken}
-use Rattle.logos_scan.specs.declared.run.Taken.TheVariants.{Emits, Asks, Fails, Ends}
+use Rattle.logos_scan.specs.declared.tries.Taken.{Taken}
+use Rattle.logos_scan.specs.declared.tries.Taken.TheVariants.{Emits, Asks, Fails, Ends}
 use Rattle.logos_walk.specs.Cursor.{HasRoom, token_bit}
 use Rattle.logos_walk.specs.Cursors.{IsMarked, Stands}
+use Rattle.logos_walk.specs.declared.cursor.Cursor.{Cursor}
+use Rattle.logos_walk.specs.declared.masks.Chunk.{Chunk}
 use Rattle.logos_walk.specs.Walk.{IsPlace, Walked}
 
 -- The rows are those of the code.
 abbrev pub IsReading : Reading → Type 0
 IsReading reading = AreFolded reading.code.now reading.rows.now
+
+-- A run with its chunk.
+pub record WithChunk : Type 0 where
+  pub chunk : Chunk
+  pub cursor : Cursor
+  pub count : ℕ
+  pub place : ℕ
+  pub low : ℕ
+
+-- The same, put together.
+abbrev pub with_chunk : Chunk → Run → WithChunk
+with_chunk chunk run = record { chunk = chunk; cursor = run.cursor; count = run.count; place = run.place; low = run.low }
 
 -- No flag stands after the bytes of a chunk.
 abbrev pub IsEmptyFrom : ℕ → List ℕ → Type 0
@@ -35,7 +49,7 @@ pub record IsLoaded (rows input : List ℕ) (base place : ℕ) (entries : List �
 
 -- A run has a chunk of the input, with its flags. From one entry on, its entries are those of a
 -- walk.
-pub record IsChunk (rows input : List ℕ) (run : Run) : Type 0 where
+pub record IsChunk (rows input : List ℕ) (run : WithChunk) : Type 0 where
   pub within : run.cursor.base + run.count ≤ length input
   pub few : run.count ≤ 4096
   pub full : run.cursor.base + run.count < length input → run.count ≡ 4096
@@ -47,7 +61,7 @@ pub record IsChunk (rows input : List ℕ) (run : Run) : Type 0 where
   pub whole : (place : ℕ) × Walked rows (drop run.cursor.base input) place run.chunk.entries run.low run.count run.place
 
 -- Its try stands before the byte of entry `at`, from where on the entries are those of a walk.
-pub record IsRun (code : CodeValue) (rows input : List ℕ) (run : Run) (at : ℕ) : Type 0 where
+pub record IsRun (code : CodeValue) (rows input : List ℕ) (run : WithChunk) (at : ℕ) : Type 0 where
   pub in_chunk : IsChunk rows input run
   pub near : at ≤ run.count
   pub before : ℕ
@@ -55,22 +69,22 @@ pub record IsRun (code : CodeValue) (rows input : List ℕ) (run : Run) (at : �
   pub walked : Walked rows (drop run.cursor.base input) before run.chunk.entries at run.count run.place
 
 -- The entry before which a run stands.
-abbrev pub point_of : Run → ℕ
+abbrev pub point_of : WithChunk → ℕ
 point_of run = min run.cursor.from run.count
 
 -- The run stands between two calls.
-abbrev pub IsReady : Reading → Run → Type 0
+abbrev pub IsReady : Reading → WithChunk → Type 0
 IsReady reading run = IsRun reading.code.now reading.rows.now reading.input.now run (point_of run)
 
 -- The try of a run stands before an entry that its cursor has passed, or at the end of the chunk.
-pub record IsHeld (reading : Reading) (run : Run) : Type 0 where
+pub record IsHeld (reading : Reading) (run : WithChunk) : Type 0 where
   pub at : ℕ
   pub stands : IsRun reading.code.now reading.rows.now reading.input.now run at
   pub passed : ((at < run.count) × (at < run.cursor.from)) ⊎ ((at ≡ run.count) × (run.count ≤ run.cursor.from))
 
 -- A run has come to an entry with the flag that there is something to do, and its cursor is after
 -- it.
-pub record IsFlagged (reading : Reading) (start : ℕ) (run : Run) (at : ℕ) : Type 0 where
+pub record IsFlagged (reading : Reading) (start : ℕ) (run : WithChunk) (at : ℕ) : Type 0 where
   pub stands : IsRun reading.code.now reading.rows.now reading.input.now run at
   pub inside : at < run.count
   pub token : token_bit run.chunk.entries at ≡ 1
@@ -78,7 +92,7 @@ pub record IsFlagged (reading : Reading) (start : ℕ) (run : Run) (at : ℕ) : 
   pub skips : SkipsTo reading.code.now reading.input.now start run.cursor.start
 
 -- Or to the end of the input.
-pub record IsOver (reading : Reading) (start : ℕ) (run : Run) : Type 0 where
+pub record IsOver (reading : Reading) (start : ℕ) (run : WithChunk) : Type 0 where
   pub stands : IsRun reading.code.now reading.rows.now reading.input.now run run.count
   pub last : run.cursor.base + run.count ≡ length reading.input.now
   pub after : run.cursor.from ≡ 4096

@@ -2,6 +2,7 @@
 
 #![tactic(auto)]
 
-mod attempt;
-mod items;
+pub mod choice;
+pub mod items;
 pub mod run;
+pub mod tries;

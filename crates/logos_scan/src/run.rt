@@ -1,16 +1,15 @@
 //! Tries of an input, one after the other, by the entries of a chunk.
 
 ghost use Rattle.std.specs.Prelude.{◌≡◌, ◌+◌, ◌<◌, ◌≤◌, length, MatchOption};
-ghost use Rattle.logos_scan.specs.Views.{IsBytes, IsPlace, StandsIn, answers_of, item_of, EndsItems, GivesItem, IsFlagged, IsHeld, IsLoaded, IsOver, IsReading, IsReady, IsRun, IsTaken};
+ghost use Rattle.logos_scan.specs.Views.{IsBytes, IsPlace, StandsIn, answers_of, item_of, EndsItems, GivesItem, IsFlagged, IsHeld, IsLoaded, IsMarked, IsOver, IsReading, IsReady, IsRun, IsTaken, with_chunk};
 
-use crate::attempt::{Found, attempt_with_marks};
-use crate::items::{error, matched_item, token};
+use crate::tries::{Taken, tried};
 use logos_code::action::Action;
 use logos_code::code::Code;
 use logos_fold::entries::CALLS;
 use logos_fold::folded::Folded;
 use logos_hir::leaf::LeafId;
-use logos_machine::machine::Item;
+use logos_machine::machine::{Item, error, matched_item, token};
 use logos_token::token::Span;
 use logos_walk::blocks::walk_chunk;
 use logos_walk::cursor::Cursor;
@@ -20,15 +19,15 @@ use logos_walk::walk::{ENDED, PLACE, walk};
 
 /// A code, its folded rows, and the input that is stepped over.
 #[derive(Clone, Copy, Drop)]
-pub struct Reading<'c, 's, 'i> {
+pub struct Reading<'r, 'c, 's, 'i> {
     pub code: &'c Code<'s>,
-    pub rows: &'c [u32],
+    pub rows: &'r [u32],
     pub input: &'i [u8],
 }
 
-impl<'c, 's, 'i> Reading<'c, 's, 'i> {
+impl<'r, 'c, 's, 'i> Reading<'r, 'c, 's, 'i> {
     /// Returns a reading of an input by the folded rows of a code.
-    pub fn new(folded: &'c Folded<'c, 's>, input: &'i [u8]) -> Reading<'c, 's, 'i>
+    pub fn new(folded: &'r Folded<'c, 's>, input: &'i [u8]) -> Reading<'r, 'c, 's, 'i>
         ensures folded { IsReading result }
         ensures code { result.code.now ≡ folded.now.code }
         ensures input { result.input.now ≡ input.now }
@@ -41,19 +40,6 @@ impl<'c, 's, 'i> Reading<'c, 's, 'i> {
     }
 }
 
-/// What is found after matches that are skipped without a callback.
-#[derive(Clone, Copy)]
-pub enum Taken {
-    /// A match that is a token.
-    Emits(LeafId, Span),
-    /// A match that may be skipped, or up to a callback.
-    Asks(LeafId, Span),
-    /// Bytes that no leaf matches.
-    Fails(Span),
-    /// The end of the input.
-    Ends,
-}
-
 /// How many bytes of the input a chunk has, and the row after them.
 #[derive(Clone, Copy, Drop)]
 pub struct Loaded {
@@ -61,12 +47,14 @@ pub struct Loaded {
     pub place: usize,
 }
 
-/// A run over an input: the entries of a chunk of it, and where the next try begins.
-#[derive(Drop)]
+/// A run over an input: what is known of its chunk, and where the next try begins. Its chunk stands
+/// apart, so that the compiler can hold the run in registers.
+#[derive(Clone, Copy, Drop)]
 pub struct Run {
-    pub chunk: Chunk,
     pub cursor: Cursor,
+    /// How many bytes the chunk has.
     pub count: usize,
+    /// The row after them.
     pub place: usize,
     /// The first entry of those that one walk wrote.
     pub low: usize,
@@ -100,158 +88,159 @@ fn step_over(reading: &Reading, base: usize, place: usize, entries: &mut [u32; 4
     }
 }
 
+/// Steps over the next bytes of the input, and marks what there is to do.
+#[inline(never)]
+fn load(reading: &Reading, base: usize, place: usize, chunk: &mut Chunk) -> Loaded
+    requires reading { IsReading reading.now }
+    requires base { base ≤ length reading.now.input.now }
+    requires place { IsPlace reading.now.rows.now place }
+    ensures loaded { IsLoaded reading.now.rows.now reading.now.input.now base place
+        chunk.new.entries result }
+    ensures marked { IsMarked chunk.new }
+{
+    let loaded = step_over(reading, base, place, &mut chunk.entries);
+    chunk.mark(0, 64);
+    loaded
+}
+
+/// Makes the try that stands before an entry again, by itself: it notes the marks that it passes.
+#[cold]
+#[inline(never)]
+fn try_again(reading: &Reading, run: Run, chunk: &mut Chunk) -> (Taken, Run)
+    requires reading { IsReading reading.now }
+    requires held { IsHeld reading.now (with_chunk chunk.old run) }
+    ensures ready { IsReady reading.now (with_chunk chunk.new result.1) }
+    ensures taken { IsTaken reading.now.code.now reading.now.input.now run.cursor.start
+        result.0 result.1.cursor.start }
+{
+    let (taken, next) = tried(reading.code, reading.input, run.cursor.start);
+    let after = restarted(reading, run, chunk, next);
+    (taken, after)
+}
+
+/// Begins a try at a point of the input.
+fn restarted(reading: &Reading, run: Run, chunk: &mut Chunk, to: usize) -> Run
+    requires reading { IsReading reading.now }
+    requires held { IsHeld reading.now (with_chunk chunk.old run) }
+    requires within { to ≤ length reading.now.input.now }
+    ensures ready { IsReady reading.now (with_chunk chunk.new result) }
+    ensures start { result.cursor.start ≡ to }
+{
+    let base = run.cursor.base;
+    if to > base && to - base > run.low && to - base < run.count {
+        repaired_from(reading, run, chunk, to - base)
+    } else {
+        filled(reading, chunk, to, to, reading.code.root_place())
+    }
+}
+
+/// Begins a try at an entry of the chunk that is not passed, and steps again over the bytes from
+/// there on until the entries are those that stand.
+fn repaired_from(reading: &Reading, run: Run, chunk: &mut Chunk, from: usize) -> Run
+    requires reading { IsReading reading.now }
+    requires held { IsHeld reading.now (with_chunk chunk.old run) }
+    requires left { run.low < from }
+    requires inside { from < run.count }
+    ensures run { IsRun reading.now.code.now reading.now.rows.now reading.now.input.now
+        (with_chunk chunk.new result) from }
+    ensures start { result.cursor.start ≡ run.cursor.base + from }
+    ensures from { result.cursor.from ≡ from }
+{
+    let base = run.cursor.base;
+    let stretch = Stretch {
+        from,
+        to: run.count,
+        begin: (chunk.entries[from - 1] & PLACE) as usize,
+        end: run.place,
+    };
+    let root = reading.code.root_place();
+    let rest = &reading.input[base..];
+    let repaired = repair(reading.rows, rest, root, &mut chunk.entries, stretch);
+    chunk.mark(from / 64, (repaired.stop + 63) / 64);
+    let cursor = Cursor::new(chunk, base, base + from, from);
+    Run {
+        cursor,
+        count: run.count,
+        place: repaired.place,
+        low: from,
+    }
+}
+
+/// Goes on to the bytes from `base` on, where a try that begins at `start` stands in a row.
+#[inline(always)]
+fn filled(reading: &Reading, chunk: &mut Chunk, base: usize, start: usize, place: usize) -> Run
+    requires reading { IsReading reading.now }
+    requires base { base ≤ length reading.now.input.now }
+    requires place { IsPlace reading.now.rows.now place }
+    requires stands { StandsIn reading.now.code.now reading.now.input.now start base place }
+    ensures run { IsRun reading.now.code.now reading.now.rows.now reading.now.input.now
+        (with_chunk chunk.new result) 0 }
+    ensures start { result.cursor.start ≡ start }
+    ensures base { result.cursor.base ≡ base }
+    ensures from { result.cursor.from ≡ 0 }
+{
+    let loaded = load(reading, base, place, chunk);
+    let cursor = Cursor::new(chunk, base, start, 0);
+    Run {
+        cursor,
+        count: loaded.count,
+        place: loaded.place,
+        low: 0,
+    }
+}
+
 impl Run {
     /// Begins a run at the start of an input.
-    pub fn new(reading: &Reading) -> Run
+    #[inline(always)]
+    pub fn new(reading: &Reading, chunk: &mut Chunk) -> Run
         requires reading { IsReading reading.now }
-        ensures ready { IsReady reading.now result }
+        ensures ready { IsReady reading.now (with_chunk chunk.new result) }
         ensures start { result.cursor.start ≡ 0 }
     {
-        let mut chunk = Chunk {
-            entries: [0; 4096],
-            ends: [0; 64],
-            tokens: [0; 64],
-        };
-        let loaded = step_over(reading, 0, reading.code.root_place(), &mut chunk.entries);
-        chunk.mark(0, 64);
-        let cursor = Cursor::new(&chunk, 0, 0, 0);
-        Run {
-            chunk,
-            cursor,
-            count: loaded.count,
-            place: loaded.place,
-            low: 0,
-        }
-    }
-
-    /// Goes on to the bytes from `base` on, where a try that begins at `start` stands in a row.
-    fn fill(&mut self, reading: &Reading, base: usize, start: usize, place: usize)
-        requires reading { IsReading reading.now }
-        requires base { base ≤ length reading.now.input.now }
-        requires place { IsPlace reading.now.rows.now place }
-        requires stands { StandsIn reading.now.code.now reading.now.input.now start base place }
-        ensures run { IsRun reading.now.code.now reading.now.rows.now reading.now.input.now
-            self.new 0 }
-        ensures start { self.new.cursor.start ≡ start }
-        ensures base { self.new.cursor.base ≡ base }
-        ensures from { self.new.cursor.from ≡ 0 }
-    {
-        let loaded = step_over(reading, base, place, &mut self.chunk.entries);
-        self.chunk.mark(0, 64);
-        self.cursor = Cursor::new(&self.chunk, base, start, 0);
-        self.count = loaded.count;
-        self.place = loaded.place;
-        self.low = 0;
-    }
-
-    /// Begins a try at an entry of the chunk that is not passed, and steps again over the bytes
-    /// from there on until the entries are those that stand.
-    fn repair_from(&mut self, reading: &Reading, from: usize)
-        requires reading { IsReading reading.now }
-        requires held { IsHeld reading.now self.old }
-        requires left { self.old.low < from }
-        requires inside { from < self.old.count }
-        ensures run { IsRun reading.now.code.now reading.now.rows.now reading.now.input.now
-            self.new from }
-        ensures start { self.new.cursor.start ≡ self.old.cursor.base + from }
-        ensures from { self.new.cursor.from ≡ from }
-    {
-        let base = self.cursor.base;
-        let stretch = Stretch {
-            from,
-            to: self.count,
-            begin: (self.chunk.entries[from - 1] & PLACE) as usize,
-            end: self.place,
-        };
-        let root = reading.code.root_place();
-        let rest = &reading.input[base..];
-        let repaired = repair(reading.rows, rest, root, &mut self.chunk.entries, stretch);
-        self.chunk.mark(from / 64, (repaired.stop + 63) / 64);
-        self.cursor = Cursor::new(&self.chunk, base, base + from, from);
-        self.place = repaired.place;
-        self.low = from;
-    }
-
-    /// Begins a try at a point of the input.
-    fn restart(&mut self, reading: &Reading, to: usize)
-        requires reading { IsReading reading.now }
-        requires held { IsHeld reading.now self.old }
-        requires within { to ≤ length reading.now.input.now }
-        ensures ready { IsReady reading.now self.new }
-        ensures start { self.new.cursor.start ≡ to }
-    {
-        let base = self.cursor.base;
-        if to > base && to - base > self.low && to - base < self.count {
-            self.repair_from(reading, to - base);
-        } else {
-            self.fill(reading, to, to, reading.code.root_place());
-        }
-    }
-
-    /// Makes the try that stands before an entry again, by itself: it notes the marks that it
-    /// passes.
-    #[cold]
-    #[inline(never)]
-    fn try_again(&mut self, reading: &Reading) -> Taken
-        requires reading { IsReading reading.now }
-        requires held { IsHeld reading.now self.old }
-        ensures ready { IsReady reading.now self.new }
-        ensures taken { IsTaken reading.now.code.now reading.now.input.now self.old.cursor.start
-            result self.new.cursor.start }
-    {
-        let from = self.cursor.start;
-        match attempt_with_marks(reading.code, reading.input, from).0 {
-            Found::Ended => Taken::Ends,
-            Found::Matched(leaf, to) => {
-                self.restart(reading, to);
-                Taken::Asks(leaf, Span { from, to })
-            }
-            Found::Failed(to) => {
-                self.restart(reading, to);
-                Taken::Fails(Span { from, to })
-            }
-        }
+        filled(reading, chunk, 0, 0, reading.code.root_place())
     }
 
     /// Goes on to the next entry at which there is something to do, and returns its index, or
     /// `None` at the end of the input.
     #[inline(always)]
-    fn next_flag(&mut self, reading: &Reading) -> Option<usize>
+    fn next_flag(&mut self, reading: &Reading, chunk: &mut Chunk) -> Option<usize>
         requires reading { IsReading reading.now }
-        requires ready { IsReady reading.now self.old }
-        ensures { MatchOption result (IsOver reading.now self.old.cursor.start self.new)
-            (λ at. IsFlagged reading.now self.old.cursor.start self.new at) }
+        requires ready { IsReady reading.now (with_chunk chunk.old self.old) }
+        ensures { MatchOption result
+            (IsOver reading.now self.old.cursor.start (with_chunk chunk.new self.new))
+            (λ at. IsFlagged reading.now self.old.cursor.start (with_chunk chunk.new self.new) at) }
     {
         are_bytes(reading.input);
         loop {
-            if let Some(at) = self.cursor.next(&self.chunk) {
+            if let Some(at) = self.cursor.next(chunk) {
                 return Some(at);
             }
             let base = self.cursor.base + self.count;
             if base >= reading.input.len() {
                 return None;
             }
-            self.fill(reading, base, self.cursor.start, self.place);
+            let run = filled(reading, chunk, base, self.cursor.start, self.place);
+            *self = run;
         }
     }
 
     /// Takes what the next try finds, after those that are skipped.
     #[inline(always)]
-    pub fn next(&mut self, reading: &Reading) -> Taken
+    pub fn next(&mut self, reading: &Reading, chunk: &mut Chunk) -> Taken
         requires reading { IsReading reading.now }
-        requires ready { IsReady reading.now self.old }
-        ensures ready { IsReady reading.now self.new }
+        requires ready { IsReady reading.now (with_chunk chunk.old self.old) }
+        ensures ready { IsReady reading.now (with_chunk chunk.new self.new) }
         ensures taken { IsTaken reading.now.code.now reading.now.input.now self.old.cursor.start
             result self.new.cursor.start }
     {
         are_bytes(reading.input);
-        let Some(at) = self.next_flag(reading) else {
-            return self.try_again(reading);
+        let Some(at) = self.next_flag(reading, chunk) else {
+            return self.next_again(reading, chunk);
         };
-        let entry = self.chunk.entries[at];
+        let entry = chunk.entries[at];
         let ended = entry & ENDED;
         if ended == 0 {
-            return self.try_again(reading);
+            return self.next_again(reading, chunk);
         }
         let span = Span {
             from: self.cursor.start,
@@ -267,25 +256,42 @@ impl Run {
         }
     }
 
+    /// Takes what the try finds that stands before an entry, by itself. Only that try is called out
+    /// of line, and it is given a copy of the run, so that the compiler can hold this one in
+    /// registers.
+    #[inline(always)]
+    fn next_again(&mut self, reading: &Reading, chunk: &mut Chunk) -> Taken
+        requires reading { IsReading reading.now }
+        requires held { IsHeld reading.now (with_chunk chunk.old self.old) }
+        ensures ready { IsReady reading.now (with_chunk chunk.new self.new) }
+        ensures taken { IsTaken reading.now.code.now reading.now.input.now self.old.cursor.start
+            result self.new.cursor.start }
+    {
+        let (taken, run) = try_again(reading, *self, chunk);
+        *self = run;
+        taken
+    }
+
     /// Returns the next item, or `None` at the end of the input, and on every later call: what a
     /// lexer returns with this callback, which is called for each match of a leaf that has one.
     #[inline(always)]
     pub fn next_item<'i, C: Fn(LeafId, &[u8]) -> Action>(
         &mut self,
-        reading: &Reading<'_, '_, 'i>,
+        reading: &Reading<'_, '_, '_, 'i>,
+        chunk: &mut Chunk,
         callback: &C,
     ) -> Option<Item<'i>>
         requires callable { C.IsAlwaysCallable callback.now }
         requires reading { IsReading reading.now }
-        requires ready { IsReady reading.now self.old }
-        ensures ready { IsReady reading.now self.new }
+        requires ready { IsReady reading.now (with_chunk chunk.old self.old) }
+        ensures ready { IsReady reading.now (with_chunk chunk.new self.new) }
         ensures item { MatchOption result
             (EndsItems (answers_of C.Fn callback.now) reading.now callback.now self.old self.new)
             (λ i. GivesItem (answers_of C.Fn callback.now) reading.now callback.now self.old self.new
             (item_of i)) }
     {
         loop {
-            match self.next(reading) {
+            match self.next(reading, chunk) {
                 Taken::Emits(leaf, span) => return Some(token(reading.input, leaf, span)),
                 Taken::Asks(leaf, span) => {
                     let (code, input) = (reading.code, reading.input);

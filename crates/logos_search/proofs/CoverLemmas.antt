@@ -11,7 +11,7 @@ use Rattle.logos_search.specs.inside.Stands.{stand_at, stand_next, stand_goal}
 use Rattle.logos_search.specs.inside.Visits.{IsWayTo}
 use Rattle.logos_search.specs.declared.point.Point.{Point}
 use Rattle.logos_search.specs.declared.rest.Rest.{Rest}
-use Rattle.logos_search.specs.declared.steps.Step.{Step}
+use Rattle.logos_search.specs.declared.steps.InputStep.{InputStep}
 use Rattle.logos_search.specs.declared.visits.Stand.{Stand}
 use Rattle.logos_search.specs.declared.visits.Visit.{Visit}
 use Rattle.logos_search.proofs.CompletionLemmas.{over_append, over_open, first_open, completes, completion_is_bytes}
@@ -68,15 +68,15 @@ module _ (next : Point → ℕ → Option Point) (is_goal : Point → Bool) (utf
 
     -- ---- All steps
 
-    abbrev Wanted : Step → Type 0
+    abbrev Wanted : InputStep → Type 0
     Wanted step = IsTrue step.ends → is_goal step.from ≡ true
 
     abbrev Done : Rest → List ℕ → Type 0
     Done rest bytes = (r : Rest) × (rest_over utf8 rest bytes ≡ Some r) × (r.count ≡ 0)
 
-    module _ (steps : List Step) (covered : (i : ℕ) (at : Stand) → slice_get ks i ≡ Some at → AreCoveredAt next is_goal utf8 steps at) where
+    module _ (steps : List InputStep) (covered : (i : ℕ) (at : Stand) → slice_get ks i ≡ Some at → AreCoveredAt next is_goal utf8 steps at) where
       abbrev AllOn : List ℕ → Type 0
-      AllOn bytes = (step : Step) (i : ℕ) (at : Stand) → All (λ b. b < 256) bytes → slice_get ks i ≡ Some at → Done at.rest bytes → Takes next at.point bytes step →
+      AllOn bytes = (step : InputStep) (i : ℕ) (at : Stand) → All (λ b. b < 256) bytes → slice_get ks i ≡ Some at → Done at.rest bytes → Takes next at.point bytes step →
           Wanted step → Contains steps step
 
       one_more : (b : ℕ) (bytes : List ℕ) → AllOn bytes → AllOn (b ∷ bytes)
@@ -117,8 +117,8 @@ module _ (next : Point → ℕ → Option Point) (is_goal : Point → Bool) (utf
 
 -- ---- One more input
 
-pub cover_more : (next : Point → ℕ → Option Point) (utf8 : Bool) (start : Point) (old mid new : List Step) (inputs longer : List (List ℕ)) (input : List ℕ) (step : Step) →
-    IsCover next utf8 start old inputs → ((other : Step) → Contains mid other → Contains old other ⊎ (other ≡ step)) → Adds next start mid input new →
+pub cover_more : (next : Point → ℕ → Option Point) (utf8 : Bool) (start : Point) (old mid new : List InputStep) (inputs longer : List (List ℕ)) (input : List ℕ) (step : InputStep) →
+    IsCover next utf8 start old inputs → ((other : InputStep) → Contains mid other → Contains old other ⊎ (other ≡ step)) → Adds next start mid input new →
     longer ≡ inputs ++ input ∷ [] → IsInput utf8 input × Takes next start input step → IsCover next utf8 start new longer
 cover_more next utf8 start old mid new inputs longer input step cover only adds e is =
     subst (IsCover next utf8 start new) (sym e) (record {
@@ -127,7 +127,7 @@ cover_more next utf8 start old mid new inputs longer input step cover only adds 
           (λ t. (input, Contains-push inputs input, t)) (adds.only other h);
     })
   where
-    before : (other : Step) → Contains old other → OneTakes next start (inputs ++ input ∷ []) other
+    before : (other : InputStep) → Contains old other → OneTakes next start (inputs ++ input ∷ []) other
     before other h =
         let one = cover.taken other h in
         (one.0, Contains-append_left inputs (input ∷ []) one.0 one.1, one.2)

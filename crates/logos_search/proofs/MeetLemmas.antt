@@ -5,7 +5,7 @@ use Rattle.std.proofs.lemmas.Bool.Decides.{nat_tests}
 use mathlib.Core.Bool.{beq}
 use lib.Dec.{eqb}
 use Rattle.logos_search.specs.declared.point.Point.{Point}
-use Rattle.logos_search.specs.declared.steps.Step.{Step}
+use Rattle.logos_search.specs.declared.steps.InputStep.{InputStep}
 use Rattle.logos_search.specs.declared.visits.Stand.{Stand}
 
 equal : (m n : ℕ) → eqb m n ≡ true → n ≡ m
@@ -44,7 +44,7 @@ same_stand a b e =
     let count = equal a.rest.count b.rest.count u.1 in
     λ i. record { point = point i; rest = record { low = low i; high = high i; count = count i } }
 
-pub same_step : (a b : Step) →
+pub same_step : (a b : InputStep) →
     ((eqb a.from.here b.from.here && (eqb a.from.there b.from.there && (beq a.from.begun b.from.begun && (beq a.from.met b.from.met && beq a.from.last b.from.last))))
     && ((eqb a.to.here b.to.here && (eqb a.to.there b.to.there && (beq a.to.begun b.to.begun && (beq a.to.met b.to.met && beq a.to.last b.to.last))))
     && beq a.ends b.ends)) ≡ true → b ≡ a

@@ -7,7 +7,7 @@ use Rattle.std.proofs.lemmas.Option.{same_Some, slice_get_within, get_or_from_sl
 use Rattle.logos_search.specs.Covering.{Takes, step_to, end_at}
 use Rattle.logos_search.specs.Machines.{after}
 use Rattle.logos_search.specs.declared.point.Point.{Point}
-use Rattle.logos_search.specs.declared.steps.Step.{Step}
+use Rattle.logos_search.specs.declared.steps.InputStep.{InputStep}
 
 pub got_contains : {A : Type 0} (xs : List A) (i : ℕ) (x : A) → slice_get xs i ≡ Some x → Contains xs x
 got_contains xs i x e = (i, slice_get_within xs i x e, get_or_from_slice_get xs i x x e)
@@ -25,36 +25,36 @@ grows_added false ks ms y x e h = subst (λ l. Contains l x) (sym e) (Contains-a
 -- ---- Steps that are the same
 
 pub not_end : (from to last : Point) → step_to from to ≡ end_at last → ⊥
-not_end from to last e = let clash : false ≡ true = ap (λ (x : Step). x.ends) e in cc
+not_end from to last e = let clash : false ≡ true = ap (λ (x : InputStep). x.ends) e in cc
 
 pub same_points : (from to at next : Point) → step_to from to ≡ step_to at next → (from ≡ at) × (to ≡ next)
-same_points from to at next e = (ap (λ (x : Step). x.from) e, ap (λ (x : Step). x.to) e)
+same_points from to at next e = (ap (λ (x : InputStep). x.from) e, ap (λ (x : InputStep). x.to) e)
 
 pub same_end : (at last : Point) → end_at at ≡ end_at last → at ≡ last
-same_end at last e = ap (λ (x : Step). x.from) e
+same_end at last e = ap (λ (x : InputStep). x.from) e
 
 -- ---- One more byte
 
 module _ (next : Point → ℕ → Option Point) where
-  abbrev TakesBy : Point → List ℕ → Step → Option Point → Type 0
+  abbrev TakesBy : Point → List ℕ → InputStep → Option Point → Type 0
   TakesBy at bytes step o = IsSomeAnd o (λ t. (step ≡ step_to at t) ⊎ Takes next t bytes step)
 
   pub takes_here : (at to : Point) (b : ℕ) (bytes : List ℕ) → next at b ≡ Some to → Takes next at (b ∷ bytes) (step_to at to)
   takes_here at to b bytes e = subst (TakesBy at bytes (step_to at to)) (sym e) (inl refl)
 
-  pub takes_later : (at to : Point) (b : ℕ) (bytes : List ℕ) (step : Step) → next at b ≡ Some to → Takes next to bytes step → Takes next at (b ∷ bytes) step
+  pub takes_later : (at to : Point) (b : ℕ) (bytes : List ℕ) (step : InputStep) → next at b ≡ Some to → Takes next to bytes step → Takes next at (b ∷ bytes) step
   takes_later at to b bytes step e h = subst (TakesBy at bytes step) (sym e) (inr h)
 
-  pub takes_cases : (at to : Point) (b : ℕ) (bytes : List ℕ) (step : Step) → next at b ≡ Some to → Takes next at (b ∷ bytes) step →
+  pub takes_cases : (at to : Point) (b : ℕ) (bytes : List ℕ) (step : InputStep) → next at b ≡ Some to → Takes next at (b ∷ bytes) step →
       (step ≡ step_to at to) ⊎ Takes next to bytes step
   takes_cases at to b bytes step e h = subst (TakesBy at bytes step) e h
 
-  pub takes_none : (at : Point) (b : ℕ) (bytes : List ℕ) (step : Step) → next at b ≡ None → Takes next at (b ∷ bytes) step → ⊥
+  pub takes_none : (at : Point) (b : ℕ) (bytes : List ℕ) (step : InputStep) → next at b ≡ None → Takes next at (b ∷ bytes) step → ⊥
   takes_none at b bytes step e h = subst (TakesBy at bytes step) e h
 
   -- ---- After several bytes
 
-  pub takes_after : (front : List ℕ) (start at : Point) (bytes : List ℕ) (step : Step) → after next start front ≡ Some at → Takes next at bytes step →
+  pub takes_after : (front : List ℕ) (start at : Point) (bytes : List ℕ) (step : InputStep) → after next start front ≡ Some at → Takes next at bytes step →
       Takes next start (front ++ bytes) step
   takes_after [] start at bytes step e h = subst (λ (p : Point). Takes next p bytes step) (sym (same_Some _ _ e)) h
   takes_after (b ∷ front) start at bytes step e h = go (λ p. takes_after front p at bytes step) (next start b) refl e
@@ -76,9 +76,9 @@ module _ (next : Point → ℕ → Option Point) where
   -- ---- The steps that are left from an index on
 
   pub record MoreSteps (input : List ℕ) (i : ℕ) (at to : Point) : Type 0 where
-    pub here : (step : Step) → step ≡ step_to at to → Takes next at (drop i input) step
-    pub later : (step : Step) → Takes next to (drop (i + 1) input) step → Takes next at (drop i input) step
-    pub cases : (step : Step) → Takes next at (drop i input) step → (step ≡ step_to at to) ⊎ Takes next to (drop (i + 1) input) step
+    pub here : (step : InputStep) → step ≡ step_to at to → Takes next at (drop i input) step
+    pub later : (step : InputStep) → Takes next to (drop (i + 1) input) step → Takes next at (drop i input) step
+    pub cases : (step : InputStep) → Takes next at (drop i input) step → (step ≡ step_to at to) ⊎ Takes next to (drop (i + 1) input) step
 
   pub more_steps : (input : List ℕ) (i : ℕ) (at to : Point) → i < length input → next at (slice_index input i) ≡ Some to → MoreSteps input i at to
   more_steps input i at to l e =
@@ -88,12 +88,12 @@ module _ (next : Point → ℕ → Option Point) where
       record {
         here = λ step same.
             subst (λ (bs : List ℕ). Takes next at bs step) (sym parts)
-            (subst (λ (s : Step). Takes next at (b ∷ rest) s) (sym same) (takes_here at to b rest e));
+            (subst (λ (s : InputStep). Takes next at (b ∷ rest) s) (sym same) (takes_here at to b rest e));
         later = λ step h. subst (λ (bs : List ℕ). Takes next at bs step) (sym parts) (takes_later at to b rest step e h);
         cases = λ step h. takes_cases at to b rest step e (subst (λ (bs : List ℕ). Takes next at bs step) parts h);
       }
 
-  pub steps_stop : (input : List ℕ) (i : ℕ) (at : Point) (step : Step) → i < length input → next at (slice_index input i) ≡ None → Takes next at (drop i input) step → ⊥
+  pub steps_stop : (input : List ℕ) (i : ℕ) (at : Point) (step : InputStep) → i < length input → next at (slice_index input i) ≡ None → Takes next at (drop i input) step → ⊥
   steps_stop input i at step l e h =
       let parts : drop i input ≡ slice_index input i ∷ drop (i + 1) input = drop_more input i 0 l in
       takes_none at (slice_index input i) (drop (i + 1) input) step e (subst (λ (bs : List ℕ). Takes next at bs step) parts h)
@@ -101,5 +101,5 @@ module _ (next : Point → ℕ → Option Point) where
   pub steps_end : (input : List ℕ) (i : ℕ) (at : Point) → length input ≤ i → Takes next at (drop i input) (end_at at)
   steps_end input i at l = subst (λ (bs : List ℕ). Takes next at bs (end_at at)) (sym (drop_all i input l)) refl
 
-  pub last_step : (input : List ℕ) (i : ℕ) (at : Point) (step : Step) → length input ≤ i → Takes next at (drop i input) step → step ≡ end_at at
+  pub last_step : (input : List ℕ) (i : ℕ) (at : Point) (step : InputStep) → length input ≤ i → Takes next at (drop i input) step → step ≡ end_at at
   last_step input i at step l h = subst (λ (bs : List ℕ). Takes next at bs step) (drop_all i input l) h

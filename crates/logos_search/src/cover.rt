@@ -1,7 +1,7 @@
 //! The search for inputs that together take all steps of a machine.
 
 ghost use Rattle.std.specs.Prelude.{◌≡◌, ◌<◌, ◌∷◌, ◌++◌, [], true, IfOk, OnOk, Contains, Some, length, map, slice_get};
-ghost use Rattle.logos_search.specs.Views.{AreCovering, end_at, stand_goal, Step as Taken, Stand as At};
+ghost use Rattle.logos_search.specs.Views.{AreCovering, end_at, stand_goal, Stand as At};
 ghost use Rattle.logos_search.specs.inside.Covers as covers;
 ghost use Rattle.logos_search.specs.inside.Visits as walks;
 
@@ -9,7 +9,7 @@ use crate::order::byte_at;
 use crate::point::{Machine, Point};
 use crate::rest::{Rest, push_rest};
 use crate::search::is_goal;
-use crate::steps::{Step, add_step, add_steps};
+use crate::steps::{InputStep, add_step, add_steps};
 use crate::visits::{Visits, advance, first_stand, first_visits, meet_all, stand_of, way_to};
 use indexmap::IndexSet;
 use std::alloc::{AllocError, Global};
@@ -26,13 +26,13 @@ struct Explored {
 /// Inputs, and the steps that they take.
 #[derive(Drop)]
 struct Cover {
-    steps: IndexSet<Step>,
+    steps: IndexSet<InputStep>,
     inputs: Vec<Vec<u8>>,
 }
 
 /// A byte that is read at the stand with a number.
 #[derive(Clone, Copy)]
-struct Reading {
+struct StandByte {
     number: usize,
     byte: u8,
 }
@@ -48,8 +48,7 @@ fn explore<M: Machine>(
     utf8: bool,
     start: Point,
 ) -> Result<Explored, AllocError>
-    ensures explored { IfOk result (λ made. covers.IsExplored (M.leads machine.now) made.utf8
-        made.start made.visits.stands.keys made.visits.ways.items) }
+    ensures explored { IfOk result (λ made. covers.HasExplored (M.leads machine.now) made) }
     ensures mode { IfOk result (λ made. made.utf8 ≡ utf8) }
     ensures start { IfOk result (λ made. made.start ≡ start) }
 {
@@ -76,7 +75,7 @@ fn explore<M: Machine>(
 fn way_by(
     alloc: Global,
     visits: &Visits,
-    reading: Reading,
+    reading: StandByte,
     rest: Rest,
 ) -> Result<Vec<u8>, AllocError>
     requires there { reading.number < length visits.now.ways.items }
@@ -120,18 +119,15 @@ fn cover_byte<M: Machine>(
     machine: &M,
     explored: &Explored,
     cover: &mut Cover,
-    reading: Reading,
+    reading: StandByte,
 ) -> Result<(), AllocError>
     requires there { reading.number < length explored.now.visits.stands.keys }
     requires byte { reading.byte < 256 }
-    requires explored { covers.IsExplored (M.leads machine.now) explored.now.utf8
-        explored.now.start explored.now.visits.stands.keys explored.now.visits.ways.items }
-    requires cover { covers.IsCover (M.leads machine.now) explored.now.utf8 explored.now.start
-        cover.old.steps.keys (map (λ v. v.items) cover.old.inputs.items) }
-    ensures cover { OnOk result (covers.IsCover (M.leads machine.now) explored.now.utf8
-        explored.now.start cover.new.steps.keys (map (λ v. v.items) cover.new.inputs.items)) }
-    ensures grows { OnOk result ((step : Taken) → Contains cover.old.steps.keys step →
-        Contains cover.new.steps.keys step) }
+    requires explored { covers.HasExplored (M.leads machine.now) explored.now }
+    requires cover { covers.CoversSteps (M.leads machine.now) explored.now cover.old }
+    ensures cover { OnOk result (
+        covers.CoversSteps (M.leads machine.now) explored.now cover.new) }
+    ensures grows { OnOk result (covers.HasStepsOf cover.old cover.new) }
     ensures covered { OnOk result ((at : At) →
         slice_get explored.now.visits.stands.keys reading.number ≡ Some at →
         covers.IsCoveredBy (M.leads machine.now) explored.now.utf8 cover.new.steps.keys at
@@ -141,7 +137,7 @@ fn cover_byte<M: Machine>(
     let Some(next) = advance(machine, explored.utf8, at, reading.byte) else {
         return Ok(());
     };
-    let step = Step {
+    let step = InputStep {
         from: at.point,
         to: next.point,
         ends: false,
@@ -167,14 +163,11 @@ fn cover_end<M: Machine>(
     number: usize,
 ) -> Result<(), AllocError>
     requires there { number < length explored.now.visits.stands.keys }
-    requires explored { covers.IsExplored (M.leads machine.now) explored.now.utf8
-        explored.now.start explored.now.visits.stands.keys explored.now.visits.ways.items }
-    requires cover { covers.IsCover (M.leads machine.now) explored.now.utf8 explored.now.start
-        cover.old.steps.keys (map (λ v. v.items) cover.old.inputs.items) }
-    ensures cover { OnOk result (covers.IsCover (M.leads machine.now) explored.now.utf8
-        explored.now.start cover.new.steps.keys (map (λ v. v.items) cover.new.inputs.items)) }
-    ensures grows { OnOk result ((step : Taken) → Contains cover.old.steps.keys step →
-        Contains cover.new.steps.keys step) }
+    requires explored { covers.HasExplored (M.leads machine.now) explored.now }
+    requires cover { covers.CoversSteps (M.leads machine.now) explored.now cover.old }
+    ensures cover { OnOk result (
+        covers.CoversSteps (M.leads machine.now) explored.now cover.new) }
+    ensures grows { OnOk result (covers.HasStepsOf cover.old cover.new) }
     ensures covered { OnOk result ((at : At) →
         slice_get explored.now.visits.stands.keys number ≡ Some at →
         stand_goal (M.goal machine.now) at ≡ true →
@@ -184,7 +177,7 @@ fn cover_end<M: Machine>(
     if !is_goal(machine, at) {
         return Ok(());
     }
-    let step = Step {
+    let step = InputStep {
         from: at.point,
         to: at.point,
         ends: true,
@@ -210,14 +203,11 @@ fn cover_stand<M: Machine>(
     number: usize,
 ) -> Result<(), AllocError>
     requires there { number < length explored.now.visits.stands.keys }
-    requires explored { covers.IsExplored (M.leads machine.now) explored.now.utf8
-        explored.now.start explored.now.visits.stands.keys explored.now.visits.ways.items }
-    requires cover { covers.IsCover (M.leads machine.now) explored.now.utf8 explored.now.start
-        cover.old.steps.keys (map (λ v. v.items) cover.old.inputs.items) }
-    ensures cover { OnOk result (covers.IsCover (M.leads machine.now) explored.now.utf8
-        explored.now.start cover.new.steps.keys (map (λ v. v.items) cover.new.inputs.items)) }
-    ensures grows { OnOk result ((step : Taken) → Contains cover.old.steps.keys step →
-        Contains cover.new.steps.keys step) }
+    requires explored { covers.HasExplored (M.leads machine.now) explored.now }
+    requires cover { covers.CoversSteps (M.leads machine.now) explored.now cover.old }
+    ensures cover { OnOk result (
+        covers.CoversSteps (M.leads machine.now) explored.now cover.new) }
+    ensures grows { OnOk result (covers.HasStepsOf cover.old cover.new) }
     ensures covered { OnOk result ((at : At) →
         slice_get explored.now.visits.stands.keys number ≡ Some at →
         covers.AreCoveredAt (M.leads machine.now) (M.goal machine.now) explored.now.utf8
@@ -225,7 +215,7 @@ fn cover_stand<M: Machine>(
 {
     for place in 0..256usize {
         let byte = byte_at(place as u8);
-        cover_byte(machine, explored, cover, Reading { number, byte })?;
+        cover_byte(machine, explored, cover, StandByte { number, byte })?;
     }
     cover_end(machine, explored, cover, number)?;
     Ok(())

@@ -1,7 +1,7 @@
 //! The steps that a machine takes on its way over an input.
 
 ghost use Rattle.std.specs.Prelude.{◌≡◌, ◌⊎◌, false, IfOk, OnOk, Contains};
-ghost use Rattle.logos_search.specs.Views.{Adds, Step as Taken};
+ghost use Rattle.logos_search.specs.Views.{Adds, InputStep as Taken};
 
 use crate::point::{Machine, Point};
 use indexmap::IndexSet;
@@ -9,7 +9,7 @@ use std::alloc::AllocError;
 
 /// A step on the way over an input: a byte leads from a point to another one, or the input ends.
 #[derive(Clone, Copy, PartialEq, Eq, Hash)]
-pub(crate) struct Step {
+pub(crate) struct InputStep {
     pub(crate) from: Point,
     /// Where the byte leads, or the same point.
     pub(crate) to: Point,
@@ -22,7 +22,7 @@ pub(crate) struct Step {
 /// # Errors
 ///
 /// Returns `AllocError` if memory runs out.
-pub(crate) fn add_step(steps: &mut IndexSet<Step>, step: Step) -> Result<bool, AllocError>
+pub(crate) fn add_step(steps: &mut IndexSet<InputStep>, step: InputStep) -> Result<bool, AllocError>
     ensures has { OnOk result (Contains steps.new.keys step) }
     ensures only { OnOk result ((other : Taken) → Contains steps.new.keys other →
         Contains steps.old.keys other ⊎ (other ≡ step)) }
@@ -43,7 +43,7 @@ pub(crate) fn add_steps<M: Machine>(
     machine: &M,
     start: Point,
     input: &[u8],
-    steps: &mut IndexSet<Step>,
+    steps: &mut IndexSet<InputStep>,
 ) -> Result<(), AllocError>
     ensures { OnOk result (Adds (M.leads machine.now) start steps.old.keys input.now
         steps.new.keys) }
@@ -55,7 +55,7 @@ pub(crate) fn add_steps<M: Machine>(
         };
         add_step(
             steps,
-            Step {
+            InputStep {
                 from: at,
                 to,
                 ends: false,
@@ -65,7 +65,7 @@ pub(crate) fn add_steps<M: Machine>(
     }
     add_step(
         steps,
-        Step {
+        InputStep {
             from: at,
             to: at,
             ends: true,

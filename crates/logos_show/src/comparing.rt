@@ -4,8 +4,9 @@ ghost use Rattle.std.specs.Prelude.{IfErr};
 ghost use Rattle.logos_show.specs.Orders.{IsNoMisuse};
 
 use crate::asking::{Judgment, Pair, Standing, compare_with};
+use crate::choosing::lexer_in;
 use crate::reading::{refused, text_at, text_of};
-use crate::running::{Host, Task, lexer_in, part_of};
+use crate::running::{Host, Task, part_of};
 use crate::showing::SHAPE;
 use logos_answers::Lexed;
 use logos_codegen::{Generated, generate};

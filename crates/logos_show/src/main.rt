@@ -3,6 +3,7 @@
 #![tactic(auto)]
 
 mod asking;
+mod choosing;
 mod comparing;
 mod items;
 mod reading;

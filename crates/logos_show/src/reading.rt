@@ -8,8 +8,7 @@ use logos_causes::{
 };
 use logos_codegen::Refusal;
 use logos_codegen::error::{Errors, Memory};
-use logos_codegen::item::{ReadError, read_enum};
-use logos_codegen::token::{Span, TokenError, tokenize};
+use logos_codegen::token::Span;
 use logos_host::{Failure, Files, MessageFormat, read_text, write_through};
 use logos_messages::push_messages;
 use logos_report::{Page, Part, Source, Warning, count_errors, push_faults, push_summary};
@@ -121,43 +120,6 @@ fn enum_at<'t>(alloc: Global, part: Part<'_, 't>) -> Result<&'t str, Memory> {
         }
     }
     Ok("")
-}
-
-/// Returns the first of these enums that derives `Logos` and has the name, if one is given.
-pub(crate) fn chosen(
-    alloc: Global,
-    source: &Source<'_>,
-    found: &[FoundEnum],
-    name: Option<&str>,
-) -> Result<Option<FoundEnum>, Memory> {
-    for one in found {
-        if one.derives && has_name(alloc, text_of(source, *one), name)? {
-            return Ok(Some(*one));
-        }
-    }
-    Ok(None)
-}
-
-/// Returns whether an enum has the name, if one is given.
-pub(crate) fn has_name(alloc: Global, text: &str, name: Option<&str>) -> Result<bool, Memory> {
-    match name {
-        Some(name) => is_named(alloc, text, name),
-        None => Ok(true),
-    }
-}
-
-/// Returns whether an enum has this name.
-fn is_named(alloc: Global, text: &str, name: &str) -> Result<bool, Memory> {
-    let stream = match tokenize(alloc, text) {
-        Ok(stream) => stream,
-        Err(TokenError::Memory) => return Err(Memory),
-        Err(_) => return Ok(false),
-    };
-    match read_enum(alloc, stream.run()) {
-        Ok(item) => Ok(item.name.text == name),
-        Err(ReadError::Memory) => Err(Memory),
-        Err(_) => Ok(false),
-    }
 }
 
 /// Prints bytes.

@@ -7,19 +7,21 @@ use crate::asking::{
     Input, Spot, Standing, write_input_records, write_inputs, write_match_records, write_matches,
     write_standing,
 };
+use crate::choosing::{found_in, lexer_in};
 use crate::comparing::compare;
 use crate::items::{write_item_records, write_items};
-use crate::reading::{chosen, print_bytes, read_bytes, refused, text_at, text_of};
+use crate::reading::{print_bytes, read_bytes, refused, text_at, text_of};
 use crate::showing::{Form, PageStyle, SHAPE, Shown, shown_of};
 use crate::streaming::lex_stream;
 use logos_causes::Showing;
 use logos_codegen::graph::Graph;
 use logos_codegen::{Generated, generate};
-use logos_host::{Failure, Files, report, with_nearest};
+use logos_host::{Failure, Files, report};
 use logos_lines::Position;
-use logos_questions::{Order, Question, Request, STANDARD_INPUT, TAKEN, request_of};
-use logos_report::{Page, Part, Source};
-use logos_rust_file::{FoundEnum, enums_in};
+use logos_options::{Program, STANDARD_INPUT, with_nearest};
+use logos_questions::{Order, Question, Request, request_of};
+use logos_report::{Part, Source};
+use logos_rust_file::FoundEnum;
 use std::alloc::Global;
 use std::io::{Input as StandardInput, IsTerminal, Write};
 use std::time::Clock;
@@ -43,7 +45,7 @@ line for each item of INPUT, and at the end how many items there were. Either
 may be `-`, which is standard input.
 
 options:
-      --enum NAME   show, or lex by, the enum NAME alone
+      --enum NAME   show, or lex by, the enum NAME alone, or `module::NAME`
       --at L:C      print what matches from line L, column C of INPUT
       --examples    print for each leaf a shortest text that it finds, and one
                     where another leaf is found in its place
@@ -91,7 +93,7 @@ pub(crate) fn run<F: Files, C: Clock + StandardInput, O: Write, E: Write + IsTer
 {
     let request = match request_of(words) {
         Ok(request) => request,
-        Err(failure) => return failed(&with_nearest(failure, &TAKEN), host.err),
+        Err(failure) => return failed(&with_nearest(failure, Program::Show), host.err),
     };
     match carry_out(alloc, request, host, out) {
         Ok(Standing::Same) => 0,
@@ -208,7 +210,7 @@ fn show<'w, F: Files, C: Clock, O: Write, E: Write + IsTerminal>(
     let text = text_at(path, host.files)?;
     let source = Source::new(alloc, path, text.as_str())?;
     if task.order.name.is_some() {
-        let _ = lexer_in(alloc, task, &source)?;
+        let _ = found_in(alloc, task, &source)?;
     }
     let style = PageStyle {
         showing: task.showing,
@@ -402,51 +404,5 @@ fn match_by_lexer<O: Write>(
         write_match_records(alloc, graph, spot, out)
     } else {
         write_matches(alloc, graph, spot, out)
-    }
-}
-
-/// Returns the enum of a file whose lexer is asked for.
-pub(crate) fn lexer_in<'w>(
-    alloc: Global,
-    task: Task<'w>,
-    source: &Source<'_>,
-) -> Result<FoundEnum, Failure<'w>>
-    ensures { IfErr result IsNoMisuse }
-{
-    let found = match enums_in(alloc, source.text()) {
-        Ok(found) => found,
-        Err(refusal) => {
-            let whole = Part { source, offset: 0 };
-            return Err(refused(alloc, whole, task.showing, refusal));
-        }
-    };
-    match chosen(alloc, source, &found, task.order.name)? {
-        Some(one) => Ok(one),
-        None => Err(no_lexer(alloc, source.path(), task.order.name)),
-    }
-}
-
-/// Returns the refusal of a file that has no such lexer.
-fn no_lexer(alloc: Global, file: &str, name: Option<&str>) -> Failure<'static>
-    ensures { IsNoMisuse result }
-{
-    let mut page = Page::new(alloc, false);
-    page.push("error: no enum ");
-    push_name(&mut page, name);
-    page.push("in ");
-    page.push_shown(file);
-    page.push(" derives `Logos`\n");
-    match page.finish() {
-        Ok(text) => Failure::Refused(text),
-        Err(_) => Failure::Memory,
-    }
-}
-
-/// Appends the name of an enum, if one is given.
-fn push_name(page: &mut Page, name: Option<&str>) {
-    if let Some(name) = name {
-        page.push("`");
-        page.push_shown(name);
-        page.push("` ");
     }
 }

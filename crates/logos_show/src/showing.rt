@@ -3,7 +3,8 @@
 ghost use Rattle.std.specs.Prelude.{IfErr};
 ghost use Rattle.logos_show.specs.Orders.{IsNoMisuse};
 
-use crate::reading::{has_name, refused, refused_after, text_of};
+use crate::choosing::has_name;
+use crate::reading::{refused, refused_after, text_of};
 use logos_answers::{push_costs, push_examples, push_rows};
 use logos_causes::{
     Showing, add_lexer, add_missing, add_passed, add_text, denial_text, has_lexer, warning_text,
@@ -118,7 +119,7 @@ fn pages_of<'f, 's>(
         style,
     };
     for one in found {
-        push_named(alloc, &mut pages, enum_in(source, lines, *one), name)?;
+        push_named(&mut pages, enum_in(source, lines, *one), name)?;
     }
     Ok(pages)
 }
@@ -168,14 +169,14 @@ fn enum_in<'f, 's>(
 
 /// Appends what is shown of an enum, if it has the name, or none is given.
 fn push_named(
-    alloc: Global,
     pages: &mut Pages,
     one: EnumInFile<'_, '_>,
     name: Option<&str>,
 ) -> Result<(), Failure<'static>>
     ensures { IfErr result IsNoMisuse }
 {
-    if has_name(alloc, one.text, name)? {
+    let alloc = pages.style.showing.alloc;
+    if has_name(alloc, one.part, one.text, name)? {
         push_enum(alloc, pages, one)?;
     }
     Ok(())
@@ -223,7 +224,13 @@ fn push_made(
     ensures { IfErr result IsNoMisuse }
 {
     push_form(alloc, pages, one, made)?;
-    add_lexer(one.text, one.part.offset, &made.graph, &mut pages.warned)?;
+    add_lexer(
+        one.text,
+        one.part.offset,
+        &made.graph,
+        made.code.error_callback(),
+        &mut pages.warned,
+    )?;
     Ok(())
 }
 

@@ -3,11 +3,12 @@
 ghost use Rattle.std.specs.Prelude.{◌<◌, IfErr};
 ghost use Rattle.logos_show.specs.Words.{IsNoMisuse, KeepsCode, unread_length};
 
+use crate::choosing::lexer_in;
 use crate::items::{
     ERROR, Lines, Totals, head_at, milliseconds, no_lines, now, push_totals, write_if_full,
 };
 use crate::reading::{print_bytes, refused, text_at, text_of};
-use crate::running::{Host, Task, lexer_in, part_of};
+use crate::running::{Host, Task, part_of};
 use crate::showing::SHAPE;
 use logos_answers::{note_of, push_item};
 use logos_codegen::code::Code;
@@ -16,7 +17,7 @@ use logos_codegen::leaf::LeafId;
 use logos_codegen::machine::Action;
 use logos_host::{Failure, Files, Reason, write_through};
 use logos_lines::Position;
-use logos_questions::STANDARD_INPUT;
+use logos_options::STANDARD_INPUT;
 use logos_report::Source;
 use logos_stream::{Stream, StreamItem, Streamed};
 use std::alloc::{AllocError, Global};

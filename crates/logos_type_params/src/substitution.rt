@@ -29,7 +29,7 @@ pub struct Replacing<'p, 's> {
 
 /// What replaces a name.
 #[derive(Clone, Copy)]
-enum Given<'p, 's> {
+enum GivenType<'p, 's> {
     Nothing,
     Name(&'s str),
     Parts(&'p [Part<'s>]),
@@ -47,32 +47,32 @@ pub(crate) fn set_lifetime(leaf: Leaf<'_>) -> Leaf<'_>
 }
 
 /// Returns what replaces a parameter with this type.
-fn given_by<'p, 's>(part: &'p Part<'s>) -> Given<'p, 's>
+fn given_by<'p, 's>(part: &'p Part<'s>) -> GivenType<'p, 's>
     ensures { given_of result ≡ given_type (tree_of part.now) }
 {
     match part {
-        Part::Name(text) => Given::Name(text),
-        Part::Whole(parts) => Given::Parts(parts),
-        _ => Given::Nothing,
+        Part::Name(text) => GivenType::Name(text),
+        Part::Whole(parts) => GivenType::Parts(parts),
+        _ => GivenType::Nothing,
     }
 }
 
 /// Returns the shape of the type that is given to this name, if one is.
-fn given_first<'p, 's>(types: &'p IndexMap<&'s str, TypeParam<'s>>, text: &str) -> Given<'p, 's>
+fn given_first<'p, 's>(types: &'p IndexMap<&'s str, TypeParam<'s>>, text: &str) -> GivenType<'p, 's>
     ensures { given_of result ≡ given_first (map param_value types.now.entries) text.now }
 {
     match types.get(text) {
         Some(param) => given_by(&param.part),
-        None => Given::Nothing,
+        None => GivenType::Nothing,
     }
 }
 
 /// Returns what replaces a name.
-fn find<'p, 's>(params: Replacing<'p, 's>, text: &str) -> Given<'p, 's>
+fn find<'p, 's>(params: Replacing<'p, 's>, text: &str) -> GivenType<'p, 's>
     ensures { given_of result ≡ given (params_of params.entry) text.now }
 {
     if params.held.contains(text) {
-        return Given::Nothing;
+        return GivenType::Nothing;
     }
     given_first(params.types, text)
 }
@@ -130,9 +130,9 @@ fn name_after<'s>(
         return Err(TypeFault::LimitNesting);
     }
     match find(params, text) {
-        Given::Nothing => Ok(Part::Name(text)),
-        Given::Name(other) => Ok(Part::Name(other)),
-        Given::Parts(parts) => {
+        GivenType::Nothing => Ok(Part::Name(text)),
+        GivenType::Name(other) => Ok(Part::Name(other)),
+        GivenType::Parts(parts) => {
             let after = parts_after(alloc, levels - 1, params, parts)?;
             Ok(Part::Whole(after))
         }

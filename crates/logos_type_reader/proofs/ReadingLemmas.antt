@@ -6,8 +6,8 @@ use Rattle.logos_type.specs.Parts.{Tree, Sign, sign, whole, trees}
 use Rattle.logos_type_reader.specs.declared.table.place.Place.{Place}
 use Rattle.logos_type_reader.specs.Table.{Spot, outer, Move, Fault, nests, asks, keeps_type, ends, starts, begin, name_of}
 use Rattle.logos_type_reader.specs.Reading.{IsType, just_name, formed, IsMove, a_token, a_bar, a_type, a_still_type, still_tokens, a_nest, AreParts, ended, further, NoType, unbegun, NoMove, no_token, no_type, no_still_type, no_nest, NoParts, later, next_of, after_type}
-use Rattle.logos_type_reader.specs.declared.table.place.Stop.{Stop}
-use Rattle.logos_type_reader.specs.declared.table.place.Stop.TheVariants.{Unsupported, Mismatch}
+use Rattle.logos_type_reader.specs.declared.table.place.StepFault.{StepFault}
+use Rattle.logos_type_reader.specs.declared.table.place.StepFault.TheVariants.{Unsupported, Mismatch}
 use Rattle.logos_type_reader.specs.declared.reading.TypeFault.{TypeFault}
 use Rattle.logos_type_reader.specs.declared.reading.TypeFault.TheVariants as faults
 use Rattle.logos_type_reader.specs.ReadingViews.{left, spot_left, IsStep, IsFirst, IfFault, fault_of}
@@ -126,11 +126,11 @@ finished levels from old now barred spot r e =
     (r.front, r.is, rw (or_false barred, append-nil r.front) at (r.completes false [] (outer spot.run spot.outside) (ended e)))
 
 -- what stops the reader is the fault
-pub stop_move : (levels : ℕ) (spot : Spot) (stop : Stop) → IsStep (Err stop) (next_of spot) → IfFault (NoMove levels spot) (fault_of stop)
+pub stop_move : (levels : ℕ) (spot : Spot) (stop : StepFault) → IsStep (Err stop) (next_of spot) → IfFault (NoMove levels spot) (fault_of stop)
 stop_move levels spot (Unsupported span) h = no_token h
 stop_move levels spot (Mismatch span) h = no_token h
 
-pub stop_type : (levels : ℕ) (plus : Bool) (run : TokenList) (stop : Stop) → name_of run ≡ None → IsFirst (Err stop) (begin plus run) → IfFault (NoType levels plus run) (fault_of stop)
+pub stop_type : (levels : ℕ) (plus : Bool) (run : TokenList) (stop : StepFault) → name_of run ≡ None → IsFirst (Err stop) (begin plus run) → IfFault (NoType levels plus run) (fault_of stop)
 stop_type levels plus run (Unsupported span) unnamed h = unbegun unnamed h
 stop_type levels plus run (Mismatch span) unnamed h = unbegun unnamed h
 

@@ -4,11 +4,11 @@ use Rattle.logos_token.specs.Tokens.{TokenList, count_of}
 use Rattle.logos_token.specs.declared.token.views.Tokens.{Tokens}
 use Rattle.logos_token.specs.Views.{tokens_of}
 use Rattle.logos_type_reader.specs.declared.table.place.Spot.{Spot as SpotView}
-use Rattle.logos_type_reader.specs.declared.table.place.Step.{Step}
-use Rattle.logos_type_reader.specs.declared.table.place.Step.TheVariants.{End, Take, Bar, Ask, KeepType, Keep, Nest}
-use Rattle.logos_type_reader.specs.declared.table.place.Stop.{Stop}
-use Rattle.logos_type_reader.specs.declared.table.place.Stop.TheVariants.{Unsupported, Mismatch}
-use Rattle.logos_type_reader.specs.declared.table.place.Opening.{Opening}
+use Rattle.logos_type_reader.specs.declared.table.place.TypeStep.{TypeStep}
+use Rattle.logos_type_reader.specs.declared.table.place.TypeStep.TheVariants.{End, Take, Bar, Ask, KeepType, Keep, Nest}
+use Rattle.logos_type_reader.specs.declared.table.place.StepFault.{StepFault}
+use Rattle.logos_type_reader.specs.declared.table.place.StepFault.TheVariants.{Unsupported, Mismatch}
+use Rattle.logos_type_reader.specs.declared.table.place.Beginning.{Beginning}
 use Rattle.logos_type.specs.Parts.{Tree, sign_of}
 use Rattle.logos_type_reader.specs.declared.reading.TypeFault.{TypeFault}
 use Rattle.logos_type_reader.specs.declared.reading.TypeFault.TheVariants as faults
@@ -28,7 +28,7 @@ left run None = 2 * count_of run
 left run (Some rest) = 2 * (count_of run + count_of rest) + 1
 
 -- The step is what comes next.
-abbrev pub IsStep : Result Step Stop → Move → Type 0
+abbrev pub IsStep : Result TypeStep StepFault → Move → Type 0
 IsStep (Ok End) next = next ≡ ends
 IsStep (Ok (Take leaf spot)) next = next ≡ takes (sign_of leaf) (spot_of spot)
 IsStep (Ok (Bar leaf spot)) next = next ≡ bars (sign_of leaf) (spot_of spot)
@@ -40,7 +40,7 @@ IsStep (Err (Unsupported span)) next = next ≡ stops (unsupported span)
 IsStep (Err (Mismatch span)) next = next ≡ stops (mismatch span)
 
 -- The same for the first token.
-abbrev pub IsFirst : Result Opening Stop → First → Type 0
+abbrev pub IsFirst : Result Beginning StepFault → First → Type 0
 IsFirst (Ok read) first = first ≡ starts read.barred (sign_of read.leaf) (spot_of read.spot)
 IsFirst (Err (Unsupported span)) first = first ≡ refused (unsupported span)
 IsFirst (Err (Mismatch span)) first = first ≡ refused (mismatch span)
@@ -52,7 +52,7 @@ IfFault Holds (faults.Mismatch span) = Holds (mismatch span)
 IfFault Holds faults.LimitNesting = Holds too_deep
 IfFault Holds faults.Memory = Unit {0}
 
-abbrev pub fault_of : Stop → TypeFault
+abbrev pub fault_of : StepFault → TypeFault
 fault_of (Unsupported span) = faults.Unsupported span
 fault_of (Mismatch span) = faults.Mismatch span
 

@@ -5,7 +5,7 @@ ghost use Rattle.std.specs.Prelude.{◌≡◌, ◌<◌, ◌∷◌, ◌++◌, [],
 ghost use Rattle.logos_type_reader.specs.Views.{IsRestOf, count_of, run_span, tokens_of, inside_of, tree_of, sign_of, sign, opening, closing, still, trees, also, none, still_run, still_token, type_tree, Spot as SpotOfRuns, outer, name_of, asks, keeps_type, nests, IsType, NoType, IsMove, after_type, next_of, spot_of, outside_of, IfFault, IsStep, GivesMove, GivesParts, IsTypeExpr, NoTypeExpr, Memory, fault_of};
 ghost use Rattle.logos_token.specs.Views.{tree_of as token_of};
 
-use crate::table::{Place, Spot, Step, Stop, begin, next_at, read_name};
+use crate::table::{Place, Spot, StepFault, TypeStep, begin, next_at, read_name};
 use logos_token::token::{Group, Span, TokenTree, Tokens};
 use logos_type::{Leaf, Part, TypeExpr};
 use std::alloc::{AllocError, AllocFailed, Global};
@@ -40,13 +40,13 @@ impl<T: Drop> From<AllocFailed<T>> for TypeFault {
     }
 }
 
-impl From<Stop> for TypeFault {
+impl From<StepFault> for TypeFault {
     ghost from_gives = { λ stop fault. fault ≡ fault_of stop };
 
-    fn from(stop: Stop) -> TypeFault {
+    fn from(stop: StepFault) -> TypeFault {
         match stop {
-            Stop::Unsupported(span) => TypeFault::Unsupported { span },
-            Stop::Mismatch(span) => TypeFault::Mismatch { span },
+            StepFault::Unsupported(span) => TypeFault::Unsupported { span },
+            StepFault::Mismatch(span) => TypeFault::Mismatch { span },
         }
     }
 }
@@ -257,7 +257,7 @@ fn move_past_nest<'t, 's>(
 fn make_step<'t, 's>(
     alloc: Global,
     levels: u32,
-    step: Step<'t, 's>,
+    step: TypeStep<'t, 's>,
     spot: Spot<'t, 's>,
     parts: &mut Vec<Part<'s>>,
 ) -> Result<Option<(bool, Spot<'t, 's>)>, TypeFault>
@@ -266,13 +266,13 @@ fn make_step<'t, 's>(
         (map tree_of parts.new.items) result }
 {
     match step {
-        Step::End => Ok(None),
-        Step::Take(leaf, next) => move_past(false, Part::Leaf(leaf), next, parts),
-        Step::Bar(leaf, next) => move_past(true, Part::Leaf(leaf), next, parts),
-        Step::Ask(plus, place) => move_past_type(alloc, levels, plus, place, spot, parts),
-        Step::KeepType(place) => move_past_still_type(alloc, levels, place, spot, parts),
-        Step::Keep(run, next) => move_past_run(alloc, run, next, parts),
-        Step::Nest(leaf, inner, place) => {
+        TypeStep::End => Ok(None),
+        TypeStep::Take(leaf, next) => move_past(false, Part::Leaf(leaf), next, parts),
+        TypeStep::Bar(leaf, next) => move_past(true, Part::Leaf(leaf), next, parts),
+        TypeStep::Ask(plus, place) => move_past_type(alloc, levels, plus, place, spot, parts),
+        TypeStep::KeepType(place) => move_past_still_type(alloc, levels, place, spot, parts),
+        TypeStep::Keep(run, next) => move_past_run(alloc, run, next, parts),
+        TypeStep::Nest(leaf, inner, place) => {
             move_past_nest(alloc, levels, (leaf, inner), place, spot, parts)
         }
     }

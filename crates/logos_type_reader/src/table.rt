@@ -31,8 +31,8 @@ use paths::{
     argument_end_step, arguments_step, braced_step, colons_step, constrained_step, equals_step,
     input_end_step, inputs_step, macro_step, named_step, output_step, path_step, segments_step,
 };
-pub(crate) use place::{Place, Spot, Step, Stop};
-use place::{Action, BoundKind, Next, Outside, PathKind};
+pub(crate) use place::{Place, Spot, StepFault, TypeStep};
+use place::{BoundKind, Next, Outside, PathKind, TableEntry};
 
 /// Returns what is to be done at a spot inside a type.
 #[tactic(auto, unfolding(crate::specs::Table::next_at))]
@@ -41,13 +41,13 @@ fn action_at(at: &Spot<'_, '_>) -> Next
         (next_at at.now.place (tokens_of at.now.run) (outside_of at.now.outside)) }
 {
     match at.place {
-        Place::End => Ok(Action::End),
+        Place::End => Ok(TableEntry::End),
         Place::Named(kind) => named_step(kind, at),
         Place::Segments(kind) => segments_step(kind, at),
         Place::Colons(kind, arguments) => colons_step(kind, arguments, at),
         Place::Arguments(kind) => arguments_step(kind, at),
         Place::Equals(kind) => equals_step(kind, at),
-        Place::Value(kind) => Ok(Action::Ask(true, Place::ArgumentEnd(kind))),
+        Place::Value(kind) => Ok(TableEntry::Ask(true, Place::ArgumentEnd(kind))),
         Place::Constrained(kind) => constrained_step(kind, at),
         Place::Braced(kind) => braced_step(kind, at),
         Place::ArgumentEnd(kind) => argument_end_step(kind, at),
@@ -55,20 +55,20 @@ fn action_at(at: &Spot<'_, '_>) -> Next
         Place::Inputs => inputs_step(at),
         Place::InputEnd => input_end_step(at),
         Place::Output => output_step(at),
-        Place::SelfType => Ok(Action::KeepType(Place::SelfEnd)),
+        Place::SelfType => Ok(TableEntry::KeepType(Place::SelfEnd)),
         Place::SelfEnd => self_end_step(at),
         Place::SelfTrait => path_step(PathKind::OfType, Place::SelfTraitEnd, at),
         Place::SelfTraitEnd => self_trait_end_step(at),
         Place::SelfClosed => self_closed_step(at),
         Place::Referent => referent_step(at),
         Place::Pointer => pointer_step(at),
-        Place::Target => Ok(Action::Ask(false, Place::End)),
+        Place::Target => Ok(TableEntry::Ask(false, Place::End)),
         Place::List => tuple_step(at),
         Place::ListEnd => tuple_end_step(at),
-        Place::Element => Ok(Action::Ask(true, Place::ElementEnd)),
+        Place::Element => Ok(TableEntry::Ask(true, Place::ElementEnd)),
         Place::ElementEnd => element_end_step(at),
         Place::Length => length_step(at),
-        Place::LengthEnd => Ok(Action::Close(Delimiter::Bracket, Place::End)),
+        Place::LengthEnd => Ok(TableEntry::Close(Delimiter::Bracket, Place::End)),
         _ => bound_action_at(at),
     }
 }
@@ -110,7 +110,7 @@ pub(crate) fn next_at<'t, 's>(
     place: Place,
     run: Tokens<'t, 's>,
     outside: Outside<'t, 's>,
-) -> Result<Step<'t, 's>, Stop>
+) -> Result<TypeStep<'t, 's>, StepFault>
     ensures { IsStep result (next_at place (tokens_of run.entry) (outside_of outside.entry)) }
 {
     let at = Spot {

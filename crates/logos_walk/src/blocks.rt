@@ -27,9 +27,9 @@ pub struct Places {
 fn column(rows: &[u32], text: &[u8], from: Places, trace: &mut [u32], at: usize) -> Places
     requires closed { IsClosed rows.now }
     requires places { ArePlaces rows.now from }
-    requires text { length text.now ≡ 4096 }
-    requires trace { length trace.old ≡ 4096 }
-    requires at { at < 1024 }
+    requires text { length text.now ≡ CHUNK }
+    requires trace { length trace.old ≡ CHUNK }
+    requires at { at < BLOCK }
     // Walks of the blocks up to here are walks of one byte more.
     ensures walked { (origin : Places)
         → AreWalked rows.now text.now origin trace.old at from
@@ -52,9 +52,9 @@ fn column(rows: &[u32], text: &[u8], from: Places, trace: &mut [u32], at: usize)
 fn walk_blocks(rows: &[u32], text: &[u8], from: Places, trace: &mut [u32]) -> Places
     requires closed { IsClosed rows.now }
     requires places { ArePlaces rows.now from }
-    requires text { length text.now ≡ 4096 }
-    requires trace { length trace.old ≡ 4096 }
-    ensures walked { AreWalked rows.now text.now from trace.new 1024 result }
+    requires text { length text.now ≡ CHUNK }
+    requires trace { length trace.old ≡ CHUNK }
+    ensures walked { AreWalked rows.now text.now from trace.new BLOCK result }
     ensures places { ArePlaces rows.now result }
 {
     let mut now = from;
@@ -71,9 +71,9 @@ pub fn walk_chunk(rows: &[u32], text: &[u8], root: usize, place: usize, trace: &
     requires closed { IsClosed rows.now }
     requires root { IsPlace rows.now root }
     requires place { IsPlace rows.now place }
-    requires text { length text.now ≡ 4096 }
-    requires trace { length trace.old ≡ 4096 }
-    ensures walked { Walked rows.now text.now place trace.new 0 4096 result }
+    requires text { length text.now ≡ CHUNK }
+    requires trace { length trace.old ≡ CHUNK }
+    ensures walked { Walked rows.now text.now place trace.new 0 CHUNK result }
     ensures stays { IsPlace rows.now result }
 {
     let from = Places {
@@ -90,9 +90,9 @@ pub fn walk_chunk(rows: &[u32], text: &[u8], root: usize, place: usize, trace: &
 fn walk_from(rows: &[u32], text: &[u8], from: Places, trace: &mut [u32]) -> usize
     requires closed { IsClosed rows.now }
     requires places { ArePlaces rows.now from }
-    requires text { length text.now ≡ 4096 }
-    requires trace { length trace.old ≡ 4096 }
-    ensures walked { Walked rows.now text.now from.first trace.new 0 4096 result }
+    requires text { length text.now ≡ CHUNK }
+    requires trace { length trace.old ≡ CHUNK }
+    ensures walked { Walked rows.now text.now from.first trace.new 0 CHUNK result }
     ensures stays { IsPlace rows.now result }
 {
     let ends = walk_blocks(rows, text, from, trace);

@@ -3,6 +3,7 @@
 ghost use Rattle.std.specs.Prelude.{◌≡◌, ℕ, List, ◌<◌, ◌≤◌, ◌+◌, ◌*◌, MatchOption};
 ghost use Rattle.logos_walk.specs.Views.{HasRoom, IsNext, IsUnder, NoToken, StartsAt, IsMarked, Passes, Stands};
 
+use crate::blocks::CHUNK;
 use crate::masks::Chunk;
 
 /// Where a scan stands in a chunk: before the entry `from`, in a word of flags. Of the word it has
@@ -23,9 +24,10 @@ pub struct Cursor {
 impl Cursor {
     /// Returns the cursor before the entry `from` of a chunk, where a try stands that begins at
     /// `start`.
+    #[inline(always)]
     pub fn new(chunk: &Chunk, base: usize, start: usize, from: usize) -> Cursor
         requires marked { IsMarked chunk.now }
-        requires from { from < 4096 }
+        requires from { from < CHUNK }
         ensures stands { Stands chunk.now.entries result }
         ensures base { result.base ≡ base }
         ensures start { result.start ≡ start }
@@ -110,8 +112,8 @@ impl Cursor {
         ensures base { self.new.base ≡ self.old.base }
         ensures stands { Stands chunk.now.entries self.new }
         ensures next { MatchOption result
-            (NoToken chunk.now.entries self.old.from 4096 × (self.new.from ≡ 4096)
-            × StartsAt self.old.base chunk.now.entries self.old.from self.old.start 4096 self.new.start)
+            (NoToken chunk.now.entries self.old.from CHUNK × (self.new.from ≡ CHUNK)
+            × StartsAt self.old.base chunk.now.entries self.old.from self.old.start CHUNK self.new.start)
             (λ at. IsNext chunk.now.entries self.old.from at × (self.new.from ≡ at + 1)
             × StartsAt self.old.base chunk.now.entries self.old.from self.old.start at self.new.start) }
     {
@@ -131,9 +133,9 @@ impl Cursor {
         requires room { HasRoom self.base }
         requires word { self.word ≡ 63 }
         ensures base { result.base ≡ self.base }
-        ensures from { result.from ≡ 4096 }
+        ensures from { result.from ≡ CHUNK }
         ensures stands { (trace : List ℕ) → Stands trace self → Stands trace result
-            × StartsAt self.base trace self.from self.start 4096 result.start }
+            × StartsAt self.base trace self.from self.start CHUNK result.start }
     {
         Cursor {
             base: self.base,

@@ -3,7 +3,7 @@
 ghost use Rattle.std.specs.Prelude.{◌≤◌, length};
 ghost use Rattle.logos_walk.specs.Words.{IsClosed, IsPlace};
 
-use crate::walk::PLACE;
+use crate::walk::{PLACE, entry_of};
 use std::simd::prelude::*;
 
 /// Returns a guess at the row at `end`: the one to which the bytes after the last line end among
@@ -32,7 +32,7 @@ fn run(rows: &[u32], text: &[u8], place: usize) -> usize
 {
     let mut now = place;
     for byte in text {
-        now = (rows[*byte as usize + now] & PLACE) as usize;
+        now = (entry_of(rows, *byte, now) & PLACE) as usize;
     }
     now
 }

@@ -39,6 +39,15 @@ fn tokens_of(trace: &[u32], at: usize) -> u64
 }
 
 impl Chunk {
+    /// Makes a chunk without flags.
+    pub fn new() -> Chunk {
+        Chunk {
+            entries: [0; 4096],
+            ends: [0; 64],
+            tokens: [0; 64],
+        }
+    }
+
     /// Writes the words of flags from `from` up to `to`.
     pub fn mark(&mut self, from: usize, to: usize)
         requires order { from ≤ to }

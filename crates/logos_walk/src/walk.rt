@@ -5,7 +5,7 @@
 //! bits are flags: `ENDED` says that a match ends before the byte, and `TOKEN` that there is
 //! something to do there.
 
-ghost use Rattle.std.specs.Prelude.{◌≡◌, ◌<◌, ◌≤◌, length, slice_set};
+ghost use Rattle.std.specs.Prelude.{◌≡◌, ◌+◌, ◌<◌, ◌≤◌, length, slice_index, slice_set};
 ghost use Rattle.logos_walk.specs.Words.{IsClosed, IsPlace, IsSameBeside, Walked, entry_at, place_of};
 
 /// The bits of an entry that name the next row, by its offset.
@@ -16,6 +16,17 @@ pub const ENDED: u32 = 1 << 31;
 
 /// The flag of an entry at whose byte there is something to do.
 pub const TOKEN: u32 = 1 << 30;
+
+/// Returns the entry of a byte in a row. The byte is added first: the offset of the row, which
+/// comes from the entry before, is known last.
+#[inline(always)]
+pub(crate) fn entry_of(rows: &[u32], byte: u8, place: usize) -> u32
+    requires { IsPlace rows.now place }
+    ensures { result ≡ slice_index rows.now (byte + place) }
+{
+    let column = &rows[byte as usize..];
+    column[place]
+}
 
 /// Steps over the byte at `at`: writes its entry, and returns the row that it names.
 #[inline(always)]
@@ -28,9 +39,7 @@ pub fn step(rows: &[u32], text: &[u8], place: usize, trace: &mut [u32], at: usiz
     ensures result { result ≡ place_of (entry_at rows.now text.now at place) }
     ensures stays { IsPlace rows.now result }
 {
-    // In this order the offset, which comes from the entry before, need not be added before the
-    // load.
-    let entry = rows[text[at] as usize + place];
+    let entry = entry_of(rows, text[at], place);
     trace[at] = entry;
     (entry & PLACE) as usize
 }

@@ -6,6 +6,7 @@ mod attributes;
 mod helper;
 mod messages;
 mod mistakes;
+mod others;
 mod passed;
 
 pub use helper::{Helper, intended_helper};

@@ -4,6 +4,7 @@ ghost use Rattle.std.specs.Prelude.{◌≡◌, IfOk};
 ghost use Rattle.logos_warnings.specs.Views.{mistake_value, span_of};
 
 use crate::mistakes::{Mistake, mistakes_of};
+use crate::others::add_others;
 use logos_enum::{ItemEnum, ReadError, read_enum};
 use logos_report::Warning;
 use logos_token::error::Memory;
@@ -11,8 +12,8 @@ use logos_token::token::{Span, TokenError, tokenize};
 use std::alloc::{AllocError, Global};
 
 /// Returns the warnings of an enum with this text: those of its own attributes and then those of
-/// its variants', in source order, and last that it has no pattern or does not derive `Logos`. An
-/// enum that cannot be read has none.
+/// its variants', in source order, then that it has no pattern or does not derive `Logos`, and last
+/// those of attributes that its lexer passes over. An enum that cannot be read has none.
 ///
 /// # Errors
 ///
@@ -40,6 +41,9 @@ fn item_warnings(
     let mut warnings = Vec::new(alloc);
     for mistake in &mistakes {
         warnings.push(warning_of(alloc, item.name.text, *mistake)?)?;
+    }
+    if derives {
+        add_others(item, &mut warnings)?;
     }
     Ok(warnings)
 }

@@ -80,5 +80,8 @@ fn setting<'s>(lex: &mut Lexer<'s, Line<'s>>) -> Result<Setting<'s>, Fault> {
     while let Some(item) = values.next() {
         value.push(item.map_err(|()| Fault::Value(start + values.span().start))?);
     }
-    Ok(Setting { name: name.trim_end(), value })
+    Ok(Setting {
+        name: name.trim_end(),
+        value,
+    })
 }

@@ -1,112 +1,80 @@
 -- Bytes that a pattern does not distinguish.
-use Rattle.std.proofs.Common.{◌≡◌, ℕ, zero, suc, ◌+◌, ◌-◌, ◌<◌, ◌≤◌, ◌↔◌, ◌⊎◌, Bool, true, false, IsTrue, IsFalse, if◌then◌else◌, List, [], ◌∷◌, ◌++◌, length, length-append, map, drop, slice_index, slice_index_or, Option, Some, None, refl, sym, ap, ◌∙◌, subst, inl, inr, ⊎_elim, true≢false, arith}
-use Rattle.std.proofs.lemmas.List.{get_or_append_left}
-use Rattle.std.proofs.Math.Seq.{get_or-append_seam}
-use Rattle.logos_automaton.specs.inside.Alike.{IsAlike, AreStartsOf, AreClassStarts, AreReadAlike}
+use Rattle.std.proofs.Common.{◌≡◌, ℕ, zero, suc, ◌+◌, ◌-◌, ◌<◌, ◌≤◌, ◌↔◌, ◌⊎◌, Bool, true, false, IsTrue, List, [], ◌∷◌, length, map, drop, slice_index, slice_index_or, refl, sym, ◌∙◌, subst, inl, inr, ⊎_elim, true≢false, arith}
+use Rattle.logos_automaton.specs.inside.Alike.{MayPass, MayLeave, OpensAlike, GoesAlike, AreReadAlike}
 use Rattle.logos_places.specs.Core.{Core, void, empty, byte_in, character, look, cat, alt, plus, width, Exits, Steps}
 use Rattle.logos_places.specs.Marks.{Has}
 use Rattle.logos_places.specs.Node.{core_of}
-use Rattle.logos_places.specs.Repeat.{in_front, up_to, repeated}
 use Rattle.logos_places.specs.Run.{StepsIn}
 use Rattle.logos_places.specs.Several.{AreStarts}
-use Rattle.logos_automaton.specs.declared.alike.ClassStarts.{ClassStarts}
 use Rattle.logos_places.specs.declared.node.Node.{Node}
 use Rattle.logos_hir.specs.declared.hir.Look.{Look}
-use Rattle.logos_places.proofs.steps.MarkLemmas.{Has-push}
 use Rattle.logos_places.proofs.steps.PlaceLemmas.{Steps-map}
 use Rattle.logos_places.proofs.steps.SeveralLemmas.{StepsIn-map, node_at, first_start, next_start, Unmarked, none_in, passed_to, next_core}
 use Rattle.logos_places.proofs.steps.SteppedLemmas.{Steps-void}
 
-module _ (x y : ℕ) where
-  alike_in_front : (n : ℕ) (a b : Core) → IsAlike a x y → IsAlike b x y → IsAlike (in_front n a b) x y
-  alike_in_front zero a b h k = k
-  alike_in_front (suc n) a b h k = (h, alike_in_front n a b h k)
+-- a pattern that is left was entered or has a mark from which it is left
+leaves_or_passes : (t : Core) (test : Look → Bool) (M : ℕ → Type 0) (d : Type 0) → Exits t test M d → MayLeave t M ⊎ (d × MayPass t)
+leaves_or_passes void test M d h = absurd h
+leaves_or_passes empty test M d h = inr (h, tt)
+leaves_or_passes (byte_in c) test M d h = inl h
+leaves_or_passes (character r) test M d h = inl h
+leaves_or_passes (look l) test M d h = inr (h.0, tt)
+leaves_or_passes (cat a b) test M d h =
+    ⊎_elim (λ u. inl (inr u))
+    (λ u. ⊎_elim (λ l. inl (inl (l, u.1))) (λ p. inr (p.0, (p.1, u.1))) (leaves_or_passes a test M d u.0))
+    (leaves_or_passes b test (λ q. M (width a + q)) (Exits a test M d) h)
+leaves_or_passes (alt a b) test M d h =
+    ⊎_elim
+    (λ u. ⊎_elim (λ l. inl (inl l)) (λ p. inr (p.0, inl p.1)) (leaves_or_passes a test M d u))
+    (λ u. ⊎_elim (λ l. inl (inr l)) (λ p. inr (p.0, inr p.1)) (leaves_or_passes b test (λ q. M (width a + q)) d u)) h
+leaves_or_passes (plus a) test M d h = leaves_or_passes a test M d h
 
-  alike_up_to : (n : ℕ) (a : Core) → IsAlike a x y → IsAlike (up_to n a) x y
-  alike_up_to zero a h = tt
-  alike_up_to (suc n) a h = ((h, alike_up_to n a h), tt)
+pub opens_back : (t : Core) (x y : ℕ) → OpensAlike t x y → OpensAlike t y x
+opens_back void x y h = tt
+opens_back empty x y h = tt
+opens_back (byte_in c) x y h = sym h
+opens_back (character r) x y h = sym h
+opens_back (look l) x y h = tt
+opens_back (cat a b) x y h = (opens_back a x y h.0, λ p. opens_back b x y (h.1 p))
+opens_back (alt a b) x y h = (opens_back a x y h.0, opens_back b x y h.1)
+opens_back (plus a) x y h = opens_back a x y h
 
-  pub alike_repeated : (least : ℕ) (most : Option ℕ) (a : Core) → IsAlike a x y → IsAlike (repeated least most a) x y
-  alike_repeated zero None a h = (h, tt)
-  alike_repeated (suc n) None a h = alike_in_front n a (plus a) h h
-  alike_repeated least (Some most) a h = alike_in_front least a (up_to (most - least) a) h (alike_up_to (most - least) a h)
+goes_back : (t : Core) (M : ℕ → Type 0) (x y : ℕ) → GoesAlike t M x y → GoesAlike t M y x
+goes_back void M x y h = tt
+goes_back empty M x y h = tt
+goes_back (byte_in c) M x y h = tt
+goes_back (character r) M x y h = λ q le m. sym (h q le m)
+goes_back (look l) M x y h = tt
+goes_back (cat a b) M x y h = (goes_back a M x y h.0, λ l. opens_back b x y (h.1 l), goes_back b (λ q. M (width a + q)) x y h.2)
+goes_back (alt a b) M x y h = (goes_back a M x y h.0, goes_back b (λ q. M (width a + q)) x y h.1)
+goes_back (plus a) M x y h = (goes_back a M x y h.0, λ l. opens_back a x y (h.1 l))
 
-pub alike_back : (t : Core) (x y : ℕ) → IsAlike t x y → IsAlike t y x
-alike_back void x y h = tt
-alike_back empty x y h = tt
-alike_back (byte_in c) x y h = sym h
-alike_back (character r) x y h = (sym h.0, λ q le. sym (h.1 q le))
-alike_back (look l) x y h = tt
-alike_back (cat a b) x y h = (alike_back a x y h.0, alike_back b x y h.1)
-alike_back (alt a b) x y h = (alike_back a x y h.0, alike_back b x y h.1)
-alike_back (plus a) x y h = alike_back a x y h
-
-pub Steps-alike : (t : Core) (test : Look → Bool) (x y : ℕ) (M : ℕ → Type 0) (d : Type 0) (p : ℕ) → IsAlike t x y → Steps t test x M d p → Steps t test y M d p
-Steps-alike void test x y M d p h s = s
-Steps-alike empty test x y M d p h s = s
-Steps-alike (byte_in c) test x y M d p h s = (s.0, s.1, sym h ∙ s.2)
-Steps-alike (character r) test x y M d p h s = (
+Steps-alike : (t : Core) (test : Look → Bool) (x y : ℕ) (M : ℕ → Type 0) (d : Type 0) (p : ℕ) → GoesAlike t M x y → (d → OpensAlike t x y) → Steps t test x M d p → Steps t test y M d p
+Steps-alike void test x y M d p g o s = s
+Steps-alike empty test x y M d p g o s = s
+Steps-alike (byte_in c) test x y M d p g o s = (s.0, s.1, sym (o s.1) ∙ s.2)
+Steps-alike (character r) test x y M d p g o s = (
   s.0,
-  ⊎_elim (λ u. inl (u.0, sym h.0 ∙ u.1)) (λ u. inr (u.0, u.1, u.2, sym (h.1 u.0 u.1) ∙ u.3)) s.1,
+  ⊎_elim (λ u. inl (u.0, sym (o u.0) ∙ u.1)) (λ u. inr (u.0, u.1, u.2, sym (g u.0 u.1 u.2) ∙ u.3)) s.1,
 )
-Steps-alike (look l) test x y M d p h s = s
-Steps-alike (cat a b) test x y M d p h s =
-    ⊎_elim (λ u. inl (u.0, Steps-alike a test x y M d p h.0 u.1))
-    (λ u. inr (u.0, Steps-alike b test x y (λ q. M (width a + q)) (Exits a test M d) (p - width a) h.1 u.1)) s
-Steps-alike (alt a b) test x y M d p h s =
-    ⊎_elim (λ u. inl (u.0, Steps-alike a test x y M d p h.0 u.1))
-    (λ u. inr (u.0, Steps-alike b test x y (λ q. M (width a + q)) d (p - width a) h.1 u.1)) s
-Steps-alike (plus a) test x y M d p h s = Steps-alike a test x y M (d ⊎ Exits a test M ⊥) p h s
+Steps-alike (look l) test x y M d p g o s = s
+Steps-alike (cat a b) test x y M d p g o s =
+    ⊎_elim (λ u. inl (u.0, Steps-alike a test x y M d p g.0 (λ e. (o e).0) u.1))
+    (λ u. inr (
+      u.0,
+      Steps-alike b test x y (λ q. M (width a + q)) (Exits a test M d) (p - width a) g.2
+          (λ e. ⊎_elim (λ l. g.1 l) (λ v. (o v.0).1 v.1) (leaves_or_passes a test M d e)) u.1,
+    )) s
+Steps-alike (alt a b) test x y M d p g o s =
+    ⊎_elim (λ u. inl (u.0, Steps-alike a test x y M d p g.0 (λ e. (o e).0) u.1))
+    (λ u. inr (u.0, Steps-alike b test x y (λ q. M (width a + q)) d (p - width a) g.1 (λ e. (o e).1) u.1)) s
+Steps-alike (plus a) test x y M d p g o s =
+    Steps-alike a test x y M (d ⊎ Exits a test M ⊥) p g.0
+    (λ e. ⊎_elim o (λ v. ⊎_elim (λ l. g.1 l) (λ w. absurd w.0) (leaves_or_passes a test M ⊥ v)) e) s
 
-pub Steps-same : (t : Core) (test : Look → Bool) (x y : ℕ) (M : ℕ → Type 0) (d : Type 0) (p : ℕ) → IsAlike t x y → Steps t test x M d p ↔ Steps t test y M d p
-Steps-same t test x y M d p h = (Steps-alike t test x y M d p h, Steps-alike t test y x M d p (alike_back t x y h))
-
--- one more byte is distinguished from the one before, or not
-pub more_starts_of : (t : Core) (bytes new : List ℕ) (n : ℕ) (is : Bool) → 1 ≤ n → new ≡ (if is then bytes ++ n ∷ [] else bytes) → (IsFalse is → IsAlike t (n - 1) n) →
-    AreStartsOf t bytes n → AreStartsOf t new (n + 1)
-more_starts_of t bytes new n is some made alike h byte lt = ⊎_elim (λ low. before is made (h byte low)) (λ here. last is made alike here) (low_or_last (byte + 1) n lt)
-  where
-    low_or_last : (a b : ℕ) → a < b + 1 → (a < b) ⊎ (a ≡ b)
-    low_or_last a b lt = grind arith
-
-    before : (is : Bool) → new ≡ (if is then bytes ++ n ∷ [] else bytes) → Has bytes (byte + 1) ⊎ IsAlike t byte (byte + 1) → Has new (byte + 1) ⊎ IsAlike t byte (byte + 1)
-    before true made s = ⊎_elim (λ u. inl (rw made ((Has-push bytes n (byte + 1)).1 (inl u)))) inr s
-    before false made s = rw made s
-
-    last : (is : Bool) → new ≡ (if is then bytes ++ n ∷ [] else bytes) → (IsFalse is → IsAlike t (n - 1) n) → byte + 1 ≡ n → Has new (byte + 1) ⊎ IsAlike t byte (byte + 1)
-    last true made alike here = inl (rw made ((Has-push bytes n (byte + 1)).1 (inr here)))
-    last false made alike here =
-        let back : n - 1 ≡ byte = omega (arith, here) in
-        inr (subst (λ k. IsAlike t byte k) (sym here) (subst (λ k. IsAlike t k n) back (alike refl)))
-
-same_at : {A : Type 0} (xs : List A) (i : ℕ) (d e : A) → i < length xs → slice_index_or xs i d ≡ slice_index_or xs i e
-same_at [] i d e lt = absurd (omega (arith, lt))
-same_at (x ∷ xs) zero d e lt = refl
-same_at (x ∷ xs) (suc i) d e lt = same_at xs i d e (omega (arith, lt))
-
-pub no_starts_of : (nodes : List Node) → AreClassStarts nodes [] 0
-no_starts_of nodes = record { count = refl; are = λ i lt. absurd (omega (arith, lt)) }
-
--- one more tree has its list
-pub more_class_starts : (nodes : List Node) (lists : List ClassStarts) (n : ℕ) (node : Node) (list : ClassStarts) → n < length nodes → node ≡ slice_index_or nodes n node → AreStartsOf (core_of node) list.bytes.items 256 →
-    AreClassStarts nodes lists n → AreClassStarts nodes (lists ++ list ∷ []) (n + 1)
-more_class_starts nodes lists n node list inside is starts h = record {
-  count = length-append lists (list ∷ []) ∙ ap (λ k. k + 1) h.count;
-  are = λ i lt other other_is this this_is.
-      ⊎_elim
-      (λ (low : i < n).
-      let e : slice_index_or (lists ++ list ∷ []) i this ≡ slice_index_or lists i this = get_or_append_left lists (list ∷ []) this i (omega (arith, h.count, low)) in
-      h.are i low other other_is this (this_is ∙ e))
-      (λ (last : i ≡ n).
-      let here : i ≡ length lists = last ∙ sym h.count in
-      let mine : other ≡ node = other_is ∙ ap (λ k. slice_index_or nodes k other) last ∙ same_at nodes n other node inside ∙ sym is in
-      let yours : this ≡ list = this_is ∙ ap (λ k. slice_index_or (lists ++ list ∷ []) k this) here ∙ get_or-append_seam lists list [] this in
-      subst (λ (a : Node). AreStartsOf (core_of a) this.bytes.items 256) (sym mine) (subst (λ (a : ClassStarts). AreStartsOf (core_of node) a.bytes.items 256) (sym yours) starts))
-      (low_or_last i n lt);
-}
-  where
-    low_or_last : (a b : ℕ) → a < b + 1 → (a < b) ⊎ (a ≡ b)
-    low_or_last a b lt = grind arith
+-- from these marks, and where it is entered, a pattern steps alike by both bytes
+pub Steps-same : (t : Core) (test : Look → Bool) (x y : ℕ) (M : ℕ → Type 0) (d : Type 0) (p : ℕ) → GoesAlike t M x y → (d → OpensAlike t x y) → Steps t test x M d p ↔ Steps t test y M d p
+Steps-same t test x y M d p g o = (Steps-alike t test x y M d p g o, Steps-alike t test y x M d p (goes_back t M x y g) (λ e. opens_back t x y (o e)))
 
 -- one more pattern is read alike
 read_more : (t : Core) (ts : List Core) (M N : ℕ → Type 0) (d : Type 0) (x y : ℕ) →
@@ -157,10 +125,11 @@ module _ (nodes : List Node) (starts : List ℕ) (are : AreStarts nodes starts) 
       same q = let next = next_start nodes starts are i node lt is in omega (arith, next)
 
   -- a tree that does not distinguish them
-  pub suffices_alike : (entered : Bool) (i : ℕ) (node : Node) → i < length nodes → node ≡ slice_index_or nodes i node → IsAlike (core_of node) x y →
+  pub suffices_alike : (entered : Bool) (i : ℕ) (node : Node) → i < length nodes → node ≡ slice_index_or nodes i node →
+      GoesAlike (core_of node) (λ p. Has marks (slice_index starts i + p)) x y → (IsTrue entered → OpensAlike (core_of node) x y) →
       Suffices entered i → Suffices entered (i + 1)
-  suffices_alike entered i node lt is alike h =
-      one_alike entered i node lt is (λ test q. Steps-same (core_of node) test x y (λ p. Has marks (slice_index starts i + p)) (IsTrue entered) q alike) h
+  suffices_alike entered i node lt is goes opens h =
+      one_alike entered i node lt is (λ test q. Steps-same (core_of node) test x y (λ p. Has marks (slice_index starts i + p)) (IsTrue entered) q goes opens) h
 
   -- a tree that is neither entered nor marked
   suffices_none : (i : ℕ) → i < length nodes → Unmarked nodes starts are marks i (i + 1) → Suffices false i → Suffices false (i + 1)

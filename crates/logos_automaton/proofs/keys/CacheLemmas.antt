@@ -8,7 +8,7 @@ use denote.Enum.Bare.{sameb, same_true}
 use Rattle.logos_automaton.specs.declared.tree_steps.TreeState.{TreeState}
 use Rattle.logos_automaton.specs.declared.tree_steps.TreeSteps.{TreeSteps}
 use Rattle.logos_automaton.specs.inside.Steps.{AreAlmostCached, AreCached, AreStepsFrom, HasSteps, IsTreeState, LacksLast, tree_view}
-use Rattle.logos_places.specs.contracts.places.look.Kind.{the_type}
+use Rattle.logos_places.specs.contracts.places.look.ByteKind.{the_type}
 use Rattle.logos_places.specs.declared.node.Node.{Node}
 
 pub same_tree : (a b : TreeState) → (eqb a.tree b.tree && (pointwise eqb a.places.items b.places.items && sameb the_type a.kind b.kind)) ≡ true → tree_view b ≡ tree_view a

@@ -10,7 +10,7 @@ use Rattle.logos_automaton.specs.Keys.{state_of, Grows, AreRising, AreDistinct, 
 use Rattle.logos_places.specs.Core.{Core}
 use Rattle.logos_places.specs.Marks.{IsRising}
 use Rattle.logos_automaton.specs.declared.key.Key.{Key}
-use Rattle.logos_places.specs.contracts.places.look.Kind.{the_type}
+use Rattle.logos_places.specs.contracts.places.look.ByteKind.{the_type}
 
 pub same_state : (a b : Key) → (pointwise eqb a.places.items b.places.items && (sameb the_type a.kind b.kind && pointwise eqb a.matches.items b.matches.items)) ≡ true →
     state_of b ≡ state_of a

@@ -15,8 +15,8 @@ use Rattle.logos_automaton.specs.Faults.{some_passable}
 use Rattle.logos_hir.proofs.tree.Laws.{passes}
 use Rattle.logos_places.specs.Run.{Marked, MarkedIn}
 use Rattle.logos_automaton.specs.declared.key.Key.{Key}
-use Rattle.logos_places.specs.declared.places.look.Kind.{Kind}
-use Rattle.logos_places.specs.declared.places.look.Kind.TheVariants as kind
+use Rattle.logos_places.specs.declared.places.look.ByteKind.{ByteKind}
+use Rattle.logos_places.specs.declared.places.look.ByteKind.TheVariants as kind
 use Rattle.logos_automaton.proofs.runs.DfaLemmas.{rising_increases, contains_has}
 use Rattle.logos_places.proofs.trees.ReadLemmas.{Marked-iff}
 use Rattle.logos_automaton.proofs.runs.RunLemmas.{IsAfter, after_nothing, next_after, lists_by_byte, lists_at_end, StepsIn-void, ExitsIn-void}
@@ -38,7 +38,7 @@ pub same_state_as : (s r : State) → s.places ≡ r.places → s.kind ≡ r.kin
 same_state_as s r e f g = λ i. record { places = e i; kind = f i; matches = g i }
 
 -- the kinds of bytes are those of the keys
-kind_as : reads.Kind → Kind
+kind_as : reads.Kind → ByteKind
 kind_as reads.unseen = kind.Unseen
 kind_as reads.word = kind.Word
 kind_as reads.cr = kind.Cr

@@ -6,9 +6,6 @@ use Rattle.std.proofs.lemmas.Grind.{get_or-set_at}
 use Rattle.logos_hir.specs.ByteRanges.{is_in}
 use Rattle.logos_hir.specs.Hir.{pairs}
 use Rattle.logos_hir.specs.declared.hir.Range.{Range}
-use Rattle.logos_automaton.specs.inside.Alike.{IsAlike}
-use Rattle.logos_places.specs.Core.{Core}
-use Rattle.logos_places.specs.Repeat.{spelled}
 
 -- a range distinguishes from the byte before it its first byte alone, and the one after its last
 pub range_alike : (first last x : ℕ) → x + 1 ≢ first → x + 1 ≢ last + 1 → is_in ((first, last) ∷ []) x ≡ is_in ((first, last) ∷ []) (x + 1)
@@ -30,31 +27,23 @@ ranges_more ranges i d x lt before one rest =
     or_false true = refl
     or_false false = refl
 
--- one more byte of a literal
-pub spelled_more : (text : List ℕ) (i d x : ℕ) → i < length text →
-    (IsAlike (spelled (drop i text)) x (x + 1) → IsAlike (spelled text) x (x + 1)) →
-    is_in ((get_or text i d, get_or text i d) ∷ []) x ≡ is_in ((get_or text i d, get_or text i d) ∷ []) (x + 1) →
-    IsAlike (spelled (drop (i + 1) text)) x (x + 1) → IsAlike (spelled text) x (x + 1)
-spelled_more text i d x lt before one rest =
-    let e : drop i text ≡ get_or text i d ∷ drop (i + 1) text = drop-cons text i d lt ∙ ap (λ k. get_or text i d ∷ drop k text) (sym (add-one i)) in
-    before (subst (λ bs. IsAlike (spelled bs) x (x + 1)) (sym e) (sym (one_byte (get_or text i d) x) ∙ one ∙ one_byte (get_or text i d) (x + 1), rest))
-  where
-    one_byte : (b y : ℕ) → is_in ((b, b) ∷ []) y ≡ (y == b)
-    one_byte b y = grind (arith, nat_tests)
+-- a byte is a range of one byte
+pub one_byte : (b y : ℕ) → is_in ((b, b) ∷ []) y ≡ (y == b)
+one_byte b y = grind (arith, nat_tests)
 
 below_or_same : (a b : ℕ) → a < b + 1 → (a < b) ⊎ (a ≡ b)
 below_or_same a b lt = grind arith
 
 -- While the bytes are asked in order: those below n are done, and those from n on are as they were.
-pub record AreMarkedBelow (t : Core) (old new : List Bool) (n : ℕ) : Type 0 where
+pub record AreMarkedBelow (Same : ℕ → ℕ → Type 0) (old new : List Bool) (n : ℕ) : Type 0 where
   pub size : length new ≡ 256
-  pub done : (x : ℕ) → x + 1 < n → slice_index_or new (x + 1) false ≡ false → (slice_index_or old (x + 1) false ≡ false) × IsAlike t x (x + 1)
+  pub done : (x : ℕ) → x + 1 < n → slice_index_or new (x + 1) false ≡ false → (slice_index_or old (x + 1) false ≡ false) × Same x (x + 1)
   pub left : (x : ℕ) → n ≤ x → slice_index_or new x false ≡ slice_index_or old x false
 
 -- one more byte is asked
-pub marked_more : (t : Core) (old new : List Bool) (n : ℕ) (was is : Bool) → 1 ≤ n → n < 256 → was ≡ slice_index_or new n false → (is ≡ false → IsAlike t (n - 1) n) →
-    AreMarkedBelow t old new n → AreMarkedBelow t old (set new n (was || is)) (n + 1)
-marked_more t old new n was is some lt same alike h = record {
+pub marked_more : (Same : ℕ → ℕ → Type 0) (old new : List Bool) (n : ℕ) (was is : Bool) → 1 ≤ n → n < 256 → was ≡ slice_index_or new n false → (is ≡ false → Same (n - 1) n) →
+    AreMarkedBelow Same old new n → AreMarkedBelow Same old (set new n (was || is)) (n + 1)
+marked_more Same old new n was is some lt same alike h = record {
   size = length-set new n (was || is) ∙ h.size;
   done = λ x low unmarked. ⊎_elim
       (λ below. h.done x below (sym (get_or-set_other new n (x + 1) (was || is) false (λ e. omega (arith, e, below))) ∙ unmarked))
@@ -62,7 +51,7 @@ marked_more t old new n was is some lt same alike h = record {
       let both = neither was is (sym (get_or-set_at new n (x + 1) (was || is) false here (omega (arith, h.size))) ∙ unmarked) in
       let back : n - 1 ≡ x = omega (arith, here) in (
         ap (λ k. slice_index_or old k false) here ∙ sym (h.left n (omega arith)) ∙ sym same ∙ both.0,
-        subst (λ k. IsAlike t x k) (sym here) (subst (λ k. IsAlike t k n) back (alike both.1)),
+        subst (λ k. Same x k) (sym here) (subst (λ k. Same k n) back (alike both.1)),
       ))
       (below_or_same (x + 1) n low);
   left = λ x high. get_or-set_other new n x (was || is) false (λ e. omega (arith, e, high)) ∙ h.left x (omega arith);
@@ -71,10 +60,3 @@ marked_more t old new n was is some lt same alike h = record {
     neither : (a b : Bool) → (a || b) ≡ false → (a ≡ false) × (b ≡ false)
     neither true b e = absurd (cc)
     neither false b e = (refl, e)
-
--- a byte that is not marked is read as the byte before
-pub alike_below : (t : Core) (marked : List Bool) (n : ℕ) → 1 ≤ n → n < 256 →
-    ((x : ℕ) → x + 1 < 256 → slice_index_or marked (x + 1) false ≡ false → IsAlike t x (x + 1)) → slice_index_or marked n false ≡ false → IsAlike t (n - 1) n
-alike_below t marked n some lt alike unmarked =
-    let same : n - 1 + 1 ≡ n = omega arith in
-    subst (λ k. IsAlike t (n - 1) k) same (alike (n - 1) (omega arith) (ap (λ k. slice_index_or marked k false) same ∙ unmarked))

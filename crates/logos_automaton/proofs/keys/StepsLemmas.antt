@@ -15,7 +15,7 @@ use Rattle.logos_places.specs.Node.{core_of}
 use Rattle.logos_places.specs.Several.{AreStarts, IsStepOf, LeftBy, OwesNumbers, OwesPlaces, ReadBy}
 use Rattle.logos_places.specs.declared.node.Node.{Node}
 use Rattle.logos_places.specs.declared.places.tree.TreeStep.{TreeStep}
-use Rattle.logos_places.specs.declared.places.look.Kind.{Kind}
+use Rattle.logos_places.specs.declared.places.look.ByteKind.{ByteKind}
 use Rattle.logos_places.proofs.steps.SeveralLemmas.{next_start, node_at, numbers_after, numbers_first, owes_numbers_none, owes_places_none, pass_numbers, pass_places, places_after, places_first}
 use Rattle.logos_places.proofs.steps.TreeLemmas.{Stepped-append, step_by_own}
 
@@ -31,7 +31,7 @@ noted_before : (is : Bool) (xs ys : List ℕ) (n : ℕ) → (if is then xs ++ n 
 noted_before true xs ys n = append_assoc xs (n ∷ []) ys
 noted_before false xs ys n = refl
 
-module _ (nodes : List Node) (starts : List ℕ) (are : AreStarts nodes starts) (places : List ℕ) (before : Kind) (all : List TreeSteps) where
+module _ (nodes : List Node) (starts : List ℕ) (are : AreStarts nodes starts) (places : List ℕ) (before : ByteKind) (all : List TreeSteps) where
   module _ (x : ℕ) (byte : x < 256) where
     abbrev test : Look → Bool
     test = test_at (record { before = before; after = Some x })

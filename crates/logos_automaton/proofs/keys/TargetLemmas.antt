@@ -5,11 +5,14 @@ use Rattle.std.proofs.lemmas.Grind.{get_or-set_at}
 use Rattle.logos_automaton.specs.inside.Alike.{AreReadAlike}
 use Rattle.logos_places.specs.Core.{Core}
 use Rattle.logos_automaton.specs.Keys.{State, Grows, Extends, LeadsTo, EndsIn, IsAt, IsNext, IsRow, next_kind, is_start, state_of}
-use Rattle.logos_places.specs.Kinds.{kind_of_byte}
+use Rattle.logos_automaton.specs.Rules.{AreFree}
+use Rattle.logos_places.specs.Kinds.{kind_of_byte, test_at}
+use Rattle.logos_places.specs.Several.{ReadBy, LeftBy}
 use Rattle.logos_places.specs.Marks.{Has}
 use Rattle.logos_automaton.specs.declared.key.Key.{Key}
 use Rattle.logos_places.proofs.steps.LookLemmas.{test_after}
 use Rattle.logos_places.proofs.steps.StepLemmas.{iff_trans}
+use Rattle.logos_automaton.proofs.runs.RunLemmas.{StepsIn-free, ExitsIn-free}
 
 module _ (ts : List Core) (looks : Bool) where
   pub extends_none : (ks : List Key) (n : ℕ) → Extends ts looks ks ks n
@@ -54,26 +57,53 @@ module _ (ts : List Core) (looks : Bool) where
       rw put (subst (λ k. LeadsTo ts looks b i k target) (sym e) new))
       (below_or_same x n below)
 
-  same_kind : (places : List ℕ) (x y : ℕ) → kind_of_byte x ≡ kind_of_byte y → next_kind looks places x ≡ next_kind looks places y
-  same_kind places x y e = go looks places
+  same_kind : (places : List ℕ) (x y : ℕ) → (IsTrue looks → kind_of_byte x ≡ kind_of_byte y) → next_kind looks places x ≡ next_kind looks places y
+  same_kind places x y e = go looks e places
     where
-      go : (b : Bool) (places : List ℕ) → next_kind b places x ≡ next_kind b places y
-      go b [] = refl
-      go false (p ∷ places) = refl
-      go true (p ∷ places) = e
+      go : (b : Bool) → (IsTrue b → kind_of_byte x ≡ kind_of_byte y) → (places : List ℕ) → next_kind b places x ≡ next_kind b places y
+      go b f [] = refl
+      go false f (p ∷ places) = refl
+      go true f (p ∷ places) = f refl
 
-  -- a byte that is not distinguished from another leads to the same state
-  next_alike : (s next : State) (x y : ℕ) → AreReadAlike ts (Has s.places) (IsTrue (is_start s.kind)) x y → kind_of_byte x ≡ kind_of_byte y → IsNext ts looks s x next → IsNext ts looks s y next
-  next_alike s next x y alike e h =
-      let test = test_after x y e s.kind in
-      record {
-        places = record {
-          set = h.places.set;
-          has = λ q. iff_trans (rw test at h.places.has q) (alike _ q);
-        };
-        matches = rw test at h.matches;
-        kind = h.kind ∙ same_kind next.places x y e;
-      }
+  module _ (free : looks ≡ false → AreFree ts) where
+    -- which looks hold matters where there are looks
+    tested_alike : (s next : State) (x y : ℕ) (b : Bool) → looks ≡ b → (IsTrue looks → kind_of_byte x ≡ kind_of_byte y) → IsNext ts looks s x next →
+        ReadBy ts (test_at (record { before = s.kind; after = Some y })) x (Has s.places) (IsTrue (is_start s.kind)) next.places
+        × LeftBy ts (test_at (record { before = s.kind; after = Some y })) (Has s.places) (IsTrue (is_start s.kind)) next.matches
+    tested_alike s next x y true is kinds h = let test = test_after x y (kinds is) s.kind in (rw test at h.places, rw test at h.matches)
+    tested_alike s next x y false is kinds h =
+        let f = free is in
+        let before = test_at (record { before = s.kind; after = Some x }) in
+        let after = test_at (record { before = s.kind; after = Some y }) in
+        let entered = IsTrue (is_start s.kind) in (
+          record {
+            set = h.places.set;
+            has = λ q. (
+              λ u. StepsIn-free ts f before after x (Has s.places) entered q ((h.places.has q).0 u),
+              λ u. (h.places.has q).1 (StepsIn-free ts f after before x (Has s.places) entered q u),
+            );
+          },
+          record {
+            set = h.matches.set;
+            has = λ k. (
+              λ u. ExitsIn-free ts k f before after (Has s.places) entered ((h.matches.has k).0 u),
+              λ u. (h.matches.has k).1 (ExitsIn-free ts k f after before (Has s.places) entered u),
+            );
+          },
+        )
+
+    -- a byte that is not distinguished from another leads to the same state
+    next_alike : (s next : State) (x y : ℕ) → AreReadAlike ts (Has s.places) (IsTrue (is_start s.kind)) x y → (IsTrue looks → kind_of_byte x ≡ kind_of_byte y) → IsNext ts looks s x next → IsNext ts looks s y next
+    next_alike s next x y alike e h =
+        let tested = tested_alike s next x y looks refl e h in
+        record {
+          places = record {
+            set = h.places.set;
+            has = λ q. iff_trans (tested.0.has q) (alike _ q);
+          };
+          matches = tested.1;
+          kind = h.kind ∙ same_kind next.places x y e;
+        }
 
   same_state : (ks : List Key) (i : ℕ) (s r : State) → IsAt ks i s → IsAt ks i r → s ≡ r
   same_state ks i s r a b = sym a.same ∙ ap state_of (some_same (sym a.is ∙ b.is)) ∙ b.same
@@ -81,16 +111,16 @@ module _ (ts : List Core) (looks : Bool) where
       some_same : {j k : Key} → Some j ≡ Some k → j ≡ k
       some_same e = cc
 
-  pub leads_alike : (ks : List Key) (i x y j : ℕ) (s : State) → IsAt ks i s → AreReadAlike ts (Has s.places) (IsTrue (is_start s.kind)) x y → kind_of_byte x ≡ kind_of_byte y →
-      LeadsTo ts looks ks i x j → LeadsTo ts looks ks i y j
-  leads_alike ks i x y j s at alike e h =
+  pub leads_alike : (looks ≡ false → AreFree ts) → (ks : List Key) (i x y j : ℕ) (s : State) → IsAt ks i s → AreReadAlike ts (Has s.places) (IsTrue (is_start s.kind)) x y →
+      (IsTrue looks → kind_of_byte x ≡ kind_of_byte y) → LeadsTo ts looks ks i x j → LeadsTo ts looks ks i y j
+  leads_alike free ks i x y j s at alike e h =
       let same = same_state ks i s h.from at h.from_is in
       record {
         from = h.from;
         to = h.to;
         from_is = h.from_is;
         to_is = h.to_is;
-        next = next_alike h.from h.to x y (subst (λ (r : State). AreReadAlike ts (Has r.places) (IsTrue (is_start r.kind)) x y) same alike) e h.next;
+        next = next_alike free h.from h.to x y (subst (λ (r : State). AreReadAlike ts (Has r.places) (IsTrue (is_start r.kind)) x y) same alike) e h.next;
       }
 
 -- a number stands for one state

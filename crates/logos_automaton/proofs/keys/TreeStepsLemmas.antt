@@ -1,11 +1,12 @@
 -- The steps of one tree by each byte.
-use Rattle.std.proofs.Common.{◌≡◌, ℕ, zero, suc, ◌+◌, ◌-◌, ◌<◌, ◌≤◌, ◌⊎◌, Bool, true, false, not, IfSome, IsFalse, IsTrue, List, [], ◌∷◌, ◌++◌, Option, None, Some, length, set, slice_get, slice_index, slice_index_or, if◌then◌else◌, refl, sym, ap, ◌∙◌, subst, inl, inr, ⊎_elim, arith}
+use Rattle.std.proofs.Common.{◌≡◌, ℕ, zero, suc, ◌+◌, ◌-◌, ◌<◌, ◌≤◌, ◌⊎◌, Bool, true, false, not, IfSome, IsFalse, IsTrue, List, [], ◌∷◌, ◌++◌, Option, None, Some, length, set, slice_get, slice_index, slice_index_or, if◌then◌else◌, refl, sym, ap, ◌∙◌, subst, inl, inr, ⊎_elim, true≢false, arith}
 use Rattle.std.specs.Bool.{then_some}
 use Rattle.std.proofs.lemmas.List.{get_or-set_other}
 use Rattle.std.proofs.lemmas.Grind.{get_or-set_at}
-use Rattle.logos_automaton.specs.inside.Alike.{AreFirstOf, IsAlike}
+use Rattle.logos_automaton.specs.inside.Alike.{AreFirstOf, GoesAlike}
 use Rattle.logos_automaton.specs.inside.Steps.{AreStepsFrom, MakesFrom, StepView, TreeView, step_in, viewed}
 use Rattle.logos_hir.specs.declared.hir.Look.{Look}
+use Rattle.logos_places.specs.Core.{IsFree}
 use Rattle.logos_places.specs.Kinds.{kind_of_byte, test_at}
 use Rattle.logos_places.specs.Marks.{Has}
 use Rattle.logos_places.specs.Node.{core_of}
@@ -13,6 +14,7 @@ use Rattle.logos_places.specs.Several.{IsStepOf}
 use Rattle.logos_places.specs.declared.node.Node.{Node}
 use Rattle.logos_places.specs.declared.places.tree.TreeStep.{TreeStep}
 use Rattle.logos_automaton.proofs.keys.AlikeLemmas.{Steps-same}
+use Rattle.logos_automaton.proofs.runs.RunLemmas.{Exits-free, Steps-free}
 use Rattle.logos_places.proofs.steps.LookLemmas.{test_after}
 use Rattle.logos_places.proofs.steps.MarkLemmas.{Has-push}
 
@@ -29,31 +31,58 @@ if_some None P Q f h = h
 if_some (Some i) P Q f h = f i h
 
 module _ (nodes : List Node) (starts : List ℕ) (state : TreeView) where
-  -- a byte that is not distinguished from another has its step
-  makes_alike : (x y : ℕ) (step : StepView) → ((node : Node) → node ≡ slice_index_or nodes state.tree node → IsAlike (core_of node) x y × (kind_of_byte x ≡ kind_of_byte y)) →
-      MakesFrom nodes starts state x step → MakesFrom nodes starts state y step
-  makes_alike x y step alike made node is =
-      let a = alike node is in
-      let base = slice_index starts state.tree in
-      let test = test_at (record { before = state.kind; after = Some y }) in
-      let s = subst (λ (t : Look → Bool). IsStepOf (core_of node) t x state.places base step.places step.left) (test_after x y a.1 state.kind) (made node is) in
-      let same = λ (q : ℕ). Steps-same (core_of node) test x y (λ p. Has state.places (base + p)) (IsTrue false) (q - base) a.0 in
-      record {
-        set = s.set;
-        has = λ q. (
-          λ h. let u = (s.has q).0 h in (u.0, (same q).0 u.1),
-          λ h. (s.has q).1 (h.0, (same q).1 h.1),
-        );
-        leaves = s.leaves;
-      }
+  module _ (looks : Bool) (free : (node : Node) → node ≡ slice_index_or nodes state.tree node → looks ≡ false → IsFree (core_of node)) where
+    -- which looks hold matters where there are looks
+    tested_alike : (x y : ℕ) (step : StepView) (node : Node) → node ≡ slice_index_or nodes state.tree node → (b : Bool) → looks ≡ b → (IsTrue looks → kind_of_byte x ≡ kind_of_byte y) →
+        MakesFrom nodes starts state x step →
+        IsStepOf (core_of node) (test_at (record { before = state.kind; after = Some y })) x state.places (slice_index starts state.tree) step.places step.left
+    tested_alike x y step node is true e kinds made =
+        subst (λ (t : Look → Bool). IsStepOf (core_of node) t x state.places (slice_index starts state.tree) step.places step.left) (test_after x y (kinds e) state.kind) (made node is)
+    tested_alike x y step node is false e kinds made =
+        let s = made node is in
+        let f = free node is e in
+        let before = test_at (record { before = state.kind; after = Some x }) in
+        let after = test_at (record { before = state.kind; after = Some y }) in
+        let base = slice_index starts state.tree in
+        let marks = λ (p : ℕ). Has state.places (base + p) in
+        record {
+          set = s.set;
+          has = λ q. (
+            λ h. let u = (s.has q).0 h in (u.0, Steps-free (core_of node) f before after x marks (IsTrue false) (q - base) u.1),
+            λ h. (s.has q).1 (h.0, Steps-free (core_of node) f after before x marks (IsTrue false) (q - base) h.1),
+          );
+          leaves = (
+            λ l. Exits-free (core_of node) f before after marks (IsTrue false) (s.leaves.0 l),
+            λ l. s.leaves.1 (Exits-free (core_of node) f after before marks (IsTrue false) l),
+          );
+        }
 
-  -- the step by the byte before, where the byte is not marked
-  pub made_before : (first : List Bool) (byte : ℕ) (step : StepView) → 1 ≤ byte → byte < 256 → AreFirstOf nodes state.tree first → slice_index_or first byte false ≡ false →
-      MakesFrom nodes starts state (byte - 1) step → MakesFrom nodes starts state byte step
-  made_before first byte step some lt firsts e made =
-      let back : byte - 1 + 1 ≡ byte = omega (arith, some) in
-      subst (λ k. MakesFrom nodes starts state k step) back
-      (makes_alike (byte - 1) (byte - 1 + 1) step (λ node is. firsts node is (byte - 1) (omega (arith, some, lt)) (rw back e)) made)
+    -- a byte that is not distinguished from another has its step
+    makes_alike : (x y : ℕ) (step : StepView) →
+        ((node : Node) → node ≡ slice_index_or nodes state.tree node → GoesAlike (core_of node) (λ q. Has state.places (slice_index starts state.tree + q)) x y × (IsTrue looks → kind_of_byte x ≡ kind_of_byte y)) →
+        MakesFrom nodes starts state x step → MakesFrom nodes starts state y step
+    makes_alike x y step alike made node is =
+        let a = alike node is in
+        let base = slice_index starts state.tree in
+        let test = test_at (record { before = state.kind; after = Some y }) in
+        let s = tested_alike x y step node is looks refl a.1 made in
+        let same = λ (q : ℕ). Steps-same (core_of node) test x y (λ p. Has state.places (base + p)) (IsTrue false) (q - base) a.0 (λ e. absurd (true≢false (sym e))) in
+        record {
+          set = s.set;
+          has = λ q. (
+            λ h. let u = (s.has q).0 h in (u.0, (same q).0 u.1),
+            λ h. (s.has q).1 (h.0, (same q).1 h.1),
+          );
+          leaves = s.leaves;
+        }
+
+    -- the step by the byte before, where the byte is not marked
+    pub made_before : (first : List Bool) (byte : ℕ) (step : StepView) → 1 ≤ byte → byte < 256 → AreFirstOf nodes looks state.tree state.places (slice_index starts state.tree) first →
+        slice_index_or first byte false ≡ false → MakesFrom nodes starts state (byte - 1) step → MakesFrom nodes starts state byte step
+    made_before first byte step some lt firsts e made =
+        let back : byte - 1 + 1 ≡ byte = omega (arith, some) in
+        subst (λ k. MakesFrom nodes starts state k step) back
+        (makes_alike (byte - 1) (byte - 1 + 1) step (λ node is. firsts node is (byte - 1) (omega (arith, some, lt)) (rw back e)) made)
 
   -- no byte has its step
   pub no_steps : (found : List TreeStep) (by_byte : List ℕ) → AreStepsFrom nodes starts state found by_byte 0

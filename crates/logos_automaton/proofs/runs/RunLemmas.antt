@@ -10,7 +10,7 @@ use Rattle.logos_places.specs.Marks.{Has, IsSet}
 use Rattle.logos_automaton.specs.Munch.{Rule, RuleMatches}
 use Rattle.logos_automaton.specs.Rules.{AreRuleCores, AreFree}
 use Rattle.logos_places.specs.Run.{Marked, width_of, StepsIn, ExitsIn, MarkedIn}
-use Rattle.logos_places.specs.declared.places.look.Kind.TheVariants as kind
+use Rattle.logos_places.specs.declared.places.look.ByteKind.TheVariants as kind
 use Rattle.logos_places.proofs.steps.LookLemmas.{test_of_context}
 use Rattle.logos_places.proofs.steps.PlaceLemmas.{Exits-map, Steps-map}
 use Rattle.logos_places.proofs.trees.ReadLemmas.{Marked-exits}
@@ -20,7 +20,7 @@ use Rattle.logos_places.proofs.steps.SteppedLemmas.{Exits-void, Steps-void}
 use Rattle.logos_automaton.proofs.munch.Window.{before_at}
 
 -- a pattern without a look does not ask which ones hold
-Exits-free : (t : Core) → IsFree t → (f g : Look → Bool) (M : ℕ → Type 0) (d : Type 0) → Exits t f M d → Exits t g M d
+pub Exits-free : (t : Core) → IsFree t → (f g : Look → Bool) (M : ℕ → Type 0) (d : Type 0) → Exits t f M d → Exits t g M d
 Exits-free void h f g M d x = x
 Exits-free empty h f g M d x = x
 Exits-free (byte_in c) h f g M d x = x
@@ -32,7 +32,7 @@ Exits-free (cat a b) h f g M d x =
 Exits-free (alt a b) h f g M d x = ⊎_elim (λ u. inl (Exits-free a h.0 f g M d u)) (λ u. inr (Exits-free b h.1 f g (λ q. M (width a + q)) d u)) x
 Exits-free (plus a) h f g M d x = Exits-free a h f g M d x
 
-Steps-free : (t : Core) → IsFree t → (f g : Look → Bool) (x : ℕ) (M : ℕ → Type 0) (d : Type 0) (p : ℕ) → Steps t f x M d p → Steps t g x M d p
+pub Steps-free : (t : Core) → IsFree t → (f g : Look → Bool) (x : ℕ) (M : ℕ → Type 0) (d : Type 0) (p : ℕ) → Steps t f x M d p → Steps t g x M d p
 Steps-free void h f g x M d p s = s
 Steps-free empty h f g x M d p s = s
 Steps-free (byte_in c) h f g x M d p s = s
@@ -52,13 +52,13 @@ Steps-free (plus a) h f g x M d p s =
     Steps-free a h f g x M (d ⊎ Exits a g M ⊥) p
     (Steps-map a f x M M (d ⊎ Exits a f M ⊥) (d ⊎ Exits a g M ⊥) p (λ q lt v. v) (⊎_elim inl (λ u. inr (Exits-free a h f g M ⊥ u))) s)
 
-StepsIn-free : (ts : List Core) → AreFree ts → (f g : Look → Bool) (x : ℕ) (M : ℕ → Type 0) (d : Type 0) (p : ℕ) → StepsIn ts f x M d p → StepsIn ts g x M d p
+pub StepsIn-free : (ts : List Core) → AreFree ts → (f g : Look → Bool) (x : ℕ) (M : ℕ → Type 0) (d : Type 0) (p : ℕ) → StepsIn ts f x M d p → StepsIn ts g x M d p
 StepsIn-free [] h f g x M d p s = s
 StepsIn-free (t ∷ ts) h f g x M d p s =
     ⊎_elim (λ u. inl (u.0, Steps-free t h.0 f g x M d p u.1))
     (λ u. inr (u.0, StepsIn-free ts h.1 f g x (λ q. M (width t + q)) d (p - width t) u.1)) s
 
-ExitsIn-free : (ts : List Core) (k : ℕ) → AreFree ts → (f g : Look → Bool) (M : ℕ → Type 0) (d : Type 0) → ExitsIn ts k f M d → ExitsIn ts k g M d
+pub ExitsIn-free : (ts : List Core) (k : ℕ) → AreFree ts → (f g : Look → Bool) (M : ℕ → Type 0) (d : Type 0) → ExitsIn ts k f M d → ExitsIn ts k g M d
 ExitsIn-free [] k h f g M d x = x
 ExitsIn-free (t ∷ ts) zero h f g M d x = Exits-free t h.0 f g M d x
 ExitsIn-free (t ∷ ts) (suc k) h f g M d x = ExitsIn-free ts k h.1 f g (λ q. M (width t + q)) d x

@@ -1,38 +1,65 @@
 -- Bytes that a pattern does not distinguish.
-use Rattle.std.specs.Prelude.{◌≡◌, ℕ, ◌+◌, ◌<◌, ◌≤◌, ◌↔◌, ◌⊎◌, Bool, false, List, length, slice_index, slice_index_or}
-use Rattle.logos_places.specs.Core.{Core, void, empty, byte_in, character, look, cat, alt, plus}
+use Rattle.std.specs.Prelude.{◌≡◌, ℕ, ◌+◌, ◌<◌, ◌≤◌, ◌↔◌, ◌⊎◌, Bool, false, IsTrue, List, slice_index, slice_index_or}
+use Rattle.logos_places.specs.Core.{Core, void, empty, byte_in, character, look, cat, alt, plus, width}
 use Rattle.logos_places.specs.Kinds.{kind_of_byte}
 use Rattle.logos_places.specs.Marks.{Has}
 use Rattle.logos_places.specs.Node.{core_of}
 use Rattle.logos_places.specs.Run.{StepsIn}
-use Rattle.logos_automaton.specs.declared.alike.ClassStarts.{ClassStarts}
 use Rattle.logos_places.specs.declared.node.Node.{Node}
 use Rattle.logos_hir.specs.declared.hir.Look.{Look}
 
-abbrev pub IsAlike : Core → ℕ → ℕ → Type 0
-IsAlike void x y = Unit {0}
-IsAlike empty x y = Unit {0}
-IsAlike (byte_in c) x y = c x ≡ c y
-IsAlike (character r) x y = (r.first x ≡ r.first y) × ((q : ℕ) → q ≤ r.others → r.follow q x ≡ r.follow q y)
-IsAlike (look l) x y = Unit {0}
-IsAlike (cat a b) x y = IsAlike a x y × IsAlike b x y
-IsAlike (alt a b) x y = IsAlike a x y × IsAlike b x y
-IsAlike (plus a) x y = IsAlike a x y
+-- Entered, the pattern can be passed without a byte, if looks allow it.
+abbrev pub MayPass : Core → Type 0
+MayPass void = ⊥
+MayPass empty = Unit {0}
+MayPass (byte_in c) = ⊥
+MayPass (character r) = ⊥
+MayPass (look l) = Unit {0}
+MayPass (cat a b) = MayPass a × MayPass b
+MayPass (alt a b) = MayPass a ⊎ MayPass b
+MayPass (plus a) = MayPass a
 
--- More flags are set, among them that of each byte that the pattern distinguishes from the byte
--- before.
-abbrev pub MarksFor : Core → List Bool → List Bool → Type 0
-MarksFor t old new = (byte : ℕ) → byte + 1 < 256 → slice_index_or new (byte + 1) false ≡ false →
-    (slice_index_or old (byte + 1) false ≡ false) × IsAlike t byte (byte + 1)
+-- The pattern can be left from the places M, if looks allow it.
+abbrev pub MayLeave : Core → (ℕ → Type 0) → Type 0
+MayLeave void M = ⊥
+MayLeave empty M = ⊥
+MayLeave (byte_in c) M = M 0
+MayLeave (character r) M = M 0
+MayLeave (look l) M = ⊥
+MayLeave (cat a b) M = (MayLeave a M × MayPass b) ⊎ MayLeave b (λ q. M (width a + q))
+MayLeave (alt a b) M = MayLeave a M ⊎ MayLeave b (λ q. M (width a + q))
+MayLeave (plus a) M = MayLeave a M
 
--- Each byte below n that the pattern distinguishes from the byte before is among these.
-abbrev pub AreStartsOf : Core → List ℕ → ℕ → Type 0
-AreStartsOf t bytes n = (byte : ℕ) → byte + 1 < n → Has bytes (byte + 1) ⊎ IsAlike t byte (byte + 1)
+-- Entered, the pattern reads either byte alike.
+abbrev pub OpensAlike : Core → ℕ → ℕ → Type 0
+OpensAlike void x y = Unit {0}
+OpensAlike empty x y = Unit {0}
+OpensAlike (byte_in c) x y = c x ≡ c y
+OpensAlike (character r) x y = r.first x ≡ r.first y
+OpensAlike (look l) x y = Unit {0}
+OpensAlike (cat a b) x y = OpensAlike a x y × (MayPass a → OpensAlike b x y)
+OpensAlike (alt a b) x y = OpensAlike a x y × OpensAlike b x y
+OpensAlike (plus a) x y = OpensAlike a x y
 
--- Each tree has its list of such bytes.
-pub record AreClassStarts (nodes : List Node) (lists : List ClassStarts) (n : ℕ) : Type 0 where
-  pub count : length lists ≡ n
-  pub are : (i : ℕ) → i < n → (node : Node) → node ≡ slice_index_or nodes i node → (list : ClassStarts) → list ≡ slice_index_or lists i list → AreStartsOf (core_of node) list.bytes.items 256
+-- Not entered, but from the places M, the pattern reads either byte alike.
+abbrev pub GoesAlike : Core → (ℕ → Type 0) → ℕ → ℕ → Type 0
+GoesAlike void M x y = Unit {0}
+GoesAlike empty M x y = Unit {0}
+GoesAlike (byte_in c) M x y = Unit {0}
+GoesAlike (character r) M x y = (q : ℕ) → q ≤ r.others → M q → r.follow q x ≡ r.follow q y
+GoesAlike (look l) M x y = Unit {0}
+GoesAlike (cat a b) M x y = GoesAlike a M x y × (MayLeave a M → OpensAlike b x y) × GoesAlike b (λ q. M (width a + q)) x y
+GoesAlike (alt a b) M x y = GoesAlike a M x y × GoesAlike b (λ q. M (width a + q)) x y
+GoesAlike (plus a) M x y = GoesAlike a M x y × (MayLeave a M → OpensAlike a x y)
+
+-- More flags are set, among them that of each byte that is not the same as the byte before.
+abbrev pub SetsFlags : (ℕ → ℕ → Type 0) → List Bool → List Bool → Type 0
+SetsFlags Same old new = (byte : ℕ) → byte + 1 < 256 → slice_index_or new (byte + 1) false ≡ false →
+    (slice_index_or old (byte + 1) false ≡ false) × Same byte (byte + 1)
+
+-- A body reads either byte alike from the places M, and where it is entered anew after them.
+abbrev pub IsCopyAlike : Core → (ℕ → Type 0) → ℕ → ℕ → Type 0
+IsCopyAlike a M x y = GoesAlike a M x y × (MayLeave a M → OpensAlike a x y)
 
 -- From these places the same ones read either byte.
 abbrev pub AreReadAlike : List Core → (ℕ → Type 0) → Type 0 → ℕ → ℕ → Type 0
@@ -42,16 +69,18 @@ AreReadAlike ts M entered x y = (test : Look → Bool) (q : ℕ) → StepsIn ts 
 abbrev pub AreKindBytes : List Bool → Type 0
 AreKindBytes first = (byte : ℕ) → byte + 1 < 256 → slice_index_or first (byte + 1) false ≡ false → kind_of_byte byte ≡ kind_of_byte (byte + 1)
 
--- And so has each byte that the patterns, from these places, distinguish from the byte before.
-abbrev pub AreFirstBytes : List Core → (ℕ → Type 0) → Type 0 → List Bool → Type 0
-AreFirstBytes ts M entered first = (byte : ℕ) → byte + 1 < 256 → slice_index_or first (byte + 1) false ≡ false →
-    AreReadAlike ts M entered byte (byte + 1) × (kind_of_byte byte ≡ kind_of_byte (byte + 1))
+-- Each byte that the patterns, from these places, or looks distinguish from the byte before has its
+-- flag set.
+abbrev pub AreFirstBytes : List Core → Bool → (ℕ → Type 0) → Type 0 → List Bool → Type 0
+AreFirstBytes ts looks M entered first = (byte : ℕ) → byte + 1 < 256 → slice_index_or first (byte + 1) false ≡ false →
+    AreReadAlike ts M entered byte (byte + 1) × (IsTrue looks → kind_of_byte byte ≡ kind_of_byte (byte + 1))
 
 -- Each byte whose entry differs from that of the byte before is one of these.
 abbrev pub AreChangesOf : List ℕ → List ℕ → Type 0
 AreChangesOf by_byte changes = (x : ℕ) → x + 1 < 256 → (Has changes (x + 1) → ⊥) → slice_index by_byte x ≡ slice_index by_byte (x + 1)
 
--- Each byte whose flag is not set is read by the tree, and by looks, as the byte before.
-abbrev pub AreFirstOf : List Node → ℕ → List Bool → Type 0
-AreFirstOf nodes i first = (node : Node) → node ≡ slice_index_or nodes i node → (byte : ℕ) → byte + 1 < 256 → slice_index_or first (byte + 1) false ≡ false →
-    IsAlike (core_of node) byte (byte + 1) × (kind_of_byte byte ≡ kind_of_byte (byte + 1))
+-- Each byte whose flag is not set is read by the tree, from these places, and by looks, as the byte
+-- before.
+abbrev pub AreFirstOf : List Node → Bool → ℕ → List ℕ → ℕ → List Bool → Type 0
+AreFirstOf nodes looks i places base first = (node : Node) → node ≡ slice_index_or nodes i node → (byte : ℕ) → byte + 1 < 256 → slice_index_or first (byte + 1) false ≡ false →
+    GoesAlike (core_of node) (λ q. Has places (base + q)) byte (byte + 1) × (IsTrue looks → kind_of_byte byte ≡ kind_of_byte (byte + 1))

@@ -1,6 +1,7 @@
 -- What is required of the trees before states are built.
-use Rattle.std.specs.Prelude.{◌<◌, ◌^◌, List, length, map}
-use Rattle.logos_automaton.specs.inside.Alike.{AreClassStarts, AreKindBytes}
+use Rattle.std.specs.Prelude.{◌≡◌, ◌<◌, ◌^◌, false, List, map}
+use Rattle.logos_automaton.specs.Rules.{AreFree}
+use Rattle.logos_automaton.specs.inside.Alike.{AreKindBytes}
 use Rattle.logos_automaton.specs.inside.Steps.{AreCached}
 use Rattle.logos_automaton.specs.declared.cache.StepCache.{StepCache}
 use Rattle.logos_automaton.specs.declared.trees.Trees.{Trees}
@@ -18,7 +19,7 @@ pub record IsPrepared (trees : Trees) : Type 0 where
   pub fits : width_of (cores_of trees) < 2 ^ 64
   pub measured : AreMeasured trees.nodes.now
   pub starts : AreStarts trees.nodes.now trees.starts.now
-  pub class_starts : AreClassStarts trees.nodes.now trees.class_starts.now (length trees.nodes.now)
+  pub free : trees.looks ≡ false → AreFree (cores_of trees)
   pub kinds : AreKindBytes trees.kinds.now
 
 -- The steps in the cache are those of the trees.

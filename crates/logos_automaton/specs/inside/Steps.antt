@@ -12,7 +12,7 @@ use Rattle.logos_places.specs.Marks.{Has, IsRising}
 use Rattle.logos_places.specs.Node.{core_of}
 use Rattle.logos_places.specs.Several.{IsStepOf}
 use Rattle.logos_places.specs.declared.node.Node.{Node}
-use Rattle.logos_places.specs.declared.places.look.Kind.{Kind}
+use Rattle.logos_places.specs.declared.places.look.ByteKind.{ByteKind}
 use Rattle.logos_places.specs.declared.places.tree.TreeStep.{TreeStep}
 
 -- A step: the places that read the byte, and whether the tree can be left before it.
@@ -39,14 +39,14 @@ step_from (Some steps) x = step_in steps.found.items steps.by_byte x
 
 -- Where these places read the byte before, which is of this kind, the byte x makes this step on the
 -- pattern t, whose places begin at `base`.
-abbrev pub Makes : Core → Kind → List ℕ → ℕ → ℕ → StepView → Type 0
+abbrev pub Makes : Core → ByteKind → List ℕ → ℕ → ℕ → StepView → Type 0
 Makes t before places base x step = IsStepOf t (test_at (record { before = before; after = Some x })) x places base step.places step.left
 
 -- A state of a tree, as contracts see it.
 pub record TreeView : Type 0 where
   pub tree : ℕ
   pub places : List ℕ
-  pub kind : Kind
+  pub kind : ByteKind
 
 abbrev pub tree_view : TreeState → TreeView
 tree_view state = record { tree = state.tree; places = state.places.items; kind = state.kind }
@@ -100,7 +100,7 @@ module _ (nodes : List Node) (starts : List ℕ) where
   AreAlmostCached states all = AreCached states all ⊎ LacksLast states all
 
   -- The steps with the index of the live tree are those of its tree from all these places.
-  pub record IsLive (places : List ℕ) (before : Kind) (all : List TreeSteps) (live : LiveTree) : Type 0 where
+  pub record IsLive (places : List ℕ) (before : ByteKind) (all : List TreeSteps) (live : LiveTree) : Type 0 where
     pub there : live.tree < length nodes
     pub steps : TreeSteps
     pub at : slice_get all live.steps ≡ Some steps
@@ -108,7 +108,7 @@ module _ (nodes : List Node) (starts : List ℕ) where
         Makes (core_of node) before places (slice_index starts live.tree) x (step_from (Some steps) x)
 
   -- These are the trees from the number i on and below j that have one of the places.
-  abbrev pub AreLive : List ℕ → Kind → List TreeSteps → ℕ → List LiveTree → ℕ → Type 0
+  abbrev pub AreLive : List ℕ → ByteKind → List TreeSteps → ℕ → List LiveTree → ℕ → Type 0
   AreLive places before all i [] j = NoneLive starts places i j
   AreLive places before all i (live ∷ lives) j =
       NoneLive starts places i live.tree × IsLive places before all live × AreLive places before all (live.tree + 1) lives j

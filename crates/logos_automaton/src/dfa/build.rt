@@ -2,11 +2,11 @@
 //! targets. `Graph::new` of `logos_graph` calls it, once the size of the rules is known to be
 //! within the limit.
 
-ghost use Rattle.std.specs.Prelude.{◌≡◌, ◌^◌, ◌<◌, ◌≤◌, ◌+◌, [], Bool, List, IfOk, IfErr, OnOk, length, map, vec_len};
-ghost use Rattle.logos_automaton.specs.Views.{Core, core_of, AreMeasured, width_of, size_of, AllStart, IsTotal, ReadsOneByteLate, IsCacheOf, IsPrepared, cores_of, IsUnderway, FailsOn, FailsFor, dfa_of, AreDistinct, AreReached, IsBuilt, rules_of};
+ghost use Rattle.std.specs.Prelude.{◌≡◌, ◌^◌, ◌<◌, ◌≤◌, ◌+◌, [], Bool, false, List, IfOk, IfErr, OnOk, length, map, vec_len};
+ghost use Rattle.logos_automaton.specs.Views.{AreFree, Core, core_of, AreMeasured, width_of, size_of, AllStart, IsTotal, ReadsOneByteLate, IsCacheOf, IsPrepared, cores_of, IsUnderway, FailsOn, FailsFor, dfa_of, AreDistinct, AreReached, IsBuilt, rules_of};
 
 use super::Dfa;
-use crate::alike::{class_starts, kind_bytes};
+use crate::alike::kind_bytes;
 use crate::cache::StepCache;
 use crate::errors::BuildError;
 use crate::key::{Key, number_of, start_key};
@@ -80,6 +80,7 @@ fn fill_next(
 fn build_nodes(alloc: Global, nodes: &[Node], looks: bool) -> Result<Dfa, BuildError>
     requires fits { width_of (map core_of nodes.now) < 2 ^ 64 }
     requires measured { AreMeasured nodes.now }
+    requires free { looks ≡ false → AreFree (map core_of nodes.now) }
     ensures built { IfOk result (λ dfa.
         IsBuilt (map core_of nodes.now) looks 0 dfa.states.keys dfa.rows.items dfa.ends.items) }
     ensures distinct { IfOk result (λ dfa. AreDistinct dfa.states.keys) }
@@ -89,14 +90,12 @@ fn build_nodes(alloc: Global, nodes: &[Node], looks: bool) -> Result<Dfa, BuildE
     ensures fails { IfErr result (FailsOn (map core_of nodes.now) looks) }
 {
     let starts = starts_of(alloc, nodes)?;
-    let class_starts = class_starts(alloc, nodes)?;
     let kinds = kind_bytes();
     let trees = Trees {
         alloc,
         nodes,
         starts: &starts,
         looks,
-        class_starts: &class_starts,
         kinds: &kinds,
     };
     let mut cache = StepCache::new(alloc);

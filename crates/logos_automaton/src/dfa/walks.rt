@@ -27,7 +27,7 @@ pub struct Children<'d> {
 
 /// States of an automaton, ascending.
 #[derive(Clone, Copy)]
-pub struct States {
+pub struct DfaStates {
     next: usize,
     count: usize,
     ghost ordered: { next ≤ count },
@@ -109,12 +109,12 @@ impl Dfa {
 
     /// Returns the start and all states that are reached from it in any number of steps, ascending:
     /// all states of the automaton.
-    pub fn get_states(&self) -> States
+    pub fn get_states(&self) -> DfaStates
         ensures all { states_left result ≡ range_with_len 0 (length (dfa_of self.now).matches) }
         ensures reached { (s : ℕ) → Contains (states_left result) s ↔
             IsReachable (dfa_of self.now) s }
     {
-        States {
+        DfaStates {
             next: 0,
             count: self.rows.len(),
         }
@@ -157,7 +157,7 @@ impl Iterator for Children<'_> {
     }
 }
 
-impl Iterator for States {
+impl Iterator for DfaStates {
     type Item = StateId;
 
     ghost use Rattle.logos_automaton.specs.Views.{YieldsFirstBy, item_count, states_left};

@@ -3,11 +3,12 @@
 ghost use Rattle.std.specs.Prelude.{◌≡◌, ◌+◌, ◌-◌, ◌<◌, ◌≤◌, ℕ, false, IsTrue, IfOk, IfSome, OnOk, length, vec_len, slice_get, slice_index, slice_index_or};
 ghost use Rattle.logos_automaton.specs.Views.{AreChangesOf, AreFirstOf, IsPrepared, tree_view, view_of, viewed, AreStepsFrom, IsTreeState, MakesFrom};
 
-use crate::alike::{add_bytes, note};
+use crate::alike::{first_by_kind, note};
 use crate::tree_steps::{TreeState, TreeSteps};
 use crate::trees::Trees;
+use crate::walk::mark_tree;
 use logos_places::places::look::Context;
-use logos_places::places::step::Reading;
+use logos_places::places::step::ReadByte;
 use logos_places::places::tree::{TreeStep, step_tree};
 use std::alloc::{AllocError, Global};
 
@@ -70,7 +71,7 @@ fn step_by(trees: &Trees<'_>, state: &TreeState, byte: u8) -> Result<TreeStep, A
         before: state.kind,
         after: Some(byte),
     };
-    let by = Reading {
+    let by = ReadByte {
         byte,
         marks: &state.places,
         at,
@@ -117,14 +118,22 @@ fn index_by(
     Ok(i as u8)
 }
 
-/// Marks the bytes that the tree or looks can distinguish from the byte before.
-fn first_in(trees: &Trees<'_>, tree: usize) -> [bool; 256]
+/// Sets the flags of the bytes that the tree of a state or looks can distinguish from the byte
+/// before.
+fn first_in(trees: &Trees<'_>, state: &TreeState) -> [bool; 256]
     requires prepared { IsPrepared trees.now }
-    requires within { tree < length trees.now.nodes.now }
-    ensures { AreFirstOf trees.now.nodes.now tree result }
+    requires state { IsTreeState trees.now.nodes.now trees.now.starts.now (tree_view state.now) }
+    ensures { AreFirstOf trees.now.nodes.now trees.now.looks state.now.tree state.now.places.items
+        (slice_index trees.now.starts.now state.now.tree) result }
 {
-    let mut first = *trees.kinds;
-    add_bytes(&trees.class_starts[tree].bytes, &mut first);
+    let mut first = first_by_kind(trees.looks, trees.kinds);
+    mark_tree(
+        &trees.nodes[state.tree],
+        &state.places,
+        trees.starts[state.tree],
+        false,
+        &mut first,
+    );
     first
 }
 
@@ -170,7 +179,7 @@ pub fn steps_of(trees: &Trees<'_>, state: &TreeState) -> Result<TreeSteps, Alloc
     ensures { IfOk result (λ steps. AreStepsFrom trees.now.nodes.now trees.now.starts.now
         (tree_view state.now) steps.found.items steps.by_byte 256) }
 {
-    let first = first_in(trees, state.tree);
+    let first = first_in(trees, state);
     let mut found = Vec::new(trees.alloc);
     let mut by_byte = [0; 256];
     for byte in 0..256usize {

@@ -5,7 +5,7 @@ use std::alloc::{AllocError, Global};
 
 /// A node on the path, some of whose edges are still to be followed.
 #[derive(Clone, Copy)]
-struct Visit {
+struct PathNode {
     node: usize,
     /// The index of its next edge.
     next: usize,
@@ -22,7 +22,7 @@ pub(crate) struct Forward {
     met: Vec<bool>,
     /// The path from the start to the current node. Each node on it was met through an edge of the
     /// one before.
-    path: Vec<Visit>,
+    path: Vec<PathNode>,
 }
 
 /// Returns the greatest number of steps that a walk can take: one for each edge, and one to finish
@@ -72,12 +72,12 @@ impl Forward {
             membership.edge = edge;
             membership.from_rank = from_rank;
         }
-        self.path.push(Visit { node: to, next: 0 })?;
+        self.path.push(PathNode { node: to, next: 0 })?;
         Ok(())
     }
 
     /// Follows the next edge of the node that was last on the path, or finishes the node.
-    fn step(&mut self, lists: &[Vec<usize>], frame: Visit) -> Result<(), AllocError> {
+    fn step(&mut self, lists: &[Vec<usize>], frame: PathNode) -> Result<(), AllocError> {
         let Some(list) = lists.get(frame.node) else {
             return Ok(());
         };
@@ -85,7 +85,7 @@ impl Forward {
             self.left.push(frame.node)?;
             return Ok(());
         };
-        self.path.push(Visit {
+        self.path.push(PathNode {
             node: frame.node,
             next: frame.next + 1,
         })?;

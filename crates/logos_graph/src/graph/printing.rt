@@ -52,13 +52,13 @@ impl fmt::Display for StateType {
 
 /// A state with its edges, one on each line.
 #[derive(Clone, Copy)]
-struct Lines<'g> {
+struct StateLines<'g> {
     state: &'g StateData,
     /// What each line but the first begins with.
     indent: &'static str,
 }
 
-impl fmt::Display for Lines<'_> {
+impl fmt::Display for StateLines<'_> {
     fn fmt<W: fmt::Write>(&self, f: &mut fmt::Formatter<W>) -> fmt::Result {
         let indent = self.indent;
         let state_type = self.state.state_type;
@@ -79,7 +79,7 @@ impl fmt::Display for Lines<'_> {
 impl fmt::Display for StateData {
     fn fmt<W: fmt::Write>(&self, f: &mut fmt::Formatter<W>) -> fmt::Result {
         if f.alternate() {
-            let lines = Lines {
+            let lines = StateLines {
                 state: self,
                 indent: "",
             };
@@ -102,7 +102,7 @@ impl fmt::Display for Listing<'_> {
             if number > 0 {
                 write!(f, "\n")?;
             }
-            let lines = Lines {
+            let lines = StateLines {
                 state,
                 indent: "  ",
             };

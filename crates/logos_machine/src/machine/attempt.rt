@@ -46,7 +46,7 @@ pub(super) enum Found {
 
 /// Where a state's fast loop ends.
 #[derive(Clone, Copy)]
-pub(super) struct Stop {
+pub(super) struct LoopEnd {
     pub offset: usize,
     /// Where the byte there leads, if a byte is there.
     pub target: Option<Option<usize>>,
@@ -77,7 +77,7 @@ fn run_state(code: &Code, input: &[u8], start: usize, at: Stand) -> Turn
 
 /// Returns where the state's fast loop ends, and where the byte there leads.
 #[inline]
-pub(super) fn stop_of(code: &Code, input: &[u8], state: usize, offset: usize) -> Stop
+pub(super) fn stop_of(code: &Code, input: &[u8], state: usize, offset: usize) -> LoopEnd
     requires { state < length code.now.states }
     ensures offset { result.offset
         ≡ offset + looped code.now (state_at code.now state).fast_loop (drop offset input.now) }
@@ -86,19 +86,19 @@ pub(super) fn stop_of(code: &Code, input: &[u8], state: usize, offset: usize) ->
     ensures within { result.offset ≤ max offset (length input.now) }
 {
     if offset >= input.len() {
-        return Stop {
+        return LoopEnd {
             offset,
             target: None,
         };
     }
     let end = loop_end(code, input, state, offset);
     if end >= input.len() {
-        return Stop {
+        return LoopEnd {
             offset: end,
             target: None,
         };
     }
-    Stop {
+    LoopEnd {
         offset: end,
         target: Some(code.target(state, input[end])),
     }

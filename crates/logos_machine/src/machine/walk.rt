@@ -15,7 +15,7 @@ use logos_hir::leaf::LeafId;
 /// What a try finds. The numbers after leaves are the end of the match and how many states were
 /// entered.
 #[derive(Clone, Copy)]
-pub(super) enum Outcome {
+pub enum Outcome {
     /// A match up to this offset that is skipped.
     Skips(usize),
     /// A match that is a token.
@@ -30,7 +30,7 @@ pub(super) enum Outcome {
 
 /// Returns what is found from a point of the input on.
 #[inline(always)]
-pub(super) fn attempt(code: &Code, input: &[u8], start: usize) -> Outcome
+pub fn attempt(code: &Code, input: &[u8], start: usize) -> Outcome
     requires { start ≤ length input.now }
     ensures { IsOutcome code.now input.now start result }
 {

@@ -8,7 +8,7 @@ use Rattle.logos_places.specs.inside.Characters.{Lead, lead, after_lead, after_b
 use Rattle.logos_places.specs.inside.Reader.{Remainder, LeadsTo, IsReaderOf}
 use Rattle.logos_places.specs.inside.Ranges.{in_ranges}
 use Rattle.logos_places.specs.Table.{Row, row_of, IsAt, AreRests, Finds, FindsFirst, FindsNext, IsCell, rest_at, rest_of, reader_from}
-use Rattle.logos_places.specs.declared.characters.build.Rest.{Rest}
+use Rattle.logos_places.specs.declared.characters.build.CharacterRest.{CharacterRest}
 use Rattle.logos_places.proofs.classes.CharacterLemmas.{at_leads}
 use Rattle.logos_places.proofs.classes.TableLemmas.{got_at}
 
@@ -33,7 +33,7 @@ cond_off : (t : Bool) (x y : Option ℕ) → t ≡ false → (if t then x else y
 cond_off true x y e = cc
 cond_off false x y e = refl
 
-module _ (ks : List Rest) where
+module _ (ks : List CharacterRest) where
   rest_is : (q : ℕ) (r : Row) → IsAt ks q r → rest_of ks q ≡ record { left = r.left; has = in_ranges r.offsets }
   rest_is q r at = ap rest_at at.is ∙ ap (λ (s : Row). record { left = s.left; has = in_ranges s.offsets }) at.same
 

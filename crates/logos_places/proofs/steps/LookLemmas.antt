@@ -7,10 +7,10 @@ use Rattle.logos_hir.specs.declared.hir.Look.{Look}
 use Rattle.logos_hir.specs.declared.hir.Look.TheVariants.{Start, End, StartLF, EndLF, StartCRLF, EndCRLF, WordAscii, WordAsciiNegate}
 use Rattle.logos_places.specs.Core.{holds_at}
 use Rattle.logos_places.specs.Kinds.{is_word_byte, side_before, test_at, kind_of_byte, kind_before, context_at}
-use Rattle.logos_places.specs.declared.places.look.Kind.{Kind}
-use Rattle.logos_places.specs.declared.places.look.Kind.TheVariants as kind
+use Rattle.logos_places.specs.declared.places.look.ByteKind.{ByteKind}
+use Rattle.logos_places.specs.declared.places.look.ByteKind.TheVariants as kind
 
-kind_by : Bool → Bool → Bool → Kind
+kind_by : Bool → Bool → Bool → ByteKind
 kind_by w c l = if w then kind.Word else (if c then kind.Cr else (if l then kind.Lf else kind.Other))
 
 none_kind : (w c l : Bool) → is_none (side_before (kind_by w c l)) ≡ false
@@ -104,5 +104,5 @@ module _ (x y : ℕ) (same : kind_of_byte x ≡ kind_of_byte y) where
   after_side WordAscii o = ap (differ (is_word o)) word_after
   after_side WordAsciiNegate o = ap (λ b. not (differ (is_word o) b)) word_after
 
-  pub test_after : (before : Kind) → test_at (record { before = before; after = Some x }) ≡ test_at (record { before = before; after = Some y })
+  pub test_after : (before : ByteKind) → test_at (record { before = before; after = Some x }) ≡ test_at (record { before = before; after = Some y })
   test_after before = fun_ext (λ l. after_side l (side_before before))

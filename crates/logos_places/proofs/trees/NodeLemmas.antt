@@ -11,7 +11,7 @@ use Rattle.logos_places.specs.Core.{width}
 use Rattle.logos_places.specs.Repeat.{IsOrdered, count_of, spelled, repeated}
 use Rattle.logos_places.specs.Table.{reader_of}
 use Rattle.logos_places.specs.Node.{Sized, is_ordered, node_sized, sized_of, core_of, is_measured}
-use Rattle.logos_places.specs.declared.characters.reader.Table.{Table}
+use Rattle.logos_places.specs.declared.characters.reader.CharacterTable.{CharacterTable}
 use Rattle.logos_places.proofs.trees.IsCoreLemmas.{spelled_width}
 use Rattle.logos_places.proofs.trees.WidthLemmas.{width-repeated}
 use Rattle.logos_places.specs.declared.node.Node.{Node, Node-F, fold-roll-Node}
@@ -29,7 +29,7 @@ sized-Literal text = ap sized_of (sym (rolls-Literal text)) ∙ fold-roll-Node S
 sized-Bytes : (ranges : Vec Range Global) → sized_of (Bytes ranges) ≡ record { written = core.byte_in (is_in (pairs ranges.items)); measured = true }
 sized-Bytes ranges = ap sized_of (sym (rolls-Bytes ranges)) ∙ fold-roll-Node Sized node_sized (Node-F.Bytes ranges)
 
-sized-Characters : (table : Table) → sized_of (Characters table) ≡ record { written = core.character (reader_of table); measured = true }
+sized-Characters : (table : CharacterTable) → sized_of (Characters table) ≡ record { written = core.character (reader_of table); measured = true }
 sized-Characters table = ap sized_of (sym (rolls-Characters table)) ∙ fold-roll-Node Sized node_sized (Node-F.Characters table)
 
 sized-Look : (l : look_type.Look) → sized_of (Look l) ≡ record { written = core.look l; measured = true }
@@ -60,7 +60,7 @@ core-Literal text = ap (λ (s : Sized). s.written) (sized-Literal text)
 pub core-Bytes : (ranges : Vec Range Global) → core_of (Bytes ranges) ≡ core.byte_in (is_in (pairs ranges.items))
 core-Bytes ranges = ap (λ (s : Sized). s.written) (sized-Bytes ranges)
 
-pub core-Characters : (table : Table) → core_of (Characters table) ≡ core.character (reader_of table)
+pub core-Characters : (table : CharacterTable) → core_of (Characters table) ≡ core.character (reader_of table)
 core-Characters table = ap (λ (s : Sized). s.written) (sized-Characters table)
 
 pub core-Look : (l : look_type.Look) → core_of (Look l) ≡ core.look l
@@ -121,7 +121,7 @@ repeat-Repeat least most each body h =
 pub width-Literal : (text : Vec ℕ Global) → length text.items ≡ width (core_of (Literal text))
 width-Literal text = sym (ap width (core-Literal text) ∙ spelled_width text.items)
 
-pub width-Characters : (table : Table) → table.rows ≡ width (core_of (Characters table))
+pub width-Characters : (table : CharacterTable) → table.rows ≡ width (core_of (Characters table))
 width-Characters table = let some = table.some in let e : table.rows ≡ suc (table.rows - 1) = omega arith in e ∙ sym (ap width (core-Characters table))
 
 pub width-Cat : (whole : ℕ) (a b : Box Node Global) → is_measured (Cat whole a b) ≡ true → whole ≡ width (core_of (Cat whole a b))

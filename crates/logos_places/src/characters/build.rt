@@ -5,15 +5,15 @@ ghost use Rattle.std.specs.Prelude.{zero, min, ◌≡◌, ℕ, ◌+◌, ◌-◌,
 ghost use Rattle.logos_places.specs.Views.{MatchOption, size, lead, after_byte, is_char_in, IsReaderOf, pairs, in_ranges, AreParts, from_floor};
 ghost use Rattle.logos_places.specs.Table as table;
 
-use crate::characters::ranges::{CharRange, Window, clip, scalars};
-use crate::characters::reader::Table;
+use crate::characters::ranges::{BlockPart, CharRange, clip, scalars};
+use crate::characters::reader::CharacterTable;
 use indexmap::IndexSet;
 use logos_hir::hir::Range;
 use std::alloc::{AllocError, Global};
 
 /// The rest of a character that is begun.
 #[derive(PartialEq, Eq, Hash, Drop)]
-pub struct Rest {
+pub struct CharacterRest {
     /// The number of bytes that are left.
     pub left: u8,
     /// The characters that they can complete, as offsets in the block of numbers that they
@@ -35,7 +35,7 @@ struct Block {
 /// # Errors
 ///
 /// Returns `AllocError` if memory runs out.
-fn number_of(rests: &mut IndexSet<Rest>, rest: Rest) -> Result<usize, AllocError>
+fn number_of(rests: &mut IndexSet<CharacterRest>, rest: CharacterRest) -> Result<usize, AllocError>
     ensures grows { OnOk result (table.Grows rests.old.keys rests.new.keys) }
     ensures stored { IfOk result (λ i. table.IsAt rests.new.keys i (table.row_of rest)) }
     ensures longer { OnOk result (length rests.old.keys ≤ length rests.new.keys) }
@@ -55,7 +55,7 @@ fn number_of(rests: &mut IndexSet<Rest>, rest: Rest) -> Result<usize, AllocError
 ///
 /// Returns `AllocError` if memory runs out.
 fn place(
-    rests: &mut IndexSet<Rest>,
+    rests: &mut IndexSet<CharacterRest>,
     left: u8,
     offsets: Vec<CharRange>,
 ) -> Result<Option<usize>, AllocError>
@@ -75,7 +75,7 @@ fn place(
     if left == 0 {
         return Ok(Some(0));
     }
-    let i = number_of(rests, Rest { left, offsets })?;
+    let i = number_of(rests, CharacterRest { left, offsets })?;
     Ok(Some(i))
 }
 
@@ -87,7 +87,7 @@ fn place(
 /// Returns `AllocError` if memory runs out.
 fn row_for(
     alloc: Global,
-    rests: &mut IndexSet<Rest>,
+    rests: &mut IndexSet<CharacterRest>,
     ranges: &[CharRange],
     block: Block,
 ) -> Result<Option<usize>, AllocError>
@@ -102,7 +102,7 @@ fn row_for(
     ensures weight { (n : ℕ) → OnOk result
         (table.weight n rests.new.keys ≤ table.weight n rests.old.keys + table.led_to block.left) }
 {
-    let window = Window {
+    let window = BlockPart {
         floor: block.floor,
         start: block.start,
         size: block_size(block.left),
@@ -162,7 +162,7 @@ fn block_of(byte: u8) -> Option<Block>
 /// Returns `AllocError` if memory runs out.
 fn first_for(
     alloc: Global,
-    rests: &mut IndexSet<Rest>,
+    rests: &mut IndexSet<CharacterRest>,
     ranges: &[CharRange],
     byte: u8,
 ) -> Result<Option<usize>, AllocError>
@@ -187,7 +187,12 @@ fn first_for(
 /// # Errors
 ///
 /// Returns `AllocError` if memory runs out.
-fn after(alloc: Global, rest: &Rest, left: u8, part: u32) -> Result<Vec<CharRange>, AllocError>
+fn after(
+    alloc: Global,
+    rest: &CharacterRest,
+    left: u8,
+    part: u32,
+) -> Result<Vec<CharRange>, AllocError>
     requires small { left < 3 }
     requires part { part < 64 }
     ensures parts { IfOk result (λ v. AreParts (size left) v.items) }
@@ -195,7 +200,7 @@ fn after(alloc: Global, rest: &Rest, left: u8, part: u32) -> Result<Vec<CharRang
         from_floor (in_ranges rest.now.offsets.items) 0 (part * size left) o) }
 {
     let size = block_size(left);
-    let window = Window {
+    let window = BlockPart {
         floor: 0,
         start: part * size,
         size,
@@ -210,7 +215,7 @@ fn after(alloc: Global, rest: &Rest, left: u8, part: u32) -> Result<Vec<CharRang
 /// Returns `AllocError` if memory runs out.
 fn next_for(
     alloc: Global,
-    rests: &mut IndexSet<Rest>,
+    rests: &mut IndexSet<CharacterRest>,
     row: usize,
     part: u32,
 ) -> Result<Option<usize>, AllocError>
@@ -258,7 +263,7 @@ fn block_size(left: u8) -> u32
 /// Returns `AllocError` if memory runs out.
 fn first_cells(
     alloc: Global,
-    rests: &mut IndexSet<Rest>,
+    rests: &mut IndexSet<CharacterRest>,
     ranges: &[CharRange],
 ) -> Result<Vec<Option<usize>>, AllocError>
     requires rests { table.AreRests rests.old.keys }
@@ -285,7 +290,7 @@ fn first_cells(
 /// Returns `AllocError` if memory runs out.
 fn follow_row(
     alloc: Global,
-    rests: &mut IndexSet<Rest>,
+    rests: &mut IndexSet<CharacterRest>,
     row: usize,
     cells: &mut Vec<Option<usize>>,
 ) -> Result<(), AllocError>
@@ -315,7 +320,10 @@ fn follow_row(
 /// # Errors
 ///
 /// Returns `AllocError` if memory runs out.
-fn follow_cells(alloc: Global, rests: &mut IndexSet<Rest>) -> Result<Vec<Option<usize>>, AllocError>
+fn follow_cells(
+    alloc: Global,
+    rests: &mut IndexSet<CharacterRest>,
+) -> Result<Vec<Option<usize>>, AllocError>
     requires rests { table.AreRests rests.old.keys }
     requires small { table.weight 0 rests.old.keys ≤ 34_361 }
     ensures grows { OnOk result (table.Grows rests.old.keys rests.new.keys) }
@@ -339,14 +347,14 @@ fn follow_cells(alloc: Global, rests: &mut IndexSet<Rest>) -> Result<Vec<Option<
 /// # Errors
 ///
 /// Returns `AllocError` if memory runs out.
-fn start(alloc: Global) -> Result<IndexSet<Rest>, AllocError>
+fn start(alloc: Global) -> Result<IndexSet<CharacterRest>, AllocError>
     ensures rests { IfOk result (λ rests. table.AreRests rests.keys) }
     ensures weight { IfOk result (λ rests. table.weight 0 rests.keys ≡ 1) }
 {
     let mut rests = IndexSet::new(alloc);
     let mut offsets = Vec::new(alloc);
     offsets.push(CharRange { first: 0, last: 0 })?;
-    rests.insert_full(Rest { left: 0, offsets })?;
+    rests.insert_full(CharacterRest { left: 0, offsets })?;
     Ok(rests)
 }
 
@@ -355,13 +363,13 @@ fn start(alloc: Global) -> Result<IndexSet<Rest>, AllocError>
 /// # Errors
 ///
 /// Returns `AllocError` if memory runs out.
-fn build(alloc: Global, ranges: &[CharRange]) -> Result<Table, AllocError>
+fn build(alloc: Global, ranges: &[CharRange]) -> Result<CharacterTable, AllocError>
     ensures { IfOk result (λ made. IsReaderOf (in_ranges ranges.now) (table.reader_of made)) }
 {
     let mut rests = start(alloc)?;
     let first = first_cells(alloc, &mut rests, ranges)?;
     let follow = follow_cells(alloc, &mut rests)?;
-    Ok(Table {
+    Ok(CharacterTable {
         rows: rests.len(),
         first,
         follow,
@@ -373,7 +381,7 @@ fn build(alloc: Global, ranges: &[CharRange]) -> Result<Table, AllocError>
 /// # Errors
 ///
 /// Returns `AllocError` if memory runs out.
-pub fn table_of(alloc: Global, ranges: &[Range]) -> Result<Table, AllocError>
+pub fn table_of(alloc: Global, ranges: &[Range]) -> Result<CharacterTable, AllocError>
     ensures { IfOk result (λ made. IsReaderOf (is_char_in (pairs ranges.now))
         (table.reader_of made)) }
 {

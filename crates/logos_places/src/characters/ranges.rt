@@ -15,7 +15,7 @@ pub struct CharRange {
 
 /// The numbers from `floor` on, in a block of `size` numbers from `start` on.
 #[derive(Clone, Copy)]
-pub struct Window {
+pub struct BlockPart {
     pub floor: u32,
     pub start: u32,
     pub size: u32,
@@ -23,7 +23,7 @@ pub struct Window {
 
 /// Returns the offsets, in the block of a window, of the numbers that are in the range and in the
 /// window.
-fn clip_range(range: CharRange, window: Window) -> Option<CharRange>
+fn clip_range(range: CharRange, window: BlockPart) -> Option<CharRange>
     requires fits { window.start + window.size < 2 ^ 32 }
     requires some { 0 < window.size }
     ensures clips { ClipsTo window.floor window.start window.size range result }
@@ -44,7 +44,11 @@ fn clip_range(range: CharRange, window: Window) -> Option<CharRange>
 /// # Errors
 ///
 /// Returns `AllocError` if memory runs out.
-fn push_clip(out: &mut Vec<CharRange>, range: CharRange, window: Window) -> Result<(), AllocError>
+fn push_clip(
+    out: &mut Vec<CharRange>,
+    range: CharRange,
+    window: BlockPart,
+) -> Result<(), AllocError>
     requires fits { window.start + window.size < 2 ^ 32 }
     requires some { 0 < window.size }
     ensures members { OnOk result ((o : ℕ) → o < window.size → in_ranges out.new.items o ≡
@@ -69,7 +73,7 @@ fn push_clip(out: &mut Vec<CharRange>, range: CharRange, window: Window) -> Resu
 pub fn clip(
     alloc: Global,
     ranges: &[CharRange],
-    window: Window,
+    window: BlockPart,
 ) -> Result<Vec<CharRange>, AllocError>
     requires fits { window.start + window.size < 2 ^ 32 }
     requires some { 0 < window.size }

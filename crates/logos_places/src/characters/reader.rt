@@ -6,7 +6,7 @@ ghost use Rattle.std.specs.Prelude.{◌<◌, ◌^◌};
 /// A class of characters as an automaton over the bytes of UTF-8. At row 0 a whole character is
 /// read; at each other row a character is begun.
 #[derive(Drop)]
-pub struct Table {
+pub struct CharacterTable {
     /// The number of rows.
     pub rows: usize,
     /// The row after each first byte, by the byte.
@@ -17,7 +17,7 @@ pub struct Table {
     ghost few: { rows < 2 ^ 16 },
 }
 
-impl Table {
+impl CharacterTable {
     ghost use Rattle.std.specs.Prelude.{◌≡◌, ◌<◌};
     ghost use Rattle.logos_places.specs.Table as table;
 

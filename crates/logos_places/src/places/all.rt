@@ -4,11 +4,11 @@
 ghost use Rattle.std.specs.Prelude.{◌≡◌, ◌∷◌, ◌++◌, ◌^◌, ◌<◌, ◌≤◌, ◌+◌, ◌-◌, ℕ, [], IsTrue, IsFalse, IfOk, OnOk, length, map, slice_index, if◌then◌else◌};
 ghost use Rattle.logos_places.specs.Views.{IsRising, Has, HasBetween, width_of, test_at, core_of, AreMeasured, ReadBy, LeftBy, AreStarts};
 
-use crate::node::{Node, Spot, width};
+use crate::node::{Node, TreeSpot, width};
 use crate::places::exits::exits;
 use crate::places::look::Context;
 use crate::places::set::first_from;
-use crate::places::step::{Reading, step};
+use crate::places::step::{ReadByte, step};
 use std::alloc::{AllocError, Global};
 
 /// Several trees, whose places stand one after another.
@@ -124,7 +124,7 @@ fn note(numbers: &mut Vec<usize>, number: usize, is_one: bool) -> Result<(), All
 pub fn step_all(
     alloc: Global,
     forest: Forest<'_>,
-    by: Reading<'_>,
+    by: ReadByte<'_>,
     entered: bool,
 ) -> Result<JointStep, AllocError>
     requires fits { width_of (map core_of forest.nodes.now) < 2 ^ 64 }
@@ -144,7 +144,7 @@ pub fn step_all(
     let mut left = Vec::new(alloc);
     let mut number = next_tree(starts, by.marks, entered, 0);
     while number < nodes.len() {
-        let spot = Spot {
+        let spot = TreeSpot {
             base: starts[number],
             entered,
         };
@@ -179,7 +179,7 @@ pub fn exits_all(
     let mut left = Vec::new(alloc);
     let mut number = next_tree(starts, marks, entered, 0);
     while number < nodes.len() {
-        let spot = Spot {
+        let spot = TreeSpot {
             base: starts[number],
             entered,
         };

@@ -5,13 +5,13 @@ ghost use Rattle.std.specs.Prelude.{max, ◌≡◌, ℕ, ◌+◌, ◌*◌, ◌-�
 ghost use Rattle.logos_places.specs.Views.{Core, Exits, IsRising, Has, spelled, in_front, up_to, at_least, repeated, count_of, IsOrdered, Look, test_at, core_of, is_measured};
 ghost use Rattle.logos_places.specs.Core as core;
 
-use crate::node::{Copies, Node, Spot, width};
+use crate::node::{Copies, Node, TreeSpot, width};
 use crate::places::look::{Context, holds};
 use crate::places::set::{any_mark, has_mark, next_copy};
 
 /// Returns whether a tree can be left, where `marks` are the places that read the byte before.
 #[cycle(exits)]
-pub(crate) fn exits(node: &Node, marks: &[usize], spot: Spot, at: Context) -> bool
+pub(crate) fn exits(node: &Node, marks: &[usize], spot: TreeSpot, at: Context) -> bool
     requires fits { spot.base + core.width (core_of node.now) < 2 ^ 64 }
     requires measured { IsTrue (is_measured node.now) }
     requires rising { IsRising marks.now }
@@ -51,7 +51,7 @@ pub(crate) fn exits(node: &Node, marks: &[usize], spot: Spot, at: Context) -> bo
 }
 
 /// Returns whether a literal can be left: whether its last place is in the set.
-fn exits_literal(text: &[u8], marks: &[usize], spot: Spot) -> bool
+fn exits_literal(text: &[u8], marks: &[usize], spot: TreeSpot) -> bool
     requires fits { spot.base + length text.now < 2 ^ 64 }
     requires rising { IsRising marks.now }
     ensures { (test : Look → Bool) → IsTrue result ↔
@@ -105,7 +105,7 @@ fn exits_at_least(body: &Node, copies: Copies, marks: &[usize], at: Context) -> 
         (λ q. Has marks.now (copies.base + q)) (IsTrue copies.entered) }
 {
     if copies.count == 0 {
-        let spot = Spot {
+        let spot = TreeSpot {
             base: copies.base,
             entered: copies.entered,
         };

@@ -9,7 +9,7 @@ use logos_hir::hir::Look;
 
 /// What the steps remember of the byte before a position: what the looks after it can depend on.
 #[derive(Clone, Copy, PartialEq, Eq, Hash)]
-pub enum Kind {
+pub enum ByteKind {
     /// There is no byte: the position is the start of the input.
     Start,
     /// A byte that no look can depend on.
@@ -28,7 +28,7 @@ pub enum Kind {
 #[derive(Clone, Copy)]
 pub struct Context {
     /// The kind of the byte before.
-    pub before: Kind,
+    pub before: ByteKind,
     /// The byte after, or `None` at the end of the input.
     pub after: Option<u8>,
 }
@@ -41,46 +41,46 @@ fn is_word(byte: u8) -> bool
 }
 
 /// Returns the kind of a byte.
-pub fn kind_of(byte: u8) -> Kind
+pub fn kind_of(byte: u8) -> ByteKind
     ensures { result ≡ kind_of_byte byte }
 {
     if is_word(byte) {
-        Kind::Word
+        ByteKind::Word
     } else if byte == b'\r' {
-        Kind::Cr
+        ByteKind::Cr
     } else if byte == b'\n' {
-        Kind::Lf
+        ByteKind::Lf
     } else {
-        Kind::Other
+        ByteKind::Other
     }
 }
 
 /// Returns whether there is no byte before.
-fn is_start(before: Kind) -> bool
+fn is_start(before: ByteKind) -> bool
     ensures { result ≡ is_none (side_before before) }
 {
-    matches!(before, Kind::Start)
+    matches!(before, ByteKind::Start)
 }
 
 /// Returns whether the byte before is a carriage return.
-fn is_cr(before: Kind) -> bool
+fn is_cr(before: ByteKind) -> bool
     ensures { result ≡ is_byte 13 (side_before before) }
 {
-    matches!(before, Kind::Cr)
+    matches!(before, ByteKind::Cr)
 }
 
 /// Returns whether the byte before is a line feed.
-fn is_lf(before: Kind) -> bool
+fn is_lf(before: ByteKind) -> bool
     ensures { result ≡ is_byte 10 (side_before before) }
 {
-    matches!(before, Kind::Lf)
+    matches!(before, ByteKind::Lf)
 }
 
 /// Returns whether the byte before is one of `[0-9A-Za-z_]`.
-fn is_word_before(before: Kind) -> bool
+fn is_word_before(before: ByteKind) -> bool
     ensures { result ≡ looks.is_word (side_before before) }
 {
-    matches!(before, Kind::Word)
+    matches!(before, ByteKind::Word)
 }
 
 /// Returns whether there is a byte and it is this one.

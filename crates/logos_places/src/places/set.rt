@@ -1,7 +1,7 @@
 //! Sets of places, as ascending lists. Steps look up places in them, and add places to them.
 
-ghost use Rattle.std.specs.Prelude.{◌⊎◌, OnOk, ◌^◌, ◌≡◌, ℕ, ◌+◌, ◌*◌, ◌<◌, ◌≤◌, ◌↔◌, IsTrue, IsFalse, length};
-ghost use Rattle.logos_places.specs.Marks.{IsRising, Has, HasBetween, IsFirstFrom};
+ghost use Rattle.std.specs.Prelude.{◌⊎◌, OnOk, ◌^◌, ◌≡◌, ℕ, ◌+◌, ◌-◌, ◌*◌, ◌<◌, ◌≤◌, ◌↔◌, IsTrue, IsFalse, length, slice_index};
+ghost use Rattle.logos_places.specs.Marks.{IsRising, IsSet, Has, HasBetween, IsFirstFrom};
 
 use crate::node::Copies;
 use std::alloc::AllocError;
@@ -69,7 +69,7 @@ fn empty_copies(marks: &[usize], copies: Copies) -> usize
 /// Returns the number of the first copy from `done` on that is entered or has a place, or the
 /// number of copies if there is none. `entered` says whether the copy with the number `done` is
 /// entered.
-pub(crate) fn next_copy(marks: &[usize], copies: Copies, done: usize, entered: bool) -> usize
+pub fn next_copy(marks: &[usize], copies: Copies, done: usize, entered: bool) -> usize
     requires rising { IsRising marks.now }
     requires fits { copies.base + copies.each * copies.count < 2 ^ 64 }
     requires within { done ≤ copies.count }
@@ -89,6 +89,105 @@ pub(crate) fn next_copy(marks: &[usize], copies: Copies, done: usize, entered: b
         entered,
     };
     done + empty_copies(marks, rest)
+}
+
+/// Returns whether a copy has the same places as the first one. Those of the first are from the
+/// index `from` on and below `to`, those of the other begin at the index `at`, and `shift` is how
+/// far the other stands from the first.
+fn is_marked_alike(
+    marks: &[usize],
+    from: usize,
+    to: usize,
+    at: usize,
+    copies: Copies,
+    shift: usize,
+) -> bool
+    requires rising { IsRising marks.now }
+    requires fits { copies.base + shift + copies.each < 2 ^ 64 }
+    requires order { from ≤ to }
+    requires from { IsFirstFrom marks.now copies.base from }
+    requires to { IsFirstFrom marks.now (copies.base + copies.each) to }
+    requires at { IsFirstFrom marks.now (copies.base + shift) at }
+    ensures same { IsTrue result → (q : ℕ) → q < copies.each →
+        Has marks.now (copies.base + shift + q) ↔ Has marks.now (copies.base + q) }
+    ensures next { IsTrue result →
+        IsFirstFrom marks.now (copies.base + shift + copies.each) (at + (to - from)) }
+{
+    let mut i = 0;
+    while i < to - from {
+        if at + i == marks.len() {
+            return false;
+        }
+        if marks[at + i] != marks[from + i] + shift {
+            return false;
+        }
+        i += 1;
+    }
+    if at + i == marks.len() {
+        return true;
+    }
+    copies.base + shift + copies.each <= marks[at + i]
+}
+
+/// Returns how many copies after the first one have the same places as it, up to the next that has
+/// not.
+pub fn alike_copies(marks: &[usize], copies: Copies) -> usize
+    requires rising { IsRising marks.now }
+    requires fits { copies.base + copies.each * copies.count < 2 ^ 64 }
+    requires some { 0 < copies.count }
+    ensures few { result < copies.count }
+    ensures same { (k q : ℕ) → k ≤ result → q < copies.each →
+        Has marks.now (copies.base + copies.each * k + q) ↔ Has marks.now (copies.base + q) }
+{
+    let from = first_from(marks, copies.base);
+    let to = first_from(marks, copies.base + copies.each);
+    if to < from {
+        return 0;
+    }
+    let mut at = to;
+    let mut more = 0;
+    while more + 1 < copies.count {
+        if !is_marked_alike(marks, from, to, at, copies, copies.each * (more + 1)) {
+            return more;
+        }
+        at += to - from;
+        more += 1;
+    }
+    more
+}
+
+/// Appends the places from the index `from` on and below `to` once more, each moved by `shift`.
+///
+/// # Errors
+///
+/// Returns `AllocError` if memory runs out.
+pub(crate) fn push_moved(
+    places: &mut Vec<usize>,
+    from: usize,
+    to: usize,
+    shift: usize,
+) -> Result<(), AllocError>
+    requires within { to ≤ length places.old.items }
+    requires order { from ≤ to }
+    requires fits { (k : ℕ) → from ≤ k → k < to → slice_index places.old.items k + shift < 2 ^ 64 }
+    ensures keeps { OnOk result ((k : ℕ) → k < length places.old.items →
+        slice_index places.new.items k ≡ slice_index places.old.items k) }
+    ensures longer { OnOk result (length places.old.items ≤ length places.new.items) }
+    ensures set { OnOk result ((low high : ℕ) → IsSet places.old.items low → low ≤ high →
+        ((k : ℕ) → from ≤ k → k < to →
+        (low ≤ slice_index places.old.items k + shift)
+        × (slice_index places.old.items k + shift < high)) →
+        IsSet places.new.items high) }
+    ensures has { OnOk result ((q : ℕ) → Has places.new.items q ↔ (Has places.old.items q
+        ⊎ ((k : ℕ) × (from ≤ k) × (k < to) × (slice_index places.old.items k + shift ≡ q)))) }
+{
+    let mut i = from;
+    while i < to {
+        let place = places[i] + shift;
+        places.push(place)?;
+        i += 1;
+    }
+    Ok(())
 }
 
 /// Adds the place, unless it is in the set.

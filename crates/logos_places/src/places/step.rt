@@ -1,21 +1,24 @@
 //! Steps from the places that read one byte to those that read the next byte. `all` and `tree` call
 //! it on each tree.
 
-ghost use Rattle.std.specs.Prelude.{max, ◌≡◌, ℕ, ◌+◌, ◌*◌, ◌^◌, ◌<◌, ◌≤◌, ◌⊎◌, IsTrue, IfOk, OnOk, IfSome, ◌↔◌, Bool, false, Option, length};
+ghost use Rattle.std.specs.Prelude.{max, ◌≡◌, ℕ, ◌+◌, ◌*◌, ◌^◌, ◌<◌, ◌≤◌, ◌⊎◌, IsTrue, IfOk, OnOk, IfSome, ◌↔◌, Bool, false, Option, List, length};
 ghost use Rattle.logos_places.specs.Views.{Core, IsRising, IsSet, Has, spelled, in_front, up_to, at_least, repeated, count_of, IsOrdered, Stepped, Owes, is_in, pairs, Look, test_at, core_of, is_measured, reader_of};
 ghost use Rattle.logos_places.specs.Core as core;
+ghost use Rattle.logos_places.specs.inside.Repeated.{Repeated};
 
-use crate::characters::reader::Table;
-use crate::node::{Copies, Node, Spot, width};
+use crate::characters::reader::CharacterTable;
+use crate::node::{Copies, Node, TreeSpot, width};
 use crate::places::exits::exits;
 use crate::places::look::{Context, holds};
-use crate::places::set::{any_mark, first_from, has_mark, insert_mark, next_copy};
+use crate::places::set::{
+    alike_copies, any_mark, first_from, has_mark, insert_mark, next_copy, push_moved,
+};
 use logos_hir::hir::Range;
 use std::alloc::AllocError;
 
 /// A byte that a step reads, and what was read before it.
 #[derive(Clone, Copy)]
-pub struct Reading<'m> {
+pub struct ReadByte<'m> {
     /// The byte.
     pub byte: u8,
     /// The places that read the byte before, ascending.
@@ -45,8 +48,8 @@ pub fn has_byte(ranges: &[Range], byte: u8) -> bool
 /// Returns `AllocError` if memory runs out.
 fn step_byte(
     fits: bool,
-    by: Reading<'_>,
-    spot: Spot,
+    by: ReadByte<'_>,
+    spot: TreeSpot,
     next: &mut Vec<usize>,
 ) -> Result<bool, AllocError>
     requires rising { IsRising by.marks.now }
@@ -73,8 +76,8 @@ fn step_byte(
 /// Returns `AllocError` if memory runs out.
 fn step_bytes(
     ranges: &[Range],
-    by: Reading<'_>,
-    spot: Spot,
+    by: ReadByte<'_>,
+    spot: TreeSpot,
     next: &mut Vec<usize>,
 ) -> Result<bool, AllocError>
     requires rising { IsRising by.marks.now }
@@ -94,8 +97,8 @@ fn step_bytes(
 /// Returns `AllocError` if memory runs out.
 fn step_literal(
     text: &[u8],
-    by: Reading<'_>,
-    spot: Spot,
+    by: ReadByte<'_>,
+    spot: TreeSpot,
     next: &mut Vec<usize>,
 ) -> Result<bool, AllocError>
     requires fits { spot.base + length text.now < 2 ^ 64 }
@@ -114,7 +117,7 @@ fn step_literal(
     let mut done = next_copy(by.marks, bytes, 0, spot.entered);
     let mut left = spot.entered;
     while done < text.len() {
-        let place = Spot {
+        let place = TreeSpot {
             base: spot.base + done,
             entered: left,
         };
@@ -156,9 +159,9 @@ fn insert_row(
 ///
 /// Returns `AllocError` if memory runs out.
 fn step_characters(
-    table: &Table,
-    by: Reading<'_>,
-    spot: Spot,
+    table: &CharacterTable,
+    by: ReadByte<'_>,
+    spot: TreeSpot,
     next: &mut Vec<usize>,
 ) -> Result<bool, AllocError>
     requires fits { spot.base + table.now.rows < 2 ^ 64 }
@@ -199,8 +202,8 @@ fn step_characters(
 #[cycle(step)]
 pub(crate) fn step(
     node: &Node,
-    by: Reading<'_>,
-    spot: Spot,
+    by: ReadByte<'_>,
+    spot: TreeSpot,
     next: &mut Vec<usize>,
 ) -> Result<bool, AllocError>
     requires fits { spot.base + core.width (core_of node.now) < 2 ^ 64 }
@@ -254,7 +257,7 @@ fn step_repeat(
     body: &Node,
     copies: Copies,
     most: Option<usize>,
-    by: Reading<'_>,
+    by: ReadByte<'_>,
     next: &mut Vec<usize>,
 ) -> Result<bool, AllocError>
     requires fits { copies.base + copies.each * count_of copies.count most < 2 ^ 64 }
@@ -289,7 +292,7 @@ fn step_repeat(
 fn step_at_least(
     body: &Node,
     copies: Copies,
-    by: Reading<'_>,
+    by: ReadByte<'_>,
     next: &mut Vec<usize>,
 ) -> Result<bool, AllocError>
     requires fits { copies.base + copies.each * max copies.count 1 < 2 ^ 64 }
@@ -302,7 +305,7 @@ fn step_at_least(
         next.old.items next.new.items copies.base copies.entered left) }
 {
     if copies.count == 0 {
-        let spot = Spot {
+        let spot = TreeSpot {
             base: copies.base,
             entered: copies.entered,
         };
@@ -317,6 +320,46 @@ fn step_at_least(
     step_plus(body, by, copies.at(fronts.count, front), next)
 }
 
+/// Steps on the copies after the first one that have the same places and are entered as it is, and
+/// returns how many these are. The step on the first one is made, and `left` says whether it can be
+/// left.
+///
+/// # Errors
+///
+/// Returns `AllocError` if memory runs out.
+fn repeat_step(
+    rest: Copies,
+    left: bool,
+    by: ReadByte<'_>,
+    next: &mut Vec<usize>,
+) -> Result<usize, AllocError>
+    requires fits { rest.base + rest.each * rest.count < 2 ^ 64 }
+    requires some { 0 < rest.count }
+    requires rising { IsRising by.marks.now }
+    requires set { IsSet next.old.items (rest.base + rest.each) }
+    ensures few { IfOk result (λ more. more < rest.count) }
+    ensures same { IfOk result (λ more. 0 < more → left ≡ rest.entered) }
+    ensures repeated { IfOk result (λ more. (t : Core) → (before : List ℕ) →
+        rest.each ≡ core.width t → IsSet before rest.base →
+        Stepped t (test_at by.entry.at) by.entry.byte by.entry.marks.now
+        before next.old.items rest.base rest.entered left →
+        Repeated t (test_at by.entry.at) by.entry.byte by.entry.marks.now
+        next.old.items (rest.base + rest.each) left more next.new.items) }
+{
+    if left != rest.entered {
+        return Ok(0);
+    }
+    let count = alike_copies(by.marks, rest);
+    let from = first_from(next, rest.base);
+    let to = next.len();
+    let mut more = 0;
+    while more < count {
+        push_moved(next, from, to, rest.each * (more + 1))?;
+        more += 1;
+    }
+    Ok(count)
+}
+
 /// Steps on all of the copies, whatever comes after them.
 ///
 /// # Errors
@@ -326,7 +369,7 @@ fn step_at_least(
 fn step_copies(
     body: &Node,
     copies: Copies,
-    by: Reading<'_>,
+    by: ReadByte<'_>,
     next: &mut Vec<usize>,
 ) -> Result<bool, AllocError>
     requires fits { copies.base + copies.each * copies.count < 2 ^ 64 }
@@ -342,8 +385,10 @@ fn step_copies(
     let mut done = next_copy(by.marks, copies, 0, copies.entered);
     let mut left = copies.entered;
     while done < copies.count {
+        let rest = copies.from(done, left);
         left = step(body, by, copies.at(done, left), next)?;
-        done = next_copy(by.marks, copies, done + 1, left);
+        let more = repeat_step(rest, left, by, next)?;
+        done = next_copy(by.marks, copies, done + 1 + more, left);
     }
     Ok(left)
 }
@@ -357,7 +402,7 @@ fn step_copies(
 fn step_up_to(
     body: &Node,
     copies: Copies,
-    by: Reading<'_>,
+    by: ReadByte<'_>,
     next: &mut Vec<usize>,
 ) -> Result<bool, AllocError>
     requires fits { copies.base + copies.each * copies.count < 2 ^ 64 }
@@ -374,8 +419,10 @@ fn step_up_to(
     let mut any = false;
     while done < copies.count {
         any = any | left;
+        let rest = copies.from(done, left);
         left = step(body, by, copies.at(done, left), next)?;
-        done = next_copy(by.marks, copies, done + 1, left);
+        let more = repeat_step(rest, left, by, next)?;
+        done = next_copy(by.marks, copies, done + 1 + more, left);
     }
     Ok(any | left)
 }
@@ -388,8 +435,8 @@ fn step_up_to(
 #[cycle(step)]
 fn step_plus(
     body: &Node,
-    by: Reading<'_>,
-    spot: Spot,
+    by: ReadByte<'_>,
+    spot: TreeSpot,
     next: &mut Vec<usize>,
 ) -> Result<bool, AllocError>
     requires fits { spot.base + core.width (core_of body.now) < 2 ^ 64 }
@@ -401,7 +448,7 @@ fn step_plus(
         next.old.items next.new.items spot.base spot.entered left) }
 {
     let left = exits(body, by.marks, spot, by.at);
-    let again = Spot {
+    let again = TreeSpot {
         base: spot.base,
         entered: spot.entered | left,
     };

@@ -5,9 +5,9 @@ ghost use Rattle.std.specs.Prelude.{◌≡◌, ◌^◌, ◌<◌, ◌≤◌, ◌�
 ghost use Rattle.logos_places.specs.Views.{Has, IsRising, test_at, core_of, is_measured, IsStepOf};
 ghost use Rattle.logos_places.specs.Core as core;
 
-use crate::node::{Node, Spot};
+use crate::node::{Node, TreeSpot};
 use crate::places::set::first_from;
-use crate::places::step::{Reading, step};
+use crate::places::step::{ReadByte, step};
 use std::alloc::{AllocError, Global};
 
 /// The step of one tree by a byte.
@@ -27,7 +27,7 @@ pub struct TreeStep {
 pub fn step_tree(
     alloc: Global,
     node: &Node,
-    by: Reading<'_>,
+    by: ReadByte<'_>,
     base: usize,
 ) -> Result<TreeStep, AllocError>
     requires fits { base + core.width (core_of node.now) < 2 ^ 64 }
@@ -37,7 +37,7 @@ pub fn step_tree(
         by.entry.byte by.entry.marks.now base made.places.items made.left) }
 {
     let mut places = Vec::new(alloc);
-    let spot = Spot {
+    let spot = TreeSpot {
         base,
         entered: false,
     };

@@ -1,8 +1,9 @@
 //! Splits blocks by the blocks that their states lead to. `merge` calls it once, with the blocks of
 //! the marks.
 
-ghost use Rattle.std.specs.Prelude.{true, ◌≡◌, ◌≢◌, ℕ, ◌+◌, ◌-◌, ◌*◌, ◌<◌, ◌≤◌, ◌↔◌, Some, OnSome, OnOk, IfOk, IsTrue, length, vec_len, slice_index, option_map};
+ghost use Rattle.std.specs.Prelude.{true, ◌≡◌, ◌≢◌, ℕ, ◌+◌, ◌<◌, ◌≤◌, ◌↔◌, Some, OnSome, OnOk, IfOk, IsTrue, length, vec_len, slice_index, option_map};
 ghost use Rattle.logos_reduce.specs.Views.{has, has_in, ArePredecessors, AreFiled, AreSources, AreHits, target_by, target_block, IsSound, IsFiner, size, to};
+ghost use Rattle.logos_reduce.specs.inside.Refinements.{IsSoundRefinement, IsFinerRefinement, steps_left};
 
 use crate::lists::{add, empty_lists, file, predecessors};
 use crate::merge::blocks::Blocks;
@@ -140,19 +141,12 @@ fn split_by_symbol(
     requires sources { AreSources (size table.now)
         (target_block table.now (slice_index parts.filing.blocks.items))
         by.now.sources.items by.now.block }
-    requires sound { IsSound table.now parts.cuts.splits.items
-        (slice_index parts.filing.blocks.items) }
+    requires sound { IsSoundRefinement table.now parts }
     ensures len { IfOk result (λ w. vec_len w.filing.blocks ≡ vec_len parts.filing.blocks) }
     ensures lists_len { IfOk result (λ w. vec_len w.filing.lists ≡ vec_len parts.filing.lists) }
-    ensures sound { IfOk result (λ w.
-        IsSound table.now w.cuts.splits.items (slice_index w.filing.blocks.items)) }
-    ensures finer { IfOk result (λ w.
-        IsFiner (size table.now) (slice_index w.filing.blocks.items)
-        (slice_index parts.filing.blocks.items)) }
-    ensures falls { IfOk result (λ w.
-        2 * (vec_len w.filing.lists - vec_len w.cuts.splits) + vec_len w.cuts.hints.todo
-        ≤ 2 * (vec_len parts.filing.lists - vec_len parts.cuts.splits)
-        + vec_len parts.cuts.hints.todo) }
+    ensures sound { IfOk result (λ w. IsSoundRefinement table.now w) }
+    ensures finer { IfOk result (λ w. IsFinerRefinement table.now w parts) }
+    ensures falls { IfOk result (λ w. steps_left w ≤ steps_left parts) }
     ensures block_in { IfOk result (λ w. by.now.block < vec_len w.cuts.splits) }
     ensures sources { IfOk result
         (λ w. AreSources (size table.now)
@@ -195,19 +189,12 @@ fn split_by_block(
     requires sources { AreSources (size table.now)
         (target_block table.now (slice_index parts.filing.blocks.items))
         by.now.sources.items by.now.block }
-    requires sound { IsSound table.now parts.cuts.splits.items
-        (slice_index parts.filing.blocks.items) }
+    requires sound { IsSoundRefinement table.now parts }
     ensures len { IfOk result (λ w. vec_len w.filing.blocks ≡ vec_len parts.filing.blocks) }
     ensures lists_len { IfOk result (λ w. vec_len w.filing.lists ≡ vec_len parts.filing.lists) }
-    ensures sound { IfOk result (λ w.
-        IsSound table.now w.cuts.splits.items (slice_index w.filing.blocks.items)) }
-    ensures finer { IfOk result (λ w.
-        IsFiner (size table.now) (slice_index w.filing.blocks.items)
-        (slice_index parts.filing.blocks.items)) }
-    ensures falls { IfOk result (λ w.
-        2 * (vec_len w.filing.lists - vec_len w.cuts.splits) + vec_len w.cuts.hints.todo
-        ≤ 2 * (vec_len parts.filing.lists - vec_len parts.cuts.splits)
-        + vec_len parts.cuts.hints.todo) }
+    ensures sound { IfOk result (λ w. IsSoundRefinement table.now w) }
+    ensures finer { IfOk result (λ w. IsFinerRefinement table.now w parts) }
+    ensures falls { IfOk result (λ w. steps_left w ≤ steps_left parts) }
 {
     let mut split = parts;
     for k in 0..WIDTH {
@@ -314,18 +301,11 @@ fn look_at(
     requires len { vec_len parts.filing.blocks ≡ size table.now }
     requires from_len { vec_len edges.now.from ≡ size table.now }
     requires from { ArePredecessors (size table.now) WIDTH (to table.now) edges.now.from.items }
-    requires sound { IsSound table.now parts.cuts.splits.items
-        (slice_index parts.filing.blocks.items) }
+    requires sound { IsSoundRefinement table.now parts }
     ensures len { IfOk result (λ w. vec_len w.filing.blocks ≡ size table.now) }
-    ensures sound { IfOk result (λ w.
-        IsSound table.now w.cuts.splits.items (slice_index w.filing.blocks.items)) }
-    ensures finer { IfOk result (λ w.
-        IsFiner (size table.now) (slice_index w.filing.blocks.items)
-        (slice_index parts.filing.blocks.items)) }
-    ensures falls { IfOk result (λ w.
-        2 * (vec_len w.filing.lists - vec_len w.cuts.splits) + vec_len w.cuts.hints.todo
-        ≤ 2 * (vec_len parts.filing.lists - vec_len parts.cuts.splits)
-        + vec_len parts.cuts.hints.todo) }
+    ensures sound { IfOk result (λ w. IsSoundRefinement table.now w) }
+    ensures finer { IfOk result (λ w. IsFinerRefinement table.now w parts) }
+    ensures falls { IfOk result (λ w. steps_left w ≤ steps_left parts) }
 {
     if parts.cuts.splits.len() <= b {
         return Ok(parts);
@@ -352,14 +332,10 @@ fn look_at_all(
     requires len { vec_len parts.filing.blocks ≡ size table.now }
     requires from_len { vec_len edges.now.from ≡ size table.now }
     requires from { ArePredecessors (size table.now) WIDTH (to table.now) edges.now.from.items }
-    requires sound { IsSound table.now parts.cuts.splits.items
-        (slice_index parts.filing.blocks.items) }
+    requires sound { IsSoundRefinement table.now parts }
     ensures len { IfOk result (λ w. vec_len w.filing.blocks ≡ size table.now) }
-    ensures sound { IfOk result (λ w.
-        IsSound table.now w.cuts.splits.items (slice_index w.filing.blocks.items)) }
-    ensures finer { IfOk result (λ w.
-        IsFiner (size table.now) (slice_index w.filing.blocks.items)
-        (slice_index parts.filing.blocks.items)) }
+    ensures sound { IfOk result (λ w. IsSoundRefinement table.now w) }
+    ensures finer { IfOk result (λ w. IsFinerRefinement table.now w parts) }
 {
     let mut split = parts;
     while let Some(b) = split.next() {

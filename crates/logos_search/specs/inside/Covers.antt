@@ -1,14 +1,16 @@
 -- The search for covering inputs: all stands were met, and for some the steps from them are
 -- covered.
-use Rattle.std.specs.Prelude.{◌≡◌, ◌⊎◌, ℕ, ◌<◌, Bool, true, List, ◌∷◌, ◌++◌, length, Option, Some, Contains, slice_get}
+use Rattle.std.specs.Prelude.{◌≡◌, ◌⊎◌, ℕ, ◌<◌, Bool, true, List, ◌∷◌, ◌++◌, length, map, Option, Some, Contains, slice_get}
 use Rattle.logos_search.specs.Covering.{Takes, OneTakes, step_to, end_at}
 use Rattle.logos_search.specs.Machines.{IsInput}
 use Rattle.logos_search.specs.Rests.{more, completion}
 use Rattle.logos_search.specs.inside.Stands.{stand_at, stand_next, stand_goal}
 use Rattle.logos_search.specs.inside.Visits.{IsTree, IsClosed, IsWayTo}
+use Rattle.logos_search.specs.declared.cover.Cover.{Cover}
+use Rattle.logos_search.specs.declared.cover.Explored.{Explored}
 use Rattle.logos_search.specs.declared.point.Point.{Point}
 use Rattle.logos_search.specs.declared.rest.Rest.{Rest}
-use Rattle.logos_search.specs.declared.steps.Step.{Step}
+use Rattle.logos_search.specs.declared.steps.InputStep.{InputStep}
 use Rattle.logos_search.specs.declared.visits.Stand.{Stand}
 use Rattle.logos_search.specs.declared.visits.Visit.{Visit}
 
@@ -18,6 +20,11 @@ pub record IsExplored (next : Point → ℕ → Option Point) (utf8 : Bool) (sta
   pub tree : IsTree (stand_next next utf8) stands ways
   pub closed : IsClosed (stand_next next utf8) stands ways (length stands)
 
+-- A search has met these stands.
+abbrev pub HasExplored : (Point → ℕ → Option Point) → Explored → Type 0
+HasExplored next explored =
+    IsExplored next explored.utf8 explored.start explored.visits.stands.keys explored.visits.ways.items
+
 -- The bytes lead to a stand, and then by one more byte into a character that they complete.
 pub record IsWayBy (stands : List Stand) (ways : List Visit) (number byte : ℕ) (rest : Rest) (bytes : List ℕ) : Type 0 where
   pub front : List ℕ
@@ -26,21 +33,30 @@ pub record IsWayBy (stands : List Stand) (ways : List Visit) (number byte : ℕ)
       IsWayTo next stands ways number to front
 
 -- An input was added, with the steps that it takes.
-pub record Adds (next : Point → ℕ → Option Point) (start : Point) (steps : List Step) (input : List ℕ) (more : List Step) : Type 0 where
-  pub only : (step : Step) → Contains more step → Contains steps step ⊎ Takes next start input step
-  pub grows : (step : Step) → Contains steps step → Contains more step
-  pub all : (step : Step) → Takes next start input step → Contains more step
+pub record Adds (next : Point → ℕ → Option Point) (start : Point) (steps : List InputStep) (input : List ℕ) (more : List InputStep) : Type 0 where
+  pub only : (step : InputStep) → Contains more step → Contains steps step ⊎ Takes next start input step
+  pub grows : (step : InputStep) → Contains steps step → Contains more step
+  pub all : (step : InputStep) → Takes next start input step → Contains more step
 
 -- Inputs that take each of the steps.
-pub record IsCover (next : Point → ℕ → Option Point) (utf8 : Bool) (start : Point) (steps : List Step) (inputs : List (List ℕ)) : Type 0 where
+pub record IsCover (next : Point → ℕ → Option Point) (utf8 : Bool) (start : Point) (steps : List InputStep) (inputs : List (List ℕ)) : Type 0 where
   pub are_inputs : (input : List ℕ) → Contains inputs input → IsInput utf8 input
-  pub taken : (step : Step) → Contains steps step → OneTakes next start inputs step
+  pub taken : (step : InputStep) → Contains steps step → OneTakes next start inputs step
+
+-- The inputs of a cover take each of its steps.
+abbrev pub CoversSteps : (Point → ℕ → Option Point) → Explored → Cover → Type 0
+CoversSteps next explored cover =
+    IsCover next explored.utf8 explored.start cover.steps.keys (map (λ v. v.items) cover.inputs.items)
+
+-- A cover has all steps of another one.
+abbrev pub HasStepsOf : Cover → Cover → Type 0
+HasStepsOf old new = (step : InputStep) → Contains old.steps.keys step → Contains new.steps.keys step
 
 -- The step that a byte makes from a stand is covered, if it leads on.
-abbrev pub IsCoveredBy : (Point → ℕ → Option Point) → Bool → List Step → Stand → ℕ → Type 0
+abbrev pub IsCoveredBy : (Point → ℕ → Option Point) → Bool → List InputStep → Stand → ℕ → Type 0
 IsCoveredBy next utf8 steps at b = (to : Stand) → stand_next next utf8 at b ≡ Some to → Contains steps (step_to at.point to.point)
 
 -- All steps from a stand are covered, and its end if it is looked for.
-pub record AreCoveredAt (next : Point → ℕ → Option Point) (is_goal : Point → Bool) (utf8 : Bool) (steps : List Step) (at : Stand) : Type 0 where
+pub record AreCoveredAt (next : Point → ℕ → Option Point) (is_goal : Point → Bool) (utf8 : Bool) (steps : List InputStep) (at : Stand) : Type 0 where
   pub bytes : (b : ℕ) → b < 256 → IsCoveredBy next utf8 steps at b
   pub end : stand_goal is_goal at ≡ true → Contains steps (end_at at.point)

@@ -1,7 +1,7 @@
 -- What replaces a name, as the code has it.
 use Rattle.std.specs.Prelude.{map}
-use Rattle.logos_type_params.specs.declared.substitution.Given.{Given as GivenView}
-use Rattle.logos_type_params.specs.declared.substitution.Given.TheVariants.{Nothing, Name, Parts}
+use Rattle.logos_type_params.specs.declared.substitution.GivenType.{GivenType as GivenView}
+use Rattle.logos_type_params.specs.declared.substitution.GivenType.TheVariants.{Nothing, Name, Parts}
 use Rattle.logos_type.specs.Parts.{trees, tree_of}
 use Rattle.logos_type_params.specs.declared.substitution.Replacing.{Replacing}
 use Rattle.logos_type_params.specs.SelfReference.{texts}

@@ -5,21 +5,21 @@ use Rattle.logos_lexeme.specs.declared.lexeme.Span.{Span}
 use Rattle.logos_token.specs.Tokens.{TokenList, identifier, punctuation, literal, doc, group, none, also, rest_of}
 use Rattle.logos_type_reader.specs.declared.table.place.Place.{Place}
 use Rattle.logos_type_reader.specs.declared.table.place.Place.TheVariants as place
-use Rattle.logos_type_reader.specs.declared.table.place.Look.{Look}
-use Rattle.logos_type_reader.specs.declared.table.place.Look.TheVariants as look
-use Rattle.logos_type_reader.specs.declared.table.place.Lead.{Lead}
-use Rattle.logos_type_reader.specs.declared.table.place.Lead.TheVariants as lead
-use Rattle.logos_type_reader.specs.declared.table.place.Action.{Action}
-use Rattle.logos_type_reader.specs.declared.table.place.Action.TheVariants as action
-use Rattle.logos_type_reader.specs.declared.table.place.Start.{Start}
-use Rattle.logos_type_reader.specs.declared.table.place.Start.TheVariants as start
-use Rattle.logos_type_reader.specs.declared.table.place.Stop.{Stop}
-use Rattle.logos_type_reader.specs.declared.table.place.Stop.TheVariants as stop
+use Rattle.logos_type_reader.specs.declared.table.place.FrontToken.{FrontToken}
+use Rattle.logos_type_reader.specs.declared.table.place.FrontToken.TheVariants as look
+use Rattle.logos_type_reader.specs.declared.table.place.Prefix.{Prefix}
+use Rattle.logos_type_reader.specs.declared.table.place.Prefix.TheVariants as lead
+use Rattle.logos_type_reader.specs.declared.table.place.TableEntry.{TableEntry}
+use Rattle.logos_type_reader.specs.declared.table.place.TableEntry.TheVariants as action
+use Rattle.logos_type_reader.specs.declared.table.place.FirstEntry.{FirstEntry}
+use Rattle.logos_type_reader.specs.declared.table.place.FirstEntry.TheVariants as start
+use Rattle.logos_type_reader.specs.declared.table.place.StepFault.{StepFault}
+use Rattle.logos_type_reader.specs.declared.table.place.StepFault.TheVariants as stop
 use Rattle.logos_type_reader.specs.Table.{Spot, Move, ends, takes, bars, asks, keeps_type, keeps, nests, stops, First, starts, refused, first_span, unsupported, mismatch, mismatches, to, opens, closes, after_two, after_three}
 use Rattle.logos_type.specs.Parts.{Sign, word, mark, colons, arrow, value, opening, reference, lifetime, other_lifetime}
 
 -- A run begins so.
-abbrev pub Looks : Look → TokenList → Type 0
+abbrev pub Looks : FrontToken → TokenList → Type 0
 Looks look.Nothing run = run ≡ none
 Looks look.Word run = (text : List ℕ) × (span : Span) × (rest : TokenList) × (run ≡ also (identifier text span) rest)
 Looks (look.Mark c spacing) run = (span : Span) × (rest : TokenList) × (run ≡ also (punctuation c spacing span) rest)
@@ -39,7 +39,7 @@ first_text (also (literal text span) rest) = text
 first_text run = []
 
 -- The token that a lead takes from the front of a run.
-abbrev pub lead_sign : Lead → TokenList → Sign
+abbrev pub lead_sign : Prefix → TokenList → Sign
 lead_sign lead.Word run = word (first_text run)
 lead_sign (lead.Mark c) run = mark c
 lead_sign lead.Literal run = value (first_text run)
@@ -53,7 +53,7 @@ lead_sign lead.OtherLifetime run = other_lifetime (first_text (rest_of run))
 lead_sign (lead.Group delimiter) run = opening delimiter
 
 -- The run after that token.
-abbrev pub after_lead : Lead → TokenList → TokenList
+abbrev pub after_lead : Prefix → TokenList → TokenList
 after_lead lead.Colons run = after_two run
 after_lead lead.Arrow run = after_two run
 after_lead lead.Dots run = after_three run
@@ -68,7 +68,7 @@ opens_first place (also (group delimiter span inside) rest) outside = opens deli
 opens_first place run outside = mismatches run
 
 -- The next step for an action and the run that is left.
-abbrev pub acts : Action → TokenList → Option TokenList → Move
+abbrev pub acts : TableEntry → TokenList → Option TokenList → Move
 acts action.End run outside = ends
 acts (action.Take l place) run outside = takes (lead_sign l run) (to place (after_lead l run) outside)
 acts (action.Bar l place) run outside = bars (lead_sign l run) (to place (after_lead l run) outside)
@@ -105,7 +105,7 @@ is_in_bounds place.VariadicEnd = true
 is_in_bounds other = false
 
 -- The action leads to this step.
-abbrev pub IsAction : Result Action Stop → Spot → Move → Type 0
+abbrev pub IsAction : Result TableEntry StepFault → Spot → Move → Type 0
 IsAction (Ok action) spot next = next ≡ acts action spot.run spot.outside
 IsAction (Err (stop.Unsupported span)) spot next = next ≡ stops (unsupported span)
 IsAction (Err (stop.Mismatch span)) spot next = next ≡ stops (mismatch span)
@@ -116,12 +116,12 @@ opens_type place (also (group delimiter span inside) rest) = starts false (openi
 opens_type place run = refused (mismatch (first_span run))
 
 -- The beginning of a type that begins so.
-abbrev pub begun : Start → TokenList → First
+abbrev pub begun : FirstEntry → TokenList → First
 begun (start.Lead barred l place) run = starts barred (lead_sign l run) (to place (after_lead l run) None)
 begun (start.Open place) run = opens_type place run
 
 -- The same for the first token.
-abbrev pub IsStart : Result Start Stop → TokenList → First → Type 0
+abbrev pub IsStart : Result FirstEntry StepFault → TokenList → First → Type 0
 IsStart (Ok found) run first = first ≡ begun found run
 IsStart (Err (stop.Unsupported span)) run first = first ≡ refused (unsupported span)
 IsStart (Err (stop.Mismatch span)) run first = first ≡ refused (mismatch span)

@@ -4,37 +4,41 @@ ghost use Rattle.std.specs.Prelude.{◌≡◌, Ok};
 ghost use Rattle.logos_type_reader.specs.Views.{tokens_of, inside_of, sign_of, opens, closes, keeps, to, outside_of, spot_of, IsFirst, IsStep, lead_sign, after_lead, opens_first, opens_type, acts, begun};
 ghost use Rattle.logos_token.specs.Tokens.{none};
 
-use crate::table::place::{Action, Lead, Opening, Outside, Place, Spot, Start, Step, Stop};
+use crate::table::place::{
+    Beginning, FirstEntry, Outside, Place, Prefix, Spot, StepFault, TableEntry, TypeStep,
+};
 use crate::table::tokens::{first_span, first_text};
 use logos_token::token::{Delimiter, Group, TokenTree, Tokens};
 use logos_type::Leaf;
 
 /// Returns the token that a lead takes from the front of a run.
-fn lead_leaf<'s>(lead: Lead, run: Tokens<'_, 's>) -> Leaf<'s>
+fn lead_leaf<'s>(lead: Prefix, run: Tokens<'_, 's>) -> Leaf<'s>
     ensures { sign_of result ≡ lead_sign lead (tokens_of run.entry) }
 {
     match lead {
-        Lead::Word => Leaf::Word(first_text(run)),
-        Lead::Mark(mark) => Leaf::Mark(mark),
-        Lead::Literal => Leaf::Literal(first_text(run)),
-        Lead::Colons => Leaf::Colons,
-        Lead::Arrow => Leaf::Arrow,
-        Lead::Dots => Leaf::Mark('.'),
-        Lead::Reference => Leaf::Reference(None),
-        Lead::ReferenceLifetime => Leaf::Reference(Some(first_text(run.rest().rest()))),
-        Lead::Lifetime => Leaf::Lifetime(first_text(run.rest())),
-        Lead::OtherLifetime => Leaf::OtherLifetime(first_text(run.rest())),
-        Lead::Group(delimiter) => Leaf::Open(delimiter),
+        Prefix::Word => Leaf::Word(first_text(run)),
+        Prefix::Mark(mark) => Leaf::Mark(mark),
+        Prefix::Literal => Leaf::Literal(first_text(run)),
+        Prefix::Colons => Leaf::Colons,
+        Prefix::Arrow => Leaf::Arrow,
+        Prefix::Dots => Leaf::Mark('.'),
+        Prefix::Reference => Leaf::Reference(None),
+        Prefix::ReferenceLifetime => Leaf::Reference(Some(first_text(run.rest().rest()))),
+        Prefix::Lifetime => Leaf::Lifetime(first_text(run.rest())),
+        Prefix::OtherLifetime => Leaf::OtherLifetime(first_text(run.rest())),
+        Prefix::Group(delimiter) => Leaf::Open(delimiter),
     }
 }
 
 /// Returns the run after that token.
-fn after_lead<'t, 's>(lead: Lead, run: Tokens<'t, 's>) -> Tokens<'t, 's>
+fn after_lead<'t, 's>(lead: Prefix, run: Tokens<'t, 's>) -> Tokens<'t, 's>
     ensures { tokens_of result ≡ after_lead lead (tokens_of run.entry) }
 {
     match lead {
-        Lead::Colons | Lead::Arrow | Lead::Lifetime | Lead::OtherLifetime => run.rest().rest(),
-        Lead::Dots | Lead::ReferenceLifetime => run.rest().rest().rest(),
+        Prefix::Colons | Prefix::Arrow | Prefix::Lifetime | Prefix::OtherLifetime => run
+            .rest()
+            .rest(),
+        Prefix::Dots | Prefix::ReferenceLifetime => run.rest().rest().rest(),
         _ => run.rest(),
     }
 }
@@ -45,19 +49,19 @@ fn open<'t, 's>(
     place: Place,
     rest: Tokens<'t, 's>,
     outside: Outside<'t, 's>,
-) -> Result<Step<'t, 's>, Stop>
+) -> Result<TypeStep<'t, 's>, StepFault>
     ensures { IsStep result (opens group.entry.delimiter group.entry.span place
         (inside_of group.entry) (tokens_of rest.entry) (outside_of outside.entry)) }
 {
     let None = outside else {
-        return Err(Stop::Mismatch(group.span));
+        return Err(StepFault::Mismatch(group.span));
     };
     let inner = Spot {
         place,
         run: group.run(),
         outside: Some(rest),
     };
-    Ok(Step::Take(Leaf::Open(group.delimiter), inner))
+    Ok(TypeStep::Take(Leaf::Open(group.delimiter), inner))
 }
 
 /// Returns the step that opens the group which comes first.
@@ -65,34 +69,34 @@ fn open_first<'t, 's>(
     place: Place,
     run: Tokens<'t, 's>,
     outside: Outside<'t, 's>,
-) -> Result<Step<'t, 's>, Stop>
+) -> Result<TypeStep<'t, 's>, StepFault>
     ensures { IsStep result
         (opens_first place (tokens_of run.entry) (outside_of outside.entry)) }
 {
     match run.first() {
         Some(TokenTree::Group(group)) => open(group, place, run.rest(), outside),
-        _ => Err(Stop::Mismatch(first_span(run))),
+        _ => Err(StepFault::Mismatch(first_span(run))),
     }
 }
 
 /// Returns the step that closes the group, and goes on at `place` after it.
-fn close<'t, 's>(delimiter: Delimiter, place: Place, outside: Outside<'t, 's>) -> Step<'t, 's>
+fn close<'t, 's>(delimiter: Delimiter, place: Place, outside: Outside<'t, 's>) -> TypeStep<'t, 's>
     ensures { IsStep (Ok result) (closes delimiter place (outside_of outside.entry)) }
 {
     let Some(run) = outside else {
-        return Step::End;
+        return TypeStep::End;
     };
     let after = Spot {
         place,
         run,
         outside: None,
     };
-    Step::Take(Leaf::Close(delimiter), after)
+    TypeStep::Take(Leaf::Close(delimiter), after)
 }
 
 /// Returns the step that takes all tokens of the run without reading types in them, and goes on at
 /// `place`.
-fn keep<'t, 's>(place: Place, run: Tokens<'t, 's>, outside: Outside<'t, 's>) -> Step<'t, 's>
+fn keep<'t, 's>(place: Place, run: Tokens<'t, 's>, outside: Outside<'t, 's>) -> TypeStep<'t, 's>
     ensures { IsStep (Ok result)
         (keeps (tokens_of run.entry) (to place none (outside_of outside.entry))) }
 {
@@ -101,12 +105,12 @@ fn keep<'t, 's>(place: Place, run: Tokens<'t, 's>, outside: Outside<'t, 's>) -> 
         run: run.before(run),
         outside,
     };
-    Step::Keep(run, after)
+    TypeStep::Keep(run, after)
 }
 
 /// Returns the spot after a lead.
 fn after<'t, 's>(
-    lead: Lead,
+    lead: Prefix,
     place: Place,
     run: Tokens<'t, 's>,
     outside: Outside<'t, 's>,
@@ -123,44 +127,44 @@ fn after<'t, 's>(
 
 /// Returns the next step for an action and the run that is left.
 pub(super) fn act<'t, 's>(
-    action: Action,
+    action: TableEntry,
     run: Tokens<'t, 's>,
     outside: Outside<'t, 's>,
-) -> Result<Step<'t, 's>, Stop>
+) -> Result<TypeStep<'t, 's>, StepFault>
     ensures { IsStep result (acts action (tokens_of run.entry) (outside_of outside.entry)) }
 {
     match action {
-        Action::End => Ok(Step::End),
-        Action::Take(lead, place) => {
-            Ok(Step::Take(lead_leaf(lead, run), after(lead, place, run, outside)))
+        TableEntry::End => Ok(TypeStep::End),
+        TableEntry::Take(lead, place) => {
+            Ok(TypeStep::Take(lead_leaf(lead, run), after(lead, place, run, outside)))
         }
-        Action::Bar(lead, place) => {
-            Ok(Step::Bar(lead_leaf(lead, run), after(lead, place, run, outside)))
+        TableEntry::Bar(lead, place) => {
+            Ok(TypeStep::Bar(lead_leaf(lead, run), after(lead, place, run, outside)))
         }
-        Action::Ask(plus, place) => Ok(Step::Ask(plus, place)),
-        Action::KeepType(place) => Ok(Step::KeepType(place)),
-        Action::Keep(place) => Ok(keep(place, run, outside)),
-        Action::Nest(lead, place, next) => {
-            Ok(Step::Nest(lead_leaf(lead, run), after(lead, place, run, None), next))
+        TableEntry::Ask(plus, place) => Ok(TypeStep::Ask(plus, place)),
+        TableEntry::KeepType(place) => Ok(TypeStep::KeepType(place)),
+        TableEntry::Keep(place) => Ok(keep(place, run, outside)),
+        TableEntry::Nest(lead, place, next) => {
+            Ok(TypeStep::Nest(lead_leaf(lead, run), after(lead, place, run, None), next))
         }
-        Action::Open(place) => open_first(place, run, outside),
-        Action::Close(delimiter, place) => Ok(close(delimiter, place, outside)),
+        TableEntry::Open(place) => open_first(place, run, outside),
+        TableEntry::Close(delimiter, place) => Ok(close(delimiter, place, outside)),
     }
 }
 
 /// Returns the group with which a type begins, and the spot inside it.
-fn open_type<'t, 's>(place: Place, run: Tokens<'t, 's>) -> Result<Opening<'t, 's>, Stop>
+fn open_type<'t, 's>(place: Place, run: Tokens<'t, 's>) -> Result<Beginning<'t, 's>, StepFault>
     ensures { IsFirst result (opens_type place (tokens_of run.entry)) }
 {
     let Some(TokenTree::Group(group)) = run.first() else {
-        return Err(Stop::Mismatch(first_span(run)));
+        return Err(StepFault::Mismatch(first_span(run)));
     };
     let inner = Spot {
         place,
         run: group.run(),
         outside: Some(run.rest()),
     };
-    Ok(Opening {
+    Ok(Beginning {
         barred: false,
         leaf: Leaf::Open(group.delimiter),
         spot: inner,
@@ -168,15 +172,18 @@ fn open_type<'t, 's>(place: Place, run: Tokens<'t, 's>) -> Result<Opening<'t, 's
 }
 
 /// Returns the first token of a type that begins so.
-pub(super) fn begin_by<'t, 's>(start: Start, run: Tokens<'t, 's>) -> Result<Opening<'t, 's>, Stop>
+pub(super) fn begin_by<'t, 's>(
+    start: FirstEntry,
+    run: Tokens<'t, 's>,
+) -> Result<Beginning<'t, 's>, StepFault>
     ensures { IsFirst result (begun start (tokens_of run.entry)) }
 {
     match start {
-        Start::Lead(barred, lead, place) => Ok(Opening {
+        FirstEntry::Lead(barred, lead, place) => Ok(Beginning {
             barred,
             leaf: lead_leaf(lead, run),
             spot: after(lead, place, run, None),
         }),
-        Start::Open(place) => open_type(place, run),
+        FirstEntry::Open(place) => open_type(place, run),
     }
 }

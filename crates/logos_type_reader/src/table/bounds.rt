@@ -4,7 +4,9 @@ ghost use Rattle.std.specs.Prelude.{◌≡◌};
 ghost use Rattle.logos_type_reader.specs.Views.{rest_of, tokens_of, after_bound, bound_lifetime_move, trait_move, question_move, bound_move, bound_end_move, further_move, enclosed_end_move, after_for, for_move, for_lifetime_move, for_list_move, for_end_move, path_move, OfBound, outside_of, spot_of, IsAction};
 
 use crate::table::paths::path_step;
-use crate::table::place::{Action, Binder, BoundKind, Lead, Look, Next, PathKind, Place, Spot};
+use crate::table::place::{
+    Binder, BoundKind, FrontToken, Next, PathKind, Place, Prefix, Spot, TableEntry,
+};
 use crate::table::tokens::{begins_bound, begins_word, look, mismatch, mismatch_after};
 use logos_token::token::Delimiter;
 
@@ -24,7 +26,7 @@ fn bound_lifetime_step(plus: bool, at: &Spot<'_, '_>) -> Next
         (bound_lifetime_move plus (rest_of (tokens_of at.now.run)) (outside_of at.now.outside)) }
 {
     match look(at.run.rest()) {
-        Look::Word => Ok(Action::Take(Lead::OtherLifetime, Place::BoundEnd(plus))),
+        FrontToken::Word => Ok(TableEntry::Take(Prefix::OtherLifetime, Place::BoundEnd(plus))),
         _ => mismatch_after(at),
     }
 }
@@ -35,8 +37,8 @@ pub(super) fn trait_step(kind: BoundKind, at: &Spot<'_, '_>) -> Next
         (trait_move kind (tokens_of at.now.run) (outside_of at.now.outside)) }
 {
     match look(at.run) {
-        Look::Word if begins_word("for", at.run) => {
-            Ok(Action::Take(Lead::Word, Place::For(Binder::OfTrait(kind))))
+        FrontToken::Word if begins_word("for", at.run) => {
+            Ok(TableEntry::Take(Prefix::Word, Place::For(Binder::OfTrait(kind))))
         }
         _ => path_step(PathKind::OfBound, after_bound(kind), at),
     }
@@ -56,7 +58,7 @@ pub(super) fn question_step(kind: BoundKind, at: &Spot<'_, '_>) -> Next
         (question_move kind (tokens_of at.now.run) (outside_of at.now.outside)) }
 {
     match look(at.run) {
-        Look::Mark('?', _) => Ok(Action::Take(Lead::Mark('?'), Place::Trait(kind))),
+        FrontToken::Mark('?', _) => Ok(TableEntry::Take(Prefix::Mark('?'), Place::Trait(kind))),
         _ => trait_step(kind, at),
     }
 }
@@ -67,8 +69,8 @@ pub(super) fn bound_step(plus: bool, at: &Spot<'_, '_>) -> Next
         (bound_move plus (tokens_of at.now.run) (outside_of at.now.outside)) }
 {
     match look(at.run) {
-        Look::Mark('\'', _) => bound_lifetime_step(plus, at),
-        Look::Group(Delimiter::Parenthesis) => Ok(Action::Open(Place::Question(plus))),
+        FrontToken::Mark('\'', _) => bound_lifetime_step(plus, at),
+        FrontToken::Group(Delimiter::Parenthesis) => Ok(TableEntry::Open(Place::Question(plus))),
         _ => question_step(BoundKind::Listed(plus), at),
     }
 }
@@ -79,8 +81,10 @@ pub(super) fn bound_end_step(plus: bool, at: &Spot<'_, '_>) -> Next
         (bound_end_move plus (tokens_of at.now.run) (outside_of at.now.outside)) }
 {
     match look(at.run) {
-        Look::Mark('+', _) if plus => { Ok(Action::Take(Lead::Mark('+'), Place::Further)) }
-        _ => Ok(Action::End),
+        FrontToken::Mark('+', _) if plus => {
+            Ok(TableEntry::Take(Prefix::Mark('+'), Place::Further))
+        }
+        _ => Ok(TableEntry::End),
     }
 }
 
@@ -92,7 +96,7 @@ pub(super) fn further_step(at: &Spot<'_, '_>) -> Next
     if begins_bound(at.run) {
         return bound_step(true, at);
     }
-    Ok(Action::End)
+    Ok(TableEntry::End)
 }
 
 /// Returns the step after a path in the parentheses of a bound.
@@ -101,7 +105,7 @@ pub(super) fn enclosed_end_step(plus: bool, at: &Spot<'_, '_>) -> Next
         (enclosed_end_move plus (tokens_of at.now.run) (outside_of at.now.outside)) }
 {
     match look(at.run) {
-        Look::Nothing => Ok(Action::Close(Delimiter::Parenthesis, Place::BoundEnd(plus))),
+        FrontToken::Nothing => Ok(TableEntry::Close(Delimiter::Parenthesis, Place::BoundEnd(plus))),
         _ => mismatch(at),
     }
 }
@@ -122,7 +126,9 @@ pub(super) fn for_step(binder: Binder, at: &Spot<'_, '_>) -> Next
         (for_move binder (tokens_of at.now.run) (outside_of at.now.outside)) }
 {
     match look(at.run) {
-        Look::Mark('<', _) => { Ok(Action::Take(Lead::Mark('<'), Place::ForList(binder))) }
+        FrontToken::Mark('<', _) => {
+            Ok(TableEntry::Take(Prefix::Mark('<'), Place::ForList(binder)))
+        }
         _ => mismatch(at),
     }
 }
@@ -133,7 +139,7 @@ fn for_lifetime_step(binder: Binder, at: &Spot<'_, '_>) -> Next
         (for_lifetime_move binder (rest_of (tokens_of at.now.run)) (outside_of at.now.outside)) }
 {
     match look(at.run.rest()) {
-        Look::Word => Ok(Action::Take(Lead::OtherLifetime, Place::ForEnd(binder))),
+        FrontToken::Word => Ok(TableEntry::Take(Prefix::OtherLifetime, Place::ForEnd(binder))),
         _ => mismatch_after(at),
     }
 }
@@ -144,8 +150,8 @@ pub(super) fn for_list_step(binder: Binder, at: &Spot<'_, '_>) -> Next
         (for_list_move binder (tokens_of at.now.run) (outside_of at.now.outside)) }
 {
     match look(at.run) {
-        Look::Mark('>', _) => { Ok(Action::Take(Lead::Mark('>'), after_for(binder))) }
-        Look::Mark('\'', _) => for_lifetime_step(binder, at),
+        FrontToken::Mark('>', _) => { Ok(TableEntry::Take(Prefix::Mark('>'), after_for(binder))) }
+        FrontToken::Mark('\'', _) => for_lifetime_step(binder, at),
         _ => mismatch(at),
     }
 }
@@ -156,8 +162,10 @@ pub(super) fn for_end_step(binder: Binder, at: &Spot<'_, '_>) -> Next
         (for_end_move binder (tokens_of at.now.run) (outside_of at.now.outside)) }
 {
     match look(at.run) {
-        Look::Mark(',', _) => { Ok(Action::Take(Lead::Mark(','), Place::ForList(binder))) }
-        Look::Mark('>', _) => { Ok(Action::Take(Lead::Mark('>'), after_for(binder))) }
+        FrontToken::Mark(',', _) => {
+            Ok(TableEntry::Take(Prefix::Mark(','), Place::ForList(binder)))
+        }
+        FrontToken::Mark('>', _) => { Ok(TableEntry::Take(Prefix::Mark('>'), after_for(binder))) }
         _ => mismatch(at),
     }
 }

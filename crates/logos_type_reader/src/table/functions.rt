@@ -2,7 +2,7 @@
 
 ghost use Rattle.logos_type_reader.specs.Views.{tokens_of, linked_move, unsafe_move, qualified_move, extern_move, function_move, taken_value, taken_move, typed_move, one_taken_move, variadic_move, variadic_end_move, outside_of, spot_of, IsAction};
 
-use crate::table::place::{Action, Lead, Look, Next, Place, Spot};
+use crate::table::place::{FrontToken, Next, Place, Prefix, Spot, TableEntry};
 use crate::table::tokens::{begins_dots, begins_word, is_typing, look, mismatch};
 use logos_token::token::Delimiter;
 
@@ -12,7 +12,10 @@ pub(super) fn linked_step(at: &Spot<'_, '_>) -> Next
         (linked_move (tokens_of at.now.run) (outside_of at.now.outside)) }
 {
     match look(at.run) {
-        Look::Word if begins_word("fn", at.run) => Ok(Action::Take(Lead::Word, Place::Function)),
+        FrontToken::Word if begins_word("fn", at.run) => Ok(TableEntry::Take(
+            Prefix::Word,
+            Place::Function,
+        )),
         _ => mismatch(at),
     }
 }
@@ -23,7 +26,10 @@ pub(super) fn unsafe_step(at: &Spot<'_, '_>) -> Next
         (unsafe_move (tokens_of at.now.run) (outside_of at.now.outside)) }
 {
     match look(at.run) {
-        Look::Word if begins_word("extern", at.run) => Ok(Action::Take(Lead::Word, Place::Extern)),
+        FrontToken::Word if begins_word("extern", at.run) => Ok(TableEntry::Take(
+            Prefix::Word,
+            Place::Extern,
+        )),
         _ => linked_step(at),
     }
 }
@@ -34,7 +40,10 @@ pub(super) fn qualified_step(at: &Spot<'_, '_>) -> Next
         (qualified_move (tokens_of at.now.run) (outside_of at.now.outside)) }
 {
     match look(at.run) {
-        Look::Word if begins_word("unsafe", at.run) => Ok(Action::Take(Lead::Word, Place::Unsafe)),
+        FrontToken::Word if begins_word("unsafe", at.run) => Ok(TableEntry::Take(
+            Prefix::Word,
+            Place::Unsafe,
+        )),
         _ => unsafe_step(at),
     }
 }
@@ -45,7 +54,7 @@ pub(super) fn extern_step(at: &Spot<'_, '_>) -> Next
         (extern_move (tokens_of at.now.run) (outside_of at.now.outside)) }
 {
     match look(at.run) {
-        Look::Literal => Ok(Action::Take(Lead::Literal, Place::Linked)),
+        FrontToken::Literal => Ok(TableEntry::Take(Prefix::Literal, Place::Linked)),
         _ => linked_step(at),
     }
 }
@@ -56,7 +65,7 @@ pub(super) fn function_step(at: &Spot<'_, '_>) -> Next
         (function_move (tokens_of at.now.run) (outside_of at.now.outside)) }
 {
     match look(at.run) {
-        Look::Group(Delimiter::Parenthesis) => Ok(Action::Open(Place::Taken)),
+        FrontToken::Group(Delimiter::Parenthesis) => Ok(TableEntry::Open(Place::Taken)),
         _ => mismatch(at),
     }
 }
@@ -67,9 +76,9 @@ pub(super) fn taken_value_step(at: &Spot<'_, '_>) -> Next
         (taken_value (tokens_of at.now.run) (outside_of at.now.outside)) }
 {
     if begins_dots(at.run) {
-        return Ok(Action::Bar(Lead::Dots, Place::Variadic));
+        return Ok(TableEntry::Bar(Prefix::Dots, Place::Variadic));
     }
-    Ok(Action::Ask(true, Place::OneTaken))
+    Ok(TableEntry::Ask(true, Place::OneTaken))
 }
 
 /// Returns the step among the parameters of a function.
@@ -78,8 +87,11 @@ pub(super) fn taken_step(at: &Spot<'_, '_>) -> Next
         (taken_move (tokens_of at.now.run) (outside_of at.now.outside)) }
 {
     match look(at.run) {
-        Look::Nothing => Ok(Action::Close(Delimiter::Parenthesis, Place::Output)),
-        Look::Word if is_typing(at.run.rest()) => Ok(Action::Take(Lead::Word, Place::Typed)),
+        FrontToken::Nothing => Ok(TableEntry::Close(Delimiter::Parenthesis, Place::Output)),
+        FrontToken::Word if is_typing(at.run.rest()) => Ok(TableEntry::Take(
+            Prefix::Word,
+            Place::Typed,
+        )),
         _ => taken_value_step(at),
     }
 }
@@ -90,7 +102,7 @@ pub(super) fn typed_step(at: &Spot<'_, '_>) -> Next
         (typed_move (tokens_of at.now.run) (outside_of at.now.outside)) }
 {
     match look(at.run) {
-        Look::Mark(':', _) => Ok(Action::Take(Lead::Mark(':'), Place::TypedValue)),
+        FrontToken::Mark(':', _) => Ok(TableEntry::Take(Prefix::Mark(':'), Place::TypedValue)),
         _ => mismatch(at),
     }
 }
@@ -101,8 +113,8 @@ pub(super) fn one_taken_step(at: &Spot<'_, '_>) -> Next
         (one_taken_move (tokens_of at.now.run) (outside_of at.now.outside)) }
 {
     match look(at.run) {
-        Look::Nothing => Ok(Action::Close(Delimiter::Parenthesis, Place::Output)),
-        Look::Mark(',', _) => Ok(Action::Take(Lead::Mark(','), Place::Taken)),
+        FrontToken::Nothing => Ok(TableEntry::Close(Delimiter::Parenthesis, Place::Output)),
+        FrontToken::Mark(',', _) => Ok(TableEntry::Take(Prefix::Mark(','), Place::Taken)),
         _ => mismatch(at),
     }
 }
@@ -113,8 +125,8 @@ pub(super) fn variadic_step(at: &Spot<'_, '_>) -> Next
         (variadic_move (tokens_of at.now.run) (outside_of at.now.outside)) }
 {
     match look(at.run) {
-        Look::Nothing => Ok(Action::Close(Delimiter::Parenthesis, Place::Output)),
-        Look::Mark(',', _) => Ok(Action::Take(Lead::Mark(','), Place::VariadicEnd)),
+        FrontToken::Nothing => Ok(TableEntry::Close(Delimiter::Parenthesis, Place::Output)),
+        FrontToken::Mark(',', _) => Ok(TableEntry::Take(Prefix::Mark(','), Place::VariadicEnd)),
         _ => mismatch(at),
     }
 }
@@ -125,7 +137,7 @@ pub(super) fn variadic_end_step(at: &Spot<'_, '_>) -> Next
         (variadic_end_move (tokens_of at.now.run) (outside_of at.now.outside)) }
 {
     match look(at.run) {
-        Look::Nothing => Ok(Action::Close(Delimiter::Parenthesis, Place::Output)),
+        FrontToken::Nothing => Ok(TableEntry::Close(Delimiter::Parenthesis, Place::Output)),
         _ => mismatch(at),
     }
 }

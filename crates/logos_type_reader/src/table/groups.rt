@@ -2,7 +2,7 @@
 
 ghost use Rattle.logos_type_reader.specs.Views.{tokens_of, referent_move, pointer_move, list_move, list_end_move, element_end_move, length_move, self_end_move, self_trait_end_move, self_closed_move, outside_of, spot_of, IsAction};
 
-use crate::table::place::{Action, Lead, Look, Next, PathKind, Place, Spot};
+use crate::table::place::{FrontToken, Next, PathKind, Place, Prefix, Spot, TableEntry};
 use crate::table::tokens::{begins_colons, begins_word, look, mismatch};
 use logos_token::token::Delimiter;
 
@@ -12,8 +12,11 @@ pub(super) fn referent_step(at: &Spot<'_, '_>) -> Next
         (referent_move (tokens_of at.now.run) (outside_of at.now.outside)) }
 {
     match look(at.run) {
-        Look::Word if begins_word("mut", at.run) => Ok(Action::Take(Lead::Word, Place::Target)),
-        _ => Ok(Action::Ask(false, Place::End)),
+        FrontToken::Word if begins_word("mut", at.run) => Ok(TableEntry::Take(
+            Prefix::Word,
+            Place::Target,
+        )),
+        _ => Ok(TableEntry::Ask(false, Place::End)),
     }
 }
 
@@ -23,8 +26,8 @@ pub(super) fn pointer_step(at: &Spot<'_, '_>) -> Next
         (pointer_move (tokens_of at.now.run) (outside_of at.now.outside)) }
 {
     match look(at.run) {
-        Look::Word if begins_word("const", at.run) | begins_word("mut", at.run) => {
-            Ok(Action::Take(Lead::Word, Place::Target))
+        FrontToken::Word if begins_word("const", at.run) | begins_word("mut", at.run) => {
+            Ok(TableEntry::Take(Prefix::Word, Place::Target))
         }
         _ => mismatch(at),
     }
@@ -36,8 +39,8 @@ pub(super) fn tuple_step(at: &Spot<'_, '_>) -> Next
         (list_move (tokens_of at.now.run) (outside_of at.now.outside)) }
 {
     match look(at.run) {
-        Look::Nothing => Ok(Action::Close(Delimiter::Parenthesis, Place::End)),
-        _ => Ok(Action::Ask(true, Place::ListEnd)),
+        FrontToken::Nothing => Ok(TableEntry::Close(Delimiter::Parenthesis, Place::End)),
+        _ => Ok(TableEntry::Ask(true, Place::ListEnd)),
     }
 }
 
@@ -47,8 +50,8 @@ pub(super) fn tuple_end_step(at: &Spot<'_, '_>) -> Next
         (list_end_move (tokens_of at.now.run) (outside_of at.now.outside)) }
 {
     match look(at.run) {
-        Look::Nothing => Ok(Action::Close(Delimiter::Parenthesis, Place::End)),
-        Look::Mark(',', _) => Ok(Action::Take(Lead::Mark(','), Place::List)),
+        FrontToken::Nothing => Ok(TableEntry::Close(Delimiter::Parenthesis, Place::End)),
+        FrontToken::Mark(',', _) => Ok(TableEntry::Take(Prefix::Mark(','), Place::List)),
         _ => mismatch(at),
     }
 }
@@ -59,8 +62,8 @@ pub(super) fn element_end_step(at: &Spot<'_, '_>) -> Next
         (element_end_move (tokens_of at.now.run) (outside_of at.now.outside)) }
 {
     match look(at.run) {
-        Look::Nothing => Ok(Action::Close(Delimiter::Bracket, Place::End)),
-        Look::Mark(';', _) => Ok(Action::Take(Lead::Mark(';'), Place::Length)),
+        FrontToken::Nothing => Ok(TableEntry::Close(Delimiter::Bracket, Place::End)),
+        FrontToken::Mark(';', _) => Ok(TableEntry::Take(Prefix::Mark(';'), Place::Length)),
         _ => mismatch(at),
     }
 }
@@ -71,8 +74,8 @@ pub(super) fn length_step(at: &Spot<'_, '_>) -> Next
         (length_move (tokens_of at.now.run) (outside_of at.now.outside)) }
 {
     match look(at.run) {
-        Look::Nothing => mismatch(at),
-        _ => Ok(Action::Keep(Place::LengthEnd)),
+        FrontToken::Nothing => mismatch(at),
+        _ => Ok(TableEntry::Keep(Place::LengthEnd)),
     }
 }
 
@@ -82,8 +85,11 @@ pub(super) fn self_end_step(at: &Spot<'_, '_>) -> Next
         (self_end_move (tokens_of at.now.run) (outside_of at.now.outside)) }
 {
     match look(at.run) {
-        Look::Word if begins_word("as", at.run) => Ok(Action::Take(Lead::Word, Place::SelfTrait)),
-        Look::Mark('>', _) => Ok(Action::Take(Lead::Mark('>'), Place::SelfClosed)),
+        FrontToken::Word if begins_word("as", at.run) => Ok(TableEntry::Take(
+            Prefix::Word,
+            Place::SelfTrait,
+        )),
+        FrontToken::Mark('>', _) => Ok(TableEntry::Take(Prefix::Mark('>'), Place::SelfClosed)),
         _ => mismatch(at),
     }
 }
@@ -94,7 +100,7 @@ pub(super) fn self_trait_end_step(at: &Spot<'_, '_>) -> Next
         (self_trait_end_move (tokens_of at.now.run) (outside_of at.now.outside)) }
 {
     match look(at.run) {
-        Look::Mark('>', _) => Ok(Action::Take(Lead::Mark('>'), Place::SelfClosed)),
+        FrontToken::Mark('>', _) => Ok(TableEntry::Take(Prefix::Mark('>'), Place::SelfClosed)),
         _ => mismatch(at),
     }
 }
@@ -105,7 +111,7 @@ pub(super) fn self_closed_step(at: &Spot<'_, '_>) -> Next
         (self_closed_move (tokens_of at.now.run) (outside_of at.now.outside)) }
 {
     if begins_colons(at.run) {
-        return Ok(Action::Take(Lead::Colons, Place::Colons(PathKind::OfType, false)));
+        return Ok(TableEntry::Take(Prefix::Colons, Place::Colons(PathKind::OfType, false)));
     }
     mismatch(at)
 }

@@ -4,7 +4,9 @@ ghost use Rattle.std.specs.Prelude.{◌≡◌, Some, None, MatchOption};
 ghost use Rattle.logos_type_reader.specs.Views.{rest_of, tokens_of, first_span, reference_first, reference_lifetime_first, word_place, word_first, mark_first, begin, is_reserved, name_of, IsFirst, first_text, IsStart};
 
 use crate::table::acting::begin_by;
-use crate::table::place::{Binder, First, Lead, Look, Opening, PathKind, Place, Start, Stop};
+use crate::table::place::{
+    Beginning, Binder, First, FirstEntry, FrontToken, PathKind, Place, Prefix, StepFault,
+};
 use crate::table::tokens::{begins_colons, begins_mark, first_span, first_text, goes_on, look};
 use logos_token::token::{Delimiter, Tokens};
 
@@ -14,8 +16,8 @@ fn reference_first(run: Tokens<'_, '_>) -> First
         (reference_first (rest_of (tokens_of run.entry))) }
 {
     match look(run.rest()) {
-        Look::Mark('\'', _) => reference_lifetime(run),
-        _ => Ok(Start::Lead(false, Lead::Reference, Place::Referent)),
+        FrontToken::Mark('\'', _) => reference_lifetime(run),
+        _ => Ok(FirstEntry::Lead(false, Prefix::Reference, Place::Referent)),
     }
 }
 
@@ -26,8 +28,8 @@ fn reference_lifetime(run: Tokens<'_, '_>) -> First
 {
     let name = run.rest().rest();
     match look(name) {
-        Look::Word => Ok(Start::Lead(false, Lead::ReferenceLifetime, Place::Referent)),
-        _ => Err(Stop::Mismatch(first_span(name))),
+        FrontToken::Word => Ok(FirstEntry::Lead(false, Prefix::ReferenceLifetime, Place::Referent)),
+        _ => Err(StepFault::Mismatch(first_span(name))),
     }
 }
 
@@ -61,9 +63,9 @@ fn word_first(plus: bool, run: Tokens<'_, '_>) -> First
 {
     let text = first_text(run);
     if text == "_" {
-        return Err(Stop::Unsupported(first_span(run)));
+        return Err(StepFault::Unsupported(first_span(run)));
     }
-    Ok(Start::Lead(text == "impl", Lead::Word, word_place(plus, text)))
+    Ok(FirstEntry::Lead(text == "impl", Prefix::Word, word_place(plus, text)))
 }
 
 /// Returns the step at the punctuation with which a type begins.
@@ -74,13 +76,13 @@ fn mark_first(mark: char, run: Tokens<'_, '_>) -> First
 {
     match mark {
         '&' => reference_first(run),
-        '*' => Ok(Start::Lead(false, Lead::Mark('*'), Place::Pointer)),
-        '<' => Ok(Start::Lead(false, Lead::Mark('<'), Place::SelfType)),
-        '!' => Err(Stop::Unsupported(first_span(run))),
+        '*' => Ok(FirstEntry::Lead(false, Prefix::Mark('*'), Place::Pointer)),
+        '<' => Ok(FirstEntry::Lead(false, Prefix::Mark('<'), Place::SelfType)),
+        '!' => Err(StepFault::Unsupported(first_span(run))),
         _ if begins_colons(run) => {
-            Ok(Start::Lead(false, Lead::Colons, Place::Colons(PathKind::Plain, false)))
+            Ok(FirstEntry::Lead(false, Prefix::Colons, Place::Colons(PathKind::Plain, false)))
         }
-        _ => Err(Stop::Mismatch(first_span(run))),
+        _ => Err(StepFault::Mismatch(first_span(run))),
     }
 }
 
@@ -90,16 +92,16 @@ fn start_at(plus: bool, run: Tokens<'_, '_>) -> First
     ensures { IsStart result (tokens_of run.entry) (begin plus (tokens_of run.entry)) }
 {
     match look(run) {
-        Look::Word => word_first(plus, run),
-        Look::Group(Delimiter::Parenthesis) => Ok(Start::Open(Place::List)),
-        Look::Group(Delimiter::Bracket) => Ok(Start::Open(Place::Element)),
-        Look::Mark(mark, _) => mark_first(mark, run),
-        _ => Err(Stop::Mismatch(first_span(run))),
+        FrontToken::Word => word_first(plus, run),
+        FrontToken::Group(Delimiter::Parenthesis) => Ok(FirstEntry::Open(Place::List)),
+        FrontToken::Group(Delimiter::Bracket) => Ok(FirstEntry::Open(Place::Element)),
+        FrontToken::Mark(mark, _) => mark_first(mark, run),
+        _ => Err(StepFault::Mismatch(first_span(run))),
     }
 }
 
 /// Returns the first token of a type.
-pub(crate) fn begin<'t, 's>(plus: bool, run: Tokens<'t, 's>) -> Result<Opening<'t, 's>, Stop>
+pub(crate) fn begin<'t, 's>(plus: bool, run: Tokens<'t, 's>) -> Result<Beginning<'t, 's>, StepFault>
     ensures { IsFirst result (begin plus (tokens_of run.entry)) }
 {
     match start_at(plus, run) {
@@ -122,7 +124,7 @@ pub(crate) fn read_name<'t, 's>(tokens: Tokens<'t, 's>) -> Option<(&'s str, Toke
         (λ read. (name_of (tokens_of tokens.entry) ≡ Some read.0.now)
         × (tokens_of read.1 ≡ rest_of (tokens_of tokens.entry))) }
 {
-    let Look::Word = look(tokens) else {
+    let FrontToken::Word = look(tokens) else {
         return None;
     };
     let name = first_text(tokens);

@@ -3,7 +3,7 @@
 ghost use Rattle.std.specs.Prelude.{◌≡◌};
 ghost use Rattle.logos_type_reader.specs.Views.{rest_of, tokens_of, argued, name_end, segments_move, named_move, macro_move, output_move, inputs_move, input_end_move, colons_move, lifetime_move, argument_word, arguments_move, braced_move, equals_move, constrained_move, argument_end_move, path_move, outside_of, spot_of, first_text, IsAction};
 
-use crate::table::place::{Action, Lead, Look, Next, PathKind, Place, Spot};
+use crate::table::place::{FrontToken, Next, PathKind, Place, Prefix, Spot, TableEntry};
 use crate::table::tokens::{
     begins_arrow, begins_colons, begins_mark, is_typing, look, mismatch, mismatch_after,
 };
@@ -25,11 +25,11 @@ fn name_end(kind: PathKind, at: &Spot<'_, '_>) -> Next
         (name_end kind (tokens_of at.now.run) (outside_of at.now.outside)) }
 {
     let PathKind::Plain = kind else {
-        return Ok(Action::End);
+        return Ok(TableEntry::End);
     };
     match look(at.run) {
-        Look::Mark('!', _) => Ok(Action::Bar(Lead::Mark('!'), Place::Macro)),
-        _ => Ok(Action::End),
+        FrontToken::Mark('!', _) => Ok(TableEntry::Bar(Prefix::Mark('!'), Place::Macro)),
+        _ => Ok(TableEntry::End),
     }
 }
 
@@ -39,9 +39,9 @@ pub(super) fn segments_step(kind: PathKind, at: &Spot<'_, '_>) -> Next
         (segments_move kind (tokens_of at.now.run) (outside_of at.now.outside)) }
 {
     if begins_colons(at.run) {
-        return Ok(Action::Take(Lead::Colons, Place::Colons(kind, false)));
+        return Ok(TableEntry::Take(Prefix::Colons, Place::Colons(kind, false)));
     }
-    Ok(Action::End)
+    Ok(TableEntry::End)
 }
 
 /// Returns the step after a name of a path.
@@ -50,9 +50,13 @@ pub(super) fn named_step(kind: PathKind, at: &Spot<'_, '_>) -> Next
         (named_move kind (tokens_of at.now.run) (outside_of at.now.outside)) }
 {
     match look(at.run) {
-        Look::Mark('<', _) => { Ok(Action::Take(Lead::Mark('<'), Place::Arguments(argued(kind)))) }
-        Look::Group(Delimiter::Parenthesis) => Ok(Action::Open(Place::Inputs)),
-        _ if begins_colons(at.run) => { Ok(Action::Take(Lead::Colons, Place::Colons(kind, true))) }
+        FrontToken::Mark('<', _) => {
+            Ok(TableEntry::Take(Prefix::Mark('<'), Place::Arguments(argued(kind))))
+        }
+        FrontToken::Group(Delimiter::Parenthesis) => Ok(TableEntry::Open(Place::Inputs)),
+        _ if begins_colons(at.run) => {
+            Ok(TableEntry::Take(Prefix::Colons, Place::Colons(kind, true)))
+        }
         _ => name_end(kind, at),
     }
 }
@@ -63,7 +67,7 @@ pub(super) fn macro_step(at: &Spot<'_, '_>) -> Next
         (macro_move (tokens_of at.now.run) (outside_of at.now.outside)) }
 {
     match look(at.run) {
-        Look::Group(delimiter) => Ok(Action::Take(Lead::Group(delimiter), Place::End)),
+        FrontToken::Group(delimiter) => Ok(TableEntry::Take(Prefix::Group(delimiter), Place::End)),
         _ => mismatch(at),
     }
 }
@@ -74,9 +78,9 @@ pub(super) fn output_step(at: &Spot<'_, '_>) -> Next
         (output_move (tokens_of at.now.run) (outside_of at.now.outside)) }
 {
     if begins_arrow(at.run) {
-        return Ok(Action::Take(Lead::Arrow, Place::Target));
+        return Ok(TableEntry::Take(Prefix::Arrow, Place::Target));
     }
-    Ok(Action::End)
+    Ok(TableEntry::End)
 }
 
 /// Returns the step in the parentheses of a path, where a type may begin.
@@ -85,8 +89,8 @@ pub(super) fn inputs_step(at: &Spot<'_, '_>) -> Next
         (inputs_move (tokens_of at.now.run) (outside_of at.now.outside)) }
 {
     match look(at.run) {
-        Look::Nothing => Ok(Action::Close(Delimiter::Parenthesis, Place::Output)),
-        _ => Ok(Action::Ask(true, Place::InputEnd)),
+        FrontToken::Nothing => Ok(TableEntry::Close(Delimiter::Parenthesis, Place::Output)),
+        _ => Ok(TableEntry::Ask(true, Place::InputEnd)),
     }
 }
 
@@ -96,8 +100,8 @@ pub(super) fn input_end_step(at: &Spot<'_, '_>) -> Next
         (input_end_move (tokens_of at.now.run) (outside_of at.now.outside)) }
 {
     match look(at.run) {
-        Look::Nothing => Ok(Action::Close(Delimiter::Parenthesis, Place::Output)),
-        Look::Mark(',', _) => Ok(Action::Take(Lead::Mark(','), Place::Inputs)),
+        FrontToken::Nothing => Ok(TableEntry::Close(Delimiter::Parenthesis, Place::Output)),
+        FrontToken::Mark(',', _) => Ok(TableEntry::Take(Prefix::Mark(','), Place::Inputs)),
         _ => mismatch(at),
     }
 }
@@ -108,9 +112,9 @@ pub(super) fn colons_step(kind: PathKind, arguments: bool, at: &Spot<'_, '_>) ->
         (colons_move kind arguments (tokens_of at.now.run) (outside_of at.now.outside)) }
 {
     match look(at.run) {
-        Look::Word => Ok(Action::Take(Lead::Word, Place::Named(kind))),
-        Look::Mark('<', _) if arguments => {
-            Ok(Action::Take(Lead::Mark('<'), Place::Arguments(argued(kind))))
+        FrontToken::Word => Ok(TableEntry::Take(Prefix::Word, Place::Named(kind))),
+        FrontToken::Mark('<', _) if arguments => {
+            Ok(TableEntry::Take(Prefix::Mark('<'), Place::Arguments(argued(kind))))
         }
         _ => mismatch(at),
     }
@@ -121,12 +125,12 @@ fn lifetime_step(kind: PathKind, at: &Spot<'_, '_>) -> Next
     ensures { IsAction result (spot_of at.now)
         (lifetime_move kind (rest_of (tokens_of at.now.run)) (outside_of at.now.outside)) }
 {
-    let Look::Word = look(at.run.rest()) else {
+    let FrontToken::Word = look(at.run.rest()) else {
         return mismatch_after(at);
     };
     match kind {
-        PathKind::OfBound => Ok(Action::Take(Lead::OtherLifetime, Place::ArgumentEnd(kind))),
-        _ => Ok(Action::Take(Lead::Lifetime, Place::ArgumentEnd(kind))),
+        PathKind::OfBound => Ok(TableEntry::Take(Prefix::OtherLifetime, Place::ArgumentEnd(kind))),
+        _ => Ok(TableEntry::Take(Prefix::Lifetime, Place::ArgumentEnd(kind))),
     }
 }
 
@@ -138,12 +142,12 @@ fn argument_word(kind: PathKind, at: &Spot<'_, '_>) -> Next
 {
     let rest = at.run.rest();
     if begins_mark('=', rest) {
-        return Ok(Action::Take(Lead::Word, Place::Equals(kind)));
+        return Ok(TableEntry::Take(Prefix::Word, Place::Equals(kind)));
     }
     if is_typing(rest) {
-        return Ok(Action::Bar(Lead::Word, Place::Constrained(kind)));
+        return Ok(TableEntry::Bar(Prefix::Word, Place::Constrained(kind)));
     }
-    Ok(Action::Ask(true, Place::ArgumentEnd(kind)))
+    Ok(TableEntry::Ask(true, Place::ArgumentEnd(kind)))
 }
 
 /// Returns the step among arguments.
@@ -152,12 +156,14 @@ pub(super) fn arguments_step(kind: PathKind, at: &Spot<'_, '_>) -> Next
         (arguments_move kind (tokens_of at.now.run) (outside_of at.now.outside)) }
 {
     match look(at.run) {
-        Look::Mark('>', _) => { Ok(Action::Take(Lead::Mark('>'), Place::Segments(kind))) }
-        Look::Mark('\'', _) => lifetime_step(kind, at),
-        Look::Literal => Ok(Action::Take(Lead::Literal, Place::ArgumentEnd(kind))),
-        Look::Word => argument_word(kind, at),
-        Look::Group(Delimiter::Brace) => Ok(Action::Open(Place::Braced(kind))),
-        _ => Ok(Action::Ask(true, Place::ArgumentEnd(kind))),
+        FrontToken::Mark('>', _) => {
+            Ok(TableEntry::Take(Prefix::Mark('>'), Place::Segments(kind)))
+        }
+        FrontToken::Mark('\'', _) => lifetime_step(kind, at),
+        FrontToken::Literal => Ok(TableEntry::Take(Prefix::Literal, Place::ArgumentEnd(kind))),
+        FrontToken::Word => argument_word(kind, at),
+        FrontToken::Group(Delimiter::Brace) => Ok(TableEntry::Open(Place::Braced(kind))),
+        _ => Ok(TableEntry::Ask(true, Place::ArgumentEnd(kind))),
     }
 }
 
@@ -167,8 +173,8 @@ pub(super) fn braced_step(kind: PathKind, at: &Spot<'_, '_>) -> Next
         (braced_move kind (tokens_of at.now.run) (outside_of at.now.outside)) }
 {
     match look(at.run) {
-        Look::Nothing => Ok(Action::Close(Delimiter::Brace, Place::ArgumentEnd(kind))),
-        _ => Ok(Action::Keep(Place::Braced(kind))),
+        FrontToken::Nothing => Ok(TableEntry::Close(Delimiter::Brace, Place::ArgumentEnd(kind))),
+        _ => Ok(TableEntry::Keep(Place::Braced(kind))),
     }
 }
 
@@ -178,7 +184,7 @@ pub(super) fn equals_step(kind: PathKind, at: &Spot<'_, '_>) -> Next
         (equals_move kind (tokens_of at.now.run) (outside_of at.now.outside)) }
 {
     match look(at.run) {
-        Look::Mark('=', _) => Ok(Action::Take(Lead::Mark('='), Place::Value(kind))),
+        FrontToken::Mark('=', _) => Ok(TableEntry::Take(Prefix::Mark('='), Place::Value(kind))),
         _ => mismatch(at),
     }
 }
@@ -189,8 +195,8 @@ pub(super) fn constrained_step(kind: PathKind, at: &Spot<'_, '_>) -> Next
         (constrained_move kind (tokens_of at.now.run) (outside_of at.now.outside)) }
 {
     match look(at.run) {
-        Look::Mark(':', _) => Ok(Action::Nest(
-            Lead::Mark(':'),
+        FrontToken::Mark(':', _) => Ok(TableEntry::Nest(
+            Prefix::Mark(':'),
             Place::Bound(true),
             Place::ArgumentEnd(kind),
         )),
@@ -204,8 +210,12 @@ pub(super) fn argument_end_step(kind: PathKind, at: &Spot<'_, '_>) -> Next
         (argument_end_move kind (tokens_of at.now.run) (outside_of at.now.outside)) }
 {
     match look(at.run) {
-        Look::Mark(',', _) => { Ok(Action::Take(Lead::Mark(','), Place::Arguments(kind))) }
-        Look::Mark('>', _) => { Ok(Action::Take(Lead::Mark('>'), Place::Segments(kind))) }
+        FrontToken::Mark(',', _) => {
+            Ok(TableEntry::Take(Prefix::Mark(','), Place::Arguments(kind)))
+        }
+        FrontToken::Mark('>', _) => {
+            Ok(TableEntry::Take(Prefix::Mark('>'), Place::Segments(kind)))
+        }
         _ => mismatch(at),
     }
 }
@@ -215,9 +225,9 @@ pub(super) fn path_step(kind: PathKind, next: Place, at: &Spot<'_, '_>) -> Next
     ensures { IsAction result (spot_of at.now) (path_move kind next (tokens_of at.now.run)) }
 {
     match look(at.run) {
-        Look::Word => Ok(Action::Nest(Lead::Word, Place::Named(kind), next)),
+        FrontToken::Word => Ok(TableEntry::Nest(Prefix::Word, Place::Named(kind), next)),
         _ if begins_colons(at.run) => {
-            Ok(Action::Nest(Lead::Colons, Place::Colons(kind, false), next))
+            Ok(TableEntry::Nest(Prefix::Colons, Place::Colons(kind, false), next))
         }
         _ => mismatch(at),
     }

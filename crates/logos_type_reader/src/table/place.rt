@@ -147,7 +147,7 @@ pub(crate) struct Spot<'t, 's> {
 
 /// The next step at a spot.
 #[derive(Clone, Copy)]
-pub(crate) enum Step<'t, 's> {
+pub(crate) enum TypeStep<'t, 's> {
     /// Ends what was begun.
     End,
     /// Takes this token.
@@ -167,7 +167,7 @@ pub(crate) enum Step<'t, 's> {
 
 /// The first token of a run.
 #[derive(Clone, Copy)]
-pub(crate) enum Look {
+pub(crate) enum FrontToken {
     /// None: the run has no tokens.
     Nothing,
     /// A name.
@@ -184,7 +184,7 @@ pub(crate) enum Look {
 
 /// The tokens that are taken from the front of a run.
 #[derive(Clone, Copy)]
-pub(crate) enum Lead {
+pub(crate) enum Prefix {
     /// The name.
     Word,
     /// This character of punctuation.
@@ -211,13 +211,13 @@ pub(crate) enum Lead {
 
 /// What is to be done next. It names no tokens, so it is the same for all runs that begin alike.
 #[derive(Clone, Copy)]
-pub(crate) enum Action {
+pub(crate) enum TableEntry {
     /// End what was begun.
     End,
     /// Take this and go on after it at this spot.
-    Take(Lead, Place),
+    Take(Prefix, Place),
     /// Take this, which only types that are not supported have, and go on after it at this spot.
-    Bar(Lead, Place),
+    Bar(Prefix, Place),
     /// Read a type and go on after it at this spot. `+` can join bounds if the flag holds.
     Ask(bool, Place),
     /// Read a type that is never replaced and go on after it at this spot.
@@ -226,7 +226,7 @@ pub(crate) enum Action {
     Keep(Place),
     /// Take this, read what begins with it from the first spot on, and go on after it at the
     /// second spot.
-    Nest(Lead, Place, Place),
+    Nest(Prefix, Place, Place),
     /// Open the group and go on inside it at this spot.
     Open(Place),
     /// Close the group and go on after it at this spot.
@@ -236,7 +236,7 @@ pub(crate) enum Action {
 /// The beginning of a type: its first token, whether only types that are not supported have that,
 /// and the spot after it.
 #[derive(Clone, Copy)]
-pub(crate) struct Opening<'t, 's> {
+pub(crate) struct Beginning<'t, 's> {
     pub barred: bool,
     pub leaf: Leaf<'s>,
     pub spot: Spot<'t, 's>,
@@ -244,17 +244,17 @@ pub(crate) struct Opening<'t, 's> {
 
 /// The beginning of a type, without its tokens.
 #[derive(Clone, Copy)]
-pub(crate) enum Start {
+pub(crate) enum FirstEntry {
     /// Begins with this and goes on at this spot. The flag says whether only types that are not
     /// supported have it.
-    Lead(bool, Lead, Place),
+    Lead(bool, Prefix, Place),
     /// Begins with a group and goes on inside it at this spot.
     Open(Place),
 }
 
 /// The reasons why no step fits.
 #[derive(Clone, Copy)]
-pub(crate) enum Stop {
+pub(crate) enum StepFault {
     /// A type that is not supported stands at this span.
     Unsupported(Span),
     /// A token that does not fit stands at this span.
@@ -262,7 +262,7 @@ pub(crate) enum Stop {
 }
 
 /// What is to be done at a spot, or the reason why nothing fits.
-pub(crate) type Next = Result<Action, Stop>;
+pub(crate) type Next = Result<TableEntry, StepFault>;
 
 /// The beginning of a type, or the reason why none begins.
-pub(crate) type First = Result<Start, Stop>;
+pub(crate) type First = Result<FirstEntry, StepFault>;

@@ -3,20 +3,20 @@
 ghost use Rattle.std.specs.Prelude.{◌≡◌};
 ghost use Rattle.logos_type_reader.specs.Views.{rest_of, tokens_of, mismatches, first_span, begins_colons, begins_mark, begins_arrow, begins_dots, begins_parenthesis, begins_bound, typing, goes_on, spot_of, Looks, first_text, begins_word, IsAction};
 
-use crate::table::place::{Look, Next, Spot, Stop};
+use crate::table::place::{FrontToken, Next, Spot, StepFault};
 use logos_token::token::{Delimiter, Spacing, Span, TokenTree, Tokens};
 
 /// Returns what the first token of a run is.
-pub(super) fn look(run: Tokens<'_, '_>) -> Look
+pub(super) fn look(run: Tokens<'_, '_>) -> FrontToken
     ensures { Looks result (tokens_of run.entry) }
 {
     match run.first() {
-        None => Look::Nothing,
-        Some(TokenTree::Ident(_)) => Look::Word,
-        Some(TokenTree::Punct(punct)) => Look::Mark(punct.character, punct.spacing),
-        Some(TokenTree::Literal(_)) => Look::Literal,
-        Some(TokenTree::Doc(_)) => Look::Doc,
-        Some(TokenTree::Group(group)) => Look::Group(group.delimiter),
+        None => FrontToken::Nothing,
+        Some(TokenTree::Ident(_)) => FrontToken::Word,
+        Some(TokenTree::Punct(punct)) => FrontToken::Mark(punct.character, punct.spacing),
+        Some(TokenTree::Literal(_)) => FrontToken::Literal,
+        Some(TokenTree::Doc(_)) => FrontToken::Doc,
+        Some(TokenTree::Group(group)) => FrontToken::Group(group.delimiter),
     }
 }
 
@@ -46,7 +46,7 @@ pub(super) fn begins_word(word: &str, run: Tokens<'_, '_>) -> bool
     ensures { result ≡ begins_word word.now (tokens_of run.entry) }
 {
     match look(run) {
-        Look::Word => first_text(run) == word,
+        FrontToken::Word => first_text(run) == word,
         _ => false,
     }
 }
@@ -56,7 +56,7 @@ pub(super) fn begins_mark(mark: char, run: Tokens<'_, '_>) -> bool
     ensures { result ≡ begins_mark mark (tokens_of run.entry) }
 {
     match look(run) {
-        Look::Mark(first, _) => first == mark,
+        FrontToken::Mark(first, _) => first == mark,
         _ => false,
     }
 }
@@ -66,7 +66,7 @@ fn begins_parenthesis(run: Tokens<'_, '_>) -> bool
     ensures { result ≡ begins_parenthesis (tokens_of run.entry) }
 {
     match look(run) {
-        Look::Group(Delimiter::Parenthesis) => true,
+        FrontToken::Group(Delimiter::Parenthesis) => true,
         _ => false,
     }
 }
@@ -75,10 +75,10 @@ fn begins_parenthesis(run: Tokens<'_, '_>) -> bool
 pub(super) fn begins_colons(run: Tokens<'_, '_>) -> bool
     ensures { result ≡ begins_colons (tokens_of run.entry) }
 {
-    let Look::Mark(first, Spacing::Joint) = look(run) else {
+    let FrontToken::Mark(first, Spacing::Joint) = look(run) else {
         return false;
     };
-    let Look::Mark(second, _) = look(run.rest()) else {
+    let FrontToken::Mark(second, _) = look(run.rest()) else {
         return false;
     };
     (first == ':') & (second == ':')
@@ -88,10 +88,10 @@ pub(super) fn begins_colons(run: Tokens<'_, '_>) -> bool
 pub(super) fn begins_arrow(run: Tokens<'_, '_>) -> bool
     ensures { result ≡ begins_arrow (tokens_of run.entry) }
 {
-    let Look::Mark(first, Spacing::Joint) = look(run) else {
+    let FrontToken::Mark(first, Spacing::Joint) = look(run) else {
         return false;
     };
-    let Look::Mark(second, _) = look(run.rest()) else {
+    let FrontToken::Mark(second, _) = look(run.rest()) else {
         return false;
     };
     (first == '-') & (second == '>')
@@ -101,13 +101,13 @@ pub(super) fn begins_arrow(run: Tokens<'_, '_>) -> bool
 pub(super) fn begins_dots(run: Tokens<'_, '_>) -> bool
     ensures { result ≡ begins_dots (tokens_of run.entry) }
 {
-    let Look::Mark(first, Spacing::Joint) = look(run) else {
+    let FrontToken::Mark(first, Spacing::Joint) = look(run) else {
         return false;
     };
-    let Look::Mark(second, Spacing::Joint) = look(run.rest()) else {
+    let FrontToken::Mark(second, Spacing::Joint) = look(run.rest()) else {
         return false;
     };
-    let Look::Mark(third, _) = look(run.rest().rest()) else {
+    let FrontToken::Mark(third, _) = look(run.rest().rest()) else {
         return false;
     };
     ((first == '.') & (second == '.')) & (third == '.')
@@ -131,7 +131,7 @@ pub(super) fn goes_on(run: Tokens<'_, '_>) -> bool
 pub(super) fn begins_bound(run: Tokens<'_, '_>) -> bool
     ensures { result ≡ begins_bound (tokens_of run.entry) }
 {
-    if let Look::Word = look(run) {
+    if let FrontToken::Word = look(run) {
         return true;
     }
     begins_mark('\'', run) | begins_mark('?', run) | begins_colons(run) | begins_parenthesis(run)
@@ -141,12 +141,12 @@ pub(super) fn begins_bound(run: Tokens<'_, '_>) -> bool
 pub(super) fn mismatch(at: &Spot<'_, '_>) -> Next
     ensures { IsAction result (spot_of at.now) (mismatches (tokens_of at.now.run)) }
 {
-    Err(Stop::Mismatch(first_span(at.run)))
+    Err(StepFault::Mismatch(first_span(at.run)))
 }
 
 /// Returns the fault that the second token does not fit.
 pub(super) fn mismatch_after(at: &Spot<'_, '_>) -> Next
     ensures { IsAction result (spot_of at.now) (mismatches (rest_of (tokens_of at.now.run))) }
 {
-    Err(Stop::Mismatch(first_span(at.run.rest())))
+    Err(StepFault::Mismatch(first_span(at.run.rest())))
 }

@@ -1,6 +1,7 @@
 use Rattle.std.proofs.Common.{◌≡◌, ℕ, ◌+◌, ◌-◌, ◌<◌, ◌≤◌, Bool, true, false, not, IfSome, List, length-set, slice_index, slice_index_or, refl, ◌∙◌, subst, arith}
 use Rattle.std.specs.Bool.{then_some}
 use Rattle.logos_places.specs.Core.{Core}
+use Rattle.logos_automaton.specs.Rules.{AreFree}
 use Rattle.logos_automaton.specs.inside.Prepared.{cores_of}
 use Rattle.logos_automaton.specs.Keys.{AreFirstIn, Grows, LeadsTo, IsRow}
 use Rattle.logos_automaton.specs.declared.key.Key.{Key}
@@ -8,13 +9,13 @@ use Rattle.logos_automaton.proofs.keys.TargetLemmas.{extends_both, row_more, lea
 use Rattle.logos_automaton.proofs.row.plain_row.Goals as goal
 
 -- the target by the byte before
-same_target : (ts : List Core) (looks : Bool) (first : List Bool) (old ks : List Key) (i : ℕ) (row : List ℕ) (byte : ℕ) → 1 ≤ byte → byte < 256 →
-    AreFirstIn ts old i first → Grows old ks → IsRow ts looks ks i row byte → slice_index_or first byte false ≡ false → LeadsTo ts looks ks i byte (slice_index row (byte - 1))
-same_target ts looks first old ks i row byte some lt firsts grows all e =
+same_target : (ts : List Core) (looks : Bool) → (looks ≡ false → AreFree ts) → (first : List Bool) (old ks : List Key) (i : ℕ) (row : List ℕ) (byte : ℕ) → 1 ≤ byte → byte < 256 →
+    AreFirstIn ts looks old i first → Grows old ks → IsRow ts looks ks i row byte → slice_index_or first byte false ≡ false → LeadsTo ts looks ks i byte (slice_index row (byte - 1))
+same_target ts looks free first old ks i row byte some lt firsts grows all e =
     let back : byte - 1 + 1 ≡ byte = omega arith in
     let same = firsts.are (byte - 1) (omega arith) (rw back e) in
     subst (λ k. LeadsTo ts looks ks i k (slice_index row (byte - 1))) back
-    (leads_alike ts looks ks i (byte - 1) (byte - 1 + 1) (slice_index row (byte - 1)) firsts.state (grows.keeps i firsts.state firsts.at) same.0 same.1 (all (byte - 1) (omega arith)))
+    (leads_alike ts looks free ks i (byte - 1) (byte - 1 + 1) (slice_index row (byte - 1)) firsts.state (grows.keeps i firsts.state firsts.at) same.0 same.1 (all (byte - 1) (omega arith)))
 
 known_target : (P : ℕ → Type 0) (is_first : Bool) (before : ℕ) → (is_first ≡ false → P before) → IfSome (then_some (not is_first) before) P
 known_target P true before same = tt
@@ -31,7 +32,7 @@ next_target-requires-clause-known c =
     let first = c.first_in-first.result in
     rw c.then_some-known.ensures
     (known_target (LeadsTo ts looks ks c.args.state byte) (slice_index_or first byte false) (slice_index c.loop-byte.row (byte - 1))
-    (same_target ts looks first c.args.states.now.keys ks c.args.state c.loop-byte.row byte c.loop-byte.auto.byte c.loop-byte-test.true c.first_in-first.ensures
+    (same_target ts looks c.requires.prepared.free first c.args.states.now.keys ks c.args.state c.loop-byte.row byte c.loop-byte.auto.byte c.loop-byte-test.true c.first_in-first.ensures
     (record { keeps = λ k s h. i.extends.grows.keeps k s (e.grows.keeps k s h) }) i.row))
 
 pub loop-byte-preserved : goal.loop-byte-preserved

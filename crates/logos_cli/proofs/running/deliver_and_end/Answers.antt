@@ -1,4 +1,5 @@
 use Rattle.std.proofs.Common.{◌∙◌, IfSome, IsTrue, sym}
+use Rattle.std.proofs.KnownBytes.{Appends-trans}
 use Rattle.logos_cli.specs.Orders.{order_value}
 use Rattle.logos_cli.specs.Runs.{IsOther}
 use Rattle.logos_cli.proofs.RunLemmas.{fails_twice, known_status, written_after}
@@ -18,3 +19,9 @@ returns-in-Err-clause-silent g c = λ s. c.in-Err.ensures.silent (sym c.failed_a
 pub returns-in-Err-clause-known : goal.returns-in-Err-clause-known
 returns-in-Err-clause-known g c =
     (rw c.failed_after.ensures.status (known_status c.in-Err.failure).0, λ s. fails_twice c.in-Err.failure c.in-Err.ensures.denied (sym c.failed_after.ensures.status ∙ s))
+
+pub returns-in-Err-clause-messages : goal.returns-in-Err-clause-messages
+returns-in-Err-clause-messages g c =
+    λ w. let t = c.failed_after.ensures.written w in
+    let a = c.warn-is_warned.ensures t.0 in
+    (_, Appends-trans _ _ _ a.0 _ a.1 t.1.1)

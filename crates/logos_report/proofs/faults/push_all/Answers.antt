@@ -1,18 +1,32 @@
-use Rattle.std.proofs.Common.{◌∙◌, ap, subst, sym, take, drop, ◌+◌, arith}
+use Rattle.std.proofs.Common.{◌∙◌, ◌++◌, ap, refl, subst, sym, take, drop, ◌+◌, arith}
+use Rattle.std.proofs.lemmas.List.{append-nil}
 use Rattle.logos_token.specs.FaultView.{fault_of, faults_of}
 use Rattle.logos_report.specs.Faults.{counted_texts, texts_after}
 use Rattle.logos_report.specs.Pages.{Shows}
+use Rattle.logos_report.specs.Parts.{all_faults, listed_faults}
 use Rattle.logos_report.specs.Turns.{TurnValue, turn_after, turn_value}
 use Rattle.logos_report.proofs.FaultLemmas.{next_shown, none_shown}
 use Rattle.logos_report.proofs.PageLemmas.{shows_as}
 use Rattle.logos_report.proofs.faults.push_all.Goals as goal
 
+pub loop-fault-init : goal.loop-fault-init
+loop-fault-init c =
+    let texts = texts_after c.args.page.now.is_colored c.args.part.source.now c.args.part.offset (listed_faults c.args.listing) in
+    let faults = faults_of c.args.listing.faults.now in
+    record {
+      numbered = refl;
+      colored = refl;
+      rest = λ new s. subst (λ front. Shows (texts front (turn_value c.args.first) faults) c.args.page.now new) (append-nil (all_faults c.args.listing.earlier.now)) s;
+    }
+
 pub loop-fault-preserved : goal.loop-fault-preserved
 loop-fault-preserved c =
     let same = c.loop-fault.invariant.colored in
-    let all = faults_of c.args.faults.now in
+    let all = listed_faults c.args.listing in
+    let earlier = all_faults c.args.listing.earlier.now in
+    let faults = c.args.listing.faults.now in
     let i = c.loop-fault.fault-index in
-    let front = faults_of (take i c.args.faults.now) in
+    let front = earlier ++ faults_of (take i faults) in
     let turn = turn_value c.loop-fault.turn in
     let here = rw c.loop-fault.invariant.numbered at c.push_counted.ensures in
     let shows = shows_as (λ colored. counted_texts colored c.args.part.source.now c.args.part.offset all front turn (fault_of c.fault-item.result)) same here in
@@ -22,9 +36,12 @@ loop-fault-preserved c =
       numbered = omega (arith, c.loop-fault.invariant.numbered);
       colored = c.push_counted.ensures.colored ∙ same;
       rest = λ new s. c.loop-fault.invariant.rest new
-          (next_shown c.args.page.now.is_colored c.args.part.source.now c.args.part.offset c.args.faults.now i c.fault-item.result turn _ _ new c.loop-fault-test.true one
-          (subst (λ (t : TurnValue). Shows (texts_after c.args.page.now.is_colored c.args.part.source.now c.args.part.offset all (faults_of (take (i + 1) c.args.faults.now)) t (faults_of (drop (i + 1) c.args.faults.now))) c.push_counted.new.page new) next s));
+          (next_shown c.args.page.now.is_colored c.args.part.source.now c.args.part.offset all earlier faults i c.fault-item.result turn _ _ new c.loop-fault-test.true one
+          (subst (λ (t : TurnValue). Shows (texts_after c.args.page.now.is_colored c.args.part.source.now c.args.part.offset all (earlier ++ faults_of (take (i + 1) faults)) t (faults_of (drop (i + 1) faults))) c.push_counted.new.page new) next s));
     }
 
 pub returns : goal.returns
-returns c = c.loop-fault.invariant.rest _ (none_shown c.args.page.now.is_colored c.args.part.source.now c.args.part.offset c.args.faults.now c.loop-fault.fault-index _ _ c.loop-fault-test.false)
+returns c =
+    let front = all_faults c.args.listing.earlier.now ++ faults_of (take c.loop-fault.fault-index c.args.listing.faults.now) in
+    c.loop-fault.invariant.rest _
+    (none_shown c.args.page.now.is_colored c.args.part.source.now c.args.part.offset (listed_faults c.args.listing) front c.args.listing.faults.now c.loop-fault.fault-index (turn_value c.loop-fault.turn) _ c.loop-fault-test.false)

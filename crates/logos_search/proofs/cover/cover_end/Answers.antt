@@ -4,7 +4,7 @@ use Rattle.std.proofs.lemmas.Option.{same_Some}
 use Rattle.logos_search.specs.Covering.{end_at}
 use Rattle.logos_search.specs.inside.Covers.{IsCover}
 use Rattle.logos_search.specs.inside.Stands.{stand_next, stand_goal}
-use Rattle.logos_search.specs.declared.steps.Step.{Step}
+use Rattle.logos_search.specs.declared.steps.InputStep.{InputStep}
 use Rattle.logos_search.specs.declared.visits.Stand.{Stand}
 use Rattle.logos_search.proofs.CoverLemmas.{input_to, cover_more}
 use Rattle.logos_search.proofs.cover.cover_end.Goals as goal
@@ -30,7 +30,7 @@ returns-then-not-is_goal-clause-covered g c = λ at there is.
 
 pub returns-then-not-is_new-clause-cover : goal.returns-then-not-is_new-clause-cover
 returns-then-not-is_new-clause-cover g c =
-    subst (λ (steps : List Step). IsCover (g.M.Machine.leads c.args.machine.now) c.args.explored.now.utf8 c.args.explored.now.start steps
+    subst (λ (steps : List InputStep). IsCover (g.M.Machine.leads c.args.machine.now) c.args.explored.now.utf8 c.args.explored.now.start steps
     (map (λ v. v.items) c.args.cover.now.inputs.items)) (sym (c.in_ok-is_new.ensures.stays c.if-not-is_new.true)) c.requires.cover
 
 pub returns-then-not-is_new-clause-covered : goal.returns-then-not-is_new-clause-covered

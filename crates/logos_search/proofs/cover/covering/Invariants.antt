@@ -1,5 +1,5 @@
-use Rattle.std.proofs.Common.{◌≡◌, ℕ, ◌≤◌, Some, length, map, slice_get}
-use Rattle.logos_search.specs.inside.Covers.{IsCover, AreCoveredAt}
+use Rattle.std.proofs.Common.{◌≡◌, ℕ, ◌≤◌, Some, length, slice_get}
+use Rattle.logos_search.specs.inside.Covers.{AreCoveredAt, CoversSteps}
 use Rattle.logos_search.specs.declared.visits.Stand.{Stand}
 use Rattle.logos_search.proofs.cover.covering.Given as goal
 
@@ -7,7 +7,7 @@ use Rattle.logos_search.proofs.cover.covering.Given as goal
 abbrev pub invariant-loop-number : goal.invariant-loop-number
 invariant-loop-number g l = record {
   within : l.number ≤ length l.explored.visits.stands.keys;
-  cover : IsCover (g.M.Machine.leads l.machine) l.explored.utf8 l.explored.start l.cover.steps.keys (map (λ v. v.items) l.cover.inputs.items);
+  cover : CoversSteps (g.M.Machine.leads l.machine) l.explored l.cover;
   covered : (i : ℕ) (at : Stand) → l.number ≤ i → slice_get l.explored.visits.stands.keys i ≡ Some at →
       AreCoveredAt (g.M.Machine.leads l.machine) (g.M.Machine.goal l.machine) l.explored.utf8 l.cover.steps.keys at;
 }

@@ -1,7 +1,7 @@
 use Rattle.std.proofs.Common.{◌≤◌, length, drop, sym, subst, inl, inr, ⊎_elim, arith}
 use Rattle.std.specs.Prelude.{Contains}
 use Rattle.logos_search.specs.Covering.{Takes}
-use Rattle.logos_search.specs.declared.steps.Step.{Step}
+use Rattle.logos_search.specs.declared.steps.InputStep.{InputStep}
 use Rattle.logos_search.proofs.StepLemmas.{more_steps, steps_stop, steps_end, last_step}
 use Rattle.logos_search.proofs.steps.add_steps.Goals as goal
 
@@ -16,7 +16,7 @@ loop-byte-preserved g c =
       grows = λ step h. made.grows step (i.grows step h);
       whole = λ step h. i.whole step (one.later step h);
       rest = λ step h.
-          ⊎_elim (λ old. inl (made.grows step old)) (λ left. ⊎_elim (λ same. inl (subst (λ (s : Step). Contains c.add_step.new.steps.keys s) (sym same) made.has)) (λ on. inr on) (one.cases step left)) (i.rest step h);
+          ⊎_elim (λ old. inl (made.grows step old)) (λ left. ⊎_elim (λ same. inl (subst (λ (s : InputStep). Contains c.add_step.new.steps.keys s) (sym same) made.has)) (λ on. inr on) (one.cases step left)) (i.rest step h);
     }
 
 pub returns-in_default : goal.returns-in_default
@@ -39,9 +39,9 @@ returns g c =
     record {
       only = λ step h.
           ⊎_elim (λ old. i.only step old)
-          (λ same. inr (i.whole step (subst (λ (s : Step). Takes next c.loop-byte.at (drop c.loop-byte.byte-index c.args.input.now) s) (sym same) (steps_end next c.args.input.now c.loop-byte.byte-index c.loop-byte.at past)))) (made.only step h);
+          (λ same. inr (i.whole step (subst (λ (s : InputStep). Takes next c.loop-byte.at (drop c.loop-byte.byte-index c.args.input.now) s) (sym same) (steps_end next c.args.input.now c.loop-byte.byte-index c.loop-byte.at past)))) (made.only step h);
       grows = λ step h. made.grows step (i.grows step h);
       all = λ step h.
           ⊎_elim (λ old. made.grows step old)
-          (λ left. subst (λ (s : Step). Contains c.add_step-2.new.steps.keys s) (sym (last_step next c.args.input.now c.loop-byte.byte-index c.loop-byte.at step past left)) made.has) (i.rest step h);
+          (λ left. subst (λ (s : InputStep). Contains c.add_step-2.new.steps.keys s) (sym (last_step next c.args.input.now c.loop-byte.byte-index c.loop-byte.at step past left)) made.has) (i.rest step h);
     }

@@ -43,6 +43,10 @@ build_nodes-requires-clause-fits c =
     let w = rules_width (rules_of c.args.rules.now) (map core_of c.in_ok-nodes.nodes.items) c.in_ok-nodes.ensures.cores in
     rw c.deref.ensures.value (omega (arith, w, c.requires.size))
 
+pub build_nodes-requires-clause-free : goal.build_nodes-requires-clause-free
+build_nodes-requires-clause-free c =
+    rw c.deref.ensures.value (free (rules_of c.args.rules.now) (map core_of c.in_ok-nodes.nodes.items) c.some_look.result c.in_ok-nodes.ensures.cores c.some_look.ensures)
+
 pub returns-clause-late : goal.returns-clause-late
 returns-clause-late c =
     late (rules_of c.args.rules.now) (map core_of c.deref.result.now) c.some_look.result (rw c.deref.ensures.value c.in_ok-nodes.ensures.cores) c.some_look.ensures c.build_nodes.result c.build_nodes.ensures.built

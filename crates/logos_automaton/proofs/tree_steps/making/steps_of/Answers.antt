@@ -1,6 +1,7 @@
 use Rattle.std.proofs.Common.{◌≡◌, ◌-◌, ◌<◌, length-set, slice_get, vec_len, sym, ◌∙◌, subst, rules, arith}
 use Rattle.logos_automaton.specs.inside.Steps.{MakesFrom, tree_view, viewed}
 use Rattle.logos_automaton.proofs.keys.TreeStepsLemmas.{if_some, made_before, more_steps, no_steps}
+use Rattle.logos_automaton.proofs.keys.WalkLemmas.{free_at}
 use Rattle.logos_automaton.proofs.tree_steps.making.steps_of.Goals as goal
 
 pub index_by-requires-clause-known : goal.index_by-requires-clause-known
@@ -20,7 +21,7 @@ index_by-requires-clause-made c =
     let found = c.loop-byte.found.items in
     if_some c.index_before-known.result _ (λ k. MakesFrom trees.nodes.now trees.starts.now view byte (viewed (slice_get found k)))
     (λ k h. subst (λ j. MakesFrom trees.nodes.now trees.starts.now view byte (viewed (slice_get found j))) (sym h.2)
-    (made_before trees.nodes.now trees.starts.now view c.first_in-first.result byte _ h.0 c.loop-byte-test.true c.first_in-first.ensures h.1
+    (made_before trees.nodes.now trees.starts.now view trees.looks (λ node is e. free_at trees.nodes.now view.tree node c.requires.state.there is (c.requires.prepared.free e)) c.first_in-first.result byte _ h.0 c.loop-byte-test.true c.first_in-first.ensures h.1
     (i.steps.make (byte - 1) (omega (arith, h.0)))))
     c.index_before-known.ensures
 

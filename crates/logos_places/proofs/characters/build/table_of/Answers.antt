@@ -4,10 +4,10 @@ use Rattle.logos_hir.specs.Hir.{pairs}
 use Rattle.logos_places.specs.inside.Ranges.{in_ranges}
 use Rattle.logos_places.specs.inside.Reader.{is_char_in, IsReaderOf}
 use Rattle.logos_places.specs.Table.{reader_of}
-use Rattle.logos_places.specs.declared.characters.reader.Table.{Table}
+use Rattle.logos_places.specs.declared.characters.reader.CharacterTable.{CharacterTable}
 use Rattle.logos_places.proofs.characters.build.table_of.Goals as goal
 
 pub returns : goal.returns
 returns c =
     let same : in_ranges c.in_ok-ranges.ranges.items ≡ is_char_in (pairs c.args.ranges.now) = fun_ext c.in_ok-ranges.ensures in
-    subst (λ (f : ℕ → Bool). IfOk c.build.result (λ (made : Table). IsReaderOf f (reader_of made))) same (rw c.deref.ensures.value at c.build.ensures)
+    subst (λ (f : ℕ → Bool). IfOk c.build.result (λ (made : CharacterTable). IsReaderOf f (reader_of made))) same (rw c.deref.ensures.value at c.build.ensures)

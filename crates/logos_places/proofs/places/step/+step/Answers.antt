@@ -1,11 +1,11 @@
-use Rattle.std.proofs.Common.{Bool, ◌≡◌, ◌+◌, ◌-◌, ◌*◌, ◌≤◌, ◌<◌, ◌^◌, false, true≢false, sym, ap, ◌∙◌, arith, rules, max}
+use Rattle.std.proofs.Common.{Bool, ◌||◌, ◌≡◌, ◌+◌, ◌-◌, ◌*◌, ◌≤◌, ◌<◌, ◌^◌, false, true≢false, sym, ap, ◌∙◌, arith, rules, max}
 use Rattle.std.proofs.Math.Nat.{mul-le-mul_left}
 use Rattle.std.proofs.lemmas.Result.{IfOk-weaker}
 use Rattle.logos_hir.specs.Hir.{pairs}
 use Rattle.logos_hir.specs.declared.hir.Look.{Look}
 use Rattle.logos_hir.specs.ByteRanges.{is_in}
 use Rattle.logos_places.specs.Core as core
-use Rattle.logos_places.specs.Core.{width}
+use Rattle.logos_places.specs.Core.{Core, width}
 use Rattle.logos_places.specs.Kinds.{test_at}
 use Rattle.logos_places.specs.Node.{core_of}
 use Rattle.logos_places.specs.Repeat.{in_front, up_to, spelled, count_of}
@@ -15,6 +15,7 @@ use Rattle.logos_places.specs.declared.node.Node.{the_lemmas}
 use Rattle.logos_places.proofs.trees.NodeLemmas.{core-Void, core-Empty, core-Literal, core-Bytes, core-Characters, core-Look, core-Cat, core-Alt, core-Repeat, width-Literal, width-Characters, width-Cat, width-Alt, pair-Cat, pair-Alt, repeat-Repeat, width-Repeat}
 use Rattle.logos_places.proofs.steps.StepLemmas.{again_iff}
 use Rattle.logos_places.proofs.steps.SteppedLemmas.{stepped_nothing, stepped_cat, stepped_alt, stepped_plus, owes_all, owes_done, at_least-some}
+use Rattle.logos_places.proofs.steps.AlikeLemmas.{owes_front_more, owes_up_to_more, repeated_here, stays_any}
 use Rattle.logos_places.proofs.steps.OweLemmas.{owes_front_step, owes_front_skip, owes_up_to_step, owes_up_to_skip}
 use Rattle.logos_places.proofs.places.step.+step.Goals as goal
 
@@ -102,13 +103,22 @@ step_copies-loop-done-preserved t c =
     let a = core_of c.args.body.now in
     let n = c.next_copy-done-in-loop-done.ensures in
     let test = test_at c.args.by.at in
+    let whole = λ (b : Core). in_front c.args.copies.count a b in
+    let done = c.loop-done.done in
+    let more = c.in_ok-more.more in
+    let first = rw (c.at.ensures.base, c.at.ensures.entered) at c.in_ok-left.ensures in
+    let fits : done + 1 + more ≤ c.args.copies.count = omega (arith, c.in_ok-more.ensures.few, c.from-rest.ensures.count) in
     record {
       within = n.bound;
-      owes = λ b. owes_front_skip test c.args.by.byte c.args.by.marks.now (in_front c.args.copies.count a b) c.args.next.now.items c.args.copies.base c.args.copies.entered
-          a c.args.copies.each c.requires.each b (c.loop-done.done + 1) c.next_copy-done-in-loop-done.result c.args.copies.count _ c.in_ok-left.left false n.after n.bound n.stays n.unmarked
-          (owes_front_step test c.args.by.byte c.args.by.marks.now (in_front c.args.copies.count a b) c.args.next.now.items c.args.copies.base c.args.copies.entered
-          a c.args.copies.each c.requires.each b c.loop-done.done c.args.copies.count c.loop-done.next.items _ c.loop-done.left c.in_ok-left.left false c.loop-done-test.true
-          (c.loop-done.invariant.owes b) (rw (c.at.ensures.base, c.at.ensures.entered) at c.in_ok-left.ensures));
+      owes = λ b. owes_front_skip test c.args.by.byte c.args.by.marks.now (whole b) c.args.next.now.items c.args.copies.base c.args.copies.entered
+          a c.args.copies.each c.requires.each b (done + 1 + more) c.next_copy-done-in-loop-done.result c.args.copies.count _ c.in_ok-left.left false n.after n.bound n.stays n.unmarked
+          (owes_front_more test c.args.by.byte c.args.by.marks.now (whole b) c.args.next.now.items c.args.copies.base c.args.copies.entered
+          a c.args.copies.each c.requires.each b more (done + 1) c.args.copies.count _ _ c.in_ok-left.left false fits
+          (owes_front_step test c.args.by.byte c.args.by.marks.now (whole b) c.args.next.now.items c.args.copies.base c.args.copies.entered
+          a c.args.copies.each c.requires.each b done c.args.copies.count c.loop-done.next.items _ c.loop-done.left c.in_ok-left.left false c.loop-done-test.true
+          (c.loop-done.invariant.owes b) first)
+          (repeated_here test c.args.by.byte c.args.by.marks.now a c.args.copies.base c.args.copies.each done _ _ _ c.from-rest.result.base c.from-rest.result.each c.loop-done.left c.from-rest.result.entered c.in_ok-left.left more
+          c.from-rest.ensures.base c.from-rest.ensures.each c.from-rest.ensures.entered c.requires.each (c.loop-done.invariant.owes core.empty).set first c.in_ok-more.ensures.repeated));
     }
 
 pub step_copies-returns : goal.step_copies-returns
@@ -142,13 +152,24 @@ step_up_to-loop-done-preserved t c =
     let a = core_of c.args.body.now in
     let n = c.next_copy-done-in-loop-done.ensures in
     let test = test_at c.args.by.at in
+    let whole = up_to c.args.copies.count a in
+    let done = c.loop-done.done in
+    let more = c.in_ok-more.more in
+    let any = c.loop-done.any || c.loop-done.left in
+    let first = rw (c.at.ensures.base, c.at.ensures.entered) at c.in_ok-left.ensures in
+    let fits : done + 1 + more ≤ c.args.copies.count = omega (arith, c.in_ok-more.ensures.few, c.from-rest.ensures.count) in
     record {
       within = n.bound;
-      owes = owes_up_to_skip test c.args.by.byte c.args.by.marks.now (up_to c.args.copies.count a) c.args.next.now.items c.args.copies.base c.args.copies.entered
-          a c.args.copies.each c.requires.each (c.loop-done.done + 1) c.next_copy-done-in-loop-done.result c.args.copies.count _ c.in_ok-left.left _ n.after n.bound n.stays n.unmarked
-          (owes_up_to_step test c.args.by.byte c.args.by.marks.now (up_to c.args.copies.count a) c.args.next.now.items c.args.copies.base c.args.copies.entered
-          a c.args.copies.each c.requires.each c.loop-done.done c.args.copies.count c.loop-done.next.items _ c.loop-done.left c.in_ok-left.left c.loop-done.any c.loop-done-test.true
-          c.loop-done.invariant.owes (rw (c.at.ensures.base, c.at.ensures.entered) at c.in_ok-left.ensures));
+      owes = owes_up_to_skip test c.args.by.byte c.args.by.marks.now whole c.args.next.now.items c.args.copies.base c.args.copies.entered
+          a c.args.copies.each c.requires.each (done + 1 + more) c.next_copy-done-in-loop-done.result c.args.copies.count _ c.in_ok-left.left _ n.after n.bound n.stays n.unmarked
+          (owes_up_to_more test c.args.by.byte c.args.by.marks.now whole c.args.next.now.items c.args.copies.base c.args.copies.entered
+          a c.args.copies.each c.requires.each more (done + 1) c.args.copies.count _ _ c.in_ok-left.left any fits
+          (λ some. stays_any c.loop-done.any c.loop-done.left c.in_ok-left.left (c.in_ok-more.ensures.same some ∙ c.from-rest.ensures.entered))
+          (owes_up_to_step test c.args.by.byte c.args.by.marks.now whole c.args.next.now.items c.args.copies.base c.args.copies.entered
+          a c.args.copies.each c.requires.each done c.args.copies.count c.loop-done.next.items _ c.loop-done.left c.in_ok-left.left c.loop-done.any c.loop-done-test.true
+          c.loop-done.invariant.owes first)
+          (repeated_here test c.args.by.byte c.args.by.marks.now a c.args.copies.base c.args.copies.each done _ _ _ c.from-rest.result.base c.from-rest.result.each c.loop-done.left c.from-rest.result.entered c.in_ok-left.left more
+          c.from-rest.ensures.base c.from-rest.ensures.each c.from-rest.ensures.entered c.requires.each c.loop-done.invariant.owes.set first c.in_ok-more.ensures.repeated));
     }
 
 pub step-step-requires : goal.step-step-requires

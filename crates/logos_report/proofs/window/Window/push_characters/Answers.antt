@@ -1,8 +1,5 @@
 use Rattle.logos_report.proofs.PageLemmas.{grown, shows_then}
 use Rattle.logos_report.proofs.window.Window.push_characters.Goals as goal
 
-pub returns-then-total-ge-COLUMNS : goal.returns-then-total-ge-COLUMNS
-returns-then-total-ge-COLUMNS c = shows_then c.loop-character.invariant (grown c.push.ensures)
-
 pub loop-character-preserved : goal.loop-character-preserved
 loop-character-preserved c = shows_then c.loop-character.invariant (grown c.push_shown_char.ensures)

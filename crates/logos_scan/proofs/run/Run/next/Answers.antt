@@ -1,25 +1,25 @@
 use Rattle.std.proofs.Common.{◌≡◌, ℕ, ◌+◌, min, slice_index, refl, subst, sym, arith}
-use Rattle.logos_scan.specs.Runs.{IsRun}
+use Rattle.logos_scan.specs.Runs.{IsRun, with_chunk}
 use Rattle.logos_scan.proofs.LoadLemmas.{bytes_at, calls_not, found_match, found_next, found_use, is_ended, leaf_is, moved, taken_after}
 use Rattle.logos_walk.specs.declared.cursor.Cursor.{Cursor}
 use Rattle.logos_scan.proofs.run.Run.next.Goals as goal
 
 pub returns-in_default-clause-taken : goal.returns-in_default-clause-taken
 returns-in_default-clause-taken c =
-    taken_after c.args.reading.now.code.now c.args.reading.now.input.now c.args.self.now.cursor.start c.next_flag.new.self.cursor.start c.try_again.result c.try_again.new.self.cursor.start
-    c.in_default.ensures.skips c.try_again.ensures.taken
+    taken_after c.args.reading.now.code.now c.args.reading.now.input.now c.args.self.now.cursor.start c.next_flag.new.self.cursor.start c.next_again.result c.next_again.new.self.cursor.start
+    c.in_default.ensures.skips c.next_again.ensures.taken
 
 pub returns-then-ended-eq0-clause-taken : goal.returns-then-ended-eq0-clause-taken
 returns-then-ended-eq0-clause-taken c =
-    taken_after c.args.reading.now.code.now c.args.reading.now.input.now c.args.self.now.cursor.start c.next_flag.new.self.cursor.start c.try_again-then-ended-eq0.result
-    c.try_again-then-ended-eq0.new.self.cursor.start c.in-Some.ensures.skips c.try_again-then-ended-eq0.ensures.taken
+    taken_after c.args.reading.now.code.now c.args.reading.now.input.now c.args.self.now.cursor.start c.next_flag.new.self.cursor.start c.next_again-then-ended-eq0.result
+    c.next_again-then-ended-eq0.new.self.cursor.start c.in-Some.ensures.skips c.next_again-then-ended-eq0.ensures.taken
 
 pub returns-then-calls-eq0-clause-ready : goal.returns-then-calls-eq0-clause-ready
 returns-then-calls-eq0-clause-ready c =
     let code = c.args.reading.now.code.now in
     let rows = c.args.reading.now.rows.now in
     let input = c.args.reading.now.input.now in
-    let n = c.next_flag.new.self in
+    let n = with_chunk c.next_flag.new.chunk c.next_flag.new.self in
     let at = c.in-Some.at in
     let f = c.in-Some.ensures in
     let r = f.stands in
@@ -36,7 +36,7 @@ returns-then-calls-eq0-clause-taken c =
     let code = c.args.reading.now.code.now in
     let rows = c.args.reading.now.rows.now in
     let input = c.args.reading.now.input.now in
-    let n = c.next_flag.new.self in
+    let n = with_chunk c.next_flag.new.chunk c.next_flag.new.self in
     let at = c.in-Some.at in
     let f = c.in-Some.ensures in
     let are = bytes_at input c.are_bytes.ensures in
@@ -54,7 +54,7 @@ returns-else-calls-eq0-clause-ready c =
     let code = c.args.reading.now.code.now in
     let rows = c.args.reading.now.rows.now in
     let input = c.args.reading.now.input.now in
-    let n = c.next_flag.new.self in
+    let n = with_chunk c.next_flag.new.chunk c.next_flag.new.self in
     let at = c.in-Some.at in
     let f = c.in-Some.ensures in
     let r = f.stands in
@@ -71,7 +71,7 @@ returns-else-calls-eq0-clause-taken c =
     let code = c.args.reading.now.code.now in
     let rows = c.args.reading.now.rows.now in
     let input = c.args.reading.now.input.now in
-    let n = c.next_flag.new.self in
+    let n = with_chunk c.next_flag.new.chunk c.next_flag.new.self in
     let at = c.in-Some.at in
     let f = c.in-Some.ensures in
     let entry = slice_index n.chunk.entries at in

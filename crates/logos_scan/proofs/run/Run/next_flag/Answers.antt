@@ -1,5 +1,5 @@
 use Rattle.std.proofs.Common.{◌≡◌, ℕ, min, subst, sym, arith}
-use Rattle.logos_scan.specs.Runs.{IsRun}
+use Rattle.logos_scan.specs.Runs.{IsRun, with_chunk}
 use Rattle.logos_scan.specs.Tries.{SkipsTo, skips_none}
 use Rattle.logos_scan.proofs.LoadLemmas.{bytes_at, flag_found, moved, over_found, skips_join, stands_last}
 use Rattle.logos_scan.proofs.run.Run.next_flag.Goals as goal
@@ -17,7 +17,7 @@ returns-in-Some c =
     let input = c.args.reading.now.input.now in
     let i = c.loop-at.invariant in
     let n = c.in-Some.ensures in
-    let f = flag_found code rows c.requires.reading input (bytes_at input c.are_bytes.ensures) c.loop-at.self c.next.new.self n.base n.stands c.in-Some.at i.ready n.next.0 n.next.2 in
+    let f = flag_found code rows c.requires.reading input (bytes_at input c.are_bytes.ensures) (with_chunk c.loop-at.chunk c.loop-at.self) c.next.new.self n.base n.stands c.in-Some.at i.ready n.next.0 n.next.2 in
     record {
       stands = f.1;
       inside = f.0;
@@ -33,7 +33,7 @@ returns-then-base-reading c =
     let input = c.args.reading.now.input.now in
     let i = c.loop-at.invariant in
     let n = c.in_default.ensures in
-    let o = over_found code rows c.requires.reading input (bytes_at input c.are_bytes.ensures) c.loop-at.self c.next.new.self n.base n.stands i.ready n.next.0 n.next.2 in
+    let o = over_found code rows c.requires.reading input (bytes_at input c.are_bytes.ensures) (with_chunk c.loop-at.chunk c.loop-at.self) c.next.new.self n.base n.stands i.ready n.next.0 n.next.2 in
     let r = o.0 in
     let ch = r.in_chunk in
     let within = ch.within in
@@ -44,15 +44,15 @@ returns-then-base-reading c =
       skips = skips_join code input c.args.self.now.cursor.start c.loop-at.self.cursor.start c.next.new.self.start i.skips o.1;
     }
 
-pub fill-requires-clause-stands : goal.fill-requires-clause-stands
-fill-requires-clause-stands c =
+pub filled-run-requires-clause-stands : goal.filled-run-requires-clause-stands
+filled-run-requires-clause-stands c =
     let code = c.args.reading.now.code.now in
     let rows = c.args.reading.now.rows.now in
     let input = c.args.reading.now.input.now in
     let are = bytes_at input c.are_bytes.ensures in
     let n = c.in_default.ensures in
-    let o = over_found code rows c.requires.reading input are c.loop-at.self c.next.new.self n.base n.stands c.loop-at.invariant.ready n.next.0 n.next.2 in
-    stands_last code rows c.requires.reading input are (moved c.loop-at.self c.next.new.self) o.0
+    let o = over_found code rows c.requires.reading input are (with_chunk c.loop-at.chunk c.loop-at.self) c.next.new.self n.base n.stands c.loop-at.invariant.ready n.next.0 n.next.2 in
+    stands_last code rows c.requires.reading input are (moved (with_chunk c.loop-at.chunk c.loop-at.self) c.next.new.self) o.0
 
 pub loop-at-preserved : goal.loop-at-preserved
 loop-at-preserved c =
@@ -61,11 +61,11 @@ loop-at-preserved c =
     let input = c.args.reading.now.input.now in
     let i = c.loop-at.invariant in
     let n = c.in_default.ensures in
-    let f = c.fill.ensures in
-    let o = over_found code rows c.requires.reading input (bytes_at input c.are_bytes.ensures) c.loop-at.self c.next.new.self n.base n.stands i.ready n.next.0 n.next.2 in
+    let f = c.filled-run.ensures in
+    let o = over_found code rows c.requires.reading input (bytes_at input c.are_bytes.ensures) (with_chunk c.loop-at.chunk c.loop-at.self) c.next.new.self n.base n.stands i.ready n.next.0 n.next.2 in
     let first = c.args.self.now.cursor.start in
-    let zero : min c.fill.new.self.cursor.from c.fill.new.self.count ≡ 0 = omega (arith, f.from) in
+    let zero : min c.filled-run.result.cursor.from c.filled-run.result.count ≡ 0 = omega (arith, f.from) in
     record {
-      ready = subst (λ (k : ℕ). IsRun code rows input c.fill.new.self k) (sym zero) f.run;
+      ready = subst (λ (k : ℕ). IsRun code rows input (with_chunk c.filled-run.new.chunk c.filled-run.result) k) (sym zero) f.run;
       skips = subst (λ (k : ℕ). SkipsTo code input first k) (sym f.start) (skips_join code input first c.loop-at.self.cursor.start c.next.new.self.start i.skips o.1);
     }

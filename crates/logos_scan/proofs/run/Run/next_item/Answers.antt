@@ -5,7 +5,7 @@ use Rattle.logos_machine.specs.inside.Stands.{IsMatch}
 use Rattle.logos_machine.proofs.LexerLemmas.{GoesOn, none_of}
 use Rattle.logos_scan.specs.Items.{lexer_at}
 use Rattle.logos_scan.specs.Runs.{IsTaken}
-use Rattle.logos_scan.specs.declared.run.Taken.TheVariants.{Emits, Asks, Fails, Ends}
+use Rattle.logos_scan.specs.declared.tries.Taken.TheVariants.{Emits, Asks, Fails, Ends}
 use Rattle.logos_scan.proofs.ItemLemmas.{goes_asks, item_asks, item_emits, item_fails, items_end, skips_le}
 use Rattle.logos_scan.proofs.run.Run.next_item.Goals as goal
 

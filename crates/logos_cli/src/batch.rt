@@ -1,0 +1,247 @@
+//! Files whose results go into a folder.
+
+ghost use Rattle.std.specs.Prelude.{◌≡◌, ◌≢◌, ◌⊎◌, ◌≤◌, ◌++◌, ◌∷◌, [], ℕ, All, Contains, IfOk, IsTrue, List, MatchOption, OnOk, drop, false, map, true};
+ghost use Rattle.logos_cli.specs.Views.{Appends, AreCarriedOut, AreDenied, IsApart, IsOwnOutput, Keeps, OrderValue, asks_each, batch_value, entry_order, file_name, has_twins, is_among, order_into, order_value, orders_into, orders_of, output_text, texts_of};
+ghost use Rattle.logos_cli.specs.declared.batch.Entry.{Entry as EntryValue};
+
+use crate::options::{Batch, Order};
+use crate::running::{Ending, carry_out, failed};
+use logos_host::{ComparableFiles, Failure};
+use logos_options::{misuse, paths_of};
+use logos_token::error::Memory;
+use std::alloc::Global;
+use std::io::{IsTerminal, Write};
+
+/// A file to expand.
+#[derive(Drop)]
+struct Entry<'w> {
+    /// The path of the file.
+    input: &'w str,
+    /// The path of its result.
+    output: String,
+}
+
+/// Expands files, and writes each result into a folder, under the name of its file. A file that is
+/// refused, or that fails, does not keep the others from that. The status is the highest one of all
+/// files. No result takes the place of a file that is read, or of another result: else the status
+/// is 2, and nothing is read or written.
+pub(crate) fn run_batch<F: ComparableFiles, O: Write, E: Write + IsTerminal>(
+    alloc: Global,
+    batch: Batch<'_>,
+    files: &mut F,
+    out: &mut O,
+    err: &mut E,
+) -> Ending
+    ensures own { result.status ≡ 2 →
+        IsOwnOutput F.same_finds (asks_each (batch_value batch.entry)) files.old }
+    ensures apart { result.status ≡ 0 →
+        IsApart F.same_finds (asks_each (batch_value batch.entry)) files.old }
+    ensures untouched { result.status ≡ 2 →
+        (files.new ≡ files.old) × Keeps (O.contents out.old) (O.contents out.new) }
+    ensures done { result.status ≡ 0 → AreCarriedOut F.read_gives F.write_makes F.compare_finds
+        (batch_value batch.entry) files.old files.new (O.contents out.old) (O.contents out.new) }
+    ensures denied { result.status ≡ 1 → (shown : List ℕ) × AreDenied F.read_gives F.write_makes
+        F.compare_finds (batch_value batch.entry) files.old files.new shown
+        × (IsTrue result.is_written → (front : List ℕ)
+        × Appends (E.contents err.old) (E.contents err.new) (front ++ shown)) }
+    ensures silent { result.status ≡ 1 → Keeps (O.contents out.old) (O.contents out.new) }
+    ensures known { result.status ≤ 3 }
+{
+    let entries = match entries_of(alloc, batch) {
+        Ok(entries) => entries,
+        Err(Memory) => return failed(&Failure::Memory, err),
+    };
+    if let Some(path) = own_output_in(&entries, files) {
+        return failed(&Failure::OwnOutput(path), err);
+    }
+    if let Some(path) = twin_in(&entries) {
+        return failed(&misuse("two inputs give the file", path), err);
+    }
+    run_each(alloc, batch.order, &entries, files, out, err)
+}
+
+/// Returns the files to expand, with the paths of their results.
+fn entries_of<'w>(alloc: Global, batch: Batch<'w>) -> Result<Vec<Entry<'w>>, Memory>
+    ensures { IfOk result (λ entries.
+        orders_of (order_value batch.entry.order) entries.items ≡ batch_value batch.entry) }
+{
+    let paths = paths_of(alloc, batch.words)?;
+    entries_at(alloc, batch, &paths)
+}
+
+/// Returns the files at these paths, with the paths of their results.
+fn entries_at<'w>(
+    alloc: Global,
+    batch: Batch<'w>,
+    paths: &[&'w str],
+) -> Result<Vec<Entry<'w>>, Memory>
+    ensures { IfOk result (λ entries. orders_of (order_value batch.entry.order) entries.items
+        ≡ orders_into (order_value batch.entry.order) batch.entry.folder.now
+        (texts_of paths.now)) }
+{
+    let mut entries = Vec::new(alloc);
+    for path in paths {
+        push_entry(batch, *path, &mut entries)?;
+    }
+    Ok(entries)
+}
+
+/// Appends the file at a path, with the path of its result.
+fn push_entry<'w>(
+    batch: Batch<'w>,
+    path: &'w str,
+    entries: &mut Vec<Entry<'w>>,
+) -> Result<(), Memory>
+    ensures { OnOk result (orders_of (order_value batch.entry.order) entries.new.items
+        ≡ orders_of (order_value batch.entry.order) entries.old.items
+        ++ order_into (order_value batch.entry.order) batch.entry.folder.now path.now ∷ []) }
+{
+    let entry = entry_of(*entries.allocator(), batch.folder, path)?;
+    entries.push(entry)?;
+    Ok(())
+}
+
+/// Returns a file to expand, with the path of its result in a folder.
+fn entry_of<'w>(alloc: Global, folder: &str, input: &'w str) -> Result<Entry<'w>, Memory>
+    ensures { IfOk result (λ entry. (order : OrderValue) →
+        entry_order order entry ≡ order_into order folder.now input.now) }
+{
+    let mut output = String::new(alloc);
+    output.push_str(folder)?;
+    output.push_str(file_name(input))?;
+    Ok(Entry { input, output })
+}
+
+/// Returns the name of the file at a path: what follows the last `/`.
+fn file_name(path: &str) -> &str
+    ensures { result.now ≡ file_name path.now }
+{
+    match path.rsplit_once('/') {
+        Some((_, name)) => name,
+        None => path,
+    }
+}
+
+/// Returns the path of a result that leads to a file that is read, if there is one.
+fn own_output_in<'e, F: ComparableFiles>(entries: &'e [Entry<'_>], files: &F) -> Option<&'e str>
+    ensures { MatchOption result
+        (All (λ one. All (λ other. F.same_finds files.now other.input.now (output_text one) false)
+        entries.now) entries.now)
+        (λ path. (one : EntryValue) × Contains entries.now one × ((other : EntryValue)
+        × Contains entries.now other
+        × F.same_finds files.now other.input.now (output_text one) true)) }
+{
+    for entry in entries {
+        if is_input(entries, entry.output.as_str(), files) {
+            return Some(entry.output.as_str());
+        }
+    }
+    None
+}
+
+/// Returns whether a path leads to a file that is read.
+fn is_input<F: ComparableFiles>(entries: &[Entry<'_>], path: &str, files: &F) -> bool
+    ensures apart { result ≡ false →
+        All (λ other. F.same_finds files.now other.input.now path.now false) entries.now }
+    ensures same { result ≡ true → (other : EntryValue) × Contains entries.now other
+        × F.same_finds files.now other.input.now path.now true }
+{
+    for entry in entries {
+        if files.is_same_file(entry.input, path) {
+            return true;
+        }
+    }
+    false
+}
+
+/// Returns the path of two results, if there is one.
+fn twin_in<'e>(entries: &'e [Entry<'_>]) -> Option<&'e str>
+    ensures { MatchOption result (has_twins (map output_text entries.now) ≡ false)
+        (λ path. has_twins (map output_text entries.now) ≡ true) }
+{
+    for number in 0..entries.len() {
+        let path = entries[number].output.as_str();
+        if is_output(&entries[number + 1..], path) {
+            return Some(path);
+        }
+    }
+    None
+}
+
+/// Returns whether a path is that of a result.
+fn is_output(entries: &[Entry<'_>], path: &str) -> bool
+    ensures { result ≡ is_among path.now (map output_text entries.now) }
+{
+    for entry in entries {
+        if entry.output.as_str() == path {
+            return true;
+        }
+    }
+    false
+}
+
+/// Expands these files one after another, and writes their results.
+fn run_each<F: ComparableFiles, O: Write, E: Write + IsTerminal>(
+    alloc: Global,
+    order: Order<'_>,
+    entries: &[Entry<'_>],
+    files: &mut F,
+    out: &mut O,
+    err: &mut E,
+) -> Ending
+    ensures done { result.status ≡ 0 → AreCarriedOut F.read_gives F.write_makes F.compare_finds
+        (orders_of (order_value order.entry) entries.now) files.old files.new
+        (O.contents out.old) (O.contents out.new) }
+    ensures denied { result.status ≡ 1 → (shown : List ℕ) × AreDenied F.read_gives F.write_makes
+        F.compare_finds (orders_of (order_value order.entry) entries.now) files.old files.new shown
+        × (IsTrue result.is_written → (front : List ℕ)
+        × Appends (E.contents err.old) (E.contents err.new) (front ++ shown)) }
+    ensures silent { result.status ≡ 1 → Keeps (O.contents out.old) (O.contents out.new) }
+    ensures known { (result.status ≤ 3) × (result.status ≢ 2) }
+{
+    let mut ending = Ending {
+        status: 0,
+        is_written: true,
+    };
+    for entry in entries {
+        ending = joined(
+            ending,
+            carry_out(alloc, order_at(order, entry), files, out, err),
+        );
+    }
+    ending
+}
+
+/// Returns what is asked for a file.
+fn order_at<'e>(order: Order<'_>, entry: &'e Entry<'_>) -> Order<'e>
+    ensures { order_value result ≡ entry_order (order_value order.entry) entry.now }
+{
+    Order {
+        input: entry.input,
+        output: Some(entry.output.as_str()),
+        is_check: order.is_check,
+        shape: order.shape,
+        format: order.format,
+        denies: order.denies,
+        color: order.color,
+    }
+}
+
+/// Returns how two runs ended: with the higher status.
+fn joined(one: Ending, other: Ending) -> Ending
+    ensures status { (result.status ≡ one.status) ⊎ (result.status ≡ other.status) }
+    ensures highest { (one.status ≤ result.status) × (other.status ≤ result.status) }
+    ensures written { IsTrue result.is_written → IsTrue one.is_written × IsTrue other.is_written }
+{
+    let is_written = one.is_written & other.is_written;
+    if one.status < other.status {
+        return Ending {
+            status: other.status,
+            is_written,
+        };
+    }
+    Ending {
+        status: one.status,
+        is_written,
+    }
+}

@@ -1,0 +1,223 @@
+-- What the enums of a file give, one after another.
+use Rattle.std.proofs.Common.{◌≡◌, ◌==◌, ◌≤◌, ◌<◌, ◌+◌, ℕ, suc, Bool, List, [], ◌∷◌, ◌++◌, append_assoc, true, false, IfOk, OnOk, Option, Result, Ok, Err, map, length, get_or, drop, string_bytes, refl, sym, ap, ◌∙◌, arith, eqb-true, subst}
+use Rattle.std.proofs.lemmas.List.{append-nil}
+use Rattle.std.proofs.Math.Seq.{drop-cons}
+use Rattle.std.proofs.Math.ListN.{drop_of_length-le}
+use Rattle.logos_code.specs.Code.{CodeValue}
+use Rattle.logos_expand.specs.declared.shape.Shape.{Shape}
+use Rattle.logos_codegen.specs.Given.{IsGiven}
+use Rattle.logos_codegen.specs.Source.{IsRefused}
+use Rattle.logos_codegen.specs.Source.IsRefused.{unread}
+use Rattle.logos_expand.specs.declared.expanding.Gathered.{Gathered}
+use Rattle.logos_report.specs.declared.refused.Refused.{Refused}
+use Rattle.logos_expand.specs.Expanding.{IsExpansion, IsExpanded, IsFileOf, IsUnreadable, Replaces, config_of, text_at}
+use Rattle.logos_expand.specs.Expanding.Replaces.{ended as r_ended, stays as r_stays, gives as r_gives}
+use Rattle.logos_expand.specs.Heads.{IsFileWith}
+use Rattle.logos_expand.specs.inside.Steps.{AddsRefusal, AreFaultsOf, GathersOne, IsExpansionBy}
+use Rattle.logos_expand.specs.Gathering.{AreRefused, Gathers, GathersAll}
+use Rattle.logos_expand.specs.Gathering.AreRefused.{whole, lexers}
+use Rattle.logos_expand.specs.Gathering.Gathers.{ended as g_ended, stays as g_stays, gives as g_gives, refuses as g_refuses}
+use Rattle.logos_rust_file.specs.declared.finding.FoundEnum.{FoundEnum}
+use Rattle.logos_rust_file.specs.declared.replacing.Replacement.{Replacement}
+use Rattle.logos_rust_file.specs.Files.{AreEnumsOf}
+use Rattle.logos_rust_file.specs.Replacing.{AreInOrder, found_span, part_span, replaced}
+use Rattle.logos_graph.specs.View.{GraphValue}
+use Rattle.logos_enum.specs.Values.{Slice}
+use Rattle.logos_lexeme.specs.declared.lexeme.Span.{Span}
+use Rattle.logos_rust_file.specs.Handed.{Refusal}
+use Rattle.logos_rust_file.specs.Handed as refusals
+use Rattle.logos_rust_file.specs.Handed.{Refuses}
+use Rattle.logos_token.specs.Faults.{Fault}
+
+-- ---- the enums of a file, one after another
+
+-- the enums up to a place were gathered: with what the others give it is what all give
+pub record SoFar (shape : Shape) (text : List ℕ) (found left : List FoundEnum) (gathered : Gathered) : Type 0 where
+  pub from : ℕ
+  pub order : AreInOrder from (map found_span left) (length text)
+  pub completes : (more : List Replacement) (worse : List Refused) → Gathers shape text left more worse → Gathers shape text found (gathered.parts.items ++ more) (gathered.refused.items ++ worse)
+
+pub begun : (shape : Shape) (text : List ℕ) (found : List FoundEnum) (gathered : Gathered) → gathered.parts.items ≡ [] → gathered.refused.items ≡ [] → AreInOrder 0 (map found_span found) (length text) →
+    SoFar shape text found found gathered
+begun shape text found gathered p r o = record { from = 0; order = o; completes = λ more worse g. rw (p, r) g }
+
+pub further : (shape : Shape) (text : List ℕ) (found : List FoundEnum) (one : FoundEnum) (left : List FoundEnum) (old new : Gathered) → SoFar shape text found (one ∷ left) old → GathersOne shape text one old new →
+    SoFar shape text found left new
+further shape text found one left old new s g = record {
+  from = one.span.to;
+  order = s.order.2;
+  completes = λ more worse h.
+      subst (λ ps. Gathers shape text found ps (new.refused.items ++ worse)) (sym (ap (λ x. x ++ more) g.parts_are ∙ append_assoc old.parts.items g.parts more))
+      (subst (λ rs. Gathers shape text found (old.parts.items ++ (g.parts ++ more)) rs) (sym (ap (λ x. x ++ worse) g.refused_are ∙ append_assoc old.refused.items g.refused worse))
+      (s.completes (g.parts ++ more) (g.refused ++ worse) (g.completes left more worse h)));
+}
+
+pub ended : (shape : Shape) (text : List ℕ) (found : List FoundEnum) (gathered : Gathered) → SoFar shape text found [] gathered → GathersAll shape text found gathered
+ended shape text found gathered s =
+    subst (λ ps. Gathers shape text found ps gathered.refused.items) (append-nil gathered.parts.items)
+    (subst (λ rs. Gathers shape text found (gathered.parts.items ++ []) rs) (append-nil gathered.refused.items) (s.completes [] [] g_ended))
+
+-- the same by the number of the next enum
+next_left : (found : List FoundEnum) (i : ℕ) (d : FoundEnum) → i < length found → drop i found ≡ get_or found i d ∷ drop (i + 1) found
+next_left found i d l =
+    let k : suc i ≡ i + 1 = omega arith in
+    drop-cons found i d l ∙ ap (λ n. get_or found i d ∷ drop n found) k
+
+pub further_at : (shape : Shape) (text : List ℕ) (found : List FoundEnum) (i : ℕ) (d : FoundEnum) (old new : Gathered) → i < length found → SoFar shape text found (drop i found) old →
+    GathersOne shape text (get_or found i d) old new → SoFar shape text found (drop (i + 1) found) new
+further_at shape text found i d old new l s g = further shape text found (get_or found i d) (drop (i + 1) found) old new (subst (λ left. SoFar shape text found left old) (next_left found i d l) s) g
+
+pub ended_at : (shape : Shape) (text : List ℕ) (found : List FoundEnum) (i : ℕ) (gathered : Gathered) → length found ≤ i → SoFar shape text found (drop i found) gathered → GathersAll shape text found gathered
+ended_at shape text found i gathered l s = ended shape text found gathered (subst (λ left. SoFar shape text found left gathered) (drop_of_length-le found l) s)
+
+-- the next enum is not empty
+pub ordered_at : (shape : Shape) (text : List ℕ) (found : List FoundEnum) (i : ℕ) (d : FoundEnum) (gathered : Gathered) → i < length found → SoFar shape text found (drop i found) gathered →
+    (get_or found i d).span.from ≤ (get_or found i d).span.to
+ordered_at shape text found i d gathered l s =
+    let o = subst (λ left. SoFar shape text found left gathered) (next_left found i d l) s in
+    omega (arith, o.order.1)
+
+-- ---- one enum
+
+pub stays_one : (shape : Shape) (text : List ℕ) (one : FoundEnum) (gathered : Gathered) → one.derives ≡ false → GathersOne shape text one gathered gathered
+stays_one shape text one gathered e = record {
+  parts = [];
+  refused = [];
+  parts_are = sym (append-nil gathered.parts.items);
+  refused_are = sym (append-nil gathered.refused.items);
+  completes = λ rest more worse g. g_stays e g;
+}
+
+pub gives_one : (shape : Shape) (text : List ℕ) (one : FoundEnum) (part : Replacement) (old new : Gathered) (source : List ℕ) → source ≡ text_at text one → one.derives ≡ true → part.span ≡ one.span →
+    IsExpansion shape source (string_bytes part.text) → new.parts.items ≡ old.parts.items ++ part ∷ [] → new.refused.items ≡ old.refused.items → GathersOne shape text one old new
+gives_one shape text one part old new source k e s x p r = record {
+  parts = part ∷ [];
+  refused = [];
+  parts_are = p;
+  refused_are = r ∙ sym (append-nil old.refused.items);
+  completes = λ rest more worse g. g_gives e s (subst (λ bytes. IsExpansion shape bytes (string_bytes part.text)) k x) g;
+}
+
+-- a refusal has faults of which this holds
+faults_hold : (Hold : List Fault → Type 0) (refusal : Refusal) (faults : List Fault) → Refuses Hold refusal → AreFaultsOf refusal faults → Hold faults
+faults_hold Hold (refusals.Errors errors) faults h a = subst Hold (sym a) h
+faults_hold Hold refusals.Memory faults h a = absurd a
+
+pub refuses_one : (shape : Shape) (text : List ℕ) (one : FoundEnum) (refusal : Refusal) (old new : Gathered) (source : List ℕ) → source ≡ text_at text one → one.derives ≡ true → Refuses (IsRefused source) refusal →
+    AddsRefusal one.span.from refusal old.refused.items new.refused.items → new.parts.items ≡ old.parts.items → GathersOne shape text one old new
+refuses_one shape text one refusal old new source k e h a p = record {
+  parts = [];
+  refused = a.bad ∷ [];
+  parts_are = p ∙ sym (append-nil old.parts.items);
+  refused_are = a.are;
+  completes = λ rest more worse g. g_refuses e a.is_offset (subst (λ bytes. IsRefused bytes a.bad.errors) k (faults_hold (IsRefused source) refusal a.bad.errors h a.faults)) g;
+}
+
+-- ---- all enums
+
+replaces_all : (shape : Shape) (text : List ℕ) (found : List FoundEnum) (parts : List Replacement) (refused : List Refused) → Gathers shape text found parts refused → refused ≡ [] → Replaces shape text found parts
+replaces_all shape text _ _ _ g_ended e = r_ended
+replaces_all shape text _ _ _ (g_stays d g) e = r_stays d (replaces_all shape text _ _ _ g e)
+replaces_all shape text _ _ _ (g_gives d s x g) e = r_gives d s x (replaces_all shape text _ _ _ g e)
+replaces_all shape text _ _ _ (g_refuses d s x g) e = absurd cc
+
+-- the result of a file without faults
+pub expanded_all : (shape : Shape) (text bytes : List ℕ) (found : List FoundEnum) (gathered : Gathered) → AreEnumsOf text found → GathersAll shape text found gathered → gathered.refused.items ≡ [] →
+    IsFileOf shape text gathered.parts.items bytes → IsExpanded shape text bytes
+expanded_all shape text bytes found gathered a g e b = record {
+  found = found;
+  parts = gathered.parts.items;
+  are = a;
+  replaces = replaces_all shape text found gathered.parts.items gathered.refused.items g e;
+  is = b;
+}
+
+-- a file as it was made, by whether there are parts
+pub bare_file : (shape : Shape) (text : List ℕ) (parts : List Replacement) (bytes : List ℕ) (empty : Bool) → empty ≡ (length parts == 0) → empty ≡ true → bytes ≡ replaced text 0 parts → IsFileOf shape text parts bytes
+bare_file shape text [] bytes empty e t r = r
+bare_file shape text (part ∷ parts) bytes empty e t r = absurd (let z : length (part ∷ parts) ≡ 0 = eqb-true _ _ (sym e ∙ t) in omega (arith, z))
+
+pub headed_file : (shape : Shape) (text : List ℕ) (parts : List Replacement) (bytes : List ℕ) (empty : Bool) → empty ≡ (length parts == 0) → empty ≡ false → IsFileWith shape (replaced text 0 parts) bytes → IsFileOf shape text parts bytes
+headed_file shape text [] bytes empty e f w = absurd (let z : empty ≡ true = e in cc)
+headed_file shape text (part ∷ parts) bytes empty e f w = w
+
+pub headed_all : {A E : Type 0} (f : A → List ℕ) (result : Result A E) (shape : Shape) (text : List ℕ) (parts : List Replacement) (made_of : List ℕ) (empty : Bool) → empty ≡ (length parts == 0) → empty ≡ false → made_of ≡ replaced text 0 parts →
+    IfOk result (λ made. IsFileWith shape made_of (f made)) → IfOk result (λ made. IsFileOf shape text parts (f made))
+headed_all f (Ok made) shape text parts made_of empty e n w h = headed_file shape text parts (f made) empty e n (subst (λ (bytes : List ℕ). IsFileWith shape bytes (f made)) w h)
+headed_all f (Err error) shape text parts made_of empty e n w h = tt
+
+-- the refusals of a file, of which there are some
+pub lexers_refused : (shape : Shape) (text : List ℕ) (found : List FoundEnum) (gathered : Gathered) → AreEnumsOf text found → GathersAll shape text found gathered → 0 < length gathered.refused.items →
+    AreRefused shape text gathered.refused.items
+lexers_refused shape text found gathered a g l = lexers a g (λ e. absurd (let n : 0 < length {A = Refused} [] = subst (λ r. 0 < length r) e l in omega (arith, n)))
+
+-- ---- the parts stand in order
+
+earlier : (from place : ℕ) (spans : List Span) (to : ℕ) → from ≤ place → AreInOrder place spans to → AreInOrder from spans to
+earlier from place [] to l s = omega (arith, l, s)
+earlier from place (span ∷ rest) to l s = (omega (arith, l, s.0), s.1, s.2)
+
+order_parts : (shape : Shape) (text : List ℕ) (found : List FoundEnum) (parts : List Replacement) (refused : List Refused) (from to : ℕ) → Gathers shape text found parts refused → AreInOrder from (map found_span found) to →
+    AreInOrder from (map part_span parts) to
+order_parts shape text _ _ _ from to g_ended o = o
+order_parts shape text _ _ _ from to (g_stays {one} {rest} {parts} {refused} d g) o =
+    earlier from one.span.to (map part_span parts) to (omega (arith, o.0, o.1)) (order_parts shape text rest parts refused one.span.to to g o.2)
+order_parts shape text _ _ _ from to (g_gives {one} {part} {rest} {parts} {refused} d s x g) o =
+    rw s (o.0, o.1, order_parts shape text rest parts refused one.span.to to g o.2)
+order_parts shape text _ _ _ from to (g_refuses {one} {bad} {rest} {parts} {refused} d s x g) o =
+    earlier from one.span.to (map part_span parts) to (omega (arith, o.0, o.1)) (order_parts shape text rest parts refused one.span.to to g o.2)
+
+pub ordered_parts : (shape : Shape) (text : List ℕ) (found : List FoundEnum) (gathered : Gathered) → GathersAll shape text found gathered → AreInOrder 0 (map found_span found) (length text) →
+    AreInOrder 0 (map part_span gathered.parts.items) (length text)
+ordered_parts shape text found gathered g o = order_parts shape text found gathered.parts.items gathered.refused.items 0 (length text) g o
+
+-- ---- the expansion of an enum
+
+pub expansion_made : (shape : Shape) (source shown : List ℕ) (graph : GraphValue) (code : CodeValue) (name : Slice) (export : Option (List ℕ)) → IsGiven source (config_of shape) graph code name export → IsExpansionBy shape code source shown → IsExpansion shape source shown
+expansion_made shape source shown graph code name export g b = record {
+  left = b.left;
+  written = b.prints.written;
+  by_name = b.prints.by_name;
+  lexer = b.prints.lexer;
+  laid = b.prints.laid;
+  stripped = b.stripped;
+  is_written = b.prints.is_written;
+  is_lexer = record { graph = graph; code = code; name = name; export = export; given = g; stand = b.prints.stand };
+  is_laid_out = b.prints.is_laid_out;
+  is = b.prints.is;
+}
+
+-- ---- refusals
+
+pub whole_refused : (shape : Shape) (text : List ℕ) (refusal : Refusal) (old new : List Refused) → old ≡ [] → Refuses (IsUnreadable text) refusal → AddsRefusal 0 refusal old new → AreRefused shape text new
+whole_refused shape text refusal old new e h a = whole (a.are ∙ ap (λ r. r ++ a.bad ∷ []) e) a.is_offset (faults_hold (IsUnreadable text) refusal a.bad.errors h a.faults)
+
+-- a source that is not read is refused
+pub unread_refused : (source : List ℕ) (refusal : Refusal) → Refuses (IsUnreadable source) refusal → Refuses (IsRefused source) refusal
+unread_refused source (refusals.Errors errors) h = unread h.1 h.2
+unread_refused source refusals.Memory h = tt
+
+pub expansion_all : {A E : Type 0} (f : A → List ℕ) (result : Result A E) (shape : Shape) (source : List ℕ) (graph : GraphValue) (code : CodeValue) (name : Slice) (export : Option (List ℕ)) → IsGiven source (config_of shape) graph code name export →
+    IfOk result (λ text. IsExpansionBy shape code source (f text)) → IfOk result (λ text. IsExpansion shape source (f text))
+expansion_all f (Ok text) shape source graph code name export g b = expansion_made shape source (f text) graph code name export g b
+expansion_all f (Err error) shape source graph code name export g b = tt
+
+-- what holds after success gives something else
+pub ok_then : {A E One Other : Type 0} (result : Result A E) → (One → Other) → OnOk result One → OnOk result Other
+ok_then (Ok done) f h = f h
+ok_then (Err error) f h = tt
+
+-- an enum with faults was gathered, where there was memory for them
+pub refuses_then : {A E : Type 0} (result : Result A E) (shape : Shape) (text : List ℕ) (one : FoundEnum) (refusal : Refusal) (old new : Gathered) (source : List ℕ) → Refuses (IsRefused source) refusal →
+    OnOk result (AddsRefusal one.span.from refusal old.refused.items new.refused.items) → new.parts.items ≡ old.parts.items → source ≡ text_at text one → one.derives ≡ true → OnOk result (GathersOne shape text one old new)
+refuses_then result shape text one refusal old new source h a p k e = ok_then result (λ b. refuses_one shape text one refusal old new source k e h b p) a
+
+-- what holds of a result gives something else of it
+pub wraps : {A E : Type 0} {One Other : A → Type 0} (result : Result A E) → ((a : A) → One a → Other a) → IfOk result One → IfOk result Other
+wraps (Ok done) f h = f done h
+wraps (Err error) f h = tt
+
+-- a list is not empty, by its length
+pub some_left : {A : Type 0} {n : ℕ} (items : List A) → n ≡ length items → (n == 0) ≡ false → 0 < length items
+some_left {n = n} [] e h = absurd (let z : (n == 0) ≡ true = rw e refl in cc)
+some_left (item ∷ items) e h = omega arith

@@ -1,0 +1,10 @@
+use Rattle.std.proofs.Common.{refl}
+use Rattle.logos_expand.proofs.expanding.push_refusal.Goals as goal
+
+pub returns-in_ok-push-in-Errors : goal.returns-in_ok-push-in-Errors
+returns-in_ok-push-in-Errors c = record {
+  bad = record { offset = c.args.offset; errors = c.in-Errors.errors; clues = c.args.clues };
+  is_offset = refl;
+  faults = rw c.in-Errors.is refl;
+  are = c.in_ok-push-in-Errors.ensures.items;
+}

@@ -1,0 +1,129 @@
+-- A file with the derive of its lexers expanded.
+use Rattle.std.specs.Prelude.{◌≡◌, ℕ, List, [], ◌∷◌, ◌++◌, ◌⊎◌, ◌==◌, ◌&&◌, ◌||◌, Bool, Option, true, false, codes, slice_range, string_bytes}
+use Rattle.logos_code.specs.Code.{CodeValue}
+use Rattle.logos_code.specs.declared.code.Config.{Config}
+use Rattle.logos_expand.specs.declared.shape.Shape.{Shape}
+use Rattle.logos_expand.specs.declared.shape.Shape.TheVariants.{Code, Tables}
+use Rattle.logos_expand.specs.Heads.{IsFileWith}
+use Rattle.logos_tables.specs.Texts.{HoldsTables}
+use Rattle.logos_codegen.specs.Given.{IsGiven}
+use Rattle.logos_rust_file.specs.declared.finding.FoundEnum.{FoundEnum}
+use Rattle.logos_rust_file.specs.declared.replacing.Replacement.{Replacement}
+use Rattle.logos_rust_file.specs.Files.{AreEnumsOf}
+use Rattle.logos_rust_file.specs.Replacing.{replaced}
+use Rattle.logos_graph.specs.View.{GraphValue}
+use Rattle.logos_enum.specs.Values.{Slice}
+use Rattle.logos_layout.specs.Conditions.{conditions_text}
+use Rattle.logos_layout.specs.Layout.{IsLaidOut, IsWrittenAs}
+use Rattle.logos_rust_file.specs.Handed.{EndsReading}
+use Rattle.logos_rust_file.specs.Handed.{IsStripped}
+use Rattle.logos_text.specs.Standing.{StandInOrder}
+use Rattle.logos_text.specs.Texts.{texts_of}
+use Rattle.logos_token.specs.Faults.{Fault}
+use Rattle.logos_token.specs.Tokens.{TokenList}
+
+-- The shape of the code that a lexer is made of.
+abbrev pub config_of : Shape → Config
+config_of (Code config) = config
+config_of Tables = record { use_state_machine_codegen = true }
+
+-- A code is shown in a shape: the texts of all its tables, and those of all its conditions, stand
+-- in the text, or tables that hold all that it does.
+abbrev pub IsShown : Shape → CodeValue → List ℕ → Type 0
+IsShown (Code config) code shown = StandInOrder (texts_of code) shown
+IsShown Tables code shown = HoldsTables code shown
+
+-- This is the text of a lexer of a source without faults, in this shape.
+pub record IsLexerText (shape : Shape) (source shown : List ℕ) : Type 0 where
+  pub graph : GraphValue
+  pub code : CodeValue
+  pub name : Slice
+  pub export : Option (List ℕ)
+  pub given : IsGiven source (config_of shape) graph code name export
+  pub stand : IsShown shape code shown
+
+-- The attributes of an implementation: these lints of rustc and clippy do not look at it, and
+-- rustfmt leaves it as it is.
+abbrev pub attributes_text : List ℕ
+attributes_text = codes "#[allow(dead_code, deprecated, unused_assignments, unused_imports)]\n#[allow(unused_parens, unused_variables)]\n#[allow(clippy::large_const_arrays, clippy::let_unit_value, clippy::manual_is_ascii_check)]\n#[allow(clippy::manual_range_contains, clippy::needless_else, clippy::question_mark)]\n#[allow(clippy::redundant_locals, clippy::type_complexity, clippy::unit_arg)]\n#[allow(clippy::useless_asref, clippy::useless_conversion)]\n#[rustfmt::skip]\n"
+
+-- The text of a lexer with its attributes: under the conditions of its enum.
+abbrev pub lexer_under : TokenList → List ℕ → List ℕ
+lexer_under left lexer = conditions_text left ++ (attributes_text ++ lexer)
+
+-- The import of `Logos`, which counts as used then.
+abbrev pub import_text : List ℕ
+import_text = codes "#[allow(unused_imports)]\nuse self::Logos as _;\n"
+
+-- The same, if it is wanted: under the conditions of an enum.
+abbrev pub import_under : Bool → TokenList → List ℕ
+import_under false left = []
+import_under true left = conditions_text left ++ import_text
+
+-- The text of a lexer with its attributes, and perhaps with the import before it.
+abbrev pub under : Bool → TokenList → List ℕ → List ℕ
+under by_name left lexer = import_under by_name left ++ lexer_under left lexer
+
+-- All these bytes are spaces and tabs.
+abbrev pub are_blanks : List ℕ → Bool
+are_blanks [] = true
+are_blanks (byte ∷ rest) = (byte == 32 || byte == 9) && are_blanks rest
+
+-- The line before an enum that rustfmt leaves as it is.
+abbrev pub guard_text : List ℕ
+guard_text = codes "#[rustfmt::skip]\n"
+
+-- Such a line with the blanks before the enum, or nothing.
+abbrev pub IsGuard : List ℕ → Type 0
+IsGuard guard = (guard ≡ []) ⊎ ((margin : List ℕ) × (are_blanks margin ≡ true) × (guard ≡ guard_text ++ margin))
+
+-- The text of the tokens of an enum that stay, perhaps after such a line.
+pub record IsGuarded (left : TokenList) (shown : List ℕ) : Type 0 where
+  pub guard : List ℕ
+  pub written : List ℕ
+  pub is_guard : IsGuard guard
+  pub is_written : IsWrittenAs left written
+  pub is : shown ≡ guard ++ written
+
+-- This is an enum without what belongs to the derive, and after LF the text of its lexer with
+-- attributes, laid out.
+pub record IsExpansion (shape : Shape) (source shown : List ℕ) : Type 0 where
+  pub left : TokenList
+  pub written : List ℕ
+  pub lexer : List ℕ
+  pub laid : List ℕ
+  pub stripped : IsStripped source left
+  pub by_name : Bool
+  pub is_written : IsGuarded left written
+  pub is_lexer : IsLexerText shape source lexer
+  pub is_laid_out : IsLaidOut (under by_name left lexer) laid
+  pub is : shown ≡ written ++ 10 ∷ laid
+
+-- The text of an enum of a file.
+abbrev pub text_at : List ℕ → FoundEnum → List ℕ
+text_at text found = slice_range text found.span.from found.span.to
+
+-- Each enum that derives `Logos` is replaced by its expansion, in order, and no other one.
+pub data Replaces (shape : Shape) (text : List ℕ) : List FoundEnum → List Replacement → Type 0 where
+  ended : Replaces shape text [] []
+  stays : {one : FoundEnum} {rest : List FoundEnum} {parts : List Replacement} → one.derives ≡ false → Replaces shape text rest parts → Replaces shape text (one ∷ rest) parts
+  gives : {one : FoundEnum} {part : Replacement} {rest : List FoundEnum} {parts : List Replacement} →
+      one.derives ≡ true → part.span ≡ one.span → IsExpansion shape (text_at text one) (string_bytes part.text) → Replaces shape text rest parts → Replaces shape text (one ∷ rest) (part ∷ parts)
+
+-- A file with parts replaced, which has no first line if there are none.
+abbrev pub IsFileOf : Shape → List ℕ → List Replacement → List ℕ → Type 0
+IsFileOf shape text [] bytes = bytes ≡ replaced text 0 []
+IsFileOf shape text (part ∷ parts) bytes = IsFileWith shape (replaced text 0 (part ∷ parts)) bytes
+
+-- These bytes are the file with the derive of its lexers expanded, and all other bytes as they
+-- were, perhaps after a first line that says so.
+pub record IsExpanded (shape : Shape) (text bytes : List ℕ) : Type 0 where
+  pub found : List FoundEnum
+  pub parts : List Replacement
+  pub are : AreEnumsOf text found
+  pub replaces : Replaces shape text found parts
+  pub is : IsFileOf shape text parts bytes
+
+-- The file cannot be read into tokens, and this is its one fault.
+abbrev pub IsUnreadable : List ℕ → List Fault → Type 0
+IsUnreadable text faults = (ending : Fault) × EndsReading text ending × (faults ≡ ending ∷ [])

@@ -1,0 +1,79 @@
+-- What the enums of a file give, one after another, and what is shown of their faults.
+use Rattle.std.specs.Prelude.{◌≡◌, ◌≢◌, ◌⊎◌, ◌++◌, ℕ, Bool, IsTrue, List, [], ◌∷◌, true, false, string_bytes}
+use Rattle.logos_host.specs.declared.message_format.MessageFormat.{MessageFormat}
+use Rattle.logos_host.specs.declared.message_format.MessageFormat.TheVariants.{Human, Json}
+use Rattle.logos_expand.specs.declared.shape.Shape.{Shape}
+use Rattle.logos_codegen.specs.Source.{IsRefused}
+use Rattle.logos_expand.specs.declared.expanding.Gathered.{Gathered}
+use Rattle.logos_report.specs.declared.refused.Refused.{Refused}
+use Rattle.logos_expand.specs.Expanding.{IsExpansion, IsUnreadable, text_at}
+use Rattle.logos_rust_file.specs.declared.finding.FoundEnum.{FoundEnum}
+use Rattle.logos_rust_file.specs.declared.replacing.Replacement.{Replacement}
+use Rattle.logos_rust_file.specs.Files.{AreEnumsOf}
+use Rattle.logos_host.specs.declared.failure.Failure.{Failure}
+use Rattle.logos_host.specs.declared.failure.Failure.TheVariants as failures
+use Rattle.logos_host.specs.Failures.{status_of}
+use Rattle.logos_report.specs.Pages.{StandInOrder}
+use Rattle.logos_report.specs.Parts.{refused_texts}
+use Rattle.logos_report.specs.Places.{SourceValue}
+use Rattle.logos_messages.specs.Messages.{AreMessages}
+
+-- Each enum that derives `Logos` gives a part or has faults, in order, and no other one does.
+pub data Gathers (shape : Shape) (text : List ℕ) : List FoundEnum → List Replacement → List Refused → Type 0 where
+  ended : Gathers shape text [] [] []
+  stays : {one : FoundEnum} {rest : List FoundEnum} {parts : List Replacement} {refused : List Refused} →
+      one.derives ≡ false → Gathers shape text rest parts refused → Gathers shape text (one ∷ rest) parts refused
+  gives : {one : FoundEnum} {part : Replacement} {rest : List FoundEnum} {parts : List Replacement} {refused : List Refused} →
+      one.derives ≡ true → part.span ≡ one.span → IsExpansion shape (text_at text one) (string_bytes part.text) → Gathers shape text rest parts refused →
+      Gathers shape text (one ∷ rest) (part ∷ parts) refused
+  refuses : {one : FoundEnum} {bad : Refused} {rest : List FoundEnum} {parts : List Replacement} {refused : List Refused} →
+      one.derives ≡ true → bad.offset ≡ one.span.from → IsRefused (text_at text one) bad.errors → Gathers shape text rest parts refused →
+      Gathers shape text (one ∷ rest) parts (bad ∷ refused)
+
+-- All these enums were gathered.
+abbrev pub GathersAll : Shape → List ℕ → List FoundEnum → Gathered → Type 0
+GathersAll shape text found gathered = Gathers shape text found gathered.parts.items gathered.refused.items
+
+-- These are the refusals of a file: the one of a file that cannot be read into tokens, or those of
+-- all lexers that have faults, of which there are some.
+pub data AreRefused (shape : Shape) (text : List ℕ) (refused : List Refused) : Type 0 where
+  whole : {bad : Refused} → refused ≡ bad ∷ [] → bad.offset ≡ 0 → IsUnreadable text bad.errors → AreRefused shape text refused
+  lexers : {found : List FoundEnum} {parts : List Replacement} → AreEnumsOf text found → Gathers shape text found parts refused → refused ≢ [] → AreRefused shape text refused
+
+-- These are lines of JSON, one for each fault, in order.
+abbrev pub AreLinesOf : SourceValue → List Refused → List ℕ → Type 0
+AreLinesOf source [] lines = lines ≡ []
+AreLinesOf source (one ∷ rest) lines =
+    (first more : List ℕ) × (lines ≡ first ++ more) × AreMessages source one.offset one.errors first × AreLinesOf source rest more
+
+-- These lines are at the end of a text.
+abbrev pub EndsWithLines : SourceValue → List Refused → List ℕ → Type 0
+EndsWithLines source refused text = (front lines : List ℕ) × (text ≡ front ++ lines) × AreLinesOf source refused lines
+
+-- What is shown of faults, in order: a report, with or without colors, or lines of JSON.
+abbrev pub ShowsRefused : MessageFormat → SourceValue → List Refused → List ℕ → Type 0
+ShowsRefused Human source refused shown = (is_colored : Bool) × StandInOrder (refused_texts is_colored source refused) shown
+ShowsRefused Json source refused shown = EndsWithLines source refused shown
+
+-- This text shows all faults of a file, in order.
+pub record ShowsFaults (format : MessageFormat) (shape : Shape) (source : SourceValue) (shown : List ℕ) : Type 0 where
+  pub refused : List Refused
+  pub are : AreRefused shape source.text refused
+  pub stand : ShowsRefused format source refused shown
+
+-- What was asked for was refused, for a reason, or a file or memory failed.
+abbrev pub FailsBy : (Failure → Type 0) → Failure → Type 0
+FailsBy Reason failure = (status_of failure ≡ 3) ⊎ ((status_of failure ≡ 1) × Reason failure)
+
+-- The text of a refusal, of which this holds.
+abbrev pub IsRefusedFor : (List ℕ → Type 0) → Failure → Type 0
+IsRefusedFor Shown (failures.Refused text) = Shown (string_bytes text)
+IsRefusedFor Shown failure = ⊥
+
+-- A file is refused for its faults, which the text shows, or for its warnings, which are denied.
+abbrev pub IsCause : MessageFormat → Bool → Shape → SourceValue → List ℕ → Type 0
+IsCause format denies shape source shown = ShowsFaults format shape source shown ⊎ IsTrue denies
+
+-- The same, or memory ran out.
+abbrev pub FailsFor : MessageFormat → Bool → Shape → SourceValue → Failure → Type 0
+FailsFor format denies shape source = FailsBy (IsRefusedFor (IsCause format denies shape source))

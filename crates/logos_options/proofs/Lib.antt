@@ -1,0 +1,2 @@
+mod SplitLemmas
+mod WordLemmas

@@ -1,0 +1,41 @@
+-- The paths of a command line.
+use Rattle.std.specs.Prelude.{ℕ, List, [], ◌∷◌, ◌++◌, Option, Some, None, if◌then◌else◌, bytes_eq, codes, false, map}
+use Rattle.std.specs.Borrow.{Bor}
+use Rattle.logos_options.specs.declared.word_steps.Progress.{Progress}
+use Rattle.logos_options.specs.WordSteps.{StepValue, UseValue, path, step}
+
+-- The path that a word is: `-` is standard input.
+abbrev pub path_named : List ℕ → List ℕ
+path_named word = if bytes_eq word (codes "-") then codes "/dev/stdin" else word
+
+-- The path that was found, if it is one.
+abbrev pub found_path : Option UseValue → List (List ℕ)
+found_path (Some (path word)) = path_named word ∷ []
+found_path other = []
+
+-- The path that a word gives, if it gives one.
+abbrev pub next_paths : Option StepValue → List (List ℕ)
+next_paths None = []
+next_paths (Some next) = found_path next.found
+
+-- How far the words are read after a word.
+abbrev pub next_progress : Progress → Option StepValue → Progress
+next_progress progress None = progress
+next_progress progress (Some next) = next.progress
+
+-- The paths of the words that are left.
+abbrev pub paths_from : Progress → List (List ℕ) → List (List ℕ)
+paths_from progress [] = []
+paths_from progress (word ∷ rest) = next_paths (step progress word) ++ paths_from (next_progress progress (step progress word)) rest
+
+-- Where no word is read.
+abbrev pub not_begun : Progress
+not_begun = record { pending = None; is_over = false }
+
+-- The paths of words, in order.
+abbrev pub paths_of : List (List ℕ) → List (List ℕ)
+paths_of words = paths_from not_begun words
+
+-- The texts behind references.
+abbrev pub texts_of : List (Bor (List ℕ)) → List (List ℕ)
+texts_of list = map (λ text. text.now) list

@@ -1,0 +1,71 @@
+//! The paths of a command line.
+
+ghost use Rattle.std.specs.Prelude.{◌≡◌, ◌++◌, IfOk, OnOk, map, option_map, string_bytes};
+ghost use Rattle.logos_options.specs.Words.{found_path, next_paths, next_progress, path_named, paths_of, step, texts_of, use_value};
+
+use crate::word_steps::{Progress, Use, next_step};
+use logos_token::error::Memory;
+use std::alloc::Global;
+
+/// The path of standard input.
+pub const STANDARD_INPUT: &str = "/dev/stdin";
+
+/// Returns all paths of words that are a command, in order.
+///
+/// # Errors
+///
+/// Returns `Memory` if memory runs out.
+pub fn paths_of<'w>(alloc: Global, words: &'w [String]) -> Result<Vec<&'w str>, Memory>
+    ensures { IfOk result (λ paths.
+        texts_of paths.items ≡ paths_of (map string_bytes words.now)) }
+{
+    let mut paths = Vec::new(alloc);
+    let mut progress = Progress {
+        pending: None,
+        is_over: false,
+    };
+    for word in words {
+        progress = push_path(&mut paths, progress, word.as_str())?;
+    }
+    Ok(paths)
+}
+
+/// Appends the path that one more word is, if it is one. Returns how far the words are read.
+fn push_path<'w>(
+    paths: &mut Vec<&'w str>,
+    progress: Progress,
+    word: &'w str,
+) -> Result<Progress, Memory>
+    ensures read { IfOk result (λ next. next ≡ next_progress progress (step progress word.now)) }
+    ensures pushed { IfOk result (λ next. texts_of paths.new.items
+        ≡ texts_of paths.old.items ++ next_paths (step progress word.now)) }
+{
+    match next_step(progress, word) {
+        Ok(next) => {
+            push_found(paths, next.found)?;
+            Ok(next.progress)
+        }
+        Err(_) => Ok(progress),
+    }
+}
+
+/// Appends a path, if one was found.
+fn push_found<'w>(paths: &mut Vec<&'w str>, found: Option<Use<'w>>) -> Result<(), Memory>
+    ensures { OnOk result (texts_of paths.new.items
+        ≡ texts_of paths.old.items ++ found_path (option_map use_value found.entry)) }
+{
+    if let Some(Use::Path(path)) = found {
+        paths.push(path_by_word(path))?;
+    }
+    Ok(())
+}
+
+/// Returns the path that a word is: `-` is standard input.
+pub(crate) fn path_by_word(word: &str) -> &str
+    ensures { result.now ≡ path_named word.now }
+{
+    if word == "-" {
+        return STANDARD_INPUT;
+    }
+    word
+}

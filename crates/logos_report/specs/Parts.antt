@@ -1,0 +1,37 @@
+-- What is shown of the faults of a whole file, part by part.
+use Rattle.std.specs.Prelude.{ℕ, Bool, List, [], ◌∷◌, ◌++◌, drop, take}
+use Rattle.std.specs.List.{flat_map}
+use Rattle.logos_token.specs.Faults.{Fault}
+use Rattle.logos_token.specs.FaultView.{faults_of}
+use Rattle.logos_report.specs.declared.refused.Listing.{Listing}
+use Rattle.logos_report.specs.declared.refused.Refused.{Refused}
+use Rattle.logos_report.specs.Faults.{texts_after}
+use Rattle.logos_report.specs.Places.{SourceValue}
+use Rattle.logos_report.specs.Turns.{first_turn, sizes_of}
+
+-- All faults of these parts of a file, in order.
+abbrev pub all_faults : List Refused → List Fault
+all_faults parts = flat_map (λ part. part.errors) parts
+
+-- The same of a part and of those around it.
+abbrev pub listed_faults : Listing → List Fault
+listed_faults listing = all_faults listing.earlier.now ++ (faults_of listing.faults.now ++ all_faults listing.later.now)
+
+-- What is shown of the faults of a part, where the first ones are those of all parts, and the
+-- others those of the parts in front.
+abbrev pub part_texts : Bool → SourceValue → List Fault → List Fault → Refused → List (List ℕ)
+part_texts is_colored source all front part = texts_after is_colored source part.offset all front (first_turn (sizes_of part.clues)) part.errors
+
+-- The same of parts one after another.
+abbrev pub parts_texts : Bool → SourceValue → List Fault → List Fault → List Refused → List (List ℕ)
+parts_texts is_colored source all front [] = []
+parts_texts is_colored source all front (part ∷ rest) = part_texts is_colored source all front part ++ parts_texts is_colored source all (front ++ part.errors) rest
+
+-- What is shown of the faults of all parts of a file, in order: of those of one code 50, and how
+-- many more there are.
+abbrev pub refused_texts : Bool → SourceValue → List Refused → List (List ℕ)
+refused_texts is_colored source parts = parts_texts is_colored source (all_faults parts) [] parts
+
+-- The same of the parts from one with this number on.
+abbrev pub texts_from : Bool → SourceValue → List Refused → ℕ → List (List ℕ)
+texts_from is_colored source parts number = parts_texts is_colored source (all_faults parts) (all_faults (take number parts)) (drop number parts)

@@ -1,0 +1,104 @@
+//! The faults of a whole file, part by part. The parts have the count of what is shown in common.
+
+ghost use Rattle.std.specs.Prelude.{◌≡◌, ◌++◌, ◌+◌, ◌<◌, ◌^◌, ◌-◌, length, min};
+ghost use Rattle.logos_report.specs.Pages.{PageValue};
+ghost use Rattle.logos_report.specs.Views.{Shows, all_faults, count_by, faults_of, has_name, listed_faults, name_of, refused_texts, seen_of, texts_from};
+
+use crate::clues::{Clues, first_turn};
+use crate::faults::{MOST, count_code, push_all, seen_of};
+use crate::page::Page;
+use crate::source::{Part, Source};
+use logos_token::error::{Errors, FaultCode, SpannedError};
+
+/// The faults of a part of a file: of an enum, or of a file that cannot be read.
+#[derive(Drop)]
+pub struct Refused {
+    /// Where the part begins in the file, in bytes.
+    pub offset: usize,
+    /// Its faults.
+    pub errors: Errors,
+    /// What is known of the faults of its graph.
+    pub clues: Clues,
+}
+
+/// The faults of a part of a file, and the parts around it.
+#[derive(Clone, Copy)]
+pub(crate) struct Listing<'f> {
+    /// The parts in front of it.
+    pub(crate) earlier: &'f [Refused],
+    /// Its faults.
+    pub(crate) faults: &'f [SpannedError],
+    /// The parts after it.
+    pub(crate) later: &'f [Refused],
+}
+
+/// Appends the faults of these parts of a file, in order, as `push_faults` does. Of the faults of
+/// one code in all parts 50 are shown.
+pub fn push_refused(page: &mut Page, source: &Source<'_>, refused: &[Refused])
+    ensures { Shows (refused_texts page.old.is_colored source.now refused.now) page.old page.new }
+{
+    for number in 0..refused.len() {
+        push_part(page, source, refused, number);
+    }
+}
+
+/// Appends the faults of the part with a number.
+fn push_part(page: &mut Page, source: &Source<'_>, refused: &[Refused], number: usize)
+    requires { number < length refused.now }
+    ensures colored { page.new.is_colored ≡ page.old.is_colored }
+    ensures shown { (new : PageValue) → Shows (texts_from page.old.is_colored source.now refused.now
+        (number + 1)) page.new new
+        → Shows (texts_from page.old.is_colored source.now refused.now number) page.old new }
+{
+    let one = &refused[number];
+    let offset = one.offset;
+    let listing = Listing {
+        earlier: &refused[..number],
+        faults: one.errors.list(),
+        later: &refused[number + 1..],
+    };
+    push_all(
+        page,
+        Part { source, offset },
+        listing,
+        first_turn(&one.clues),
+    );
+}
+
+/// Returns how many faults of these parts, and of some more, have a code, but no more than one
+/// above the number that is shown. It looks from the last one on.
+pub(crate) fn seen_in(earlier: &[Refused], front: &[SpannedError], code: FaultCode) -> usize
+    ensures { result ≡ seen_of code (all_faults earlier.now ++ faults_of front.now) }
+{
+    let mut left = earlier.len();
+    let mut count = seen_of(front, code);
+    while left > 0 {
+        if count > MOST {
+            return count;
+        }
+        left -= 1;
+        count = (count + seen_of(earlier[left].errors.list(), code)).min(MOST + 1);
+    }
+    count
+}
+
+/// Returns how many faults of a part and of those around it have a code, or the largest number.
+pub(crate) fn count_in(listing: Listing<'_>, code: FaultCode) -> usize
+    ensures { result ≡ min (count_by (has_name (name_of code)) (listed_faults listing.entry))
+        (2 ^ 64 - 1) }
+{
+    count_parts(listing.earlier, code)
+        .saturating_add(count_code(listing.faults, code))
+        .saturating_add(count_parts(listing.later, code))
+}
+
+/// Returns how many faults of these parts have a code, or the largest number.
+fn count_parts(parts: &[Refused], code: FaultCode) -> usize
+    ensures { result ≡ min (count_by (has_name (name_of code)) (all_faults parts.now)) (2 ^ 64 - 1) }
+{
+    let mut count: usize = 0;
+    for part in parts {
+        count = count.saturating_add(count_code(part.errors.list(), code));
+    }
+    count
+}

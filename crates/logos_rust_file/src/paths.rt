@@ -1,0 +1,109 @@
+//! The paths of enums in a file. `logos_show` asks for them where an enum is given by its name.
+
+use logos_enum::{ReadError, read_enum};
+use logos_lexeme::lexeme::{Kind, lexeme_at};
+use logos_token::error::Memory;
+use logos_token::token::{Delimiter, TokenError, tokenize};
+use std::alloc::Global;
+
+/// The lexeme that comes first in a text, and the text after it.
+#[derive(Clone, Copy)]
+struct Word<'t> {
+    kind: Kind,
+    text: &'t str,
+    rest: &'t str,
+}
+
+/// Returns the path of an enum with this text in its file, as `lexers::Token`: the names of the
+/// modules that are open at the end of the text before it, and its own, which is empty if it is not
+/// well formed.
+///
+/// # Errors
+///
+/// Returns `Memory` if memory runs out.
+pub fn path_of(alloc: Global, before: &str, text: &str) -> Result<String, Memory> {
+    let mut path = String::new(alloc);
+    for level in &levels_of(alloc, before)? {
+        push_level(&mut path, *level)?;
+    }
+    path.push_str(name_of(alloc, text)?)?;
+    Ok(path)
+}
+
+/// Appends the name of a module and `::`.
+fn push_level(path: &mut String, level: &str) -> Result<(), Memory> {
+    if !level.is_empty() {
+        path.push_str(level)?;
+        path.push_str("::")?;
+    }
+    Ok(())
+}
+
+/// Returns the name of an enum, or an empty text if it is not well formed.
+fn name_of<'t>(alloc: Global, text: &'t str) -> Result<&'t str, Memory> {
+    let stream = match tokenize(alloc, text) {
+        Ok(stream) => stream,
+        Err(TokenError::Memory) => return Err(Memory),
+        Err(_) => return Ok(""),
+    };
+    match read_enum(alloc, stream.run()) {
+        Ok(item) => Ok(item.name.text),
+        Err(ReadError::Memory) => Err(Memory),
+        Err(_) => Ok(""),
+    }
+}
+
+/// Returns the modules whose braces are open at the end of a text, in order, and an empty text for
+/// each brace that is open and no module's.
+fn levels_of<'t>(alloc: Global, text: &'t str) -> Result<Vec<&'t str>, Memory> {
+    let mut levels = Vec::new(alloc);
+    let mut rest = text;
+    let mut words = ("", "");
+    for _ in 0..text.len() {
+        let Some(word) = first_word(rest) else {
+            return Ok(levels);
+        };
+        note_brace(&mut levels, words, word)?;
+        words = words_after(words, word);
+        rest = word.rest;
+    }
+    Ok(levels)
+}
+
+/// Returns the first lexeme of a text, unless the text is empty or no Rust.
+fn first_word<'t>(text: &'t str) -> Option<Word<'t>> {
+    if text.is_empty() || !text.is_char_boundary(0) {
+        return None;
+    }
+    let Ok((kind, to)) = lexeme_at(text, 0) else {
+        return None;
+    };
+    let (text, rest) = text.split_at_checked(to)?;
+    Some(Word { kind, text, rest })
+}
+
+/// Returns the last two words after one more; gaps and documentation are none.
+fn words_after<'t>(words: (&'t str, &'t str), word: Word<'t>) -> (&'t str, &'t str) {
+    match word.kind {
+        Kind::Gap | Kind::Doc => words,
+        _ => (words.1, word.text),
+    }
+}
+
+/// Adds the module of a brace that opens, or takes away that of one that closes.
+fn note_brace<'t>(
+    levels: &mut Vec<&'t str>,
+    words: (&'t str, &'t str),
+    word: Word<'t>,
+) -> Result<(), Memory> {
+    match word.kind {
+        Kind::Opening(Delimiter::Brace) => {
+            levels.push(if words.0 == "mod" { words.1 } else { "" })?;
+        }
+        Kind::Closing(Delimiter::Brace) => {
+            let _ = levels.pop();
+        }
+        _ => {}
+    }
+    Ok(())
+}

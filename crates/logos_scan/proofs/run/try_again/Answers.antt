@@ -1,0 +1,16 @@
+use Rattle.logos_scan.specs.Runs.{with_chunk}
+use Rattle.logos_scan.proofs.ItemLemmas.{start_within, taken_past}
+use Rattle.logos_scan.proofs.run.try_again.Goals as goal
+
+pub tried-taken-requires : goal.tried-taken-requires
+tried-taken-requires c =
+    let reading = c.args.reading.now in
+    let r = c.requires.held.stands in
+    start_within reading.code.now reading.rows.now reading.input.now (with_chunk c.args.chunk.now c.args.run) c.requires.held.at r
+
+pub restarted-after-requires-clause-within : goal.restarted-after-requires-clause-within
+restarted-after-requires-clause-within c =
+    let reading = c.args.reading.now in
+    let r = c.requires.held.stands in
+    let starts = start_within reading.code.now reading.rows.now reading.input.now (with_chunk c.args.chunk.now c.args.run) c.requires.held.at r in
+    (taken_past reading.code.now reading.input.now c.args.run.cursor.start c.tried-taken.result.0 c.tried-taken.result.1 starts c.tried-taken.ensures).0

@@ -1,0 +1,74 @@
+//! Whether a run by chunks takes less time than a lexer.
+
+ghost use Rattle.std.specs.Prelude.{◌≤◌, ◌+◌, length};
+
+use crate::tries::{Taken, tried};
+use logos_code::code::Code;
+
+/// How many bytes are looked at from one point of an input on.
+const SAMPLE: usize = 2_048;
+
+/// How many bytes of input pay for the folded row of one state.
+const WORTH: usize = 8_192;
+
+/// How many items there are in a part of an input, and how many of them are errors.
+#[derive(Clone, Copy, Drop)]
+struct Counts {
+    items: usize,
+    errors: usize,
+}
+
+/// Returns whether a run by chunks likely takes less time on the input than a lexer. Any answer is
+/// right: both find the same items.
+///
+/// A run loses where matches are long, where nearly each byte is one, where there are many errors,
+/// and where the input is too short for what the folded rows take. Four parts of the input are
+/// looked at, and one of them may be otherwise.
+pub fn suits(code: &Code, input: &[u8]) -> bool {
+    let quarter = input.len() / 4;
+    if quarter < SAMPLE || input.len() / WORTH < code.parts().states.len() {
+        return false;
+    }
+    let first = suits_at(code, input, 0);
+    let second = suits_at(code, input, quarter);
+    let third = suits_at(code, input, 2 * quarter);
+    let fourth = suits_at(code, input, 3 * quarter);
+    (first & second & (third | fourth)) | (third & fourth & (first | second))
+}
+
+/// Returns whether a run by chunks suits the bytes from a point of the input on.
+fn suits_at(code: &Code, input: &[u8], at: usize) -> bool
+    requires { at + SAMPLE ≤ length input.now }
+{
+    let counts = counted(code, &input[at..at + SAMPLE]);
+    let short = counts.items >= SAMPLE / 20;
+    let long = counts.items <= SAMPLE / 3;
+    let errors = counts.errors <= counts.items / 32;
+    short & long & errors
+}
+
+/// Counts the items of a part of an input.
+fn counted(code: &Code, part: &[u8]) -> Counts {
+    let mut counts = Counts {
+        items: 0,
+        errors: 0,
+    };
+    let mut from = 0;
+    while from < part.len() {
+        let (taken, next) = tried(code, part, from);
+        counts = counts.and(taken);
+        from = next;
+    }
+    counts
+}
+
+impl Counts {
+    /// Returns the counts with one item more.
+    fn and(self, taken: Taken) -> Counts {
+        let is_error = matches!(taken, Taken::Fails(_));
+        Counts {
+            items: self.items.wrapping_add(1),
+            errors: self.errors.wrapping_add(usize::from(is_error)),
+        }
+    }
+}

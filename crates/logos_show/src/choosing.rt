@@ -1,0 +1,244 @@
+//! Which enum of a file is meant by a name.
+
+ghost use Rattle.std.specs.Prelude.{IfErr};
+ghost use Rattle.logos_show.specs.Words.{IsNoMisuse};
+
+use crate::reading::{refused, text_of};
+use crate::running::{Task, part_of};
+use logos_codegen::error::Memory;
+use logos_host::Failure;
+use logos_report::{Page, Part, Source};
+use logos_rust_file::{FoundEnum, enums_in, path_of};
+use std::alloc::Global;
+
+/// The enums of a file that a name may mean.
+#[derive(Clone, Copy)]
+struct Choice<'n> {
+    /// The name, if one is given.
+    name: Option<&'n str>,
+    /// The first one whose path is the name.
+    exact: Option<FoundEnum>,
+    /// The first one whose path ends with the name.
+    first: Option<FoundEnum>,
+    /// The first one after it with another path.
+    second: Option<FoundEnum>,
+}
+
+/// The enum that a name means.
+#[derive(Clone, Copy)]
+pub(crate) enum Chosen {
+    Nothing,
+    One(FoundEnum),
+    /// The name means these two, which stand in two modules.
+    Two(FoundEnum, FoundEnum),
+}
+
+/// Returns the enum of a file whose lexer is asked for.
+pub(crate) fn lexer_in<'w>(
+    alloc: Global,
+    task: Task<'w>,
+    source: &Source<'_>,
+) -> Result<FoundEnum, Failure<'w>>
+    ensures { IfErr result IsNoMisuse }
+{
+    match found_in(alloc, task, source)? {
+        Chosen::One(one) => Ok(one),
+        Chosen::Two(one, other) => Err(several(alloc, task, source, (one, other))),
+        Chosen::Nothing => Err(no_lexer(alloc, source.path(), task.order.name)),
+    }
+}
+
+/// Returns the enums of a file that are asked for, of which there are some.
+pub(crate) fn found_in<'w>(
+    alloc: Global,
+    task: Task<'w>,
+    source: &Source<'_>,
+) -> Result<Chosen, Failure<'w>>
+    ensures { IfErr result IsNoMisuse }
+{
+    let found = match enums_in(alloc, source.text()) {
+        Ok(found) => found,
+        Err(refusal) => {
+            let whole = Part { source, offset: 0 };
+            return Err(refused(alloc, whole, task.showing, refusal));
+        }
+    };
+    match chosen(alloc, source, &found, task.order.name)? {
+        Chosen::Nothing => Err(no_lexer(alloc, source.path(), task.order.name)),
+        some => Ok(some),
+    }
+}
+
+/// Returns the refusal of a file that has no such lexer.
+fn no_lexer(alloc: Global, file: &str, name: Option<&str>) -> Failure<'static>
+    ensures { IsNoMisuse result }
+{
+    let mut page = Page::new(alloc, false);
+    page.push("error: no enum ");
+    push_name(&mut page, name);
+    page.push("in ");
+    page.push_shown(file);
+    page.push(" derives `Logos`\n");
+    match page.finish() {
+        Ok(text) => Failure::Refused(text),
+        Err(_) => Failure::Memory,
+    }
+}
+
+/// Returns the refusal of a name that two enums have, which stand in two modules.
+fn several(
+    alloc: Global,
+    task: Task<'_>,
+    source: &Source<'_>,
+    enums: (FoundEnum, FoundEnum),
+) -> Failure<'static>
+    ensures { IsNoMisuse result }
+{
+    match several_text(alloc, task, source, enums) {
+        Ok(text) => Failure::Refused(text),
+        Err(Memory) => Failure::Memory,
+    }
+}
+
+/// Returns the message about a name that two enums have.
+fn several_text(
+    alloc: Global,
+    task: Task<'_>,
+    source: &Source<'_>,
+    enums: (FoundEnum, FoundEnum),
+) -> Result<String, Memory> {
+    let one = path_at(alloc, part_of(source, enums.0), text_of(source, enums.0))?;
+    let other = path_at(alloc, part_of(source, enums.1), text_of(source, enums.1))?;
+    let mut page = Page::new(alloc, false);
+    page.push("error: several enums ");
+    push_name(&mut page, task.order.name);
+    page.push("in ");
+    page.push_shown(source.path());
+    page.push(" derive `Logos`: ");
+    push_name(&mut page, Some(one.as_str()));
+    page.push("and `");
+    page.push_shown(other.as_str());
+    page.push("`\nhelp: give the path of one, as in `--enum ");
+    page.push_shown(one.as_str());
+    page.push("`\n");
+    Ok(page.finish()?)
+}
+
+/// Appends the name of an enum, if one is given.
+fn push_name(page: &mut Page, name: Option<&str>) {
+    if let Some(name) = name {
+        page.push("`");
+        page.push_shown(name);
+        page.push("` ");
+    }
+}
+
+/// Returns the enum that derives `Logos` and that a name means: the one with this path, or the only
+/// one whose path ends with it. Without a name it is the first one.
+fn chosen(
+    alloc: Global,
+    source: &Source<'_>,
+    found: &[FoundEnum],
+    name: Option<&str>,
+) -> Result<Chosen, Memory> {
+    let mut choice = Choice {
+        name,
+        exact: None,
+        first: None,
+        second: None,
+    };
+    for one in found {
+        choice = choice_with(alloc, choice, source, *one)?;
+    }
+    Ok(match (choice.exact, choice.first, choice.second) {
+        (Some(one), _, _) | (None, Some(one), None) => Chosen::One(one),
+        (None, Some(one), Some(other)) => Chosen::Two(one, other),
+        (None, None, _) => Chosen::Nothing,
+    })
+}
+
+/// Returns a choice with one more enum.
+fn choice_with<'n>(
+    alloc: Global,
+    choice: Choice<'n>,
+    source: &Source<'_>,
+    one: FoundEnum,
+) -> Result<Choice<'n>, Memory> {
+    if !one.derives || choice.exact.is_some() {
+        return Ok(choice);
+    }
+    let path = path_at(alloc, part_of(source, one), text_of(source, one))?;
+    match choice.name {
+        Some(name) if path.as_str() != name => {
+            if !ends_with_name(path.as_str(), name) {
+                return Ok(choice);
+            }
+            near_choice(alloc, choice, source, one)
+        }
+        _ => Ok(Choice {
+            exact: Some(one),
+            ..choice
+        }),
+    }
+}
+
+/// Returns a choice with one more enum whose path ends with the name.
+fn near_choice<'n>(
+    alloc: Global,
+    choice: Choice<'n>,
+    source: &Source<'_>,
+    one: FoundEnum,
+) -> Result<Choice<'n>, Memory> {
+    let Some(first) = choice.first else {
+        return Ok(Choice {
+            first: Some(one),
+            ..choice
+        });
+    };
+    let path = path_at(alloc, part_of(source, one), text_of(source, one))?;
+    let other = path_at(alloc, part_of(source, first), text_of(source, first))?;
+    if choice.second.is_some() || path.as_str() == other.as_str() {
+        return Ok(choice);
+    }
+    Ok(Choice {
+        second: Some(one),
+        ..choice
+    })
+}
+
+/// Returns whether an enum has the name, if one is given: whether its path ends with it.
+pub(crate) fn has_name(
+    alloc: Global,
+    part: Part<'_, '_>,
+    text: &str,
+    name: Option<&str>,
+) -> Result<bool, Memory> {
+    match name {
+        Some(name) => {
+            let path = path_at(alloc, part, text)?;
+            Ok((path.as_str() == name) | ends_with_name(path.as_str(), name))
+        }
+        None => Ok(true),
+    }
+}
+
+/// Returns whether a path ends with `::` and a name.
+fn ends_with_name(path: &str, name: &str) -> bool {
+    match path.strip_suffix(name) {
+        Some(front) => front.ends_with("::"),
+        None => false,
+    }
+}
+
+/// Returns the path of an enum with this text in its file.
+fn path_at(alloc: Global, part: Part<'_, '_>, text: &str) -> Result<String, Memory> {
+    path_of(alloc, front_of(part.source.text(), part.offset), text)
+}
+
+/// Returns the text in front of an offset.
+fn front_of(text: &str, offset: usize) -> &str {
+    match text.get(..offset) {
+        Some(front) => front,
+        None => "",
+    }
+}

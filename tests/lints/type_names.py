@@ -1,0 +1,104 @@
+#!/usr/bin/env python3
+"""Looks for types that have one name and stand in several crates.
+
+  type_names.py          prints the names that stand in several crates, and why they do
+  type_names.py --where  prints where each of them is declared, too
+
+A type is a `struct`, an `enum` or a `trait` in `src` of a crate. Its name stands in one crate, but
+for those that are listed here with the crates that have them and the reason why they stay. A name
+that is listed has to stand in each of its crates, so the list only gets shorter. Each name counts
+as one. The last line is `type_names: N passed, M failed`."""
+import collections
+import glob
+import os
+import re
+import sys
+
+ROOT = os.path.dirname(os.path.dirname(os.path.dirname(os.path.realpath(__file__))))
+# With fewer names that pass, sources were lost, or are no longer read.
+LEAST = 300
+TYPE = re.compile(r"^ *(?:pub(?:\([a-z ]+\))? )?(?:struct|enum|trait) ([A-Z]\w*)", re.M)
+NOT_YET = "different things, of which one has to get another name"
+# Each name that stands in several crates: these, and why it stays.
+STAYS = {
+    "Answer": ("derive options", NOT_YET),
+    "Chunk": ("relex walk", "the glossary has both: items that are stored together, and bytes that are stepped over at once"),
+    "Classes": ("reduce tables", "classes of what has one row: of states, and of symbols"),
+    "Compared": ("answers cli", NOT_YET),
+    "Config": ("code graph", "the options of a generator and of a graph, both public"),
+    "Counts": ("answers scan", "how many there are of what each crate counts"),
+    "Cursor": ("lines walk", "a point that only moves forward, in a text and in a chunk"),
+    "Entry": ("cli token", NOT_YET),
+    "Failure": ("commands host", NOT_YET),
+    "Flags": ("options pattern_tokens", NOT_YET),
+    "Item": ("machine pattern_tokens", NOT_YET),
+    "Kind": ("lexeme pattern_tokens rust_file", NOT_YET),
+    "Leaf": ("pattern type", NOT_YET),
+    "Lexed": ("answers relex", NOT_YET),
+    "Listing": ("graph report", NOT_YET),
+    "Literal": ("pattern token", "a literal of a source, and one that spells a pattern, both public"),
+    "Mark": ("code derive reduce", NOT_YET),
+    "Opening": ("lexeme pattern_tokens", NOT_YET),
+    "Order": ("cli questions reduce", NOT_YET),
+    "Outcome": ("commands machine", NOT_YET),
+    "Part": ("report type", NOT_YET),
+    "Piece": ("derive lexeme messages", NOT_YET),
+    "Progress": ("derive options", NOT_YET),
+    "Reading": ("inspect scan", NOT_YET),
+    "Request": ("cli questions", NOT_YET),
+    "Rows": ("reduce tables", "a list of rows, of two kinds of tables"),
+    "Shown": ("messages report show", NOT_YET),
+    "Site": ("expand warnings", NOT_YET),
+    "Spot": ("derive report show type_reader", NOT_YET),
+    "Stand": ("machine search", NOT_YET),
+    "Standing": ("host show", NOT_YET),
+    "State": ("graph report", NOT_YET),
+    "Step": ("code options", NOT_YET),
+    "Stop": ("pattern_tokens show", NOT_YET),
+    "Turn": ("machine report", NOT_YET),
+    "Window": ("report stream", NOT_YET),
+}
+
+
+def declared():
+    """Returns for each name of a type the crates that declare it, and where they do."""
+    found = collections.defaultdict(lambda: collections.defaultdict(list))
+    for path in sorted(glob.glob(f"{ROOT}/crates/*/src/**/*.rt", recursive=True)):
+        crate = os.path.relpath(path, f"{ROOT}/crates").split("/")[0]
+        with open(path, encoding="utf-8") as it:
+            text = it.read()
+        for name in TYPE.finditer(text):
+            line = text.count("\n", 0, name.start(1)) + 1
+            found[name[1]][crate].append(f"{os.path.relpath(path, ROOT)}:{line}")
+    return found
+
+
+def fault(name, crates):
+    """Returns what is wrong with a name that stands in these crates, or None."""
+    stays = STAYS[name][0].split() if name in STAYS else []
+    if len(crates) > 1 and set(crates) - {f"logos_{it}" for it in stays}:
+        return f"{name} stands in {', '.join(sorted(crates))}"
+    gone = [it for it in stays if f"logos_{it}" not in crates]
+    return f"{name} is not in logos_{gone[0]}, and leaves the list" if gone else None
+
+
+def main():
+    where = sys.argv[1:] == ["--where"]
+    if sys.argv[1:] and not where:
+        sys.exit(__doc__)
+    found = declared()
+    several = {name: crates for name, crates in sorted(found.items()) if len(crates) > 1}
+    for name, crates in several.items():
+        print(f"{name:12} {len(crates)}  {STAYS[name][1] if name in STAYS else 'no reason'}")
+        if where:
+            print("".join(f"    {place}\n" for places in crates.values() for place in places), end="")
+    print(f"{len(found)} names of types, {len(several)} in several crates")
+    failed = [it for it in (fault(name, found.get(name, {})) for name in sorted({*found, *STAYS})) if it]
+    passed = len({*found, *STAYS}) - len(failed)
+    for line in failed:
+        print(f"type_names: {line}")
+    print(f"type_names: {passed} passed, {len(failed)} failed")
+    sys.exit(1 if failed or passed < LEAST else 0)
+
+
+main()
