@@ -63,7 +63,7 @@ pub(crate) fn found_in<'w>(
             return Err(refused(alloc, whole, task.showing, refusal));
         }
     };
-    match chosen(alloc, source, &found, task.order.name)? {
+    match enum_meant(alloc, source, &found, task.order.name)? {
         Chosen::Nothing => Err(no_lexer(alloc, source.path(), task.order.name)),
         some => Ok(some),
     }
@@ -135,7 +135,7 @@ fn push_name(page: &mut Page, name: Option<&str>) {
 
 /// Returns the enum that derives `Logos` and that a name means: the one with this path, or the only
 /// one whose path ends with it. Without a name it is the first one.
-fn chosen(
+fn enum_meant(
     alloc: Global,
     source: &Source<'_>,
     found: &[FoundEnum],
