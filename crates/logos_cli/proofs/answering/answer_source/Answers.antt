@@ -1,7 +1,7 @@
 use Rattle.logos_cli.proofs.answering.answer_source.Goals as goal
 
-pub returns-in-Ok-clause-done : goal.returns-in-Ok-clause-done
-returns-in-Ok-clause-done g c = λ s. (c.in-Ok.answer, c.in-Ok.ensures.done, c.print_answer.ensures.done s)
+pub returns-in-Ok-answered-clause-done : goal.returns-in-Ok-answered-clause-done
+returns-in-Ok-answered-clause-done g c = λ s. (c.in-Ok.answer, c.in-Ok.ensures.done, c.print_answer.ensures.done s)
 
 pub returns-in-Err-Errors-clause-denied : goal.returns-in-Err-Errors-clause-denied
 returns-in-Err-Errors-clause-denied g c =
