@@ -8,7 +8,7 @@ returns c =
     let m = c.in_ok-push_messages.ensures.pushed in
     record {
       version = v.0;
-      warned = c.args.known.now.warnings.items;
+      warned = c.deref.result.now;
       warnings = w.0;
       messages = m.0;
       is = m.1 ∙ ap (λ xs. xs ++ m.0) (w.1 ∙ ap (λ xs. xs ++ w.0) (v.1 ∙ ap (λ xs. xs ++ v.0) c.new-lines.ensures.items)) ∙ append_assoc v.0 w.0 m.0;
