@@ -1,6 +1,6 @@
 //! What is known of a source that is refused, and what warnings a lexer has.
 
-use crate::callbacks::{add_callback, add_callbacks};
+use crate::callbacks::{CallbackOwner, add_callback, add_callbacks};
 use crate::hidden::add_hidden;
 use crate::meetings::meetings_of;
 use crate::starts::starts_of;
@@ -46,7 +46,8 @@ fn explain_analysis(
     analysis: &mut Analysis<'_>,
 ) -> Result<Explained, Memory> {
     let mut warnings = Vec::new(alloc);
-    add_callback(alloc, source, callback_of(analysis), &mut warnings)?;
+    let error = callback_of(analysis);
+    add_callback(alloc, source, CallbackOwner::ErrorType, error, &mut warnings)?;
     add_callbacks(alloc, source, &analysis.leaves, &mut warnings)?;
     let clues = clues_of_analysis(alloc, analysis)?;
     Ok(Explained { clues, warnings })
@@ -93,7 +94,7 @@ pub fn lexer_warnings(
     error: Option<&Callback<'_>>,
 ) -> Result<Vec<Warning>, Memory> {
     let mut warnings = Vec::new(alloc);
-    add_callback(alloc, source, error, &mut warnings)?;
+    add_callback(alloc, source, CallbackOwner::ErrorType, error, &mut warnings)?;
     add_callbacks(alloc, source, graph.leaves(), &mut warnings)?;
     add_hidden(alloc, graph, &mut warnings)?;
     Ok(warnings)

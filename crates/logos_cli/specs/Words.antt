@@ -10,7 +10,7 @@ pub use Rattle.logos_options.specs.Given.{given_value}
 pub use Rattle.logos_options.specs.Paths.{texts_of}
 pub use Rattle.logos_report.specs.Faults.{faults_texts}
 pub use Rattle.logos_report.specs.Pages.{StandInOrder}
-pub use Rattle.logos_report.specs.Turns.{sizes_of}
+pub use Rattle.logos_report.specs.Sets.{sizes_of}
 pub use Rattle.logos_rust_file.specs.Handed.{Refuses}
 pub use Rattle.logos_token.specs.Faults.{Fault}
 pub use Rattle.std.specs.Io.KnownBytes.{Appends, Keeps}
