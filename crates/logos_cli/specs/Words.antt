@@ -1,4 +1,5 @@
 -- Definitions that clauses cite: of lower crates, and those of this one that name no type of it.
+pub use Rattle.logos_causes.specs.Sets.{HasSets}
 pub use Rattle.logos_codegen.specs.Source.{IsRefused}
 pub use Rattle.logos_derive.specs.declared.answering.Answer.{Answer}
 pub use Rattle.logos_expand.specs.Expanding.{IsExpanded}
