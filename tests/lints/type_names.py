@@ -33,7 +33,6 @@ STAYS = {
     "Flags": ("options pattern_tokens", NOT_YET),
     "Kind": ("lexeme pattern_tokens rust_file", NOT_YET),
     "Lexed": ("answers relex", NOT_YET),
-    "Listing": ("graph report", NOT_YET),
     "Literal": ("pattern token", "a literal of a source, and one that spells a pattern, both public"),
     "Mark": ("code derive", NOT_YET),
     "Order": ("cli questions reduce", NOT_YET),
@@ -43,16 +42,12 @@ STAYS = {
     "Reading": ("inspect scan", NOT_YET),
     "Request": ("cli questions", NOT_YET),
     "Rows": ("reduce tables", "a list of rows, of two kinds of tables"),
-    "Shown": ("messages report show", NOT_YET),
-    "Site": ("expand warnings", NOT_YET),
-    "Spot": ("derive report show type_reader", NOT_YET),
+    "Shown": ("messages show", NOT_YET),
+    "Spot": ("derive show type_reader", NOT_YET),
     "Stand": ("machine search", NOT_YET),
     "Standing": ("host show", NOT_YET),
-    "State": ("graph report", NOT_YET),
     "Step": ("code options", NOT_YET),
     "Stop": ("pattern_tokens show", NOT_YET),
-    "Turn": ("machine report", NOT_YET),
-    "Window": ("report stream", NOT_YET),
 }
 
 

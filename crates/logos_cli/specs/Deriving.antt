@@ -1,5 +1,6 @@
 -- The answer to the derive macro.
 use Rattle.std.specs.Prelude.{◌≡◌, ◌++◌, ℕ, List, Bool, codes}
+use Rattle.logos_causes.specs.Sets.{HasSets}
 use Rattle.logos_code.specs.Code.{CodeValue}
 use Rattle.logos_expand.specs.Expanding.{IsLexerText, IsShown}
 use Rattle.logos_host.specs.declared.message_format.MessageFormat.{MessageFormat}
@@ -47,7 +48,7 @@ pub record AreFaultLines (source : SourceValue) (faults : List Fault) (lines : L
   pub are : AreMessages source 0 faults messages
 
 -- What is shown of the faults of an enum: a report of all of them, in order, with or without
--- colors, where sets of ambiguous leaves with these sizes have one report each, or lines of JSON.
+-- colors, where each set of ambiguous leaves of the enum has one report, or lines of JSON.
 abbrev pub ShowsErrors : MessageFormat → SourceValue → List Fault → List ℕ → Type 0
-ShowsErrors Human source faults shown = (is_colored : Bool) × (sizes : List ℕ) × StandInOrder (faults_texts is_colored source 0 sizes faults) shown
+ShowsErrors Human source faults shown = (is_colored : Bool) × (sizes : List ℕ) × HasSets source.text sizes × StandInOrder (faults_texts is_colored source 0 sizes faults) shown
 ShowsErrors Json source faults shown = AreFaultLines source faults shown

@@ -1,8 +1,8 @@
 //! The answer to the derive macro: the implementation of one enum, with placeholders for what the
 //! user wrote.
 
-ghost use Rattle.std.specs.Prelude.{IfErr, IfOk, List, ℕ, string_bytes};
-ghost use Rattle.logos_cli.specs.Views.{IsRefused, faults_texts, StandInOrder, sizes_of, Refuses, AreFaultLines, IsDerived, IsDerivedBy, ShowsErrors};
+ghost use Rattle.std.specs.Prelude.{IfErr, IfOk, string_bytes};
+ghost use Rattle.logos_cli.specs.Views.{IsRefused, faults_texts, StandInOrder, sizes_of, Refuses, AreFaultLines, HasSets, IsDerived, IsDerivedBy, ShowsErrors};
 
 use logos_causes::{
     Explained, Showing, add_lexer, add_text, add_warnings, explain, push_warned, warning_text,
@@ -125,7 +125,9 @@ pub(crate) fn refusal_lines(
 }
 
 /// Returns what is known of an enum that is refused, with all its warnings.
-fn known_of(alloc: Global, source: &str) -> Result<Explained, Memory> {
+fn known_of(alloc: Global, source: &str) -> Result<Explained, Memory>
+    ensures { IfOk result (λ known. HasSets source.now (sizes_of known.clues)) }
+{
     let mut warned = Vec::new(alloc);
     add_text(source, 0, true, &mut warned)?;
     let Explained { clues, warnings } = explain(alloc, source)?;
@@ -157,8 +159,8 @@ fn report_lines(
     errors: &Errors,
     known: &Explained,
 ) -> Result<Vec<u8>, Memory>
-    ensures { IfOk result (λ lines. (sizes : List ℕ) × StandInOrder
-        (faults_texts is_colored source.now 0 sizes errors.now) lines.items) }
+    ensures { IfOk result (λ lines. StandInOrder
+        (faults_texts is_colored source.now 0 (sizes_of known.now.clues) errors.now) lines.items) }
 {
     match report_text(source, is_colored, errors, known) {
         Ok(text) => Ok(text.into_bytes()),

@@ -3,6 +3,7 @@ use Rattle.std.specs.Prelude.{◌≡◌, ◌≢◌, ◌⊎◌, ◌++◌, ℕ, Bo
 use Rattle.logos_host.specs.declared.message_format.MessageFormat.{MessageFormat}
 use Rattle.logos_host.specs.declared.message_format.MessageFormat.TheVariants.{Human, Json}
 use Rattle.logos_expand.specs.declared.shape.Shape.{Shape}
+use Rattle.logos_causes.specs.Sets.{HasSets}
 use Rattle.logos_codegen.specs.Source.{IsRefused}
 use Rattle.logos_expand.specs.declared.expanding.Gathered.{Gathered}
 use Rattle.logos_report.specs.declared.refused.Refused.{Refused}
@@ -16,9 +17,11 @@ use Rattle.logos_host.specs.Failures.{status_of}
 use Rattle.logos_report.specs.Pages.{StandInOrder}
 use Rattle.logos_report.specs.Parts.{refused_texts}
 use Rattle.logos_report.specs.Places.{SourceValue}
+use Rattle.logos_report.specs.Sets.{sizes_of}
 use Rattle.logos_messages.specs.Messages.{AreMessages}
 
--- Each enum that derives `Logos` gives a part or has faults, in order, and no other one does.
+-- Each enum that derives `Logos` gives a part or has faults, in order, and no other one does. Of
+-- one that has faults all sets of ambiguous leaves are known.
 pub data Gathers (shape : Shape) (text : List ℕ) : List FoundEnum → List Replacement → List Refused → Type 0 where
   ended : Gathers shape text [] [] []
   stays : {one : FoundEnum} {rest : List FoundEnum} {parts : List Replacement} {refused : List Refused} →
@@ -27,7 +30,8 @@ pub data Gathers (shape : Shape) (text : List ℕ) : List FoundEnum → List Rep
       one.derives ≡ true → part.span ≡ one.span → IsExpansion shape (text_at text one) (string_bytes part.text) → Gathers shape text rest parts refused →
       Gathers shape text (one ∷ rest) (part ∷ parts) refused
   refuses : {one : FoundEnum} {bad : Refused} {rest : List FoundEnum} {parts : List Replacement} {refused : List Refused} →
-      one.derives ≡ true → bad.offset ≡ one.span.from → IsRefused (text_at text one) bad.errors → Gathers shape text rest parts refused →
+      one.derives ≡ true → bad.offset ≡ one.span.from → IsRefused (text_at text one) bad.errors → HasSets (text_at text one) (sizes_of bad.clues) →
+      Gathers shape text rest parts refused →
       Gathers shape text (one ∷ rest) parts (bad ∷ refused)
 
 -- All these enums were gathered.

@@ -1,7 +1,7 @@
 //! A file with the derive of its lexers expanded.
 
 ghost use Rattle.std.specs.Prelude.{◌≡◌, ◌≤◌, ◌++◌, All, IfErr, IfOk, IsTrue, OnOk, length, map, string_bytes};
-ghost use Rattle.logos_expand.specs.Views.{IsRefused, AreInOrder, IsFoundCut, found_span, part_span, AreEnumsOf, StandInOrder, Refuses, IsExpanded, IsExpansion, IsFileOf, IsShown, IsUnreadable, config_of, AreRefused, EndsWithLines, FailsFor, GathersAll, ShowsRefused, refused_texts, AddsRefusal, GathersOne, IsExpansionBy};
+ghost use Rattle.logos_expand.specs.Views.{IsRefused, AreInOrder, IsFoundCut, found_span, part_span, AreEnumsOf, StandInOrder, Refuses, IsExpanded, IsExpansion, IsFileOf, IsShown, IsUnreadable, config_of, AreRefused, EndsWithLines, FailsFor, GathersAll, ShowsRefused, refused_texts, AddsRefusal, GathersOne, HasSets, IsExpansionBy, sizes_of};
 
 use crate::head::with_head;
 use crate::printing::{Site, printed_with};
@@ -218,7 +218,9 @@ fn gather_enum(
 
 /// Returns what is known of an enum that is refused, and adds its warnings. Its text begins at an
 /// offset of the file.
-fn clues_of(text: &str, offset: usize, warned: &mut Vec<Warning>) -> Result<Clues, Memory> {
+fn clues_of(text: &str, offset: usize, warned: &mut Vec<Warning>) -> Result<Clues, Memory>
+    ensures { IfOk result (λ clues. HasSets text.now (sizes_of clues)) }
+{
     let Explained { clues, warnings } = explain(*warned.allocator(), text)?;
     add_warnings(offset, warnings, warned)?;
     Ok(clues)
@@ -231,7 +233,7 @@ fn push_refusal(
     refusal: Refusal,
     clues: Clues,
 ) -> Result<(), Memory>
-    ensures { OnOk result (AddsRefusal offset refusal refused.old.items refused.new.items) }
+    ensures { OnOk result (AddsRefusal offset refusal clues refused.old.items refused.new.items) }
 {
     match refusal {
         Refusal::Errors(errors) => {

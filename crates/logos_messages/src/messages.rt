@@ -8,7 +8,7 @@ use crate::line::Line;
 use crate::marked::LONG;
 use crate::notes::push_notes;
 use crate::spans::{push_other, push_span};
-use logos_report::{Clues, Member, Page, Part, Start, Turn, first_turn, push_fault};
+use logos_report::{Clues, Member, NextFaults, Page, Part, Start, first_faults, push_fault};
 use logos_token::error::{Errors, Memory, SpannedError};
 use logos_token::token::Span;
 use std::alloc::{AllocError, Global};
@@ -34,23 +34,23 @@ pub fn push_messages(
         × AreMessages part.entry.source.now part.entry.offset errors.now added) }
     ensures unchanged { OnErr result (lines.new.items ≡ lines.old.items) }
 {
-    let mut added = message_lines(alloc, part, errors.list(), first_turn(clues))?;
+    let mut added = message_lines(alloc, part, errors.list(), first_faults(clues))?;
     lines.append(&mut added)?;
     Ok(())
 }
 
-/// Returns the lines of these faults, of which sets of ambiguous leaves come first in this turn.
+/// Returns the lines of these faults, of which these come first.
 fn message_lines(
     alloc: Global,
     part: Part<'_, '_>,
     faults: &[SpannedError],
-    first: Turn<'_>,
+    first: NextFaults<'_>,
 ) -> Result<Vec<u8>, AllocError>
     ensures { IfOk result (λ lines. AreMessages part.entry.source.now part.entry.offset
         (faults_of faults.now) lines.items) }
 {
     let mut lines = Vec::new(alloc);
-    let mut turn = first;
+    let mut next = first;
     for fault in faults {
         lines = with_message(
             lines,
@@ -59,11 +59,11 @@ fn message_lines(
                 part,
                 faults,
                 fault,
-                member: turn.member(fault),
-                starts: turn.starts(fault.code),
+                member: next.member(fault),
+                starts: next.starts(fault.code),
             },
         )?;
-        turn = turn.after(fault);
+        next = next.after(fault);
     }
     Ok(lines)
 }

@@ -4,7 +4,7 @@ ghost use Rattle.std.specs.Prelude.{◌≡◌, ◌++◌, ◌+◌, ◌<◌, ◌^�
 ghost use Rattle.logos_report.specs.Pages.{PageValue};
 ghost use Rattle.logos_report.specs.Views.{Shows, all_faults, count_by, faults_of, has_name, listed_faults, name_of, refused_texts, seen_of, texts_from};
 
-use crate::clues::{Clues, first_turn};
+use crate::clues::{Clues, first_faults};
 use crate::faults::{MOST, count_code, push_all, seen_of};
 use crate::page::Page;
 use crate::source::{Part, Source};
@@ -23,7 +23,7 @@ pub struct Refused {
 
 /// The faults of a part of a file, and the parts around it.
 #[derive(Clone, Copy)]
-pub(crate) struct Listing<'f> {
+pub(crate) struct FaultListing<'f> {
     /// The parts in front of it.
     pub(crate) earlier: &'f [Refused],
     /// Its faults.
@@ -52,7 +52,7 @@ fn push_part(page: &mut Page, source: &Source<'_>, refused: &[Refused], number: 
 {
     let one = &refused[number];
     let offset = one.offset;
-    let listing = Listing {
+    let listing = FaultListing {
         earlier: &refused[..number],
         faults: one.errors.list(),
         later: &refused[number + 1..],
@@ -61,7 +61,7 @@ fn push_part(page: &mut Page, source: &Source<'_>, refused: &[Refused], number: 
         page,
         Part { source, offset },
         listing,
-        first_turn(&one.clues),
+        first_faults(&one.clues),
     );
 }
 
@@ -83,7 +83,7 @@ pub(crate) fn seen_in(earlier: &[Refused], front: &[SpannedError], code: FaultCo
 }
 
 /// Returns how many faults of a part and of those around it have a code, or the largest number.
-pub(crate) fn count_in(listing: Listing<'_>, code: FaultCode) -> usize
+pub(crate) fn count_in(listing: FaultListing<'_>, code: FaultCode) -> usize
     ensures { result ≡ min (count_by (has_name (name_of code)) (listed_faults listing.entry))
         (2 ^ 64 - 1) }
 {
