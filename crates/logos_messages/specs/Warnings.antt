@@ -19,7 +19,7 @@ pub record IsWarningLine (source : SourceValue) (begin : ℕ) (warning : Warning
 abbrev pub WarningLines : SourceValue → ℕ → List Warning → List (List Token) → Type 0
 WarningLines source begin [] lines = lines ≡ []
 WarningLines source begin (warning ∷ warnings) lines =
-    (line : List Token) (rest : List (List Token)) × (lines ≡ line ∷ rest) × IsWarningLine source begin warning line × WarningLines source begin warnings rest
+    (line : List Token) × (rest : List (List Token)) × (lines ≡ line ∷ rest) × IsWarningLine source begin warning line × WarningLines source begin warnings rest
 
 -- These bytes are the lines of warnings.
 abbrev pub AreWarnings : SourceValue → ℕ → List Warning → List ℕ → Type 0

@@ -45,11 +45,7 @@ pub(crate) fn push_fault_line(
 }
 
 /// Appends a fault, and this report of it.
-fn push_message(
-    lines: &mut JsonLines,
-    message: FaultMessage<'_, '_, '_>,
-    rendered: Option<&str>,
-)
+fn push_message(lines: &mut JsonLines, message: FaultMessage<'_, '_, '_>, rendered: Option<&str>)
     ensures { GivesMessage message.entry.part.source.now message.entry.part.offset
         (fault_head (fault_of message.entry.fault.now)) message.entry.fault.now.span
         message.entry.fault.now.also (option_map (λ t. t.now) rendered.entry)
@@ -64,10 +60,7 @@ fn push_message(
 }
 
 /// Returns the report of a fault without colors, or `None` if its lines are long.
-fn rendered(
-    alloc: Global,
-    message: FaultMessage<'_, '_, '_>,
-) -> Result<Option<String>, AllocError>
+fn rendered(alloc: Global, message: FaultMessage<'_, '_, '_>) -> Result<Option<String>, AllocError>
     ensures { IfOk result (λ text. IfSome text (λ text. StandInOrder (fault_texts false
         message.entry.part.source.now message.entry.part.offset
         (fault_of message.entry.fault.now)) (string_bytes text))) }

@@ -3,8 +3,8 @@
 ghost use Rattle.std.specs.Prelude.{◌≡◌, [], ◌∷◌, option_map, string_bytes};
 ghost use Rattle.logos_messages.specs.Words.{Gains, GivesNoteList, GivesNotes, list_member, note_tokens, nothing_tokens};
 
-use logos_json::JsonLines;
 use crate::fault::FaultMessage;
+use logos_json::JsonLines;
 use logos_report::{MOST, Member, Part, Start, help_of};
 use logos_token::error::SpannedError;
 

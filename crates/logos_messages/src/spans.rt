@@ -3,8 +3,8 @@
 ghost use Rattle.std.specs.Prelude.{◌≡◌, [], ◌∷◌, List, Some, None, codes, option_map};
 ghost use Rattle.logos_messages.specs.Words.{Gains, GivesOther, GivesSpan, GivesSpanList, bytes_tokens, label_tokens, positions_tokens};
 
-use logos_json::JsonLines;
 use crate::marked::{LONG, Reach, push_lines};
+use logos_json::JsonLines;
 use logos_report::Part;
 use logos_token::token::Span;
 
@@ -36,12 +36,7 @@ fn push_other(lines: &mut JsonLines, part: Part<'_, '_>, also: Option<Span>)
 
 /// Appends the spans of a fault or a warning, as a member: the one that it is about, and the second
 /// one, if it has one.
-pub(crate) fn push_spans(
-    lines: &mut JsonLines,
-    part: Part<'_, '_>,
-    span: Span,
-    also: Option<Span>,
-)
+pub(crate) fn push_spans(lines: &mut JsonLines, part: Part<'_, '_>, span: Span, also: Option<Span>)
     ensures { GivesSpanList part.entry.source.now part.entry.offset span also lines.old lines.new }
 {
     lines.begin_list("spans");

@@ -16,7 +16,7 @@ mod source;
 mod warnings;
 mod window;
 
-pub use clues::{Clues, Meeting, Member, Start, NextFaults, first_faults};
+pub use clues::{Clues, Meeting, Member, NextFaults, Start, first_faults};
 pub use faults::{
     MOST, count_errors, first_line, is_error, push_fault, push_faults, push_rest, push_summary,
 };
