@@ -48,7 +48,7 @@ fn push_line(lines: &mut JsonLines, source: &Source<'_>, reach: Reach, number: u
 {
     if let Some(text) = source.short_line(number, LONG) {
         push_marked(
-            line,
+            lines,
             text,
             first_column(reach, number),
             last_column(reach, number, text),

@@ -106,7 +106,7 @@ fn push_note(lines: &mut JsonLines, level: &str, text: &str)
     lines.push_text("message", text);
     lines.push_null("code");
     lines.push_text("level", level);
-    push_nothing_else(line);
+    push_nothing_else(lines);
     lines.end_object();
 }
 

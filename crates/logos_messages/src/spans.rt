@@ -70,7 +70,7 @@ fn push_label(lines: &mut JsonLines, label: Option<&str>)
 {
     match label {
         Some(label) => push_other_label(lines, label),
-        None => push_primary(line),
+        None => push_primary(lines),
     }
 }
 
