@@ -8,8 +8,8 @@ use Rattle.logos_host.specs.declared.message_format.MessageFormat.TheVariants.{H
 use Rattle.logos_expand.specs.declared.shape.Shape.{Shape}
 use Rattle.logos_derive.specs.Answers.{IsAnswer}
 use Rattle.logos_derive.specs.declared.answering.Answer.{Answer}
+use Rattle.logos_json.specs.Lines.{IsLine}
 use Rattle.logos_messages.specs.Answers.{version_tokens}
-use Rattle.logos_messages.specs.Lines.{IsLine}
 use Rattle.logos_messages.specs.Messages.{AreMessages}
 use Rattle.logos_messages.specs.Warnings.{AreWarnings}
 use Rattle.logos_report.specs.declared.warnings.Warning.{Warning}

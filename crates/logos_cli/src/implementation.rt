@@ -12,7 +12,7 @@ use logos_codegen::{Generated, Refusal, generate};
 use logos_derive::{Answer, make_answer};
 use logos_expand::{Shape, config_of, lexer_text};
 use logos_host::MessageFormat;
-use logos_messages::{Piece, push_messages, push_pieces, push_version, push_warning_messages};
+use logos_messages::{PieceRange, push_messages, push_pieces, push_version, push_warning_messages};
 use logos_report::{Page, Part, Source, Warning, count_errors, push_faults, push_summary};
 use std::alloc::{AllocError, Global};
 
@@ -97,10 +97,10 @@ fn piece_lines(
 }
 
 /// Returns the numbers and the spans of the pieces of an answer.
-fn piece_list(alloc: Global, answer: &Answer) -> Result<Vec<Piece>, Memory> {
+fn piece_list(alloc: Global, answer: &Answer) -> Result<Vec<PieceRange>, Memory> {
     let mut pieces = Vec::new(alloc);
     for piece in &answer.pieces {
-        pieces.push(Piece {
+        pieces.push(PieceRange {
             number: piece.number,
             from: piece.span.from,
             to: piece.span.to,

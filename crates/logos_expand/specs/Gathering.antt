@@ -18,7 +18,7 @@ use Rattle.logos_report.specs.Pages.{StandInOrder}
 use Rattle.logos_report.specs.Parts.{refused_texts}
 use Rattle.logos_report.specs.Places.{SourceValue}
 use Rattle.logos_report.specs.Sets.{sizes_of}
-use Rattle.logos_messages.specs.Messages.{AreMessages}
+use Rattle.logos_messages.specs.Messages.{AreRefusedMessages}
 
 -- Each enum that derives `Logos` gives a part or has faults, in order, and no other one does. Of
 -- one that has faults all sets of ambiguous leaves are known.
@@ -44,15 +44,9 @@ pub data AreRefused (shape : Shape) (text : List ℕ) (refused : List Refused) :
   whole : {bad : Refused} → refused ≡ bad ∷ [] → bad.offset ≡ 0 → IsUnreadable text bad.errors → AreRefused shape text refused
   lexers : {found : List FoundEnum} {parts : List Replacement} → AreEnumsOf text found → Gathers shape text found parts refused → refused ≢ [] → AreRefused shape text refused
 
--- These are lines of JSON, one for each fault, in order.
-abbrev pub AreLinesOf : SourceValue → List Refused → List ℕ → Type 0
-AreLinesOf source [] lines = lines ≡ []
-AreLinesOf source (one ∷ rest) lines =
-    (first more : List ℕ) × (lines ≡ first ++ more) × AreMessages source one.offset one.errors first × AreLinesOf source rest more
-
--- These lines are at the end of a text.
+-- The lines of JSON of all faults are at the end of a text.
 abbrev pub EndsWithLines : SourceValue → List Refused → List ℕ → Type 0
-EndsWithLines source refused text = (front lines : List ℕ) × (text ≡ front ++ lines) × AreLinesOf source refused lines
+EndsWithLines source refused text = (front lines : List ℕ) × (text ≡ front ++ lines) × AreRefusedMessages source refused lines
 
 -- What is shown of faults, in order: a report, with or without colors, or lines of JSON.
 abbrev pub ShowsRefused : MessageFormat → SourceValue → List Refused → List ℕ → Type 0

@@ -14,9 +14,9 @@ use logos_codegen::error::Memory;
 use logos_codegen::generator::Config;
 use logos_codegen::{Generated, Refusal, generate, strip_attributes};
 use logos_host::{Failure, MessageFormat};
-use logos_messages::push_messages;
+use logos_messages::push_refused_messages;
 use logos_report::{
-    Clues, Page, Part, Refused, Source, Warning, count_errors, push_refused, push_summary,
+    Clues, Page, Refused, Source, Warning, count_errors, push_refused, push_summary,
 };
 use logos_rust_file::{FoundEnum, Replacement, enums_in, replace};
 use logos_tables::tables;
@@ -357,7 +357,7 @@ fn faults_text(
     }
 }
 
-/// Returns a line of JSON for each warning and each fault of a file.
+/// Returns a line of JSON for each warning and each fault of a file, but no more than 50 of a code.
 fn fault_lines(
     alloc: Global,
     source: &Source<'_>,
@@ -367,16 +367,7 @@ fn fault_lines(
     ensures { IfOk result (λ lines. EndsWithLines source.now refused.now lines.items) }
 {
     let mut lines = warning_lines(alloc, source, warned)?;
-    for one in refused {
-        let offset = one.offset;
-        push_messages(
-            alloc,
-            &mut lines,
-            Part { source, offset },
-            &one.errors,
-            &one.clues,
-        )?;
-    }
+    push_refused_messages(alloc, &mut lines, source, refused)?;
     Ok(lines)
 }
 

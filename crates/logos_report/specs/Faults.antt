@@ -39,10 +39,11 @@ has_name name fault = bytes_eq (name_of fault.code) name
 abbrev pub seen_of : FaultCode → List Fault → ℕ
 seen_of code faults = min (count_by (has_name (name_of code)) faults) 51
 
--- The line that says how many faults of a code are left out.
+-- How many faults of a code are left out, as the line says it that stands in their place.
 abbrev pub rest_text : ℕ → List ℕ
 rest_text count = codes ": " ++ (decimal count ++ codes " more are not shown")
 
+-- The line that says how many faults of a code are left out.
 abbrev pub rest_line : Bool → FaultCode → ℕ → List ℕ
 rest_line is_colored code count = code_text is_colored code ++ (painted is_colored Strong (rest_text count) ++ codes "\n")
 

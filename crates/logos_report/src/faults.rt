@@ -14,7 +14,7 @@ use crate::source::Part;
 use logos_token::error::{Errors, FaultCode, SpannedError};
 
 /// How many faults of one code are shown of a file.
-pub(crate) const MOST: usize = 50;
+pub const MOST: usize = 50;
 
 /// Appends the faults of a part of a file, in order. For each, a line with the name of its code and
 /// the first line of its message, and one with its position in the file stand in what is pushed. Of
@@ -78,7 +78,7 @@ fn push_counted(
 }
 
 /// Appends how many faults of a code are left out, and an empty line.
-fn push_rest(page: &mut Page, code: FaultCode, count: usize)
+pub fn push_rest(page: &mut Page, code: FaultCode, count: usize)
     ensures { Shows (rest_line page.old.is_colored code count ∷ []) page.old page.new }
 {
     push_rest_line(page, code, count);
