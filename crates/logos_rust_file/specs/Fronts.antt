@@ -7,8 +7,8 @@ use Rattle.logos_token.specs.Views.{tokens_of}
 use Rattle.logos_enum.specs.Attributes.{after_visibility}
 use Rattle.logos_enum.specs.Extents.{after_generics}
 use Rattle.logos_enum.specs.Marks.{hash, is_outer}
-use Rattle.logos_rust_file.specs.declared.fronts.Kind.{Kind}
-use Rattle.logos_rust_file.specs.declared.fronts.Kind.TheVariants.{End, Enum, Module, Other}
+use Rattle.logos_rust_file.specs.declared.fronts.ItemKind.{ItemKind}
+use Rattle.logos_rust_file.specs.declared.fronts.ItemKind.TheVariants.{End, Enum, Module, Other}
 
 -- `;`
 abbrev pub semicolon : ℕ
@@ -23,7 +23,7 @@ pub data KindValue : Type 0 where
   is_other : (rest : TokenList) → KindValue
 
 -- The same, by the tokens of its parts.
-abbrev pub kind_value : Kind → KindValue
+abbrev pub kind_value : ItemKind → KindValue
 kind_value End = ends
 kind_value (Enum rest) = is_enum (tokens_of rest)
 kind_value (Module inside rest) = is_module (tokens_of inside) (tokens_of rest)

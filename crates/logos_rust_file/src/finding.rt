@@ -4,7 +4,7 @@ ghost use Rattle.std.specs.Prelude.{◌≡◌, ◌↔◌, ◌∷◌, [], All, If
 ghost use Rattle.logos_rust_file.specs.Views.{Fault, tokens_of, EndsReading, Refuses, AreEnumsOf, Describes, Finds, IsEnum, AreInOrder, IsFoundCut, found_span, AddsItem, AddsRun};
 
 use crate::derives::derives;
-use crate::fronts::{Kind, kind_of};
+use crate::fronts::{ItemKind, kind_of};
 use crate::names::derives_by_name;
 use logos_enum::{ReadError, read_enum};
 use logos_parser::reading::unreadable;
@@ -82,16 +82,16 @@ fn add_first<'t, 's>(
     ensures { IfOk result (AddsItem (tokens_of tokens.entry) found.old.items found.new.items) }
 {
     match kind_of(tokens) {
-        Kind::End => Ok(None),
-        Kind::Enum { rest } => {
+        ItemKind::End => Ok(None),
+        ItemKind::Enum { rest } => {
             found.push(describe(alloc, tokens.before(rest))?)?;
             Ok(Some(rest))
         }
-        Kind::Module { inside, rest } => {
+        ItemKind::Module { inside, rest } => {
             add_all(alloc, inside, found)?;
             Ok(Some(rest))
         }
-        Kind::Other { rest } => Ok(Some(rest)),
+        ItemKind::Other { rest } => Ok(Some(rest)),
     }
 }
 

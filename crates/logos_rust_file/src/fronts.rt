@@ -8,7 +8,7 @@ use logos_token::token::{Delimiter, TokenTree, Tokens};
 
 /// What a run of items begins with, after attributes and a visibility.
 #[derive(Clone, Copy)]
-pub(crate) enum Kind<'t, 's> {
+pub(crate) enum ItemKind<'t, 's> {
     /// Nothing.
     End,
     /// An enum. `rest` follows it.
@@ -27,7 +27,7 @@ pub(crate) enum Kind<'t, 's> {
 }
 
 /// Returns the kind of the item that comes first.
-pub(crate) fn kind_of<'t, 's>(tokens: Tokens<'t, 's>) -> Kind<'t, 's>
+pub(crate) fn kind_of<'t, 's>(tokens: Tokens<'t, 's>) -> ItemKind<'t, 's>
     ensures { kind_value result ≡ kind_of (tokens_of tokens.entry) }
 {
     kind_at(skip_visibility(skip_attributes(tokens)))
@@ -75,42 +75,42 @@ fn skip_attributes<'t, 's>(tokens: Tokens<'t, 's>) -> Tokens<'t, 's>
 }
 
 /// Returns the kind of an item by what follows its visibility.
-fn kind_at<'t, 's>(tokens: Tokens<'t, 's>) -> Kind<'t, 's>
+fn kind_at<'t, 's>(tokens: Tokens<'t, 's>) -> ItemKind<'t, 's>
     ensures { kind_value result ≡ kind_at (tokens_of tokens.entry) }
 {
     let Some(tree) = tokens.first() else {
-        return Kind::End;
+        return ItemKind::End;
     };
     let rest = tokens.rest();
     match tree {
-        TokenTree::Ident(word) if word.text == "enum" => Kind::Enum {
+        TokenTree::Ident(word) if word.text == "enum" => ItemKind::Enum {
             rest: skip_body(skip_head(rest)),
         },
         TokenTree::Ident(word) if word.text == "mod" => module_at(rest),
-        _ => Kind::Other { rest },
+        _ => ItemKind::Other { rest },
     }
 }
 
 /// Returns a module after its `mod`, if a name and braces come first.
-fn module_at<'t, 's>(tokens: Tokens<'t, 's>) -> Kind<'t, 's>
+fn module_at<'t, 's>(tokens: Tokens<'t, 's>) -> ItemKind<'t, 's>
     ensures { kind_value result ≡ module_in (tokens_of tokens.entry) }
 {
     match tokens.first() {
         Some(TokenTree::Ident(_)) => braced_module(tokens, tokens.rest()),
-        _ => Kind::Other { rest: tokens },
+        _ => ItemKind::Other { rest: tokens },
     }
 }
 
 /// Returns a module after its name, if braces come first. Without them `tokens` are left.
-fn braced_module<'t, 's>(tokens: Tokens<'t, 's>, after: Tokens<'t, 's>) -> Kind<'t, 's>
+fn braced_module<'t, 's>(tokens: Tokens<'t, 's>, after: Tokens<'t, 's>) -> ItemKind<'t, 's>
     ensures { kind_value result ≡ braced_in (tokens_of tokens.entry) (tokens_of after.entry) }
 {
     match after.first() {
-        Some(TokenTree::Group(group)) if group.delimiter == Delimiter::Brace => Kind::Module {
+        Some(TokenTree::Group(group)) if group.delimiter == Delimiter::Brace => ItemKind::Module {
             inside: group.run(),
             rest: after.rest(),
         },
-        _ => Kind::Other { rest: tokens },
+        _ => ItemKind::Other { rest: tokens },
     }
 }
 
