@@ -5,7 +5,7 @@ ghost use Rattle.std.specs.Prelude.{IfErr, IfOk, List, ℕ, string_bytes};
 ghost use Rattle.logos_cli.specs.Views.{IsRefused, faults_texts, StandInOrder, sizes_of, Refuses, AreFaultLines, IsDerived, IsDerivedBy, ShowsErrors};
 
 use logos_causes::{
-    Explained, Showing, add_lexer, add_text, add_warnings, explain, push_warned, warning_text,
+    Explained, Showing, add_lexer, add_text, explain_enum, push_warned, warning_text,
 };
 use logos_codegen::error::{Errors, Memory};
 use logos_codegen::{Generated, Refusal, generate};
@@ -117,23 +117,11 @@ pub(crate) fn refusal_lines(
 ) -> Result<Vec<u8>, Memory>
     ensures { IfOk result (λ lines. ShowsErrors showing.format source.now errors.now lines.items) }
 {
-    let known = known_of(showing.alloc, source.text())?;
+    let known = explain_enum(showing.alloc, source.text())?;
     match showing.format {
         MessageFormat::Human => report_lines(source, showing.is_colored, errors, &known),
         MessageFormat::Json => message_lines(source, errors, &known),
     }
-}
-
-/// Returns what is known of an enum that is refused, with all its warnings.
-fn known_of(alloc: Global, source: &str) -> Result<Explained, Memory> {
-    let mut warned = Vec::new(alloc);
-    add_text(source, 0, true, &mut warned)?;
-    let Explained { clues, warnings } = explain(alloc, source)?;
-    add_warnings(0, warnings, &mut warned)?;
-    Ok(Explained {
-        clues,
-        warnings: warned,
-    })
 }
 
 /// Returns the faults of an enum as lines of JSON, after the line that names the protocol and those

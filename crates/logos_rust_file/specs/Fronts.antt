@@ -1,8 +1,9 @@
 -- The items of a file as runs of tokens: what comes before an item, and which kind of item it is.
-use Rattle.std.specs.Prelude.{ℕ, ◌==◌, if◌then◌else◌, Bool, true, false, codes}
+use Rattle.std.specs.Prelude.{ℕ, ◌==◌, if◌then◌else◌, Bool, true, false, codes, Option, Some, None}
 use Rattle.std.specs.Str.{bytes_eq}
 use Rattle.logos_lexeme.specs.declared.lexeme.Delimiter.TheVariants.{Bracket, Brace}
-use Rattle.logos_token.specs.Tokens.{Token, TokenList, identifier, punctuation, doc, group, none, also}
+use Rattle.logos_lexeme.specs.declared.lexeme.Span.{Span}
+use Rattle.logos_token.specs.Tokens.{Token, TokenList, identifier, punctuation, doc, group, none, also, rest_of}
 use Rattle.logos_token.specs.Views.{tokens_of}
 use Rattle.logos_enum.specs.Attributes.{after_visibility}
 use Rattle.logos_enum.specs.Extents.{after_generics}
@@ -81,3 +82,13 @@ kind_at (also token rest) = is_other rest
 -- The kind of the item that comes first.
 abbrev pub kind_of : TokenList → KindValue
 kind_of run = kind_at (after_visibility (after_attributes run))
+
+-- The span of the identifier that comes first, if one does.
+abbrev pub name_at : TokenList → Option Span
+name_at (also (identifier text span) rest) = Some span
+name_at run = None
+
+-- The span of the name of an enum with these tokens: of the identifier that follows `enum`, if one
+-- does.
+abbrev pub name_of : TokenList → Option Span
+name_of item = name_at (rest_of (after_visibility (after_attributes item)))

@@ -1,10 +1,10 @@
-//! What comes before an item, and which kind of item it is.
+//! What comes before an item, which kind of item it is, and the name of an enum.
 
 ghost use Rattle.std.specs.Prelude.{◌≡◌, ◌<◌, MatchOption};
-ghost use Rattle.logos_rust_file.specs.Views.{Token, also, count_of, tokens_of, tree_of, after_attributes, after_body, after_hash, after_head, braced_in, ends_body, kind_at, kind_of, kind_value, module_in};
+ghost use Rattle.logos_rust_file.specs.Views.{Token, also, count_of, tokens_of, tree_of, after_attributes, after_body, after_hash, after_head, braced_in, ends_body, kind_at, kind_of, kind_value, module_in, name_at, name_of};
 
 use logos_enum::{is_outer, skip_generics, skip_visibility};
-use logos_token::token::{Delimiter, TokenTree, Tokens};
+use logos_token::token::{Delimiter, Span, TokenTree, Tokens};
 
 /// What a run of items begins with, after attributes and a visibility.
 #[derive(Clone, Copy)]
@@ -147,5 +147,23 @@ fn ends_body(tree: TokenTree<'_, '_>) -> bool
         TokenTree::Group(group) => group.delimiter == Delimiter::Brace,
         TokenTree::Punct(punct) => punct.character == ';',
         _ => false,
+    }
+}
+
+/// Returns the span of the name of an enum with these tokens: of the identifier that follows
+/// `enum`, if one does.
+pub(crate) fn name_of(item: Tokens<'_, '_>) -> Option<Span>
+    ensures { result ≡ name_of (tokens_of item.entry) }
+{
+    name_at(skip_visibility(skip_attributes(item)).rest())
+}
+
+/// Returns the span of the identifier that comes first, if one does.
+fn name_at(tokens: Tokens<'_, '_>) -> Option<Span>
+    ensures { result ≡ name_at (tokens_of tokens.entry) }
+{
+    match tokens.first() {
+        Some(TokenTree::Ident(word)) => Some(word.span),
+        _ => None,
     }
 }
