@@ -189,13 +189,26 @@ fn accept_analysis<'s>(analysis: Analysis<'s>) -> Result<(Graph<'s>, EnumHead<'s
         analysis.entry.parser.errors)) }
     ensures head { IfOk result (λ made. IsHeadOf (analysis_view analysis.entry) made.1) }
 {
-    let Analysis { name, span, this, leaves, parser } = analysis;
+    let Analysis {
+        name,
+        span,
+        this,
+        leaves,
+        parser,
+    } = analysis;
     let mut options = parser;
     let mode = options.is_utf8();
     let none = Errors::new(options.errors.alloc());
     let errors = mem::replace(&mut options.errors, none);
     match faultless_graph(leaves, mode, span, errors) {
-        Ok(graph) => Ok((graph, EnumHead { name, this, options })),
+        Ok(graph) => Ok((
+            graph,
+            EnumHead {
+                name,
+                this,
+                options,
+            },
+        )),
         Err(refusal) => Err(refusal),
     }
 }
@@ -226,14 +239,7 @@ fn code_of<'s>(
         (parser_view head.now.options) graph.now) }
 {
     let callback = callback_in(&head.options);
-    let mut generator = Generator::new(
-        alloc,
-        config,
-        head.name,
-        &head.this,
-        graph,
-        callback,
-    );
+    let mut generator = Generator::new(alloc, config, head.name, &head.this, graph, callback);
     generator.generate(alloc)
 }
 
@@ -271,7 +277,13 @@ fn put_together<'s>(code: Code<'s>, graph: Graph<'s>, head: EnumHead<'s>) -> Gen
         ≡ option_map (λ e. e.path) (parser_view head.entry.options).export_path }
 {
     let EnumHead { name, options, .. } = head;
-    let Parser { logos_path, error_type, extras, export_path, .. } = options;
+    let Parser {
+        logos_path,
+        error_type,
+        extras,
+        export_path,
+        ..
+    } = options;
     Generated {
         code,
         graph,

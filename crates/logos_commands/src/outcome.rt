@@ -4,7 +4,7 @@ ghost use Rattle.std.specs.Prelude.{◌≡◌, ◌≢◌, ◌++◌, ◌∷◌, [
 ghost use Rattle.logos_commands.specs.Views.{ident_slice, mermaid_of, StandInOrder, texts_of, export_destination, file_at, EndsWithLine, FailsAt, effect_of, status_of, IsLeft, IsPart, IsPartOf, ReadsSource, prints, shape_of, RefusesExport, RefusesLexer, RefusesStripping};
 
 use crate::chart_path::chart_path;
-use crate::failure::{ExportRefusal, CommandFailure};
+use crate::failure::{CommandFailure, ExportRefusal};
 use crate::reading::read_text;
 use logos_codegen::generator::Config;
 use logos_codegen::graph::{Graph, State};
@@ -56,7 +56,11 @@ pub(super) fn of_file<'w, F: Files>(
 }
 
 /// Makes the outcome of a command on a source.
-fn of_source(alloc: Global, source: &str, asked: Asked) -> Result<CommandOutcome, CommandFailure<'static>>
+fn of_source(
+    alloc: Global,
+    source: &str,
+    asked: Asked,
+) -> Result<CommandOutcome, CommandFailure<'static>>
     ensures done { IfOk result (λ outcome. IsPartOf asked source.now (effect_of outcome)) }
     ensures denied { IfErr result (λ failure. status_of failure ≡ 1 →
         RefusesLexer source.now asked failure) }
@@ -78,7 +82,11 @@ fn shape_of(asked: Asked) -> Config
 }
 
 /// Makes the outcome of a command on a lexer.
-fn of_lexer(alloc: Global, made: &Generated<'_>, asked: Asked) -> Result<CommandOutcome, CommandFailure<'static>>
+fn of_lexer(
+    alloc: Global,
+    made: &Generated<'_>,
+    asked: Asked,
+) -> Result<CommandOutcome, CommandFailure<'static>>
     ensures part { IfOk result (λ outcome. IsPart asked made.now.graph made.now.code
         (ident_slice made.now.name) (option_map string_bytes made.now.export_path)
         (effect_of outcome)) }
@@ -137,7 +145,10 @@ fn stripped_source(alloc: Global, source: &str) -> Result<String, CommandFailure
 }
 
 /// Makes the chart of the graph of a lexer, for the file that its source names.
-fn export_of_lexer(alloc: Global, made: &Generated<'_>) -> Result<CommandOutcome, CommandFailure<'static>>
+fn export_of_lexer(
+    alloc: Global,
+    made: &Generated<'_>,
+) -> Result<CommandOutcome, CommandFailure<'static>>
     ensures chart { IfOk result (λ outcome. IsPart Asked.Export made.now.graph made.now.code
         (ident_slice made.now.name) (option_map string_bytes made.now.export_path)
         (effect_of outcome)) }
@@ -187,7 +198,12 @@ fn test_neighbours(alloc: Global, graph: &Graph<'_>) -> Result<(), CommandFailur
 }
 
 /// Refuses two different states if no text shows a difference between them.
-fn test_pair(alloc: Global, graph: &Graph<'_>, s: State, t: State) -> Result<(), CommandFailure<'static>>
+fn test_pair(
+    alloc: Global,
+    graph: &Graph<'_>,
+    s: State,
+    t: State,
+) -> Result<(), CommandFailure<'static>>
     ensures { IfErr result (λ failure. status_of failure ≡ 3) }
 {
     let is_pair = graph.contains(s) & graph.contains(t);

@@ -7,7 +7,10 @@ use crate::failure::CommandFailure;
 use logos_host::{FileError, Files};
 
 /// Reads all bytes of a file.
-pub(super) fn read<'w, F: Files>(path: &'w str, files: &mut F) -> Result<Vec<u8>, CommandFailure<'w>>
+pub(super) fn read<'w, F: Files>(
+    path: &'w str,
+    files: &mut F,
+) -> Result<Vec<u8>, CommandFailure<'w>>
     ensures ok { IfOk result (λ bytes. F.read_gives files.old path.now bytes.items files.new) }
     ensures err { IfErr result (λ failure. status_of failure ≡ 3) }
 {
@@ -18,7 +21,10 @@ pub(super) fn read<'w, F: Files>(path: &'w str, files: &mut F) -> Result<Vec<u8>
 }
 
 /// Reads the text of a file.
-pub(super) fn read_text<'w, F: Files>(path: &'w str, files: &mut F) -> Result<String, CommandFailure<'w>>
+pub(super) fn read_text<'w, F: Files>(
+    path: &'w str,
+    files: &mut F,
+) -> Result<String, CommandFailure<'w>>
     ensures ok { IfOk result (λ text.
         F.read_gives files.old path.now (string_bytes text) files.new) }
     ensures err { IfErr result (λ failure. status_of failure ≡ 3) }

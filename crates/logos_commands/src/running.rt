@@ -145,7 +145,11 @@ fn write_out<O: Write>(text: &str, out: &mut O) -> Result<(), CommandFailure<'st
 }
 
 /// Writes a text to a file.
-fn write_file<F: Files>(path: String, text: &str, files: &mut F) -> Result<(), CommandFailure<'static>>
+fn write_file<F: Files>(
+    path: String,
+    text: &str,
+    files: &mut F,
+) -> Result<(), CommandFailure<'static>>
     ensures done { OnOk result (F.write_makes files.old (string_bytes path) text.now files.new) }
     ensures failed { IfErr result (λ failure. status_of failure ≡ 3) }
 {

@@ -302,7 +302,13 @@ fn expansion_by(
 {
     let alloc = *warned.allocator();
     add_text(source, site.offset, true, warned)?;
-    add_lexer(source, site.offset, &made.graph, made.code.error_callback(), warned)?;
+    add_lexer(
+        source,
+        site.offset,
+        &made.graph,
+        made.code.error_callback(),
+        warned,
+    )?;
     let left = strip_enum(alloc, source)?;
     printed_with(alloc, source, left.run(), site, made)
 }
