@@ -6,8 +6,8 @@ use Rattle.logos_expand.specs.Expanding.{IsLexerText, IsShown}
 use Rattle.logos_host.specs.declared.message_format.MessageFormat.{MessageFormat}
 use Rattle.logos_host.specs.declared.message_format.MessageFormat.TheVariants.{Human, Json}
 use Rattle.logos_expand.specs.declared.shape.Shape.{Shape}
-use Rattle.logos_derive.specs.Answers.{IsAnswer}
-use Rattle.logos_derive.specs.declared.answering.Answer.{Answer}
+use Rattle.logos_derive.specs.Templates.{IsTemplate}
+use Rattle.logos_derive.specs.declared.answering.Template.{Template}
 use Rattle.logos_json.specs.Lines.{IsLine}
 use Rattle.logos_messages.specs.Answers.{version_tokens}
 use Rattle.logos_messages.specs.Messages.{AreMessages}
@@ -24,16 +24,16 @@ abbrev pub standard_input : List ℕ → SourceValue
 standard_input text = record { path = codes "<stdin>"; text = text }
 
 -- This is the implementation of an enum without faults, with placeholders for pieces of its source.
-pub record IsDerived (shape : Shape) (source : List ℕ) (answer : Answer) : Type 0 where
+pub record IsDerived (shape : Shape) (source : List ℕ) (answer : Template) : Type 0 where
   pub text : List ℕ
   pub lexer : IsLexerText shape source text
-  pub is : IsAnswer source text answer
+  pub is : IsTemplate source text answer
 
 -- The same of an implementation that is printed from a code.
-pub record IsDerivedBy (shape : Shape) (code : CodeValue) (source : List ℕ) (answer : Answer) : Type 0 where
+pub record IsDerivedBy (shape : Shape) (code : CodeValue) (source : List ℕ) (answer : Template) : Type 0 where
   pub text : List ℕ
   pub shown : IsShown shape code text
-  pub is : IsAnswer source text answer
+  pub is : IsTemplate source text answer
 
 -- These are the line that names the protocol and the program, a line of JSON for each warning that
 -- is shown, and one for each fault, in order.

@@ -1,7 +1,7 @@
 -- Definitions that clauses cite: of lower crates, and those of this one that name no type of it.
 pub use Rattle.logos_causes.specs.Sets.{HasSets}
 pub use Rattle.logos_codegen.specs.Source.{IsRefused}
-pub use Rattle.logos_derive.specs.declared.answering.Answer.{Answer}
+pub use Rattle.logos_derive.specs.declared.answering.Template.{Template}
 pub use Rattle.logos_expand.specs.Expanding.{IsExpanded}
 pub use Rattle.logos_expand.specs.Gathering.{FailsBy, IsRefusedFor}
 pub use Rattle.logos_host.specs.Failures.{status_of}

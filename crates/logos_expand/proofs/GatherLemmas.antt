@@ -3,10 +3,11 @@ use Rattle.std.proofs.Common.{◌≡◌, ◌==◌, ◌≤◌, ◌<◌, ◌+◌, 
 use Rattle.std.proofs.lemmas.List.{append-nil}
 use Rattle.std.proofs.Math.Seq.{drop-cons}
 use Rattle.std.proofs.Math.ListN.{drop_of_length-le}
+use Rattle.logos_automaton.specs.Munch.{Rule}
 use Rattle.logos_code.specs.Code.{CodeValue}
 use Rattle.logos_expand.specs.declared.shape.Shape.{Shape}
 use Rattle.logos_codegen.specs.Given.{IsGiven}
-use Rattle.logos_codegen.specs.Source.{IsRefused}
+use Rattle.logos_codegen.specs.Source.{IsAccepted, IsRefused, IsWithinSizes}
 use Rattle.logos_codegen.specs.Source.IsRefused.{unread}
 use Rattle.logos_expand.specs.declared.expanding.Gathered.{Gathered}
 use Rattle.logos_causes.specs.Sets.{HasSets}
@@ -30,6 +31,7 @@ use Rattle.logos_lexeme.specs.declared.lexeme.Span.{Span}
 use Rattle.logos_rust_file.specs.Handed.{Refusal}
 use Rattle.logos_rust_file.specs.Handed as refusals
 use Rattle.logos_rust_file.specs.Handed.{Refuses}
+use Rattle.logos_strip.specs.Results.{SpellsEnum}
 use Rattle.logos_token.specs.Faults.{Fault}
 
 -- ---- the enums of a file, one after another
@@ -189,6 +191,17 @@ expansion_made shape source shown graph code name export g b = record {
   is_lexer = record { graph = graph; code = code; name = name; export = export; given = g; stand = b.prints.stand };
   is_laid_out = b.prints.is_laid_out;
   is = b.prints.is;
+}
+
+-- a source without faults spells an enum
+pub spells_enum : (source : List ℕ) (rules : List Rule) (utf8 : Bool) → IsAccepted source rules utf8 → IsWithinSizes source rules → SpellsEnum source
+spells_enum source rules utf8 a within = record {
+  tokens = a.says.tokens;
+  enum = a.enum;
+  spelled = a.says.spelled;
+  reads = a.says.reads;
+  short = within.short;
+  shallow = within.shallow a.says.tokens a.says.spelled;
 }
 
 -- ---- refusals

@@ -4,7 +4,8 @@ ghost use Rattle.std.specs.Prelude.{IfErr, OnOk};
 ghost use Rattle.logos_show.specs.Words.{Appends, IsNoMisuse};
 
 use logos_causes::{
-    Explained, Showing, add_warnings, explain, push_warned, text_of as text_of_lines, warning_lines,
+    Explained, Showing, add_warnings, explain, explain_enum, push_warned, text_of as text_of_lines,
+    warning_lines,
 };
 use logos_codegen::Refusal;
 use logos_codegen::error::{Errors, Memory};
@@ -59,12 +60,31 @@ pub(crate) fn refused(
 ) -> Failure<'static>
     ensures { IsNoMisuse result }
 {
-    refused_after(part, showing, refusal, Vec::new(alloc))
+    let Refusal::Errors(errors) = refusal else {
+        return Failure::Memory;
+    };
+    match part_text(alloc, part, showing, &errors) {
+        Ok(text) => Failure::Refused(text),
+        Err(Memory) => Failure::Memory,
+    }
 }
 
-/// Returns the refusal of a part of a file, with these warnings, those of the part, and its faults.
+/// Returns what is written of the faults of a part of a file.
+fn part_text(
+    alloc: Global,
+    part: Part<'_, '_>,
+    showing: Showing,
+    errors: &Errors,
+) -> Result<String, Memory> {
+    let known = explain(alloc, enum_at(alloc, part)?)?;
+    refusal_text(part, showing, errors, Vec::new(alloc), known)
+}
+
+/// Returns the refusal of an enum with this text, with these warnings, all of its own, and its
+/// faults.
 pub(crate) fn refused_after(
     part: Part<'_, '_>,
+    text: &str,
     showing: Showing,
     refusal: Refusal,
     warned: Vec<Warning>,
@@ -74,22 +94,36 @@ pub(crate) fn refused_after(
     let Refusal::Errors(errors) = refusal else {
         return Failure::Memory;
     };
-    match refusal_text(part, showing, &errors, warned) {
+    match enum_text(part, text, showing, &errors, warned) {
         Ok(text) => Failure::Refused(text),
         Err(Memory) => Failure::Memory,
     }
 }
 
-/// Returns what is written of faults, after these warnings and those of the part.
+/// Returns what is written of the faults of an enum with this text, after these warnings and all of
+/// its own.
+fn enum_text(
+    part: Part<'_, '_>,
+    text: &str,
+    showing: Showing,
+    errors: &Errors,
+    warned: Vec<Warning>,
+) -> Result<String, Memory> {
+    let known = explain_enum(showing.alloc, text)?;
+    refusal_text(part, showing, errors, warned, known)
+}
+
+/// Returns what is written of faults, after these warnings and those that are known of the part.
 fn refusal_text(
     part: Part<'_, '_>,
     showing: Showing,
     errors: &Errors,
     warned: Vec<Warning>,
+    known: Explained,
 ) -> Result<String, Memory> {
     let alloc = showing.alloc;
+    let Explained { clues, warnings } = known;
     let mut all = warned;
-    let Explained { clues, warnings } = explain(alloc, enum_at(alloc, part)?)?;
     add_warnings(part.offset, warnings, &mut all)?;
     match showing.format {
         MessageFormat::Human => {

@@ -65,14 +65,13 @@ struct Pages {
     style: PageStyle,
 }
 
-/// An enum of a file: where it begins there, the lines of the file, its own text, and whether it
-/// derives `Logos`.
+/// An enum of a file: where it begins there, the lines of the file, and its own text.
 #[derive(Clone, Copy)]
 pub(crate) struct EnumInFile<'f, 's> {
     pub(crate) part: Part<'f, 's>,
     pub(crate) lines: &'f LineIndex<'s>,
     pub(crate) text: &'s str,
-    pub(crate) derives: bool,
+    pub(crate) found: FoundEnum,
 }
 
 /// Returns what is shown of a file, or of the enums in it that have a name.
@@ -163,7 +162,7 @@ fn enum_in<'f, 's>(
         },
         lines,
         text: text_of(source, found),
-        derives: found.derives,
+        found,
     }
 }
 
@@ -176,7 +175,7 @@ fn push_named(
     ensures { IfErr result IsNoMisuse }
 {
     let alloc = pages.style.showing.alloc;
-    if has_name(alloc, one.part, one.text, name)? {
+    if has_name(alloc, one.part.source, one.found, name)? {
         push_enum(alloc, pages, one)?;
     }
     Ok(())
@@ -190,10 +189,10 @@ fn push_enum(
 ) -> Result<(), Failure<'static>>
     ensures { IfErr result IsNoMisuse }
 {
-    add_text(one.text, one.part.offset, one.derives, &mut pages.warned)?;
-    if one.derives {
-        push_lexer(alloc, pages, one)?;
+    if one.found.derives {
+        return push_lexer(alloc, pages, one);
     }
+    add_text(one.text, one.part.offset, false, &mut pages.warned)?;
     Ok(())
 }
 
@@ -209,12 +208,13 @@ fn push_lexer(
         Ok(made) => push_made(alloc, pages, one, &made),
         Err(refusal) => {
             let warned = mem::replace(&mut pages.warned, Vec::new(alloc));
-            Err(refused_after(one.part, pages.style.showing, refusal, warned))
+            let showing = pages.style.showing;
+            Err(refused_after(one.part, one.text, showing, refusal, warned))
         }
     }
 }
 
-/// Appends the leaves of a lexer or its examples, and the warnings of its leaves.
+/// Appends the leaves of a lexer or its examples, and the warnings of its enum and of its leaves.
 fn push_made(
     alloc: Global,
     pages: &mut Pages,
@@ -224,6 +224,7 @@ fn push_made(
     ensures { IfErr result IsNoMisuse }
 {
     push_form(alloc, pages, one, made)?;
+    add_text(one.text, one.part.offset, true, &mut pages.warned)?;
     add_lexer(
         one.text,
         one.part.offset,

@@ -1,9 +1,9 @@
 use Rattle.std.proofs.Common.{◌≡◌, ℕ, Some, inl, inr, subst, arith}
 use Rattle.std.proofs.lemmas.Bool.{cases_lt}
 use Rattle.logos_search.specs.inside.Order.{IsByteAt}
-use Rattle.logos_search.specs.inside.Stands.{stand_next}
+use Rattle.logos_search.specs.inside.PendingPoints.{pending_next}
 use Rattle.logos_search.proofs.OrderLemmas.{one_byte, placed}
-use Rattle.logos_search.proofs.cover.cover_stand.Goals as goal
+use Rattle.logos_search.proofs.cover.cover_pending.Goals as goal
 
 pub loop-place-preserved : goal.loop-place-preserved
 loop-place-preserved g c =
@@ -19,7 +19,7 @@ loop-place-preserved g c =
                 let same : place ≡ c.loop-place.place = omega arith in
                 let byte : b ≡ c.byte_at-byte.result =
                 one_byte c.loop-place.place b c.byte_at-byte.result (subst (λ (p : ℕ). IsByteAt p b) same is) c.byte_at-byte.ensures in
-                λ to step. made.covered at there to (subst (λ (x : ℕ). stand_next (g.M.Machine.leads c.args.machine.now) c.args.explored.now.utf8 at x ≡ Some to) byte step)
+                λ to step. made.covered at there to (subst (λ (x : ℕ). pending_next (g.M.Machine.leads c.args.machine.now) c.args.explored.now.utf8 at x ≡ Some to) byte step)
           ];
     }
 
