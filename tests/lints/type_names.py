@@ -23,23 +23,12 @@ NOT_YET = "different things, of which one has to get another name"
 STAYS = {
     "Chunk": ("relex walk", "the glossary has both: items that are stored together, and bytes that are stepped over at once"),
     "Classes": ("reduce tables", "classes of what has one row: of states, and of symbols"),
-    "Compared": ("answers cli", NOT_YET),
     "Config": ("code graph", "the options of a generator and of a graph, both public"),
     "Counts": ("answers scan", "how many there are of what each crate counts"),
     "Cursor": ("lines walk", "a point that only moves forward, in a text and in a chunk"),
-    "Entry": ("cli token", NOT_YET),
-    "Flags": ("options pattern_tokens", NOT_YET),
     "Kind": ("lexeme pattern_tokens", NOT_YET),
-    "Lexed": ("answers relex", NOT_YET),
     "Literal": ("pattern token", "a literal of a source, and one that spells a pattern, both public"),
-    "Order": ("cli questions reduce", NOT_YET),
-    "Progress": ("derive options", NOT_YET),
-    "Request": ("cli questions", NOT_YET),
     "Rows": ("reduce tables", "a list of rows, of two kinds of tables"),
-    "Spot": ("show type_reader", NOT_YET),
-    "Standing": ("host show", NOT_YET),
-    "Step": ("code options", NOT_YET),
-    "Stop": ("pattern_tokens show", NOT_YET),
 }
 
 

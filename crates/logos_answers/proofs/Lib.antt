@@ -1,4 +1,5 @@
 pub mod ComparedLemmas
+pub mod CountLemmas
 pub mod DigitLemmas
 pub mod ExampleLemmas
 pub mod GainLemmas

@@ -1,4 +1,5 @@
 pub mod Comparing
+pub mod Counts
 pub mod Examples
 pub mod Expecting
 pub mod Inputs

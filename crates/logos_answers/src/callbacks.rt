@@ -1,6 +1,6 @@
 //! Callbacks of two lexers that are written in different ways.
 
-use crate::differing::Lexed;
+use crate::differing::NamedLexer;
 use crate::names::variant_of;
 use indexmap::IndexSet;
 use logos_pattern::leaf::Leaf;
@@ -25,8 +25,8 @@ struct Known<'l> {
 pub fn push_callbacks<'l>(
     alloc: Global,
     page: &mut Page,
-    one: Lexed<'l, '_>,
-    other: Lexed<'l, '_>,
+    one: NamedLexer<'l, '_>,
+    other: NamedLexer<'l, '_>,
 ) -> Result<(), AllocError> {
     let known = known_of(alloc, one)?;
     push_differing(alloc, page, &known, other)
@@ -37,7 +37,7 @@ fn push_differing<'l>(
     alloc: Global,
     page: &mut Page,
     known: &Known<'l>,
-    other: Lexed<'l, '_>,
+    other: NamedLexer<'l, '_>,
 ) -> Result<(), AllocError> {
     let other = known_of(alloc, other)?;
     push_names_of(alloc, page, known, &other)
@@ -58,7 +58,7 @@ fn push_names_of<'l>(
 }
 
 /// Returns the variants of a lexer, and their callbacks.
-fn known_of<'l>(alloc: Global, one: Lexed<'l, '_>) -> Result<Known<'l>, AllocError> {
+fn known_of<'l>(alloc: Global, one: NamedLexer<'l, '_>) -> Result<Known<'l>, AllocError> {
     let mut known = Known {
         variants: IndexSet::new(alloc),
         callbacks: IndexSet::new(alloc),

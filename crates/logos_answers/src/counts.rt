@@ -1,8 +1,11 @@
 //! How many items there were of each kind.
 
-use crate::lines::push_number;
+ghost use Rattle.std.specs.Prelude.{◌≡◌, ◌<◌, length, option_map};
+ghost use Rattle.logos_answers.specs.Words.{Gains, code_variant, count_line, goes_on, is_same_name, line_after, sum_after, time_line, title_line, variant_line};
+
 use crate::names::variant_of;
 use logos_code::code::CodeLeaf;
+use logos_report::Page;
 use std::alloc::{AllocError, Global};
 
 /// How many items there were of each leaf, and how many errors.
@@ -12,7 +15,18 @@ pub struct Counts {
     errors: usize,
 }
 
+/// What is measured of a whole input.
+#[derive(Clone, Copy)]
+pub struct Totals {
+    pub bytes: usize,
+    /// The milliseconds that lexing and writing took, if there is a clock.
+    pub passed: Option<usize>,
+}
+
 impl Counts {
+    ghost use Rattle.std.specs.Prelude.{◌≡◌, slice_index};
+    ghost use Rattle.logos_answers.specs.Words.{Gains, ends_text, totals_text, variant_lines};
+
     /// Returns counts of no item, for this many leaves.
     ///
     /// # Errors
@@ -39,32 +53,46 @@ impl Counts {
         self.errors = self.errors.saturating_add(1);
     }
 
-    /// Appends a line for each variant with the number of its items, and one with that of errors.
-    /// The leaves of a variant follow one another.
-    ///
-    /// # Errors
-    ///
-    /// Returns `AllocError` if memory runs out. Some lines may be added then.
-    pub fn push_lines(
-        &self,
-        block: &mut Vec<u8>,
-        leaves: &[CodeLeaf<'_>],
-    ) -> Result<(), AllocError> {
-        block.push(b'\n')?;
+    /// Appends what was counted of an input that the lexer of the enum with this name read: the
+    /// name, a line for each variant that has items with their number, how many errors there were,
+    /// and what was measured. The leaves of a variant follow one another.
+    pub fn push_totals(&self, page: &mut Page, name: &str, leaves: &[CodeLeaf<'_>], totals: Totals)
+        ensures { Gains (totals_text name.now leaves.now self.now.by_leaf.items self.now.errors
+            totals.bytes totals.passed) page.old page.new }
+    {
+        push_title(page, name);
+        self.push_variants(page, leaves);
+        self.push_ends(page, totals);
+    }
+
+    /// Appends a line for each variant that has items.
+    fn push_variants(&self, page: &mut Page, leaves: &[CodeLeaf<'_>])
+        ensures { Gains (variant_lines leaves.now self.now.by_leaf.items) page.old page.new }
+    {
         let mut sum: usize = 0;
         for number in 0..leaves.len() {
             sum = push_sum(
-                block,
+                page,
                 leaves,
                 number,
                 sum.saturating_add(self.of_leaf(number)),
-            )?;
+            );
         }
-        push_count(block, "errors", self.errors)
+    }
+
+    /// Appends how many errors there were, and what was measured.
+    fn push_ends(&self, page: &mut Page, totals: Totals)
+        ensures { Gains (ends_text self.now.errors totals.bytes totals.passed) page.old page.new }
+    {
+        push_count(page, "errors", self.errors);
+        push_count(page, "bytes", totals.bytes);
+        push_time(page, totals.passed);
     }
 
     /// Returns how many items there were of a leaf.
-    pub(crate) fn of_leaf(&self, number: usize) -> usize {
+    pub(crate) fn of_leaf(&self, number: usize) -> usize
+        ensures { result ≡ slice_index self.now.by_leaf.items number }
+    {
         match self.by_leaf.get(number) {
             Some(count) => *count,
             None => 0,
@@ -72,42 +100,91 @@ impl Counts {
     }
 }
 
+/// Appends the line that names an enum.
+fn push_title(page: &mut Page, name: &str)
+    ensures { Gains (title_line name.now) page.old page.new }
+{
+    page.push("\nenum ");
+    page.push(name);
+    page.push("\n");
+}
+
 /// Appends the line of a variant at its last leaf. `sum` is the number of the items of the leaves
 /// of the variant up to this one. Returns what the next leaf adds to: the sum, or 0 where a variant
 /// ends.
-fn push_sum(
-    block: &mut Vec<u8>,
-    leaves: &[CodeLeaf<'_>],
-    number: usize,
-    sum: usize,
-) -> Result<usize, AllocError> {
-    let Some(name) = code_name_at(leaves, number) else {
-        return Ok(0);
-    };
-    if code_name_at(leaves, number.saturating_add(1)) == Some(name) {
-        return Ok(sum);
+fn push_sum(page: &mut Page, leaves: &[CodeLeaf<'_>], number: usize, sum: usize) -> usize
+    requires { number < length leaves.now }
+    ensures line { Gains (line_after leaves.now number sum) page.old page.new }
+    ensures rest { result ≡ sum_after leaves.now number sum }
+{
+    if goes_on(leaves, number) {
+        return sum;
     }
-    push_count(block, name, sum)?;
-    Ok(0)
+    push_variant(page, code_name_at(leaves, number), sum);
+    0
+}
+
+/// Returns whether the leaf after one is of the same variant.
+fn goes_on(leaves: &[CodeLeaf<'_>], number: usize) -> bool
+    requires { number < length leaves.now }
+    ensures { result ≡ goes_on leaves.now number }
+{
+    is_same_name(
+        code_name_at(leaves, number),
+        code_name_at(leaves, number + 1),
+    )
+}
+
+/// Returns whether two leaves are of one variant, by its name. Skips are of none.
+fn is_same_name(one: Option<&str>, other: Option<&str>) -> bool
+    ensures { result ≡ is_same_name (option_map (λ name. name.now) one.entry)
+        (option_map (λ name. name.now) other.entry) }
+{
+    match (one, other) {
+        (Some(one), Some(other)) => one == other,
+        _ => false,
+    }
 }
 
 /// Returns the name of the variant of a leaf; `None` for a skip, and where there is no such leaf.
-pub fn code_name_at<'l>(leaves: &'l [CodeLeaf<'_>], number: usize) -> Option<&'l str> {
+pub fn code_name_at<'l>(leaves: &'l [CodeLeaf<'_>], number: usize) -> Option<&'l str>
+    ensures { option_map (λ name. name.now) result ≡ code_variant leaves.now number }
+{
     match leaves.get(number) {
         Some(leaf) => variant_of(&leaf.kind),
         None => None,
     }
 }
 
+/// Appends the line of a variant, if it has items.
+fn push_variant(page: &mut Page, name: Option<&str>, count: usize)
+    ensures { Gains (variant_line (option_map (λ name. name.now) name.entry) count)
+        page.old page.new }
+{
+    let Some(name) = name else {
+        return;
+    };
+    if count > 0 {
+        page.push("  ");
+        push_count(page, name, count);
+    }
+}
+
 /// Appends a line with a name and a number.
-///
-/// # Errors
-///
-/// Returns `AllocError` if memory runs out. A part of the line may be added then.
-pub fn push_count(block: &mut Vec<u8>, name: &str, count: usize) -> Result<(), AllocError> {
-    block.extend_from_slice(name.as_bytes())?;
-    block.extend_from_slice(b": ")?;
-    push_number(block, count)?;
-    block.push(b'\n')?;
-    Ok(())
+fn push_count(page: &mut Page, name: &str, count: usize)
+    ensures { Gains (count_line name.now count) page.old page.new }
+{
+    page.push(name);
+    page.push(": ");
+    page.push_number(count);
+    page.push("\n");
+}
+
+/// Appends the line with the milliseconds that passed, if they are known.
+fn push_time(page: &mut Page, passed: Option<usize>)
+    ensures { Gains (time_line passed) page.old page.new }
+{
+    if let Some(passed) = passed {
+        push_count(page, "milliseconds", passed);
+    }
 }

@@ -14,7 +14,7 @@ use std::alloc::{AllocError, Global};
 
 /// A lexer, the path of its file, and the text of its enum.
 #[derive(Clone, Copy)]
-pub struct Lexed<'m, 's> {
+pub struct NamedLexer<'m, 's> {
     pub path: &'m str,
     /// The text of the enum, in which the spans of its leaves count.
     pub text: &'m str,
@@ -34,13 +34,13 @@ pub struct Finding<'f> {
 }
 
 /// Appends which inputs two lexers read.
-pub fn push_modes(page: &mut Page, one: Lexed<'_, '_>, other: Lexed<'_, '_>) {
+pub fn push_modes(page: &mut Page, one: NamedLexer<'_, '_>, other: NamedLexer<'_, '_>) {
     push_mode(page, one);
     push_mode(page, other);
 }
 
 /// Appends the line that says which inputs a lexer reads.
-fn push_mode(page: &mut Page, one: Lexed<'_, '_>) {
+fn push_mode(page: &mut Page, one: NamedLexer<'_, '_>) {
     page.push_shown(one.path);
     if one.graph.utf8_mode() {
         page.push(" reads UTF-8\n");
@@ -57,8 +57,8 @@ fn push_mode(page: &mut Page, one: Lexed<'_, '_>) {
 pub fn push_difference(
     alloc: Global,
     page: &mut Page,
-    one: Lexed<'_, '_>,
-    other: Lexed<'_, '_>,
+    one: NamedLexer<'_, '_>,
+    other: NamedLexer<'_, '_>,
     input: &[u8],
 ) -> Result<(), AllocError> {
     page.push("the lexers differ on ");
@@ -72,7 +72,7 @@ pub fn push_difference(
 fn push_finding(
     alloc: Global,
     page: &mut Page,
-    one: Lexed<'_, '_>,
+    one: NamedLexer<'_, '_>,
     input: &[u8],
 ) -> Result<(), AllocError> {
     page.push_shown(one.path);
@@ -114,7 +114,7 @@ fn first_error<'i>(code: &Code<'_>, input: &'i [u8]) -> &'i [u8] {
 /// Returns `AllocError` if memory runs out.
 pub fn finding_of<'f>(
     alloc: Global,
-    one: Lexed<'f, '_>,
+    one: NamedLexer<'f, '_>,
     input: &'f [u8],
 ) -> Result<Finding<'f>, AllocError> {
     let matches = matches_from(alloc, one.graph, input, 0)?;
@@ -129,7 +129,7 @@ pub fn finding_of<'f>(
 }
 
 /// Returns what a lexer finds by a match at the beginning of an input.
-fn finding_by<'f>(one: Lexed<'f, '_>, input: &'f [u8], found: Match) -> Finding<'f> {
+fn finding_by<'f>(one: NamedLexer<'f, '_>, input: &'f [u8], found: Match) -> Finding<'f> {
     Finding {
         leaf: Some(found.leaf),
         variant: variant_at(one.graph.leaves(), found.leaf),

@@ -13,7 +13,7 @@ const TIME: &[u8] = b"milliseconds: ";
 /// Appends whether an answer is the stored one, and returns that. If not, pushes at which line and
 /// column of the stored one they differ first, and both lines. The line of the time that was taken
 /// is not compared. `path` is that of the stored answer.
-pub fn push_standing(page: &mut Page, path: &str, stored: &[u8], made: &[u8]) -> bool
+pub fn push_agreement(page: &mut Page, path: &str, stored: &[u8], made: &[u8]) -> bool
     ensures { IsTrue result ↔ (timeless stored.now ≡ timeless made.now) }
 {
     let stored = without_time(stored);

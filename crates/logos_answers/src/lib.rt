@@ -22,12 +22,12 @@ mod table;
 
 pub use callbacks::push_callbacks;
 pub use comparing::{Compared, compare_lexers};
-pub use counts::{Counts, code_name_at, push_count};
-pub use differing::{Finding, Lexed, finding_of, push_difference, push_modes};
+pub use counts::{Counts, Totals, code_name_at};
+pub use differing::{Finding, NamedLexer, finding_of, push_difference, push_modes};
 pub use examples::{Evidence, Loss, evidence_of, push_examples};
-pub use expecting::push_standing;
+pub use expecting::push_agreement;
 pub use inputs::{first_of, push_inputs};
-pub use lines::{LINE, push_item, push_number};
+pub use lines::{LINE, push_item};
 pub use matches::{bytes_between, longest_of, push_first, push_matches};
 pub use names::{name_at, push_leaf, variant_at, variant_of};
 pub use notes::note_of;

@@ -146,12 +146,8 @@ fn hexadecimal_digit(number: u8) -> u8
     }
 }
 
-/// Appends a number in decimal.
-///
-/// # Errors
-///
-/// Returns `AllocError` if memory runs out. Nothing is added then.
-pub fn push_number(block: &mut Vec<u8>, number: usize) -> Result<(), AllocError> {
+/// Appends a number in decimal. If memory runs out, nothing is added.
+fn push_number(block: &mut Vec<u8>, number: usize) -> Result<(), AllocError> {
     let mut digits = [0; 20];
     let from = write_digits(number as u64, &mut digits, 20);
     block.extend_from_slice(&digits[from..])

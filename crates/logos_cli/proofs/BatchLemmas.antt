@@ -7,8 +7,8 @@ use Rattle.std.specs.Io.KnownBytes.{Appends, Keeps}
 use Rattle.logos_host.specs.declared.comparing.Standing.{Standing}
 use Rattle.logos_text.specs.Standing.{StandInOrder}
 use Rattle.logos_cli.specs.Orders.{OrderValue, asks_each}
-use Rattle.logos_cli.specs.declared.batch.Entry.{Entry}
-use Rattle.logos_cli.specs.inside.Entries.{entry_order, orders_of, output_text}
+use Rattle.logos_cli.specs.declared.batch.BatchFile.{BatchFile}
+use Rattle.logos_cli.specs.inside.BatchFiles.{batch_file_order, orders_of, output_text}
 use Rattle.logos_cli.specs.Runs.{AreCarriedOut, AreDenied, AreEnded, IsApart, IsCarriedOut, IsDelivered, IsDeniedOrder, IsNoInput, IsOwnOutput, has_twins, output_of}
 
 -- texts stand in a text behind another one
@@ -51,48 +51,48 @@ pub contains_mapped : {X Y : Type 0} (f : X → Y) (xs : List X) (x : X) → Con
 contains_mapped f xs x h = (h.0, omega (arith, h.1, length_mapped f xs), get_or-map f xs h.0 x (f x) h.1 ∙ ap f h.2)
 
 -- The first order of those that are left.
-pub orders_next : (order : OrderValue) (entries : List Entry) (i : ℕ) (item : Entry) → i < length entries → item ≡ get_or entries i item → orders_of order (drop i entries) ≡ entry_order order item ∷ orders_of order (drop (i + 1) entries)
-orders_next order entries i item l e =
+pub orders_next : (order : OrderValue) (batch_files : List BatchFile) (i : ℕ) (item : BatchFile) → i < length batch_files → item ≡ get_or batch_files i item → orders_of order (drop i batch_files) ≡ batch_file_order order item ∷ orders_of order (drop (i + 1) batch_files)
+orders_next order batch_files i item l e =
     let k : suc i ≡ i + 1 = omega arith in
-    ap (orders_of order) (drop-cons entries i item l) ∙ ap (λ x. entry_order order x ∷ orders_of order (drop (suc i) entries)) (sym e) ∙ ap (λ n. entry_order order item ∷ orders_of order (drop n entries)) k
+    ap (orders_of order) (drop-cons batch_files i item l) ∙ ap (λ x. batch_file_order order x ∷ orders_of order (drop (suc i) batch_files)) (sym e) ∙ ap (λ n. batch_file_order order item ∷ orders_of order (drop n batch_files)) k
 
 -- No order is left.
-pub orders_through : (order : OrderValue) (entries : List Entry) (i : ℕ) → length entries ≤ i → orders_of order (drop i entries) ≡ []
-orders_through order entries i l = ap (orders_of order) (drop_all i entries l)
+pub orders_through : (order : OrderValue) (batch_files : List BatchFile) (i : ℕ) → length batch_files ≤ i → orders_of order (drop i batch_files) ≡ []
+orders_through order batch_files i l = ap (orders_of order) (drop_all i batch_files l)
 
 -- One more order stands at the end.
-pub orders_pushed : (order : OrderValue) (entries : List Entry) (all : List Entry) (entry : Entry) (last : OrderValue) → all ≡ entries ++ entry ∷ [] → entry_order order entry ≡ last →
-    orders_of order all ≡ orders_of order entries ++ last ∷ []
-orders_pushed order entries all entry last e l = ap (orders_of order) e ∙ go entries ∙ ap (λ x. orders_of order entries ++ x ∷ []) l
+pub orders_pushed : (order : OrderValue) (batch_files : List BatchFile) (all : List BatchFile) (batch_file : BatchFile) (last : OrderValue) → all ≡ batch_files ++ batch_file ∷ [] → batch_file_order order batch_file ≡ last →
+    orders_of order all ≡ orders_of order batch_files ++ last ∷ []
+orders_pushed order batch_files all batch_file last e l = ap (orders_of order) e ∙ go batch_files ∙ ap (λ x. orders_of order batch_files ++ x ∷ []) l
   where
-    go : (list : List Entry) → orders_of order (list ++ entry ∷ []) ≡ orders_of order list ++ entry_order order entry ∷ []
+    go : (list : List BatchFile) → orders_of order (list ++ batch_file ∷ []) ≡ orders_of order list ++ batch_file_order order batch_file ∷ []
     go [] = refl
-    go (one ∷ list) = ap (λ rest. entry_order order one ∷ rest) (go list)
+    go (one ∷ list) = ap (λ rest. batch_file_order order one ∷ rest) (go list)
 
 -- The paths of results are those of the orders.
-outputs_are : (order : OrderValue) (entries : List Entry) → map output_text entries ≡ map output_of (orders_of order entries)
+outputs_are : (order : OrderValue) (batch_files : List BatchFile) → map output_text batch_files ≡ map output_of (orders_of order batch_files)
 outputs_are order [] = refl
-outputs_are order (entry ∷ entries) = ap (λ rest. output_text entry ∷ rest) (outputs_are order entries)
+outputs_are order (batch_file ∷ batch_files) = ap (λ rest. output_text batch_file ∷ rest) (outputs_are order batch_files)
 
 module _ {F : Type 0} (same : F → List ℕ → List ℕ → Bool → Type 0) (order : OrderValue) (orders : List OrderValue) (files : F) where
   -- A result is a file that is read.
-  pub own_found : (entries : List Entry) → orders_of order entries ≡ orders → (one : Entry) → Contains entries one → (other : Entry) → Contains entries other → same files other.input.now (output_text one) true →
+  pub own_found : (batch_files : List BatchFile) → orders_of order batch_files ≡ orders → (one : BatchFile) → Contains batch_files one → (other : BatchFile) → Contains batch_files other → same files other.input.now (output_text one) true →
       IsOwnOutput same (asks_each orders) files
-  own_found entries e one has other holds is =
-      subst (λ all. IsOwnOutput same (asks_each all) files) e (inl (entry_order order one, contains_mapped (entry_order order) entries one has, (entry_order order other, contains_mapped (entry_order order) entries other holds, is)))
+  own_found batch_files e one has other holds is =
+      subst (λ all. IsOwnOutput same (asks_each all) files) e (inl (batch_file_order order one, contains_mapped (batch_file_order order) batch_files one has, (batch_file_order order other, contains_mapped (batch_file_order order) batch_files other holds, is)))
 
   -- Two results have one path.
-  pub twins_found : (entries : List Entry) → orders_of order entries ≡ orders → has_twins (map output_text entries) ≡ true → IsOwnOutput same (asks_each orders) files
-  twins_found entries e t = subst (λ all. IsOwnOutput same (asks_each all) files) e (inr (sym (ap has_twins (outputs_are order entries)) ∙ t))
+  pub twins_found : (batch_files : List BatchFile) → orders_of order batch_files ≡ orders → has_twins (map output_text batch_files) ≡ true → IsOwnOutput same (asks_each orders) files
+  twins_found batch_files e t = subst (λ all. IsOwnOutput same (asks_each all) files) e (inr (sym (ap has_twins (outputs_are order batch_files)) ∙ t))
 
   -- Each result is another file.
-  pub all_apart : (entries twins : List Entry) → orders_of order entries ≡ orders → orders_of order twins ≡ orders → All (λ one. All (λ other. same files other.input.now (output_text one) false) entries) entries →
+  pub all_apart : (batch_files twins : List BatchFile) → orders_of order batch_files ≡ orders → orders_of order twins ≡ orders → All (λ one. All (λ other. same files other.input.now (output_text one) false) batch_files) batch_files →
       has_twins (map output_text twins) ≡ false → IsApart same (asks_each orders) files
-  all_apart entries twins e d apart t = (
+  all_apart batch_files twins e d apart t = (
     subst (λ all. All (λ one. IsNoInput same all files (output_of one)) all) e
-        (All-map (λ one. IsNoInput same (orders_of order entries) files (output_of one)) (entry_order order) entries
-        (All-weaker (λ one. All (λ other. same files other.input.now (output_text one) false) entries) (λ one. IsNoInput same (orders_of order entries) files (output_text one))
-        (λ one h. All-map (λ other. same files other.input (output_text one) false) (entry_order order) entries h) entries apart)),
+        (All-map (λ one. IsNoInput same (orders_of order batch_files) files (output_of one)) (batch_file_order order) batch_files
+        (All-weaker (λ one. All (λ other. same files other.input.now (output_text one) false) batch_files) (λ one. IsNoInput same (orders_of order batch_files) files (output_text one))
+        (λ one h. All-map (λ other. same files other.input (output_text one) false) (batch_file_order order) batch_files h) batch_files apart)),
     ap (λ all. has_twins (map output_of all)) (sym d) ∙ sym (ap has_twins (outputs_are order twins)) ∙ t,
   )
 

@@ -12,7 +12,7 @@ use Rattle.logos_options.specs.declared.given.Answer.TheVariants as answers
 use Rattle.logos_options.specs.declared.program.Program.TheVariants.{Cli}
 use Rattle.logos_cli.specs.declared.options.Batch.{Batch}
 use Rattle.logos_cli.specs.declared.options.DeriveOrder.{DeriveOrder}
-use Rattle.logos_cli.specs.declared.options.Order.{Order}
+use Rattle.logos_cli.specs.declared.options.ExpandOrder.{ExpandOrder}
 use Rattle.logos_cli.specs.declared.options.Request.{Request}
 use Rattle.logos_cli.specs.declared.options.Request.TheVariants as requests
 use Rattle.logos_expand.specs.declared.shape.Shape.{Shape}
@@ -85,21 +85,21 @@ placed words order (Some output) second =
 -- Files to expand; what is only compared needs a file for the result.
 abbrev pub file_given : List (List ℕ) → GivenValue → List ℕ → Shape → Option Asked
 file_given words given input shape =
-    if given.flags.is_check && not (is_some given.values.output) then None
-    else placed words (record { input = input; output = given.values.output; is_check = given.flags.is_check; shape = shape; format = given_or Human given.values.format; denies = given.flags.denies; color = given_or Auto given.values.color }) given.values.output given.second
+    if given.switches.is_check && not (is_some given.values.output) then None
+    else placed words (record { input = input; output = given.values.output; is_check = given.switches.is_check; shape = shape; format = given_or Human given.values.format; denies = given.switches.denies; color = given_or Auto given.values.color }) given.values.output given.second
 
 -- An enum to answer about, which is read from standard input; the answer is not for a file.
 abbrev pub enum_given : GivenValue → List ℕ → Shape → Option Asked
 enum_given given input shape =
-    if given.flags.is_check || is_some given.values.output then None
-    else (if given.flags.denies then None
+    if given.switches.is_check || is_some given.values.output then None
+    else (if given.switches.denies then None
     else (if is_some given.second then None
     else (if bytes_eq input (codes "/dev/stdin") then Some (asks_derive (record { shape = shape; format = given_or Human given.values.format; color = given_or Auto given.values.color }))
     else None)))
 
 abbrev pub shaped_given : List (List ℕ) → GivenValue → List ℕ → Option Shape → Option Asked
 shaped_given words given input None = None
-shaped_given words given input (Some shape) = if given.flags.is_derive then enum_given given input shape else file_given words given input shape
+shaped_given words given input (Some shape) = if given.switches.is_derive then enum_given given input shape else file_given words given input shape
 
 -- What is asked of the input, if there is one.
 abbrev pub order_given : List (List ℕ) → GivenValue → Option (List ℕ) → Option Asked
@@ -120,7 +120,7 @@ abbrev pub asked : List (List ℕ) → Option Asked
 asked words = asked_given words (given_of Cli words)
 
 -- The same of what the program keeps.
-abbrev pub order_value : Order → OrderValue
+abbrev pub order_value : ExpandOrder → OrderValue
 order_value order = record {
   input = order.input.now;
   output = option_map (λ path. path.now) order.output;

@@ -1,10 +1,10 @@
 //! Files whose results go into a folder.
 
 ghost use Rattle.std.specs.Prelude.{◌≡◌, ◌≢◌, ◌⊎◌, ◌≤◌, ◌++◌, ◌∷◌, [], ℕ, All, Contains, IfOk, IsTrue, List, MatchOption, OnOk, drop, false, map, true};
-ghost use Rattle.logos_cli.specs.Views.{Appends, AreCarriedOut, AreDenied, IsApart, IsOwnOutput, Keeps, OrderValue, asks_each, batch_value, entry_order, file_name, has_twins, is_among, order_into, order_value, orders_into, orders_of, output_text, texts_of};
-ghost use Rattle.logos_cli.specs.declared.batch.Entry.{Entry as EntryValue};
+ghost use Rattle.logos_cli.specs.Views.{Appends, AreCarriedOut, AreDenied, IsApart, IsOwnOutput, Keeps, OrderValue, asks_each, batch_value, batch_file_order, file_name, has_twins, is_among, order_into, order_value, orders_into, orders_of, output_text, texts_of};
+ghost use Rattle.logos_cli.specs.declared.batch.BatchFile.{BatchFile as BatchFileValue};
 
-use crate::options::{Batch, Order};
+use crate::options::{Batch, ExpandOrder};
 use crate::running::{Ending, carry_out, failed};
 use logos_host::{ComparableFiles, Failure};
 use logos_options::{misuse, paths_of};
@@ -14,7 +14,7 @@ use std::io::{IsTerminal, Write};
 
 /// A file to expand.
 #[derive(Drop)]
-struct Entry<'w> {
+struct BatchFile<'w> {
     /// The path of the file.
     input: &'w str,
     /// The path of its result.
@@ -47,69 +47,69 @@ pub(crate) fn run_batch<F: ComparableFiles, O: Write, E: Write + IsTerminal>(
     ensures silent { result.status ≡ 1 → Keeps (O.contents out.old) (O.contents out.new) }
     ensures known { result.status ≤ 3 }
 {
-    let entries = match entries_of(alloc, batch) {
-        Ok(entries) => entries,
+    let batch_files = match batch_files_of(alloc, batch) {
+        Ok(batch_files) => batch_files,
         Err(Memory) => return failed(&Failure::Memory, err),
     };
-    if let Some(path) = own_output_in(&entries, files) {
+    if let Some(path) = own_output_in(&batch_files, files) {
         return failed(&Failure::OwnOutput(path), err);
     }
-    if let Some(path) = twin_in(&entries) {
+    if let Some(path) = twin_in(&batch_files) {
         return failed(&misuse("two inputs give the file", path), err);
     }
-    run_each(alloc, batch.order, &entries, files, out, err)
+    run_each(alloc, batch.order, &batch_files, files, out, err)
 }
 
 /// Returns the files to expand, with the paths of their results.
-fn entries_of<'w>(alloc: Global, batch: Batch<'w>) -> Result<Vec<Entry<'w>>, Memory>
-    ensures { IfOk result (λ entries.
-        orders_of (order_value batch.entry.order) entries.items ≡ batch_value batch.entry) }
+fn batch_files_of<'w>(alloc: Global, batch: Batch<'w>) -> Result<Vec<BatchFile<'w>>, Memory>
+    ensures { IfOk result (λ batch_files.
+        orders_of (order_value batch.entry.order) batch_files.items ≡ batch_value batch.entry) }
 {
     let paths = paths_of(alloc, batch.words)?;
-    entries_at(alloc, batch, &paths)
+    batch_files_at(alloc, batch, &paths)
 }
 
 /// Returns the files at these paths, with the paths of their results.
-fn entries_at<'w>(
+fn batch_files_at<'w>(
     alloc: Global,
     batch: Batch<'w>,
     paths: &[&'w str],
-) -> Result<Vec<Entry<'w>>, Memory>
-    ensures { IfOk result (λ entries. orders_of (order_value batch.entry.order) entries.items
+) -> Result<Vec<BatchFile<'w>>, Memory>
+    ensures { IfOk result (λ batch_files. orders_of (order_value batch.entry.order) batch_files.items
         ≡ orders_into (order_value batch.entry.order) batch.entry.folder.now
         (texts_of paths.now)) }
 {
-    let mut entries = Vec::new(alloc);
+    let mut batch_files = Vec::new(alloc);
     for path in paths {
-        push_entry(batch, *path, &mut entries)?;
+        push_batch_file(batch, *path, &mut batch_files)?;
     }
-    Ok(entries)
+    Ok(batch_files)
 }
 
 /// Appends the file at a path, with the path of its result.
-fn push_entry<'w>(
+fn push_batch_file<'w>(
     batch: Batch<'w>,
     path: &'w str,
-    entries: &mut Vec<Entry<'w>>,
+    batch_files: &mut Vec<BatchFile<'w>>,
 ) -> Result<(), Memory>
-    ensures { OnOk result (orders_of (order_value batch.entry.order) entries.new.items
-        ≡ orders_of (order_value batch.entry.order) entries.old.items
+    ensures { OnOk result (orders_of (order_value batch.entry.order) batch_files.new.items
+        ≡ orders_of (order_value batch.entry.order) batch_files.old.items
         ++ order_into (order_value batch.entry.order) batch.entry.folder.now path.now ∷ []) }
 {
-    let entry = entry_of(*entries.allocator(), batch.folder, path)?;
-    entries.push(entry)?;
+    let batch_file = batch_file_of(*batch_files.allocator(), batch.folder, path)?;
+    batch_files.push(batch_file)?;
     Ok(())
 }
 
 /// Returns a file to expand, with the path of its result in a folder.
-fn entry_of<'w>(alloc: Global, folder: &str, input: &'w str) -> Result<Entry<'w>, Memory>
-    ensures { IfOk result (λ entry. (order : OrderValue) →
-        entry_order order entry ≡ order_into order folder.now input.now) }
+fn batch_file_of<'w>(alloc: Global, folder: &str, input: &'w str) -> Result<BatchFile<'w>, Memory>
+    ensures { IfOk result (λ batch_file. (order : OrderValue) →
+        batch_file_order order batch_file ≡ order_into order folder.now input.now) }
 {
     let mut output = String::new(alloc);
     output.push_str(folder)?;
     output.push_str(file_name(input))?;
-    Ok(Entry { input, output })
+    Ok(BatchFile { input, output })
 }
 
 /// Returns the name of the file at a path: what follows the last `/`.
@@ -123,31 +123,34 @@ fn file_name(path: &str) -> &str
 }
 
 /// Returns the path of a result that leads to a file that is read, if there is one.
-fn own_output_in<'e, F: ComparableFiles>(entries: &'e [Entry<'_>], files: &F) -> Option<&'e str>
+fn own_output_in<'e, F: ComparableFiles>(
+    batch_files: &'e [BatchFile<'_>],
+    files: &F,
+) -> Option<&'e str>
     ensures { MatchOption result
         (All (λ one. All (λ other. F.same_finds files.now other.input.now (output_text one) false)
-        entries.now) entries.now)
-        (λ path. (one : EntryValue) × Contains entries.now one × ((other : EntryValue)
-        × Contains entries.now other
+        batch_files.now) batch_files.now)
+        (λ path. (one : BatchFileValue) × Contains batch_files.now one × ((other : BatchFileValue)
+        × Contains batch_files.now other
         × F.same_finds files.now other.input.now (output_text one) true)) }
 {
-    for entry in entries {
-        if is_input(entries, entry.output.as_str(), files) {
-            return Some(entry.output.as_str());
+    for batch_file in batch_files {
+        if is_input(batch_files, batch_file.output.as_str(), files) {
+            return Some(batch_file.output.as_str());
         }
     }
     None
 }
 
 /// Returns whether a path leads to a file that is read.
-fn is_input<F: ComparableFiles>(entries: &[Entry<'_>], path: &str, files: &F) -> bool
+fn is_input<F: ComparableFiles>(batch_files: &[BatchFile<'_>], path: &str, files: &F) -> bool
     ensures apart { result ≡ false →
-        All (λ other. F.same_finds files.now other.input.now path.now false) entries.now }
-    ensures same { result ≡ true → (other : EntryValue) × Contains entries.now other
+        All (λ other. F.same_finds files.now other.input.now path.now false) batch_files.now }
+    ensures same { result ≡ true → (other : BatchFileValue) × Contains batch_files.now other
         × F.same_finds files.now other.input.now path.now true }
 {
-    for entry in entries {
-        if files.is_same_file(entry.input, path) {
+    for batch_file in batch_files {
+        if files.is_same_file(batch_file.input, path) {
             return true;
         }
     }
@@ -155,13 +158,13 @@ fn is_input<F: ComparableFiles>(entries: &[Entry<'_>], path: &str, files: &F) ->
 }
 
 /// Returns the path of two results, if there is one.
-fn twin_in<'e>(entries: &'e [Entry<'_>]) -> Option<&'e str>
-    ensures { MatchOption result (has_twins (map output_text entries.now) ≡ false)
-        (λ path. has_twins (map output_text entries.now) ≡ true) }
+fn twin_in<'e>(batch_files: &'e [BatchFile<'_>]) -> Option<&'e str>
+    ensures { MatchOption result (has_twins (map output_text batch_files.now) ≡ false)
+        (λ path. has_twins (map output_text batch_files.now) ≡ true) }
 {
-    for number in 0..entries.len() {
-        let path = entries[number].output.as_str();
-        if is_output(&entries[number + 1..], path) {
+    for number in 0..batch_files.len() {
+        let path = batch_files[number].output.as_str();
+        if is_output(&batch_files[number + 1..], path) {
             return Some(path);
         }
     }
@@ -169,11 +172,11 @@ fn twin_in<'e>(entries: &'e [Entry<'_>]) -> Option<&'e str>
 }
 
 /// Returns whether a path is that of a result.
-fn is_output(entries: &[Entry<'_>], path: &str) -> bool
-    ensures { result ≡ is_among path.now (map output_text entries.now) }
+fn is_output(batch_files: &[BatchFile<'_>], path: &str) -> bool
+    ensures { result ≡ is_among path.now (map output_text batch_files.now) }
 {
-    for entry in entries {
-        if entry.output.as_str() == path {
+    for batch_file in batch_files {
+        if batch_file.output.as_str() == path {
             return true;
         }
     }
@@ -183,17 +186,17 @@ fn is_output(entries: &[Entry<'_>], path: &str) -> bool
 /// Expands these files one after another, and writes their results.
 fn run_each<F: ComparableFiles, O: Write, E: Write + IsTerminal>(
     alloc: Global,
-    order: Order<'_>,
-    entries: &[Entry<'_>],
+    order: ExpandOrder<'_>,
+    batch_files: &[BatchFile<'_>],
     files: &mut F,
     out: &mut O,
     err: &mut E,
 ) -> Ending
     ensures done { result.status ≡ 0 → AreCarriedOut F.read_gives F.write_makes F.compare_finds
-        (orders_of (order_value order.entry) entries.now) files.old files.new
+        (orders_of (order_value order.entry) batch_files.now) files.old files.new
         (O.contents out.old) (O.contents out.new) }
     ensures denied { result.status ≡ 1 → (shown : List ℕ) × AreDenied F.read_gives F.write_makes
-        F.compare_finds (orders_of (order_value order.entry) entries.now) files.old files.new shown
+        F.compare_finds (orders_of (order_value order.entry) batch_files.now) files.old files.new shown
         × (IsTrue result.is_written → (front : List ℕ)
         × Appends (E.contents err.old) (E.contents err.new) (front ++ shown)) }
     ensures silent { result.status ≡ 1 → Keeps (O.contents out.old) (O.contents out.new) }
@@ -203,22 +206,22 @@ fn run_each<F: ComparableFiles, O: Write, E: Write + IsTerminal>(
         status: 0,
         is_written: true,
     };
-    for entry in entries {
+    for batch_file in batch_files {
         ending = joined(
             ending,
-            carry_out(alloc, order_at(order, entry), files, out, err),
+            carry_out(alloc, order_at(order, batch_file), files, out, err),
         );
     }
     ending
 }
 
 /// Returns what is asked for a file.
-fn order_at<'e>(order: Order<'_>, entry: &'e Entry<'_>) -> Order<'e>
-    ensures { order_value result ≡ entry_order (order_value order.entry) entry.now }
+fn order_at<'e>(order: ExpandOrder<'_>, batch_file: &'e BatchFile<'_>) -> ExpandOrder<'e>
+    ensures { order_value result ≡ batch_file_order (order_value order.entry) batch_file.now }
 {
-    Order {
-        input: entry.input,
-        output: Some(entry.output.as_str()),
+    ExpandOrder {
+        input: batch_file.input,
+        output: Some(batch_file.output.as_str()),
         is_check: order.is_check,
         shape: order.shape,
         format: order.format,

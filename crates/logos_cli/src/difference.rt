@@ -19,7 +19,7 @@ const NAMES: [&str; 3] = ["tables", "tailcall", "state_machine"];
 
 /// A file that is not the result that was asked for.
 #[derive(Clone, Copy)]
-pub(crate) struct Compared<'t> {
+pub(crate) struct StaleFile<'t> {
     /// The path of the file that was expanded.
     pub(crate) input: &'t str,
     /// The path of the file.
@@ -36,23 +36,23 @@ pub(crate) struct Compared<'t> {
 /// the shape of which the file's first line speaks, if that is another one.
 pub(crate) fn difference<'w, F: ComparableFiles>(
     alloc: Global,
-    compared: &Compared<'_>,
+    stale: &StaleFile<'_>,
     files: &F,
 ) -> Failure<'w>
     ensures { FailsBy (IsRefusedFor (λ shown. ⊤)) result }
 {
-    let found = match files.found_bytes(compared.path) {
+    let found = match files.found_bytes(stale.path) {
         Ok(found) => found,
         Err(AllocError) => return Failure::Memory,
     };
-    refused(alloc, compared, &found)
+    refused(alloc, stale, &found)
 }
 
 /// Returns the refusal of a file with these bytes.
-fn refused<'w>(alloc: Global, compared: &Compared<'_>, found: &[u8]) -> Failure<'w>
+fn refused<'w>(alloc: Global, stale: &StaleFile<'_>, found: &[u8]) -> Failure<'w>
     ensures { FailsBy (IsRefusedFor (λ shown. ⊤)) result }
 {
-    match difference_text(alloc, compared, found) {
+    match difference_text(alloc, stale, found) {
         Ok(text) => Failure::Refused(text),
         Err(AllocError) => Failure::Memory,
     }
@@ -61,27 +61,27 @@ fn refused<'w>(alloc: Global, compared: &Compared<'_>, found: &[u8]) -> Failure<
 /// Returns the lines that say how a file with these bytes differs.
 fn difference_text(
     alloc: Global,
-    compared: &Compared<'_>,
+    stale: &StaleFile<'_>,
     found: &[u8],
 ) -> Result<String, AllocError> {
     let mut page = Page::new(alloc, false);
-    push_what(&mut page, compared);
-    if let (Ok(found), Ok(made)) = (str::from_utf8(found), str::from_utf8(compared.made)) {
+    push_what(&mut page, stale);
+    if let (Ok(found), Ok(made)) = (str::from_utf8(found), str::from_utf8(stale.made)) {
         push_lines(&mut page, found, made);
-        push_shape(&mut page, found, compared);
+        push_shape(&mut page, found, stale);
     }
     page.finish()
 }
 
 /// Appends the line that says what is wrong.
-fn push_what(page: &mut Page, compared: &Compared<'_>) {
+fn push_what(page: &mut Page, stale: &StaleFile<'_>) {
     page.push("error: ");
-    page.push_shown(compared.path);
-    match compared.standing {
+    page.push_shown(stale.path);
+    match stale.standing {
         Standing::Missing => page.push(" is missing\n"),
         _ => {
             page.push(" is not what ");
-            page.push_shown(compared.input);
+            page.push_shown(stale.input);
             page.push(" gives\n");
         }
     }
@@ -158,12 +158,12 @@ fn push_cut(page: &mut Page, line: &str) {
 }
 
 /// Appends the shape of which a file's first line speaks, if that is not the one of the result.
-fn push_shape(page: &mut Page, found: &str, compared: &Compared<'_>) {
-    let wanted = shape_name(compared.shape);
+fn push_shape(page: &mut Page, found: &str, stale: &StaleFile<'_>) {
+    let wanted = shape_name(stale.shape);
     match named_shape(found) {
         Some(named) if named != wanted => {
             page.push("help: ");
-            page.push_shown(compared.path);
+            page.push_shown(stale.path);
             page.push(" says `--shape ");
             page.push(named);
             page.push("`, and this run has `--shape ");

@@ -13,7 +13,7 @@ use logos_options::{Answer, Given, Program, STANDARD_INPUT, given_by, misuse};
 pub(crate) enum Request<'w> {
     Help,
     Version,
-    Expand(Order<'w>),
+    Expand(ExpandOrder<'w>),
     /// The results of files go into a folder.
     ExpandEach(Batch<'w>),
     /// The answer to the derive macro.
@@ -22,7 +22,7 @@ pub(crate) enum Request<'w> {
 
 /// A file to expand.
 #[derive(Clone, Copy)]
-pub(crate) struct Order<'w> {
+pub(crate) struct ExpandOrder<'w> {
     /// The path of the file.
     pub(crate) input: &'w str,
     /// The path of the file for the result; without one it goes to standard output.
@@ -45,7 +45,7 @@ pub(crate) struct Batch<'w> {
     /// The words of the command line, which have the paths of the files.
     pub(crate) words: &'w [String],
     /// What is asked for each of them, as for the first one.
-    pub(crate) order: Order<'w>,
+    pub(crate) order: ExpandOrder<'w>,
     /// The path of the folder, which ends in `/`.
     pub(crate) folder: &'w str,
 }
@@ -108,7 +108,7 @@ fn order_given<'w>(words: &'w [String], given: Given<'w>) -> Result<Request<'w>,
         Ok(shape) => shape,
         Err(failure) => return Err(failure),
     };
-    if given.flags.is_derive {
+    if given.switches.is_derive {
         return enum_given(given, input, shape);
     }
     file_given(words, given, input, shape)
@@ -126,16 +126,16 @@ fn file_given<'w>(
     ensures misuse { IfErr result (λ failure. (file_given (map string_bytes words.now)
         (given_value given.entry) input.now shape ≡ None) × (status_of failure ≡ 2)) }
 {
-    if given.flags.is_check & !is_given(given.values.output) {
+    if given.switches.is_check & !is_given(given.values.output) {
         return Err(misuse("`--check` needs `--output FILE`", ""));
     }
-    let order = Order {
+    let order = ExpandOrder {
         input,
         output: given.values.output,
-        is_check: given.flags.is_check,
+        is_check: given.switches.is_check,
         shape,
         format: given.values.format_or_human(),
-        denies: given.flags.denies,
+        denies: given.switches.denies,
         color: given.values.color_or_auto(),
     };
     placed(words, order, given.second)
@@ -144,7 +144,7 @@ fn file_given<'w>(
 /// Returns the file to expand, or the files whose results go into a folder.
 fn placed<'w>(
     words: &'w [String],
-    order: Order<'w>,
+    order: ExpandOrder<'w>,
     second: Option<&'w str>,
 ) -> Result<Request<'w>, Failure<'w>>
     ensures asked { IfOk result (λ request. placed (map string_bytes words.now)
@@ -183,10 +183,10 @@ fn enum_given<'w>(
     ensures misuse { IfErr result (λ failure. (enum_given (given_value given.entry) input.now
         shape ≡ None) × (status_of failure ≡ 2)) }
 {
-    if given.flags.is_check | is_given(given.values.output) {
+    if given.switches.is_check | is_given(given.values.output) {
         return Err(misuse("`--derive` writes no file", ""));
     }
-    if given.flags.denies {
+    if given.switches.denies {
         return Err(misuse("`--derive` denies no warnings", ""));
     }
     if let Some(path) = given.second {

@@ -5,8 +5,8 @@ ghost use Rattle.logos_cli.specs.Views.{Appends, Keeps, status_of, message_of, R
 
 use crate::answering::run_derive;
 use crate::batch::run_batch;
-use crate::difference::{Compared, difference};
-use crate::options::{Order, Request, request_of};
+use crate::difference::{StaleFile, difference};
+use crate::options::{ExpandOrder, Request, request_of};
 use logos_causes::Showing;
 use logos_expand::{Expansion, expand};
 use logos_host::{ComparableFiles, Failure, Files, Standing, read_text, report, write_through};
@@ -136,7 +136,7 @@ pub(crate) fn failed<E: Write>(failure: &Failure<'_>, err: &mut E) -> Ending
 /// Expands a file, and delivers the result. The output is not the input.
 fn run_order<F: ComparableFiles, O: Write, E: Write + IsTerminal>(
     alloc: Global,
-    order: Order<'_>,
+    order: ExpandOrder<'_>,
     files: &mut F,
     out: &mut O,
     err: &mut E,
@@ -165,7 +165,7 @@ fn run_order<F: ComparableFiles, O: Write, E: Write + IsTerminal>(
 /// Expands a file, and delivers the result.
 pub(crate) fn carry_out<F: ComparableFiles, O: Write, E: Write + IsTerminal>(
     alloc: Global,
-    order: Order<'_>,
+    order: ExpandOrder<'_>,
     files: &mut F,
     out: &mut O,
     err: &mut E,
@@ -189,7 +189,7 @@ pub(crate) fn carry_out<F: ComparableFiles, O: Write, E: Write + IsTerminal>(
 }
 
 /// Returns the path of the file for the result, if it leads to the file that is read.
-fn own_output<'w, F: ComparableFiles>(order: Order<'w>, files: &F) -> Option<&'w str>
+fn own_output<'w, F: ComparableFiles>(order: ExpandOrder<'w>, files: &F) -> Option<&'w str>
     ensures { MatchOption result
         (IfSome (order_value order.entry).output
         (λ path. F.same_finds files.now (order_value order.entry).input path false))
@@ -205,7 +205,7 @@ fn own_output<'w, F: ComparableFiles>(order: Order<'w>, files: &F) -> Option<&'w
 /// Reads a file, and expands it.
 fn expansion_of<'w, F: ComparableFiles>(
     alloc: Global,
-    order: Order<'w>,
+    order: ExpandOrder<'w>,
     is_colored: bool,
     files: &mut F,
 ) -> Result<Expansion, Failure<'w>>
@@ -235,7 +235,7 @@ fn expansion_of<'w, F: ComparableFiles>(
 /// Warns, delivers an expansion, and ends.
 fn deliver_and_end<F: ComparableFiles, O: Write, E: Write>(
     alloc: Global,
-    order: Order<'_>,
+    order: ExpandOrder<'_>,
     expansion: &Expansion,
     files: &mut F,
     out: &mut O,
@@ -290,7 +290,7 @@ fn warn<E: Write>(warnings: &[u8], err: &mut E) -> bool
 /// Writes the result to standard output or to the output file.
 fn deliver<'w, F: ComparableFiles, O: Write>(
     alloc: Global,
-    order: Order<'w>,
+    order: ExpandOrder<'w>,
     bytes: &[u8],
     files: &mut F,
     out: &mut O,
@@ -324,7 +324,7 @@ pub(crate) fn print_bytes<'w, O: Write>(bytes: &[u8], out: &mut O) -> Result<(),
 /// Writes a file unless it has this content; with `--check`, only compares.
 fn settle<'w, F: ComparableFiles>(
     alloc: Global,
-    order: Order<'w>,
+    order: ExpandOrder<'w>,
     path: &'w str,
     bytes: &[u8],
     files: &mut F,
@@ -343,14 +343,14 @@ fn settle<'w, F: ComparableFiles>(
         return Ok(());
     }
     if order.is_check {
-        let compared = Compared {
+        let stale = StaleFile {
             input: order.input,
             path,
             shape: order.shape,
             standing,
             made: bytes,
         };
-        return Err(difference(alloc, &compared, files));
+        return Err(difference(alloc, &stale, files));
     }
     write_file(path, bytes, files)
 }

@@ -6,19 +6,19 @@ use Rattle.logos_host.specs.declared.color.Color.{Color}
 use Rattle.logos_host.specs.declared.message_format.MessageFormat.{MessageFormat}
 use Rattle.logos_options.specs.Paths.{not_begun, path_named}
 use Rattle.logos_options.specs.Programs.{takes}
-use Rattle.logos_options.specs.WordSteps.{StepValue, UseValue, path, flag, value, step}
+use Rattle.logos_options.specs.WordSteps.{StepValue, UseValue, path, switch, value, step}
 use Rattle.logos_options.specs.declared.given.Answer.{Answer}
 use Rattle.logos_options.specs.declared.given.Answer.TheVariants as answers
 use Rattle.logos_options.specs.declared.given.Asking.{Asking}
 use Rattle.logos_options.specs.declared.given.Asking.TheVariants as askings
-use Rattle.logos_options.specs.declared.given.Flags.{Flags}
+use Rattle.logos_options.specs.declared.given.Switches.{Switches}
 use Rattle.logos_options.specs.declared.given.Given.{Given}
 use Rattle.logos_options.specs.declared.given.Values.{Values}
 use Rattle.logos_options.specs.declared.options.OptionName.{OptionName}
 use Rattle.logos_options.specs.declared.options.OptionName.TheVariants as options
 use Rattle.logos_options.specs.declared.program.Program.{Program}
 use Rattle.logos_options.specs.declared.program.Program.TheVariants.{Cli, Show}
-use Rattle.logos_options.specs.declared.word_steps.Progress.{Progress}
+use Rattle.logos_options.specs.declared.word_steps.WordProgress.{WordProgress}
 
 -- What is asked of a lexer: whether another one is the same, examples of its leaves, inputs that
 -- together pass all edges of its graph, or what matches from a position. A number and a position
@@ -43,18 +43,18 @@ pub record ValuesValue : Type 0 where
 pub record GivenValue : Type 0 where
   pub first : Option (List ℕ)
   pub second : Option (List ℕ)
-  pub flags : Flags
+  pub switches : Switches
   pub values : ValuesValue
   pub asking : Option AskingValue
   pub answer : Option Answer
-  pub progress : Progress
+  pub progress : WordProgress
 
 -- What no words give.
 abbrev pub given_nothing : GivenValue
 given_nothing = record {
   first = None;
   second = None;
-  flags = record { is_check = false; is_derive = false; denies = false; is_json = false };
+  switches = record { is_check = false; is_derive = false; denies = false; is_json = false };
   values = record { color = None; format = None; expected = None; name = None; output = None; shape = None };
   asking = None;
   answer = None;
@@ -76,19 +76,19 @@ abbrev pub with_asking : GivenValue → AskingValue → Option GivenValue
 with_asking given asking = if is_some given.asking then None else Some (record given { asking = Some asking })
 
 -- An option without a value, which is given once.
-abbrev pub with_flags : Flags → OptionName → Option Flags
-with_flags flags options.Check = if flags.is_check then None else Some (record flags { is_check = true })
-with_flags flags options.DenyWarnings = if flags.denies then None else Some (record flags { denies = true })
-with_flags flags options.Derive = if flags.is_derive then None else Some (record flags { is_derive = true })
-with_flags flags options.Json = if flags.is_json then None else Some (record flags { is_json = true })
-with_flags flags option = None
+abbrev pub with_switches : Switches → OptionName → Option Switches
+with_switches switches options.Check = if switches.is_check then None else Some (record switches { is_check = true })
+with_switches switches options.DenyWarnings = if switches.denies then None else Some (record switches { denies = true })
+with_switches switches options.Derive = if switches.is_derive then None else Some (record switches { is_derive = true })
+with_switches switches options.Json = if switches.is_json then None else Some (record switches { is_json = true })
+with_switches switches option = None
 
-abbrev pub with_flag : GivenValue → OptionName → Option GivenValue
-with_flag given options.Help = Some (record given { answer = Some answers.Help })
-with_flag given options.Version = Some (record given { answer = Some answers.Version })
-with_flag given options.Compare = with_asking given asks_comparison
-with_flag given options.Examples = with_asking given asks_examples
-with_flag given option = option_map (λ flags. record given { flags = flags }) (with_flags given.flags option)
+abbrev pub with_switch : GivenValue → OptionName → Option GivenValue
+with_switch given options.Help = Some (record given { answer = Some answers.Help })
+with_switch given options.Version = Some (record given { answer = Some answers.Version })
+with_switch given options.Compare = with_asking given asks_comparison
+with_switch given options.Examples = with_asking given asks_examples
+with_switch given option = option_map (λ switches. record given { switches = switches }) (with_switches given.switches option)
 
 -- When messages have colors, which is given once.
 abbrev pub with_color : ValuesValue → Option Color → Option Color → Option ValuesValue
@@ -120,7 +120,7 @@ with_value given option word = option_map (λ values. record given { values = va
 -- A path, or an option that the program takes.
 abbrev pub with_use : Program → GivenValue → UseValue → Option GivenValue
 with_use program given (path word) = with_path program given (path_named word)
-with_use program given (flag option) = if takes program option then with_flag given option else None
+with_use program given (switch option) = if takes program option then with_switch given option else None
 with_use program given (value option word) = if takes program option then with_value given option word else None
 
 abbrev pub with_found : Program → GivenValue → Option UseValue → Option GivenValue
@@ -183,7 +183,7 @@ abbrev pub given_value : Given → GivenValue
 given_value given = record {
   first = option_map (λ path. path.now) given.first;
   second = option_map (λ path. path.now) given.second;
-  flags = given.flags;
+  switches = given.switches;
   values = values_value given.values;
   asking = option_map asking_value given.asking;
   answer = given.answer;

@@ -1,7 +1,7 @@
 -- The paths of a command line.
 use Rattle.std.specs.Prelude.{ℕ, List, [], ◌∷◌, ◌++◌, Option, Some, None, if◌then◌else◌, bytes_eq, codes, false, map}
 use Rattle.std.specs.Borrow.{Bor}
-use Rattle.logos_options.specs.declared.word_steps.Progress.{Progress}
+use Rattle.logos_options.specs.declared.word_steps.WordProgress.{WordProgress}
 use Rattle.logos_options.specs.WordSteps.{StepValue, UseValue, path, step}
 
 -- The path that a word is: `-` is standard input.
@@ -19,17 +19,17 @@ next_paths None = []
 next_paths (Some next) = found_path next.found
 
 -- How far the words are read after a word.
-abbrev pub next_progress : Progress → Option StepValue → Progress
+abbrev pub next_progress : WordProgress → Option StepValue → WordProgress
 next_progress progress None = progress
 next_progress progress (Some next) = next.progress
 
 -- The paths of the words that are left.
-abbrev pub paths_from : Progress → List (List ℕ) → List (List ℕ)
+abbrev pub paths_from : WordProgress → List (List ℕ) → List (List ℕ)
 paths_from progress [] = []
 paths_from progress (word ∷ rest) = next_paths (step progress word) ++ paths_from (next_progress progress (step progress word)) rest
 
 -- Where no word is read.
-abbrev pub not_begun : Progress
+abbrev pub not_begun : WordProgress
 not_begun = record { pending = None; is_over = false }
 
 -- The paths of words, in order.

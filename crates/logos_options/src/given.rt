@@ -1,12 +1,12 @@
 //! What the words of a command line give.
 
 ghost use Rattle.std.specs.Prelude.{◌≡◌, IfErr, IfOk, None, Some, is_some, map, option_map, string_bytes};
-ghost use Rattle.logos_options.specs.Words.{asking_value, color_named, format_named, given_nothing, given_of, given_value, settled, status_of, use_value, values_value, with_asking, with_color, with_flag, with_flags, with_format, with_found, with_path, with_value, with_values, with_word, with_words};
+ghost use Rattle.logos_options.specs.Words.{asking_value, color_named, format_named, given_nothing, given_of, given_value, settled, status_of, use_value, values_value, with_asking, with_color, with_switch, with_switches, with_format, with_found, with_path, with_value, with_values, with_word, with_words};
 
 use crate::options::OptionName;
 use crate::paths::path_by_word;
 use crate::program::Program;
-use crate::word_steps::{Progress, Use, next_step};
+use crate::word_steps::{Use, WordProgress, next_step};
 use logos_host::{Color, Failure, MessageFormat, color_by_name, format_by_name};
 
 /// What the words of a command line give.
@@ -16,19 +16,19 @@ pub struct Given<'w> {
     pub first: Option<&'w str>,
     /// The second path.
     pub second: Option<&'w str>,
-    pub flags: Flags,
+    pub switches: Switches,
     pub values: Values<'w>,
     /// What is asked of a lexer.
     pub asking: Option<Asking<'w>>,
     /// The text that is asked for.
     pub answer: Option<Answer>,
     /// How far the words are read.
-    pub progress: Progress,
+    pub progress: WordProgress,
 }
 
 /// Which options without a value are given.
 #[derive(Clone, Copy)]
-pub struct Flags {
+pub struct Switches {
     pub is_check: bool,
     pub is_derive: bool,
     pub denies: bool,
@@ -138,7 +138,7 @@ fn read_words(program: Program, words: &[String]) -> Result<Given<'_>, Failure<'
     let mut given = Given {
         first: None,
         second: None,
-        flags: Flags {
+        switches: Switches {
             is_check: false,
             is_derive: false,
             denies: false,
@@ -154,7 +154,7 @@ fn read_words(program: Program, words: &[String]) -> Result<Given<'_>, Failure<'
         },
         asking: None,
         answer: None,
-        progress: Progress {
+        progress: WordProgress {
             pending: None,
             is_over: false,
         },
@@ -233,8 +233,8 @@ fn read_found<'w>(
     match found {
         None => Ok(given),
         Some(Use::Path(path)) => read_path(program, given, path_by_word(path)),
-        Some(Use::Flag(option)) if program.takes(option) => read_flag(given, option),
-        Some(Use::Flag(option)) => Err(unknown(option)),
+        Some(Use::Switch(option)) if program.takes(option) => read_switch(given, option),
+        Some(Use::Switch(option)) => Err(unknown(option)),
         Some(Use::Value(option, value)) if program.takes(option) => {
             read_value(given, option, value)
         }
@@ -279,11 +279,11 @@ fn read_path<'w>(
 }
 
 /// Reads an option without a value.
-fn read_flag<'w>(given: Given<'w>, option: OptionName) -> Result<Given<'w>, Failure<'w>>
+fn read_switch<'w>(given: Given<'w>, option: OptionName) -> Result<Given<'w>, Failure<'w>>
     ensures given { IfOk result (λ next.
-        with_flag (given_value given.entry) option ≡ Some (given_value next)) }
+        with_switch (given_value given.entry) option ≡ Some (given_value next)) }
     ensures misuse { IfErr result (λ failure.
-        (with_flag (given_value given.entry) option ≡ None) × (status_of failure ≡ 2)) }
+        (with_switch (given_value given.entry) option ≡ None) × (status_of failure ≡ 2)) }
 {
     match option {
         OptionName::Help => Ok(Given {
@@ -296,8 +296,8 @@ fn read_flag<'w>(given: Given<'w>, option: OptionName) -> Result<Given<'w>, Fail
         }),
         OptionName::Compare => read_asking(given, option, Asking::Comparison),
         OptionName::Examples => read_asking(given, option, Asking::Examples),
-        _ => match flagged(given.flags, option) {
-            Ok(flags) => Ok(Given { flags, ..given }),
+        _ => match switched(given.switches, option) {
+            Ok(switches) => Ok(Given { switches, ..given }),
             Err(failure) => Err(failure),
         },
     }
@@ -323,28 +323,28 @@ fn read_asking<'w>(
     }
 }
 
-/// Returns flags with one more, which is given once.
-fn flagged<'w>(flags: Flags, option: OptionName) -> Result<Flags, Failure<'w>>
-    ensures given { IfOk result (λ next. with_flags flags option ≡ Some next) }
+/// Returns switches with one more, which is given once.
+fn switched<'w>(switches: Switches, option: OptionName) -> Result<Switches, Failure<'w>>
+    ensures given { IfOk result (λ next. with_switches switches option ≡ Some next) }
     ensures misuse { IfErr result (λ failure.
-        (with_flags flags option ≡ None) × (status_of failure ≡ 2)) }
+        (with_switches switches option ≡ None) × (status_of failure ≡ 2)) }
 {
     match option {
-        OptionName::Check if !flags.is_check => Ok(Flags {
+        OptionName::Check if !switches.is_check => Ok(Switches {
             is_check: true,
-            ..flags
+            ..switches
         }),
-        OptionName::DenyWarnings if !flags.denies => Ok(Flags {
+        OptionName::DenyWarnings if !switches.denies => Ok(Switches {
             denies: true,
-            ..flags
+            ..switches
         }),
-        OptionName::Derive if !flags.is_derive => Ok(Flags {
+        OptionName::Derive if !switches.is_derive => Ok(Switches {
             is_derive: true,
-            ..flags
+            ..switches
         }),
-        OptionName::Json if !flags.is_json => Ok(Flags {
+        OptionName::Json if !switches.is_json => Ok(Switches {
             is_json: true,
-            ..flags
+            ..switches
         }),
         _ => Err(given_twice(option)),
     }

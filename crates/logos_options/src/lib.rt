@@ -9,9 +9,9 @@ mod paths;
 mod program;
 mod word_steps;
 
-pub use given::{Answer, Asking, Flags, Given, Values, given_by, given_twice, misuse};
+pub use given::{Answer, Asking, Given, Switches, Values, given_by, given_twice, misuse};
 pub use nearest::with_nearest;
 pub use options::OptionName;
 pub use paths::{STANDARD_INPUT, paths_of};
 pub use program::Program;
-pub use word_steps::{Progress, Step, Use, next_step};
+pub use word_steps::{Use, WordProgress, WordStep, next_step};

@@ -3,7 +3,7 @@
 ghost use Rattle.std.specs.Prelude.{◌≡◌, ◌++◌, IfOk, OnOk, map, option_map, string_bytes};
 ghost use Rattle.logos_options.specs.Words.{found_path, next_paths, next_progress, path_named, paths_of, step, texts_of, use_value};
 
-use crate::word_steps::{Progress, Use, next_step};
+use crate::word_steps::{Use, WordProgress, next_step};
 use logos_token::error::Memory;
 use std::alloc::Global;
 
@@ -20,7 +20,7 @@ pub fn paths_of<'w>(alloc: Global, words: &'w [String]) -> Result<Vec<&'w str>, 
         texts_of paths.items ≡ paths_of (map string_bytes words.now)) }
 {
     let mut paths = Vec::new(alloc);
-    let mut progress = Progress {
+    let mut progress = WordProgress {
         pending: None,
         is_over: false,
     };
@@ -33,9 +33,9 @@ pub fn paths_of<'w>(alloc: Global, words: &'w [String]) -> Result<Vec<&'w str>, 
 /// Appends the path that one more word is, if it is one. Returns how far the words are read.
 fn push_path<'w>(
     paths: &mut Vec<&'w str>,
-    progress: Progress,
+    progress: WordProgress,
     word: &'w str,
-) -> Result<Progress, Memory>
+) -> Result<WordProgress, Memory>
     ensures read { IfOk result (λ next. next ≡ next_progress progress (step progress word.now)) }
     ensures pushed { IfOk result (λ next. texts_of paths.new.items
         ≡ texts_of paths.old.items ++ next_paths (step progress word.now)) }

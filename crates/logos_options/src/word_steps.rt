@@ -12,14 +12,14 @@ pub enum Use<'w> {
     /// A path.
     Path(&'w str),
     /// An option without a value.
-    Flag(OptionName),
+    Switch(OptionName),
     /// An option with its value.
     Value(OptionName, &'w str),
 }
 
 /// How far the words of a command line are read.
 #[derive(Clone, Copy)]
-pub struct Progress {
+pub struct WordProgress {
     /// The option whose value the next word is.
     pub pending: Option<OptionName>,
     /// Whether `--` was read, after which all words are paths.
@@ -28,8 +28,8 @@ pub struct Progress {
 
 /// What one more word gives.
 #[derive(Clone, Copy)]
-pub struct Step<'w> {
-    pub progress: Progress,
+pub struct WordStep<'w> {
+    pub progress: WordProgress,
     pub found: Option<Use<'w>>,
 }
 
@@ -39,13 +39,13 @@ pub struct Step<'w> {
 ///
 /// Returns `UnknownOption` for a word that begins with `-` and is no option, and `Misuse` if an
 /// option that has no value gets one.
-pub fn next_step<'w>(progress: Progress, word: &'w str) -> Result<Step<'w>, Failure<'w>>
+pub fn next_step<'w>(progress: WordProgress, word: &'w str) -> Result<WordStep<'w>, Failure<'w>>
     ensures step { IfOk result (λ next. step progress word.now ≡ Some (step_value next)) }
     ensures misuse { IfErr result (λ failure.
         (step progress word.now ≡ None) × (status_of failure ≡ 2)) }
 {
     if let Some(option) = progress.pending {
-        let progress = Progress {
+        let progress = WordProgress {
             pending: None,
             is_over: progress.is_over,
         };
@@ -58,28 +58,28 @@ pub fn next_step<'w>(progress: Progress, word: &'w str) -> Result<Step<'w>, Fail
 }
 
 /// Returns a step that gives something.
-fn found<'w>(progress: Progress, one: Use<'w>) -> Step<'w>
+fn found<'w>(progress: WordProgress, one: Use<'w>) -> WordStep<'w>
     ensures { result ≡ record { progress = progress; found = Some one.entry } }
 {
-    Step {
+    WordStep {
         progress,
         found: Some(one),
     }
 }
 
 /// Reads a word that is not the value of an option and stands in front of `--`, or is that.
-fn step_written<'w>(progress: Progress, word: &'w str) -> Result<Step<'w>, Failure<'w>>
+fn step_written<'w>(progress: WordProgress, word: &'w str) -> Result<WordStep<'w>, Failure<'w>>
     ensures step { IfOk result (λ next.
         with_written progress word.now ≡ Some (step_value next)) }
     ensures misuse { IfErr result (λ failure.
         (with_written progress word.now ≡ None) × (status_of failure ≡ 2)) }
 {
     if word == "--" {
-        let progress = Progress {
+        let progress = WordProgress {
             pending: None,
             is_over: true,
         };
-        return Ok(Step {
+        return Ok(WordStep {
             progress,
             found: None,
         });
@@ -88,7 +88,7 @@ fn step_written<'w>(progress: Progress, word: &'w str) -> Result<Step<'w>, Failu
 }
 
 /// Reads a word that may be an option.
-fn step_option<'w>(progress: Progress, word: &'w str) -> Result<Step<'w>, Failure<'w>>
+fn step_option<'w>(progress: WordProgress, word: &'w str) -> Result<WordStep<'w>, Failure<'w>>
     ensures step { IfOk result (λ next. with_option progress (option_named word.now) word.now
         ≡ Some (step_value next)) }
     ensures misuse { IfErr result (λ failure.
@@ -96,21 +96,21 @@ fn step_option<'w>(progress: Progress, word: &'w str) -> Result<Step<'w>, Failur
         × (status_of failure ≡ 2)) }
 {
     match OptionName::by_word(word) {
-        Some(option) if option.takes_value() => Ok(Step {
-            progress: Progress {
+        Some(option) if option.takes_value() => Ok(WordStep {
+            progress: WordProgress {
                 pending: Some(option),
                 is_over: false,
             },
             found: None,
         }),
-        Some(option) => Ok(found(progress, Use::Flag(option))),
+        Some(option) => Ok(found(progress, Use::Switch(option))),
         None if is_option(word) => step_assigned(progress, word),
         None => Ok(found(progress, Use::Path(word))),
     }
 }
 
 /// Reads a word that begins with `-` and is no option: an option with its value after `=`.
-fn step_assigned<'w>(progress: Progress, word: &'w str) -> Result<Step<'w>, Failure<'w>>
+fn step_assigned<'w>(progress: WordProgress, word: &'w str) -> Result<WordStep<'w>, Failure<'w>>
     ensures step { IfOk result (λ next.
         with_assigned progress word.now ≡ Some (step_value next)) }
     ensures misuse { IfErr result (λ failure.

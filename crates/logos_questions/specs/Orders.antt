@@ -12,11 +12,11 @@ use Rattle.logos_options.specs.Given.{AskingValue, asks_comparison, asks_example
 use Rattle.logos_options.specs.declared.given.Answer.{Answer}
 use Rattle.logos_options.specs.declared.given.Answer.TheVariants as answers
 use Rattle.logos_options.specs.declared.program.Program.TheVariants as programs
-use Rattle.logos_questions.specs.declared.questions.Order.{Order}
+use Rattle.logos_questions.specs.declared.questions.ShowOrder.{ShowOrder}
 use Rattle.logos_questions.specs.declared.questions.Question.{Question}
 use Rattle.logos_questions.specs.declared.questions.Question.TheVariants as questions
-use Rattle.logos_questions.specs.declared.questions.Request.{Request}
-use Rattle.logos_questions.specs.declared.questions.Request.TheVariants.{Help, Version, Show}
+use Rattle.logos_questions.specs.declared.questions.ShowRequest.{ShowRequest}
+use Rattle.logos_questions.specs.declared.questions.ShowRequest.TheVariants.{Help, Version, Show}
 
 -- What is asked of the lexers of a file: their leaves; the items of an input, by its path; what
 -- matches from a position of an input; examples of what leaves find; at most so many inputs that
@@ -74,7 +74,7 @@ question_given (Some (asks_matches word)) input = matches_given (place_named wor
 
 abbrev pub order_asked : GivenValue → List ℕ → Option QuestionValue → Option Asked
 order_asked given file None = None
-order_asked given file (Some question) = Some (asks_showing (record { file = file; question = question; is_json = given.flags.is_json; expected = given.values.expected; name = given.values.name; format = given_or formats.Human given.values.format; denies = given.flags.denies; color = given_or Auto given.values.color }))
+order_asked given file (Some question) = Some (asks_showing (record { file = file; question = question; is_json = given.switches.is_json; expected = given.values.expected; name = given.values.name; format = given_or formats.Human given.values.format; denies = given.switches.denies; color = given_or Auto given.values.color }))
 
 -- A file to show, if there is one.
 abbrev pub order_given : GivenValue → Option (List ℕ) → Option Asked
@@ -104,7 +104,7 @@ question_value questions.Examples = examples
 question_value (questions.Inputs most) = inputs most
 question_value (questions.Comparison other) = comparison other.now
 
-abbrev pub order_value : Order → OrderValue
+abbrev pub order_value : ShowOrder → OrderValue
 order_value order = record {
   file = order.file.now;
   question = question_value order.question;
@@ -117,7 +117,7 @@ order_value order = record {
 }
 
 -- What is asked for, as a value.
-abbrev pub request_value : Request → Asked
+abbrev pub request_value : ShowRequest → Asked
 request_value Help = asks_help
 request_value Version = asks_version
 request_value (Show order) = asks_showing (order_value order)

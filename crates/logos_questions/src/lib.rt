@@ -4,4 +4,4 @@
 
 mod questions;
 
-pub use questions::{Order, Question, Request, request_of};
+pub use questions::{Question, ShowOrder, ShowRequest, request_of};

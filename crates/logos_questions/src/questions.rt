@@ -10,15 +10,15 @@ use logos_options::{Answer, Asking, Given, OptionName, Program, given_by, misuse
 
 /// What is asked for.
 #[derive(Clone, Copy)]
-pub enum Request<'w> {
+pub enum ShowRequest<'w> {
     Help,
     Version,
-    Show(Order<'w>),
+    Show(ShowOrder<'w>),
 }
 
 /// A file, and what is asked of its lexers.
 #[derive(Clone, Copy)]
-pub struct Order<'w> {
+pub struct ShowOrder<'w> {
     /// The path of the file.
     pub file: &'w str,
     pub question: Question<'w>,
@@ -58,7 +58,7 @@ pub enum Question<'w> {
 /// # Errors
 ///
 /// Returns `Misuse` or `UnknownOption` if they are not a command.
-pub fn request_of(words: &[String]) -> Result<Request<'_>, Failure<'_>>
+pub fn request_of(words: &[String]) -> Result<ShowRequest<'_>, Failure<'_>>
     ensures asked { IfOk result (λ request.
         asked (map string_bytes words.now) ≡ Some (request_value request)) }
     ensures misuse { IfErr result (λ failure.
@@ -71,21 +71,21 @@ pub fn request_of(words: &[String]) -> Result<Request<'_>, Failure<'_>>
 }
 
 /// Returns what the words ask for, by what they give.
-fn request_given(given: Given<'_>) -> Result<Request<'_>, Failure<'_>>
+fn request_given(given: Given<'_>) -> Result<ShowRequest<'_>, Failure<'_>>
     ensures asked { IfOk result (λ request.
         asked_given (Some (given_value given.entry)) ≡ Some (request_value request)) }
     ensures misuse { IfErr result (λ failure.
         (asked_given (Some (given_value given.entry)) ≡ None) × (status_of failure ≡ 2)) }
 {
     match given.answer {
-        Some(Answer::Help) => Ok(Request::Help),
-        Some(Answer::Version) => Ok(Request::Version),
+        Some(Answer::Help) => Ok(ShowRequest::Help),
+        Some(Answer::Version) => Ok(ShowRequest::Version),
         None => order_given(given),
     }
 }
 
 /// Returns the file to show.
-fn order_given(given: Given<'_>) -> Result<Request<'_>, Failure<'_>>
+fn order_given(given: Given<'_>) -> Result<ShowRequest<'_>, Failure<'_>>
     ensures asked { IfOk result (λ request. order_given (given_value given.entry)
         (given_value given.entry).first ≡ Some (request_value request)) }
     ensures misuse { IfErr result (λ failure. (order_given (given_value given.entry)
@@ -95,14 +95,14 @@ fn order_given(given: Given<'_>) -> Result<Request<'_>, Failure<'_>>
         return Err(misuse("no file", ""));
     };
     match question_given(given.asking, given.second) {
-        Ok(question) => Ok(Request::Show(Order {
+        Ok(question) => Ok(ShowRequest::Show(ShowOrder {
             file,
             question,
-            is_json: given.flags.is_json,
+            is_json: given.switches.is_json,
             expected: given.values.expected,
             name: given.values.name,
             format: given.values.format_or_human(),
-            denies: given.flags.denies,
+            denies: given.switches.denies,
             color: given.values.color_or_auto(),
         })),
         Err(failure) => Err(failure),

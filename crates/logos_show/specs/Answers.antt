@@ -18,8 +18,8 @@ use Rattle.logos_lines.specs.declared.place.Position.{Position}
 use Rattle.logos_pattern.specs.declared.leaf.Leaf.{Leaf}
 use Rattle.logos_records.specs.Inputs.{AreInputRecords}
 use Rattle.logos_records.specs.Matches.{AreMatchRecords}
-use Rattle.logos_show.specs.declared.asking.Standing.{Standing}
-use Rattle.logos_show.specs.declared.asking.Standing.TheVariants.{Different, Same}
+use Rattle.logos_show.specs.declared.asking.Agreement.{Agreement}
+use Rattle.logos_show.specs.declared.asking.Agreement.TheVariants.{Different, Same}
 
 -- The line that names a point.
 abbrev pub place_line : Position → List ℕ
@@ -58,6 +58,6 @@ pub record PrintsInputRecords (graph : List GraphState) (utf8 : Bool) (most : �
   pub printed : Appends old new text
 
 -- The verdict on two lexers is that of a comparison.
-abbrev pub IsJudged : GraphValue → GraphValue → Standing → Type 0
+abbrev pub IsJudged : GraphValue → GraphValue → Agreement → Type 0
 IsJudged one other Same = IsCompared one other compared.Same
 IsJudged one other Different = (made : Compared) × IsCompared one other made × (made ≢ compared.Same)

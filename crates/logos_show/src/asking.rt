@@ -5,8 +5,8 @@ ghost use Rattle.logos_show.specs.Views.{AllStart, Gains, IsBytes, IsGraphOf, ru
 
 use crate::reading::print_bytes;
 use logos_answers::{
-    Compared, Lexed, compare_lexers, finding_of, offset_of, push_callbacks, push_difference,
-    push_inputs, push_matches, push_modes, push_standing,
+    Compared, NamedLexer, compare_lexers, finding_of, offset_of, push_agreement, push_callbacks,
+    push_difference, push_inputs, push_matches, push_modes,
 };
 use logos_codegen::graph::Graph;
 use logos_host::Failure;
@@ -21,7 +21,7 @@ use std::io::Write;
 
 /// Whether what was to be compared is the same.
 #[derive(Clone, Copy)]
-pub(crate) enum Standing {
+pub(crate) enum Agreement {
     Same,
     Different,
 }
@@ -38,7 +38,7 @@ pub(crate) struct Input<'w, 'i> {
 
 /// A point of an input: the path and the bytes of the input, and the point.
 #[derive(Clone, Copy)]
-pub(crate) struct Spot<'w, 'i> {
+pub(crate) struct InputPoint<'w, 'i> {
     pub(crate) path: &'w str,
     pub(crate) bytes: &'i [u8],
     pub(crate) place: Position,
@@ -53,21 +53,21 @@ pub(crate) struct Spot<'w, 'i> {
 pub(crate) fn write_matches<O: Write>(
     alloc: Global,
     graph: &Graph<'_>,
-    spot: Spot<'_, '_>,
+    point: InputPoint<'_, '_>,
     out: &mut O,
 ) -> Result<(), Failure<'static>>
     ensures failed { IfErr result IsNoMisuse }
     ensures printed { OnOk result (IsGraphOf graph.now.leaves graph.now.utf8 graph.now →
-        AllStart (rules_of graph.now.leaves) → IsBytes spot.entry.bytes.now →
-        PrintsMatches graph.now.leaves spot.entry.bytes.now spot.entry.place
+        AllStart (rules_of graph.now.leaves) → IsBytes point.entry.bytes.now →
+        PrintsMatches graph.now.leaves point.entry.bytes.now point.entry.place
         (O.contents out.old) (O.contents out.new)) }
 {
-    let Some(from) = offset_of(spot.bytes, spot.place) else {
-        return Err(no_place(alloc, spot.path, spot.place));
+    let Some(from) = offset_of(point.bytes, point.place) else {
+        return Err(no_place(alloc, point.path, point.place));
     };
     let mut page = Page::new(alloc, false);
-    push_place(&mut page, spot.place);
-    push_matches(alloc, &mut page, graph, spot.bytes, from)?;
+    push_place(&mut page, point.place);
+    push_matches(alloc, &mut page, graph, point.bytes, from)?;
     let text = page.finish()?;
     print_bytes(text.as_str().as_bytes(), out)
 }
@@ -81,19 +81,19 @@ pub(crate) fn write_matches<O: Write>(
 pub(crate) fn write_match_records<O: Write>(
     alloc: Global,
     graph: &Graph<'_>,
-    spot: Spot<'_, '_>,
+    point: InputPoint<'_, '_>,
     out: &mut O,
 ) -> Result<(), Failure<'static>>
     ensures failed { IfErr result IsNoMisuse }
     ensures printed { OnOk result (IsGraphOf graph.now.leaves graph.now.utf8 graph.now →
-        AllStart (rules_of graph.now.leaves) → IsBytes spot.entry.bytes.now →
-        PrintsMatchRecords graph.now.leaves spot.entry.bytes.now spot.entry.place
+        AllStart (rules_of graph.now.leaves) → IsBytes point.entry.bytes.now →
+        PrintsMatchRecords graph.now.leaves point.entry.bytes.now point.entry.place
         (O.contents out.old) (O.contents out.new)) }
 {
-    let Some(from) = offset_of(spot.bytes, spot.place) else {
-        return Err(no_place(alloc, spot.path, spot.place));
+    let Some(from) = offset_of(point.bytes, point.place) else {
+        return Err(no_place(alloc, point.path, point.place));
     };
-    let bytes = match_records(alloc, graph, spot.bytes, from)?;
+    let bytes = match_records(alloc, graph, point.bytes, from)?;
     print_bytes(&bytes, out)
 }
 
@@ -192,36 +192,36 @@ fn note_of_cut(alloc: Global, most: usize, count: usize) -> Result<String, Alloc
 /// # Errors
 ///
 /// Returns `Output` if writing fails, and `Memory` if memory runs out.
-pub(crate) fn write_standing<O: Write>(
+pub(crate) fn write_agreement<O: Write>(
     alloc: Global,
     path: &str,
     stored: &[u8],
     made: &[u8],
     out: &mut O,
-) -> Result<Standing, Failure<'static>>
+) -> Result<Agreement, Failure<'static>>
     ensures { IfErr result IsNoMisuse }
 {
     let mut page = Page::new(alloc, false);
-    let is_same = push_standing(&mut page, path, stored, made);
+    let is_same = push_agreement(&mut page, path, stored, made);
     print_bytes(page.finish()?.as_str().as_bytes(), out)?;
     if is_same {
-        return Ok(Standing::Same);
+        return Ok(Agreement::Same);
     }
-    Ok(Standing::Different)
+    Ok(Agreement::Different)
 }
 
 /// Two lexers that are compared, and whether the answer is JSON.
 #[derive(Clone, Copy)]
 pub(crate) struct Pair<'m, 's, 't> {
-    pub(crate) one: Lexed<'m, 's>,
-    pub(crate) other: Lexed<'m, 't>,
+    pub(crate) one: NamedLexer<'m, 's>,
+    pub(crate) other: NamedLexer<'m, 't>,
     pub(crate) is_json: bool,
 }
 
 /// What a comparison of two lexers gives.
 #[derive(Drop)]
 pub(crate) struct Judgment {
-    pub(crate) standing: Standing,
+    pub(crate) agreement: Agreement,
     /// A note about callbacks, which is empty if there is nothing to say.
     pub(crate) note: String,
 }
@@ -244,35 +244,35 @@ pub(crate) fn compare_with<O: Write>(
         IsGraphOf pair.entry.other.graph.now.leaves pair.entry.other.graph.now.utf8
         pair.entry.other.graph.now →
         pair.entry.one.graph.now.faults ≡ [] → pair.entry.other.graph.now.faults ≡ [] →
-        IsJudged pair.entry.one.graph.now pair.entry.other.graph.now judgment.standing) }
+        IsJudged pair.entry.one.graph.now pair.entry.other.graph.now judgment.agreement) }
 {
     let compared = compare_lexers(alloc, pair.one.graph, pair.other.graph)?;
     let bytes = comparison_bytes(alloc, pair, &compared)?;
     let note = callback_note(alloc, pair.one, pair.other)?;
     print_bytes(&bytes, out)?;
     Ok(Judgment {
-        standing: standing_of(&compared),
+        agreement: agreement_of(&compared),
         note,
     })
 }
 
 /// Returns whether two lexers are the same, by their comparison.
-fn standing_of(compared: &Compared) -> Standing
+fn agreement_of(compared: &Compared) -> Agreement
     ensures { (one other : GraphValue) → IsCompared one other compared.now →
         IsJudged one other result }
 {
     match compared {
-        Compared::Same => Standing::Same,
-        Compared::Differ(_) => Standing::Different,
-        Compared::OtherMode => Standing::Different,
+        Compared::Same => Agreement::Same,
+        Compared::Differ(_) => Agreement::Different,
+        Compared::OtherMode => Agreement::Different,
     }
 }
 
 /// Returns the note about callbacks that are written in another way.
 fn callback_note<'l>(
     alloc: Global,
-    one: Lexed<'l, '_>,
-    other: Lexed<'l, '_>,
+    one: NamedLexer<'l, '_>,
+    other: NamedLexer<'l, '_>,
 ) -> Result<String, AllocError> {
     let mut page = Page::new(alloc, false);
     push_callbacks(alloc, &mut page, one, other)?;

@@ -1,7 +1,7 @@
 //! Which enum of a file is meant by a name.
 
-ghost use Rattle.std.specs.Prelude.{IfErr};
-ghost use Rattle.logos_show.specs.Words.{IsNoMisuse};
+ghost use Rattle.std.specs.Prelude.{◌≡◌, IfErr, IfOk, IfSome, option_map};
+ghost use Rattle.logos_show.specs.Views.{IsLexerOf, IsNextChoice, IsNoMisuse, IsTaken, chosen_first, first_near, taken};
 
 use crate::reading::refused;
 use crate::running::Task;
@@ -10,6 +10,7 @@ use logos_host::Failure;
 use logos_report::{Page, Part, Source};
 use logos_rust_file::{FoundEnum, enums_in, path_of};
 use std::alloc::Global;
+use std::io::Write;
 
 /// The enums of a file that a name may mean.
 #[derive(Clone, Copy)]
@@ -18,7 +19,7 @@ struct Choice<'n> {
     name: Option<&'n str>,
     /// The first one whose path is the name.
     exact: Option<FoundEnum>,
-    /// The first one whose path ends with the name.
+    /// The first one whose path ends with the name, or the first one if no name is given.
     first: Option<FoundEnum>,
     /// The first one after it with another path.
     second: Option<FoundEnum>,
@@ -29,23 +30,66 @@ struct Choice<'n> {
 pub(crate) enum Chosen {
     Nothing,
     One(FoundEnum),
-    /// The name means these two, which stand in two modules.
-    Two(FoundEnum, FoundEnum),
+    /// These two, which have different paths, and perhaps others.
+    Several(FoundEnum, FoundEnum),
 }
 
-/// Returns the enum of a file whose lexer is asked for.
-pub(crate) fn lexer_in<'w>(
+/// Returns the enum of a file whose lexer is asked for: the first one if no name is given. If there
+/// are others then, says so on standard error.
+pub(crate) fn lexer_in<'w, E: Write>(
     alloc: Global,
     task: Task<'w>,
     source: &Source<'_>,
+    err: &mut E,
 ) -> Result<FoundEnum, Failure<'w>>
-    ensures { IfErr result IsNoMisuse }
+    ensures failed { IfErr result IsNoMisuse }
+    ensures chosen { IfOk result (IsLexerOf source.now.text
+        (option_map (λ name. name.now) task.entry.order.name)) }
 {
     match found_in(alloc, task, source)? {
         Chosen::One(one) => Ok(one),
-        Chosen::Two(one, other) => Err(several(alloc, task, source, (one, other))),
+        Chosen::Several(one, other) => one_of(alloc, task, source, (one, other), err),
         Chosen::Nothing => Err(no_lexer(alloc, source.path(), task.order.name)),
     }
+}
+
+/// Returns the first of several enums, and says so on standard error, if no name is given.
+fn one_of<'w, E: Write>(
+    alloc: Global,
+    task: Task<'w>,
+    source: &Source<'_>,
+    enums: (FoundEnum, FoundEnum),
+    err: &mut E,
+) -> Result<FoundEnum, Failure<'w>>
+    ensures failed { IfErr result IsNoMisuse }
+    ensures first { IfOk result (λ one. one ≡ enums.0) }
+{
+    if task.order.name.is_some() {
+        return Err(several(alloc, task, source, enums));
+    }
+    let note = first_text(alloc, source, enums)?;
+    let _ = err.write_all(note.as_bytes());
+    let _ = err.flush();
+    Ok(enums.0)
+}
+
+/// Returns the note that the first of several enums is meant.
+fn first_text(
+    alloc: Global,
+    source: &Source<'_>,
+    enums: (FoundEnum, FoundEnum),
+) -> Result<String, Memory> {
+    let one = path_of(alloc, source.text(), enums.0)?;
+    let other = path_of(alloc, source.text(), enums.1)?;
+    let mut page = Page::new(alloc, false);
+    page.push("note: several enums in ");
+    page.push_shown(source.path());
+    page.push(" derive `Logos`, and this is about the first, `");
+    page.push_shown(one.as_str());
+    page.push("`\nhelp: give the path of another one, as in `--enum ");
+    page.push_shown(other.as_str());
+    page.push("`\n");
+    Ok(page.finish()?)
 }
 
 /// Returns the enums of a file that are asked for, of which there are some.
@@ -54,7 +98,9 @@ pub(crate) fn found_in<'w>(
     task: Task<'w>,
     source: &Source<'_>,
 ) -> Result<Chosen, Failure<'w>>
-    ensures { IfErr result IsNoMisuse }
+    ensures failed { IfErr result IsNoMisuse }
+    ensures chosen { IfOk result (λ chosen. IfSome (chosen_first chosen)
+        (IsLexerOf source.now.text (option_map (λ name. name.now) task.entry.order.name))) }
 {
     let found = match enums_in(alloc, source.text()) {
         Ok(found) => found,
@@ -134,13 +180,16 @@ fn push_name(page: &mut Page, name: Option<&str>) {
 }
 
 /// Returns the enum that derives `Logos` and that a name means: the one with this path, or the only
-/// one whose path ends with it. Without a name it is the first one.
+/// one whose path ends with it. Without a name each may be meant.
 fn enum_meant(
     alloc: Global,
     source: &Source<'_>,
     found: &[FoundEnum],
     name: Option<&str>,
-) -> Result<Chosen, Memory> {
+) -> Result<Chosen, Memory>
+    ensures { IfOk result (λ chosen. IfSome (chosen_first chosen)
+        (IsTaken found.now (option_map (λ name. name.now) name.entry))) }
+{
     let mut choice = Choice {
         name,
         exact: None,
@@ -150,11 +199,18 @@ fn enum_meant(
     for one in found {
         choice = choice_with(alloc, choice, source, *one)?;
     }
-    Ok(match (choice.exact, choice.first, choice.second) {
+    Ok(chosen_of(choice))
+}
+
+/// Returns the enum that is chosen, where no other one may be meant.
+fn chosen_of(choice: Choice<'_>) -> Chosen
+    ensures { chosen_first result ≡ taken choice.entry.exact choice.entry.first }
+{
+    match (choice.exact, choice.first, choice.second) {
         (Some(one), _, _) | (None, Some(one), None) => Chosen::One(one),
-        (None, Some(one), Some(other)) => Chosen::Two(one, other),
+        (None, Some(one), Some(other)) => Chosen::Several(one, other),
         (None, None, _) => Chosen::Nothing,
-    })
+    }
 }
 
 /// Returns a choice with one more enum.
@@ -163,41 +219,50 @@ fn choice_with<'n>(
     choice: Choice<'n>,
     source: &Source<'_>,
     one: FoundEnum,
-) -> Result<Choice<'n>, Memory> {
+) -> Result<Choice<'n>, Memory>
+    ensures { IfOk result (IsNextChoice choice.entry one) }
+{
     if !one.derives || choice.exact.is_some() {
         return Ok(choice);
     }
+    let Some(name) = choice.name else {
+        return near_choice(alloc, choice, source, one);
+    };
     let path = path_of(alloc, source.text(), one)?;
-    match choice.name {
-        Some(name) if path.as_str() != name => {
-            if !ends_with_name(path.as_str(), name) {
-                return Ok(choice);
-            }
-            near_choice(alloc, choice, source, one)
-        }
-        _ => Ok(Choice {
+    if path.as_str() == name {
+        return Ok(Choice {
             exact: Some(one),
             ..choice
-        }),
+        });
     }
+    if !ends_with_name(path.as_str(), name) {
+        return Ok(choice);
+    }
+    near_choice(alloc, choice, source, one)
 }
 
-/// Returns a choice with one more enum whose path ends with the name.
+/// Returns a choice with one more enum whose path ends with the name, or without a name.
 fn near_choice<'n>(
     alloc: Global,
     choice: Choice<'n>,
     source: &Source<'_>,
     one: FoundEnum,
-) -> Result<Choice<'n>, Memory> {
+) -> Result<Choice<'n>, Memory>
+    ensures { IfOk result (λ next. (next.name ≡ choice.entry.name)
+        × (next.exact ≡ choice.entry.exact) × (next.first ≡ first_near choice.entry.first one)) }
+{
     let Some(first) = choice.first else {
         return Ok(Choice {
             first: Some(one),
             ..choice
         });
     };
+    if choice.second.is_some() {
+        return Ok(choice);
+    }
     let path = path_of(alloc, source.text(), one)?;
     let other = path_of(alloc, source.text(), first)?;
-    if choice.second.is_some() || path.as_str() == other.as_str() {
+    if path.as_str() == other.as_str() {
         return Ok(choice);
     }
     Ok(Choice {

@@ -3,17 +3,16 @@
 ghost use Rattle.std.specs.Prelude.{IfErr};
 ghost use Rattle.logos_show.specs.Orders.{IsNoMisuse};
 
-use crate::asking::{Judgment, Pair, Standing, compare_with};
+use crate::asking::{Agreement, Judgment, Pair, compare_with};
 use crate::choosing::lexer_in;
 use crate::reading::{refused, text_at, text_of};
 use crate::running::{Host, Task, part_of};
 use crate::showing::SHAPE;
-use logos_answers::Lexed;
+use logos_answers::NamedLexer;
 use logos_codegen::{Generated, generate};
 use logos_host::{Failure, Files};
 use logos_report::Source;
 use logos_rust_file::FoundEnum;
-use std::alloc::Global;
 use std::io::{IsTerminal, Write};
 use std::time::Clock;
 
@@ -23,7 +22,7 @@ pub(crate) fn compare<'w, F: Files, C: Clock, O: Write, E: Write + IsTerminal>(
     other: &'w str,
     host: &mut Host<'_, F, C, E>,
     out: &mut O,
-) -> Result<Standing, Failure<'w>>
+) -> Result<Agreement, Failure<'w>>
     ensures { IfErr result IsNoMisuse }
 {
     let alloc = task.showing.alloc;
@@ -32,33 +31,38 @@ pub(crate) fn compare<'w, F: Files, C: Clock, O: Write, E: Write + IsTerminal>(
     let other_text = text_at(other, host.files)?;
     let source = Source::new(alloc, path, text.as_str())?;
     let other_source = Source::new(alloc, other, other_text.as_str())?;
-    let Judgment { standing, note } = compare_files(alloc, task, &source, &other_source, out)?;
+    let Judgment { agreement, note } = compare_files(task, &source, &other_source, host.err, out)?;
     let _ = host.err.write_all(note.as_bytes());
     let _ = host.err.flush();
-    Ok(standing)
+    Ok(agreement)
 }
 
 /// Writes whether the lexers of two files are the same, and returns that with a note.
-fn compare_files<'w, O: Write>(
-    alloc: Global,
+fn compare_files<'w, O: Write, E: Write>(
     task: Task<'w>,
     source: &Source<'_>,
     other: &Source<'_>,
+    err: &mut E,
     out: &mut O,
 ) -> Result<Judgment, Failure<'w>>
     ensures { IfErr result IsNoMisuse }
 {
-    let one = lexer_in(alloc, task, source)?;
+    let alloc = task.showing.alloc;
+    let one = lexer_in(alloc, task, source, err)?;
     let part = part_of(source, one);
     match generate(alloc, text_of(source, one), SHAPE) {
-        Ok(made) => compare_to(alloc, task, lexed(source, one, &made), other, out),
+        Ok(made) => compare_to(task, named_lexer(source, one, &made), other, err, out),
         Err(refusal) => Err(refused(alloc, part, task.showing, refusal)),
     }
 }
 
 /// Returns a lexer with the path of its file and the text of its enum.
-fn lexed<'m, 's>(source: &'m Source<'_>, one: FoundEnum, made: &'m Generated<'s>) -> Lexed<'m, 's> {
-    Lexed {
+fn named_lexer<'m, 's>(
+    source: &'m Source<'_>,
+    one: FoundEnum,
+    made: &'m Generated<'s>,
+) -> NamedLexer<'m, 's> {
+    NamedLexer {
         path: source.path(),
         text: text_of(source, one),
         graph: &made.graph,
@@ -67,22 +71,23 @@ fn lexed<'m, 's>(source: &'m Source<'_>, one: FoundEnum, made: &'m Generated<'s>
 }
 
 /// Writes whether a lexer and that of another file are the same, and returns that with a note.
-fn compare_to<'w, O: Write>(
-    alloc: Global,
+fn compare_to<'w, O: Write, E: Write>(
     task: Task<'w>,
-    one: Lexed<'_, '_>,
+    one: NamedLexer<'_, '_>,
     source: &Source<'_>,
+    err: &mut E,
     out: &mut O,
 ) -> Result<Judgment, Failure<'w>>
     ensures { IfErr result IsNoMisuse }
 {
-    let other = lexer_in(alloc, task, source)?;
+    let alloc = task.showing.alloc;
+    let other = lexer_in(alloc, task, source, err)?;
     let part = part_of(source, other);
     match generate(alloc, text_of(source, other), SHAPE) {
         Ok(made) => {
             let pair = Pair {
                 one,
-                other: lexed(source, other, &made),
+                other: named_lexer(source, other, &made),
                 is_json: task.order.is_json,
             };
             compare_with(alloc, pair, out)

@@ -1,16 +1,18 @@
 //! The items of an input, a line each.
 
-ghost use Rattle.std.specs.Prelude.{IfErr};
-ghost use Rattle.logos_show.specs.Orders.{IsNoMisuse};
+ghost use Rattle.std.specs.Prelude.{◌≡◌, ◌++◌, IfErr, OnOk};
+ghost use Rattle.logos_show.specs.Words.{IsNoMisuse, totals_text};
 
 use crate::reading::print_bytes;
-use logos_answers::{Counts, LINE, code_name_at, note_of, push_count, push_item};
+use logos_answers::{Counts, LINE, Totals, code_name_at, note_of, push_item};
+use logos_codegen::Generated;
 use logos_codegen::code::{Code, CodeLeaf};
 use logos_codegen::leaf::LeafId;
 use logos_codegen::machine::{Action, Item, Lexer};
 use logos_host::{Failure, write_full};
 use logos_lines::Cursor;
 use logos_records::{ItemRecord, JsonLines, push_item_record};
+use logos_report::Page;
 use std::alloc::{AllocError, Global};
 use std::io::Write;
 use std::mem;
@@ -35,14 +37,6 @@ pub(crate) struct Lines {
     pub(crate) heads: Vec<Vec<u8>>,
 }
 
-/// What is counted of a whole input.
-#[derive(Clone, Copy)]
-pub(crate) struct Totals {
-    pub(crate) bytes: usize,
-    /// The milliseconds that lexing and writing took, if there is a clock.
-    pub(crate) passed: Option<usize>,
-}
-
 /// Writes a line for each item of an input, and then what was counted. Returns a note about
 /// callbacks, which is empty if no leaf with a callback has an item.
 ///
@@ -52,23 +46,23 @@ pub(crate) struct Totals {
 /// and `Memory` if memory runs out.
 pub(crate) fn write_items<O: Write, C: Clock>(
     alloc: Global,
-    code: &Code<'_>,
+    made: &Generated<'_>,
     input: &[u8],
     clock: &C,
     out: &mut O,
 ) -> Result<String, Failure<'static>>
     ensures { IfErr result IsNoMisuse }
 {
-    let mut lines = no_lines(alloc, code)?;
+    let mut lines = no_lines(alloc, &made.code)?;
     let start = now(clock);
-    write_all(code, input, &mut lines, out)?;
+    write_all(&made.code, input, &mut lines, out)?;
     let totals = Totals {
         bytes: input.len(),
         passed: milliseconds(start, now(clock)),
     };
-    push_totals(code, &mut lines, totals)?;
+    push_totals(alloc, made, &mut lines, totals)?;
     // The note is made first, so that nothing is printed if memory runs out.
-    let note = note_of(alloc, code.leaves(), &lines.counts)?;
+    let note = note_of(alloc, made.code.leaves(), &lines.counts)?;
     print_bytes(&lines.block, out)?;
     Ok(note)
 }
@@ -206,18 +200,24 @@ pub(crate) fn no_lines(alloc: Global, code: &Code<'_>) -> Result<Lines, AllocErr
     })
 }
 
-/// Appends what was counted of a whole input.
+/// Appends what was counted of a whole input. If memory runs out, nothing is added.
 pub(crate) fn push_totals(
-    code: &Code<'_>,
+    alloc: Global,
+    made: &Generated<'_>,
     lines: &mut Lines,
     totals: Totals,
-) -> Result<(), AllocError> {
-    lines.counts.push_lines(&mut lines.block, code.leaves())?;
-    push_count(&mut lines.block, "bytes", totals.bytes)?;
-    if let Some(passed) = totals.passed {
-        push_count(&mut lines.block, "milliseconds", passed)?;
-    }
-    Ok(())
+) -> Result<(), AllocError>
+    ensures { OnOk result (lines.new.block.items ≡ lines.old.block.items
+        ++ totals_text made.now.name.text.now made.now.code.code_leaves lines.old.counts.by_leaf.items
+        lines.old.counts.errors totals.bytes totals.passed) }
+{
+    let mut page = Page::new(alloc, false);
+    let leaves = made.code.leaves();
+    lines
+        .counts
+        .push_totals(&mut page, made.name.text, leaves, totals);
+    let text = page.finish()?;
+    lines.block.extend_from_slice(text.as_bytes())
 }
 
 /// Returns the heads of the lines of these leaves.

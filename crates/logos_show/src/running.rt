@@ -4,8 +4,8 @@ ghost use Rattle.std.specs.Prelude.{◌≡◌, ◌≤◌, ◌↔◌, None, IfErr
 ghost use Rattle.logos_show.specs.Words.{status_of, IsNoMisuse, asked};
 
 use crate::asking::{
-    Input, Spot, Standing, write_input_records, write_inputs, write_match_records, write_matches,
-    write_standing,
+    Agreement, Input, InputPoint, write_agreement, write_input_records, write_inputs,
+    write_match_records, write_matches,
 };
 use crate::choosing::{found_in, lexer_in};
 use crate::comparing::compare;
@@ -19,7 +19,7 @@ use logos_codegen::{Generated, generate};
 use logos_host::{Failure, Files, report};
 use logos_lines::Position;
 use logos_options::{Program, STANDARD_INPUT, with_nearest};
-use logos_questions::{Order, Question, Request, request_of};
+use logos_questions::{Question, ShowOrder, ShowRequest, request_of};
 use logos_report::{Part, Source};
 use logos_rust_file::FoundEnum;
 use std::alloc::Global;
@@ -41,8 +41,8 @@ usage: logos_show FILE [INPUT] [OPTIONS]
 
 Without INPUT, prints the leaves of each enum in FILE that derives `Logos`, and
 what its lexer costs, and warns about probable mistakes. With INPUT, prints a
-line for each item of INPUT, and at the end how many items there were. Either
-may be `-`, which is standard input.
+line for each item of INPUT that the first of these enums finds, and at the end
+how many items there were. Either may be `-`, which is standard input.
 
 options:
       --enum NAME   show, or lex by, the enum NAME alone, or `module::NAME`
@@ -96,8 +96,8 @@ pub(crate) fn run<F: Files, C: Clock + StandardInput, O: Write, E: Write + IsTer
         Err(failure) => return failed(&with_nearest(failure, Program::Show), host.err),
     };
     match carry_out(alloc, request, host, out) {
-        Ok(Standing::Same) => 0,
-        Ok(Standing::Different) => 1,
+        Ok(Agreement::Same) => 0,
+        Ok(Agreement::Different) => 1,
         Err(failure) => failed(&failure, host.err),
     }
 }
@@ -113,7 +113,7 @@ fn failed<E: Write>(failure: &Failure<'_>, err: &mut E) -> u8
 /// An order that is carried out.
 #[derive(Clone, Copy)]
 pub(crate) struct Task<'w> {
-    pub(crate) order: Order<'w>,
+    pub(crate) order: ShowOrder<'w>,
     /// How messages are shown.
     pub(crate) showing: Showing,
 }
@@ -121,16 +121,16 @@ pub(crate) struct Task<'w> {
 /// Does what is asked for, and returns whether what was to be compared is the same.
 fn carry_out<'w, F: Files, C: Clock + StandardInput, O: Write, E: Write + IsTerminal>(
     alloc: Global,
-    request: Request<'w>,
+    request: ShowRequest<'w>,
     host: &mut Host<'_, F, C, E>,
     out: &mut O,
-) -> Result<Standing, Failure<'w>>
+) -> Result<Agreement, Failure<'w>>
     ensures { IfErr result IsNoMisuse }
 {
     let done = match request {
-        Request::Help => print_bytes(HELP.as_bytes(), out),
-        Request::Version => print_bytes(VERSION.as_bytes(), out),
-        Request::Show(order) => {
+        ShowRequest::Help => print_bytes(HELP.as_bytes(), out),
+        ShowRequest::Version => print_bytes(VERSION.as_bytes(), out),
+        ShowRequest::Show(order) => {
             let showing = Showing {
                 alloc,
                 format: order.format,
@@ -145,12 +145,12 @@ fn carry_out<'w, F: Files, C: Clock + StandardInput, O: Write, E: Write + IsTerm
 }
 
 /// Returns that nothing differs, if nothing failed.
-fn as_same<'w>(done: Result<(), Failure<'w>>) -> Result<Standing, Failure<'w>>
+fn as_same<'w>(done: Result<(), Failure<'w>>) -> Result<Agreement, Failure<'w>>
     requires { IfErr done IsNoMisuse }
     ensures { IfErr result IsNoMisuse }
 {
     match done {
-        Ok(()) => Ok(Standing::Same),
+        Ok(()) => Ok(Agreement::Same),
         Err(failure) => Err(failure),
     }
 }
@@ -162,7 +162,7 @@ fn answer_or_compare<'w, F: Files, C: Clock + StandardInput, O: Write, E: Write 
     task: Task<'w>,
     host: &mut Host<'_, F, C, E>,
     out: &mut O,
-) -> Result<Standing, Failure<'w>>
+) -> Result<Agreement, Failure<'w>>
     ensures { IfErr result IsNoMisuse }
 {
     let Some(path) = task.order.expected else {
@@ -171,7 +171,7 @@ fn answer_or_compare<'w, F: Files, C: Clock + StandardInput, O: Write, E: Write 
     let stored = read_bytes(path, host.files)?;
     let mut made = Vec::new(alloc);
     let _ = answer(alloc, task, host, &mut made)?;
-    write_standing(alloc, path, &stored, &made, out)
+    write_agreement(alloc, path, &stored, &made, out)
 }
 
 /// Answers what is asked of the lexers of a file, and returns whether what was to be compared is
@@ -181,7 +181,7 @@ fn answer<'w, F: Files, C: Clock + StandardInput, O: Write, E: Write + IsTermina
     task: Task<'w>,
     host: &mut Host<'_, F, C, E>,
     out: &mut O,
-) -> Result<Standing, Failure<'w>>
+) -> Result<Agreement, Failure<'w>>
     ensures { IfErr result IsNoMisuse }
 {
     let done = match task.order.question {
@@ -228,7 +228,7 @@ fn show<'w, F: Files, C: Clock, O: Write, E: Write + IsTerminal>(
 }
 
 /// Returns in which form the lexers of a file are shown.
-fn form_of(order: Order<'_>) -> Form {
+fn form_of(order: ShowOrder<'_>) -> Form {
     match (order.question, order.is_json) {
         (Question::Examples, false) => Form::Examples,
         (Question::Examples, true) => Form::ExampleRecords,
@@ -249,22 +249,23 @@ fn give_inputs<'w, F: Files, C: Clock, O: Write, E: Write + IsTerminal>(
     let path = task.order.file;
     let text = text_at(path, host.files)?;
     let source = Source::new(alloc, path, text.as_str())?;
-    let note = inputs_by_file(alloc, task, &source, out)?;
+    let note = inputs_by_file(alloc, task, &source, host.err, out)?;
     let _ = host.err.write_all(note.as_bytes());
     let _ = host.err.flush();
     Ok(())
 }
 
 /// Writes inputs by the lexer of a file that is asked for, and returns the note about them.
-fn inputs_by_file<'w, O: Write>(
+fn inputs_by_file<'w, O: Write, E: Write>(
     alloc: Global,
     task: Task<'w>,
     source: &Source<'_>,
+    err: &mut E,
     out: &mut O,
 ) -> Result<String, Failure<'w>>
     ensures { IfErr result IsNoMisuse }
 {
-    let one = lexer_in(alloc, task, source)?;
+    let one = lexer_in(alloc, task, source, err)?;
     let part = part_of(source, one);
     match generate(alloc, text_of(source, one), SHAPE) {
         Ok(made) => inputs_by_lexer(alloc, task.order, &made, out),
@@ -275,7 +276,7 @@ fn inputs_by_file<'w, O: Write>(
 /// Writes inputs by a lexer, and returns the note about them.
 fn inputs_by_lexer<O: Write>(
     alloc: Global,
-    order: Order<'_>,
+    order: ShowOrder<'_>,
     made: &Generated<'_>,
     out: &mut O,
 ) -> Result<String, Failure<'static>>
@@ -333,7 +334,7 @@ fn lex_by_file<'w, F: Files, C: Clock, O: Write, E: Write + IsTerminal>(
 ) -> Result<(), Failure<'w>>
     ensures { IfErr result IsNoMisuse }
 {
-    let one = lexer_in(alloc, task, source)?;
+    let one = lexer_in(alloc, task, source, host.err)?;
     let part = part_of(source, one);
     match generate(alloc, text_of(source, one), SHAPE) {
         Ok(made) => lex_by_lexer(alloc, &made, input, host, out),
@@ -360,12 +361,12 @@ fn lex_by_lexer<'w, F: Files, C: Clock, O: Write, E: Write + IsTerminal>(
     ensures { IfErr result IsNoMisuse }
 {
     if let Some(place) = input.place {
-        let spot = Spot {
+        let point = InputPoint {
             path: input.path,
             bytes: input.bytes,
             place,
         };
-        return match_by_lexer(alloc, &made.graph, spot, input.is_json, out);
+        return match_by_lexer(alloc, &made.graph, point, input.is_json, out);
     }
     let note = items_by_lexer(alloc, made, input, host.clock, out)?;
     let _ = host.err.write_all(note.as_bytes());
@@ -386,7 +387,7 @@ fn items_by_lexer<C: Clock, O: Write>(
     if input.is_json {
         write_item_records(alloc, &made.code, input.bytes, out)
     } else {
-        write_items(alloc, &made.code, input.bytes, clock, out)
+        write_items(alloc, made, input.bytes, clock, out)
     }
 }
 
@@ -394,15 +395,15 @@ fn items_by_lexer<C: Clock, O: Write>(
 fn match_by_lexer<O: Write>(
     alloc: Global,
     graph: &Graph<'_>,
-    spot: Spot<'_, '_>,
+    point: InputPoint<'_, '_>,
     is_json: bool,
     out: &mut O,
 ) -> Result<(), Failure<'static>>
     ensures { IfErr result IsNoMisuse }
 {
     if is_json {
-        write_match_records(alloc, graph, spot, out)
+        write_match_records(alloc, graph, point, out)
     } else {
-        write_matches(alloc, graph, spot, out)
+        write_matches(alloc, graph, point, out)
     }
 }

@@ -5,16 +5,15 @@ ghost use Rattle.logos_show.specs.Words.{IsNoMisuse, KeepsCode, unread_length};
 
 use crate::choosing::lexer_in;
 use crate::items::{
-    ERROR, Lines, Totals, head_at, milliseconds, no_lines, now, push_totals, write_if_full,
+    ERROR, Lines, head_at, milliseconds, no_lines, now, push_totals, write_if_full,
 };
 use crate::reading::{print_bytes, refused, text_at, text_of};
 use crate::running::{Host, Task, part_of};
 use crate::showing::SHAPE;
-use logos_answers::{note_of, push_item};
-use logos_codegen::code::Code;
-use logos_codegen::generate;
+use logos_answers::{Totals, note_of, push_item};
 use logos_codegen::leaf::LeafId;
 use logos_codegen::machine::Action;
+use logos_codegen::{Generated, generate};
 use logos_host::{Failure, Files, Reason, write_through};
 use logos_lines::Position;
 use logos_options::STANDARD_INPUT;
@@ -39,10 +38,10 @@ pub(crate) fn lex_stream<'w, F: Files, C: Clock + Input, O: Write, E: Write + Is
     let path = task.order.file;
     let text = text_at(path, host.files)?;
     let source = Source::new(alloc, path, text.as_str())?;
-    let one = lexer_in(alloc, task, &source)?;
+    let one = lexer_in(alloc, task, &source, host.err)?;
     let part = part_of(&source, one);
     let lexed = match generate(alloc, text_of(&source, one), SHAPE) {
-        Ok(made) => write_streamed(alloc, &made.code, host.clock, out),
+        Ok(made) => write_streamed(alloc, &made, host.clock, out),
         Err(refusal) => Err(refused(alloc, part, task.showing, refusal)),
     };
     print_note(lexed, host.err)
@@ -77,16 +76,16 @@ fn print_note<'w, E: Write>(
 /// writing fails, and `Memory` if memory runs out.
 fn write_streamed<S: Clock + Input, O: Write>(
     alloc: Global,
-    code: &Code<'_>,
+    made: &Generated<'_>,
     system: &S,
     out: &mut O,
 ) -> Result<String, Failure<'static>>
     ensures { IfErr result IsNoMisuse }
 {
-    let mut lines = no_lines(alloc, code)?;
+    let mut lines = no_lines(alloc, &made.code)?;
     let start = now(system);
     let emit = |_leaf: LeafId, _slice: &[u8]| Action::Emit;
-    let mut stream = Stream::new(alloc, code, system.reader(), MOST, emit)?;
+    let mut stream = Stream::new(alloc, &made.code, system.reader(), MOST, emit)?;
     let end = write_stream(&mut stream, &mut lines, out)?;
     if let Some(stop) = end {
         write_found(&mut lines, out)?;
@@ -96,29 +95,29 @@ fn write_streamed<S: Clock + Input, O: Write>(
         bytes: stream.offset(),
         passed: milliseconds(start, now(system)),
     };
-    push_totals(code, &mut lines, totals)?;
+    push_totals(alloc, made, &mut lines, totals)?;
     // The note is made first, so that the rest is not printed if memory runs out.
-    let note = note_of(alloc, code.leaves(), &lines.counts)?;
+    let note = note_of(alloc, made.code.leaves(), &lines.counts)?;
     print_bytes(&lines.block, out)?;
     Ok(note)
 }
 
 /// Why a stream is not lexed to its end.
 #[derive(Clone, Copy)]
-enum Stop {
+enum StreamStop {
     NotUtf8,
     TooLong,
 }
 
 /// Returns the failure of a stream that is not lexed from an offset on.
-fn failure_at(alloc: Global, stop: Stop, offset: usize) -> Failure<'static>
+fn failure_at(alloc: Global, stop: StreamStop, offset: usize) -> Failure<'static>
     ensures { IsNoMisuse result }
 {
     match stop {
-        Stop::NotUtf8 => Failure::NotUtf8 {
+        StreamStop::NotUtf8 => Failure::NotUtf8 {
             valid_up_to: offset,
         },
-        Stop::TooLong => too_long(alloc, offset),
+        StreamStop::TooLong => too_long(alloc, offset),
     }
 }
 
@@ -141,7 +140,7 @@ fn write_stream<R: Read + Drop, C: Fn(LeafId, &[u8]) -> Action + Copy, O: Write>
     stream: &mut Stream<'_, '_, R, C>,
     lines: &mut Lines,
     out: &mut O,
-) -> Result<Option<Stop>, Failure<'static>>
+) -> Result<Option<StreamStop>, Failure<'static>>
     requires { C.IsAlwaysCallable stream.old.callback }
     ensures { IfErr result IsNoMisuse }
 {
@@ -156,8 +155,8 @@ fn write_stream<R: Read + Drop, C: Fn(LeafId, &[u8]) -> Action + Copy, O: Write>
                 write_if_full(&mut lines.block, out)?;
             }
             Streamed::More => read_more(stream, lines, out)?,
-            Streamed::TooLong => return Ok(Some(Stop::TooLong)),
-            Streamed::NotUtf8 => return Ok(Some(Stop::NotUtf8)),
+            Streamed::TooLong => return Ok(Some(StreamStop::TooLong)),
+            Streamed::NotUtf8 => return Ok(Some(StreamStop::NotUtf8)),
             Streamed::End => break,
         }
     }

@@ -2,6 +2,6 @@ use Rattle.std.proofs.Common.{All, drop, false}
 use Rattle.logos_cli.proofs.batch.is_input.Given as goal
 
 -- The files that are left decide.
-abbrev pub invariant-loop-entry : goal.invariant-loop-entry
-invariant-loop-entry g l =
-    All (λ other. g.F.ComparableFiles.same_finds l.files other.input.now l.path false) (drop l.entry-index l.entries) → All (λ other. g.F.ComparableFiles.same_finds l.files other.input.now l.path false) l.entries
+abbrev pub invariant-loop-batch_file : goal.invariant-loop-batch_file
+invariant-loop-batch_file g l =
+    All (λ other. g.F.ComparableFiles.same_finds l.files other.input.now l.path false) (drop l.batch_file-index l.batch_files) → All (λ other. g.F.ComparableFiles.same_finds l.files other.input.now l.path false) l.batch_files

@@ -1,6 +1,6 @@
 use Rattle.std.proofs.Common.{ap, ◌∙◌}
 use Rattle.logos_cli.specs.Orders.{batch_value, order_value}
-use Rattle.logos_cli.specs.inside.Entries.{orders_of}
+use Rattle.logos_cli.specs.inside.BatchFiles.{orders_of}
 use Rattle.logos_cli.proofs.BatchLemmas.{all_apart, own_found, twins_found}
 use Rattle.logos_cli.proofs.batch.run_batch.Goals as goal
 
