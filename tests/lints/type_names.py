@@ -26,7 +26,6 @@ STAYS = {
     "Config": ("code graph", "the options of a generator and of a graph, both public"),
     "Counts": ("answers scan", "how many there are of what each crate counts"),
     "Cursor": ("lines walk", "a point that only moves forward, in a text and in a chunk"),
-    "Kind": ("lexeme pattern_tokens", NOT_YET),
     "Literal": ("pattern token", "a literal of a source, and one that spells a pattern, both public"),
     "Rows": ("reduce tables", "a list of rows, of two kinds of tables"),
 }

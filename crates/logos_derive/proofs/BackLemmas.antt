@@ -6,8 +6,8 @@ use Rattle.std.specs.Str.{IsCharBoundary}
 use denote.Ref.{Bor}
 use Rattle.logos_lexeme.proofs.LexemeLaws.{next_advances, next_boundary}
 use Rattle.logos_lexeme.specs.Lexemes.{IsNext}
-use Rattle.logos_lexeme.specs.declared.lexeme.Kind.{Kind}
-use Rattle.logos_lexeme.specs.declared.lexeme.Kind.TheVariants.{Identifier}
+use Rattle.logos_lexeme.specs.declared.lexeme.LexemeKind.{LexemeKind}
+use Rattle.logos_lexeme.specs.declared.lexeme.LexemeKind.TheVariants.{Identifier}
 use Rattle.logos_derive.specs.Parts.{StandsAt}
 use Rattle.logos_derive.specs.Pieces.{IsPutBack}
 use Rattle.logos_derive.specs.Pieces.IsPutBack.{ended, fills, stays}
@@ -15,7 +15,7 @@ use Rattle.logos_derive.specs.declared.checking.Progress.{Progress}
 use Rattle.logos_derive.specs.declared.piece.SourcePiece.{SourcePiece}
 use Rattle.logos_derive.specs.inside.Comparing.{GoesOn}
 
-module _ (shown text : List ℕ) (pieces : List SourcePiece) (old new : Progress) (kind : Kind) (to : ℕ) (lexeme : List ℕ) where
+module _ (shown text : List ℕ) (pieces : List SourcePiece) (old new : Progress) (kind : LexemeKind) (to : ℕ) (lexeme : List ℕ) where
   -- a lexeme that stands in both texts
   pub go_stay : IsUtf8 shown → IsCharBoundary shown old.shown → IsNext shown old.shown kind to → lexeme ≡ slice_range shown old.shown to →
       (new.shown ≡ to) × (new.count ≡ old.count) × StandsAt text old.text lexeme new.text → GoesOn shown text pieces old new
@@ -52,13 +52,13 @@ pub left_from : (pieces : List SourcePiece) (i : ℕ) (piece : Bor SourcePiece) 
 left_from pieces i piece h = drop_more pieces i piece.now h.3.0 ∙ ap (λ x. x ∷ drop (i + 1) pieces) (sym h.1)
 
 -- the same of what a comparison finds
-pub stays_on : (shown text : List ℕ) (pieces : List SourcePiece) (old : Progress) (kind : Kind) (to : ℕ) (lexeme : List ℕ) (result : Option Progress) →
+pub stays_on : (shown text : List ℕ) (pieces : List SourcePiece) (old : Progress) (kind : LexemeKind) (to : ℕ) (lexeme : List ℕ) (result : Option Progress) →
     IsUtf8 shown → IsCharBoundary shown old.shown → IsNext shown old.shown kind to → lexeme ≡ slice_range shown old.shown to →
     IfSome result (λ new. (new.shown ≡ to) × (new.count ≡ old.count) × StandsAt text old.text lexeme new.text) → IfSome result (GoesOn shown text pieces old)
 stays_on shown text pieces old kind to lexeme None u b n e h = tt
 stays_on shown text pieces old kind to lexeme (Some new) u b n e h = go_stay shown text pieces old new kind to lexeme u b n e h
 
-pub fills_on : (shown text : List ℕ) (pieces : List SourcePiece) (old : Progress) (kind : Kind) (to : ℕ) (lexeme : List ℕ) (piece : Bor SourcePiece) (result : Option Progress) →
+pub fills_on : (shown text : List ℕ) (pieces : List SourcePiece) (old : Progress) (kind : LexemeKind) (to : ℕ) (lexeme : List ℕ) (piece : Bor SourcePiece) (result : Option Progress) →
     IsUtf8 shown → IsCharBoundary shown old.shown → IsNext shown old.shown kind to → lexeme ≡ slice_range shown old.shown to →
     IsItemAt pieces old.count (Some piece) → (kind ≡ Identifier) × (lexeme ≡ string_bytes piece.now.name) →
     IfSome result (λ new. (new.shown ≡ to) × (new.count ≡ old.count + 1) × StandsAt text old.text (string_bytes piece.now.text) new.text) → IfSome result (GoesOn shown text pieces old)

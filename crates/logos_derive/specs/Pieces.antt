@@ -2,8 +2,8 @@
 use Rattle.std.specs.Prelude.{◌≡◌, ℕ, List, [], ◌∷◌, ◌++◌, length, slice_range, string_bytes}
 use Rattle.std.specs.Fmt.{decimal}
 use Rattle.logos_lexeme.specs.Lexemes.{IsNext}
-use Rattle.logos_lexeme.specs.declared.lexeme.Kind.{Kind}
-use Rattle.logos_lexeme.specs.declared.lexeme.Kind.TheVariants.{Identifier}
+use Rattle.logos_lexeme.specs.declared.lexeme.LexemeKind.{LexemeKind}
+use Rattle.logos_lexeme.specs.declared.lexeme.LexemeKind.TheVariants.{Identifier}
 use Rattle.logos_derive.specs.Parts.{IsPartOf, StandsAt}
 use Rattle.logos_derive.specs.declared.piece.SourcePiece.{SourcePiece}
 
@@ -19,7 +19,7 @@ pub record IsPieceOf (prefix source : List ℕ) (piece : SourcePiece) : Type 0 w
 -- there itself.
 pub data IsPutBack (shown text : List ℕ) : List SourcePiece → ℕ → ℕ → Type 0 where
   ended : {from other : ℕ} → from ≡ length shown → other ≡ length text → IsPutBack shown text [] from other
-  stays : {pieces : List SourcePiece} {from to other end : ℕ} {kind : Kind} →
+  stays : {pieces : List SourcePiece} {from to other end : ℕ} {kind : LexemeKind} →
       IsNext shown from kind to → StandsAt text other (slice_range shown from to) end → IsPutBack shown text pieces to end → IsPutBack shown text pieces from other
   fills : {piece : SourcePiece} {rest : List SourcePiece} {from to other end : ℕ} →
       IsNext shown from Identifier to → slice_range shown from to ≡ string_bytes piece.name → StandsAt text other (string_bytes piece.text) end → IsPutBack shown text rest to end →

@@ -6,7 +6,7 @@ ghost use Rattle.logos_derive.specs.Views.{IsCharBoundary, StandsAt, IsPutBack, 
 
 use crate::parts::after_part;
 use crate::piece::SourcePiece;
-use logos_lexeme::lexeme::{Kind, lexeme_at};
+use logos_lexeme::lexeme::{LexemeKind, lexeme_at};
 
 /// How far the comparison is.
 #[derive(Clone, Copy)]
@@ -58,10 +58,10 @@ fn step(shown: &str, text: &str, pieces: &[SourcePiece], progress: Progress) -> 
 }
 
 /// Returns whether a lexeme is the placeholder of a piece.
-fn is_placeholder(kind: Kind, lexeme: &str, piece: &SourcePiece) -> bool
-    ensures { IsTrue result → (kind ≡ Kind.Identifier) × (lexeme.now ≡ string_bytes piece.now.name) }
+fn is_placeholder(kind: LexemeKind, lexeme: &str, piece: &SourcePiece) -> bool
+    ensures { IsTrue result → (kind ≡ LexemeKind.Identifier) × (lexeme.now ≡ string_bytes piece.now.name) }
 {
-    matches!(kind, Kind::Identifier) && lexeme == piece.name.as_str()
+    matches!(kind, LexemeKind::Identifier) && lexeme == piece.name.as_str()
 }
 
 /// Compares a lexeme that is not a placeholder and ends at `end`.

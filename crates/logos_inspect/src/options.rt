@@ -1,6 +1,6 @@
 //! The options that follow the literal of a leaf, and say what its pattern matches.
 
-use logos_lexeme::lexeme::{Kind, lexeme_at};
+use logos_lexeme::lexeme::{LexemeKind, lexeme_at};
 
 /// Options of a leaf's definition.
 #[derive(Clone, Copy, Debug, PartialEq, Eq)]
@@ -62,8 +62,8 @@ fn after_word<'t>(reading: ArgumentReading<'t>) -> Option<ArgumentReading<'t>> {
     };
     let (word, rest) = reading.rest.split_at_checked(to)?;
     match kind {
-        Kind::Gap | Kind::Doc => Some(ArgumentReading { rest, ..reading }),
-        Kind::Closing(_) if reading.depth == 0 => None,
+        LexemeKind::Gap | LexemeKind::Doc => Some(ArgumentReading { rest, ..reading }),
+        LexemeKind::Closing(_) if reading.depth == 0 => None,
         _ => Some(ArgumentReading {
             rest,
             depth: depth_after(reading.depth, kind),
@@ -74,10 +74,10 @@ fn after_word<'t>(reading: ArgumentReading<'t>) -> Option<ArgumentReading<'t>> {
 }
 
 /// Returns how many delimiters are open after a word.
-fn depth_after(depth: usize, kind: Kind) -> usize {
+fn depth_after(depth: usize, kind: LexemeKind) -> usize {
     match kind {
-        Kind::Opening(_) => depth.saturating_add(1),
-        Kind::Closing(_) => depth.saturating_sub(1),
+        LexemeKind::Opening(_) => depth.saturating_add(1),
+        LexemeKind::Closing(_) => depth.saturating_sub(1),
         _ => depth,
     }
 }

@@ -4,7 +4,7 @@ use crate::classes::{LexemeClass, Punctuation, Role, class_of_name, role_of};
 use crate::laying::{Note, Setting};
 use crate::lines::WordLines;
 use crate::state::{Gap, LayoutState, Open, opened};
-use logos_lexeme::lexeme::{Kind, lexeme_at};
+use logos_lexeme::lexeme::{LexemeKind, lexeme_at};
 use logos_token::error::Memory;
 use logos_token::token::{Delimiter, Spacing};
 use std::alloc::Global;
@@ -40,19 +40,19 @@ pub(crate) fn lines_of(alloc: Global, text: &str, setting: Setting<'_>) -> Resul
 
 impl Layout {
     /// Adds a lexeme or a gap that these bytes follow.
-    fn add_piece(&mut self, kind: Kind, piece: &str, ahead: &[u8]) -> Result<(), Memory> {
+    fn add_piece(&mut self, kind: LexemeKind, piece: &str, ahead: &[u8]) -> Result<(), Memory> {
         let last = self.state.last;
         match kind {
-            Kind::Gap => self.add_gap(piece),
-            Kind::Identifier => self.add(class_of_name(piece, last), piece),
-            Kind::Literal => self.add(LexemeClass::Literal, piece),
-            Kind::Doc => self.add(LexemeClass::Comment, piece),
-            Kind::Punctuation(spacing) => {
+            LexemeKind::Gap => self.add_gap(piece),
+            LexemeKind::Identifier => self.add(class_of_name(piece, last), piece),
+            LexemeKind::Literal => self.add(LexemeClass::Literal, piece),
+            LexemeKind::Doc => self.add(LexemeClass::Comment, piece),
+            LexemeKind::Punctuation(spacing) => {
                 let role = self.role(first_byte(piece), spacing);
                 self.add(LexemeClass::Sign(role), piece)
             }
-            Kind::Opening(delimiter) => self.open(delimiter, piece, ahead),
-            Kind::Closing(delimiter) => self.close(delimiter, piece),
+            LexemeKind::Opening(delimiter) => self.open(delimiter, piece, ahead),
+            LexemeKind::Closing(delimiter) => self.close(delimiter, piece),
         }
     }
 

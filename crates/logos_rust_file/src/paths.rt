@@ -1,7 +1,7 @@
 //! The paths of enums in a file. `logos_show` asks for them where an enum is given by its name.
 
 use crate::finding::FoundEnum;
-use logos_lexeme::lexeme::{Kind, lexeme_at};
+use logos_lexeme::lexeme::{LexemeKind, lexeme_at};
 use logos_token::error::Memory;
 use logos_token::token::Delimiter;
 use std::alloc::Global;
@@ -9,7 +9,7 @@ use std::alloc::Global;
 /// The lexeme that comes first in a text, and the text after it.
 #[derive(Clone, Copy)]
 struct Word<'t> {
-    kind: Kind,
+    kind: LexemeKind,
     text: &'t str,
     rest: &'t str,
 }
@@ -89,7 +89,7 @@ fn first_word<'t>(text: &'t str) -> Option<Word<'t>> {
 /// Returns the last two words after one more; gaps and documentation are none.
 fn words_after<'t>(words: (&'t str, &'t str), word: Word<'t>) -> (&'t str, &'t str) {
     match word.kind {
-        Kind::Gap | Kind::Doc => words,
+        LexemeKind::Gap | LexemeKind::Doc => words,
         _ => (words.1, word.text),
     }
 }
@@ -101,10 +101,10 @@ fn note_brace<'t>(
     word: Word<'t>,
 ) -> Result<(), Memory> {
     match word.kind {
-        Kind::Opening(Delimiter::Brace) => {
+        LexemeKind::Opening(Delimiter::Brace) => {
             levels.push(if words.0 == "mod" { words.1 } else { "" })?;
         }
-        Kind::Closing(Delimiter::Brace) => {
+        LexemeKind::Closing(Delimiter::Brace) => {
             let _ = levels.pop();
         }
         _ => {}
