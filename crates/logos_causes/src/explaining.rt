@@ -56,7 +56,13 @@ fn explain_analysis(
 {
     let mut warnings = Vec::new(alloc);
     let error = callback_of(analysis);
-    add_callback(alloc, source, CallbackOwner::ErrorType, error, &mut warnings)?;
+    add_callback(
+        alloc,
+        source,
+        CallbackOwner::ErrorType,
+        error,
+        &mut warnings,
+    )?;
     add_callbacks(alloc, source, &analysis.leaves, &mut warnings)?;
     let clues = clues_of_analysis(alloc, analysis)?;
     Ok(Explained { clues, warnings })
@@ -82,11 +88,7 @@ fn clues_of_analysis(alloc: Global, analysis: &mut Analysis<'_>) -> Result<Clues
 
 /// Returns what is known of the faults of the graph of leaves. Nothing is known where a limit keeps
 /// it from being built.
-fn clues_of_leaves(
-    alloc: Global,
-    leaves: Vec<Leaf<'_>>,
-    utf8_mode: bool,
-) -> Result<Clues, Memory>
+fn clues_of_leaves(alloc: Global, leaves: Vec<Leaf<'_>>, utf8_mode: bool) -> Result<Clues, Memory>
     ensures { IfOk result (λ clues. LeavesHaveSets leaves.entry.items (sizes_of clues)) }
 {
     match Graph::new(alloc, leaves, Config { utf8_mode }) {
@@ -120,7 +122,13 @@ pub fn lexer_warnings(
     error: Option<&Callback<'_>>,
 ) -> Result<Vec<Warning>, Memory> {
     let mut warnings = Vec::new(alloc);
-    add_callback(alloc, source, CallbackOwner::ErrorType, error, &mut warnings)?;
+    add_callback(
+        alloc,
+        source,
+        CallbackOwner::ErrorType,
+        error,
+        &mut warnings,
+    )?;
     add_callbacks(alloc, source, graph.leaves(), &mut warnings)?;
     add_hidden(alloc, graph, &mut warnings)?;
     Ok(warnings)

@@ -16,7 +16,7 @@ mod source;
 mod warnings;
 mod window;
 
-pub use clues::{Clues, Meeting, Member, Start, NextFaults, first_faults};
+pub use clues::{Clues, Meeting, Member, NextFaults, Start, first_faults};
 pub use faults::{count_errors, first_line, is_error, push_fault, push_faults, push_summary};
 pub use frame::{digits, push_frame, push_place};
 pub use page::{Page, Style};
