@@ -127,11 +127,7 @@ fn leaves_of<'s>(analysis: Analysis<'s>) -> Vec<Leaf<'s>> {
 
 /// Returns what is known of the faults of the graph of leaves. Nothing is known where a limit keeps
 /// it from being built.
-fn clues_of_leaves(
-    alloc: Global,
-    leaves: Vec<Leaf<'_>>,
-    utf8_mode: bool,
-) -> Result<Clues, Memory>
+fn clues_of_leaves(alloc: Global, leaves: Vec<Leaf<'_>>, utf8_mode: bool) -> Result<Clues, Memory>
     ensures { IfOk result (λ clues. LeavesHaveSets leaves.entry.items (sizes_of clues)) }
 {
     match Graph::new(alloc, leaves, Config { utf8_mode }) {
@@ -165,7 +161,13 @@ pub fn lexer_warnings(
     error: Option<&Callback<'_>>,
 ) -> Result<Vec<Warning>, Memory> {
     let mut warnings = Vec::new(alloc);
-    add_callback(alloc, source, CallbackOwner::ErrorType, error, &mut warnings)?;
+    add_callback(
+        alloc,
+        source,
+        CallbackOwner::ErrorType,
+        error,
+        &mut warnings,
+    )?;
     add_callbacks(alloc, source, graph.leaves(), &mut warnings)?;
     add_hidden(alloc, graph, &mut warnings)?;
     Ok(warnings)

@@ -233,7 +233,13 @@ fn push_line_number(page: &mut Page, line: usize, width: usize)
 
 /// Appends carets under what is shown of a line, from a column to another one, which is not under
 /// them. There is at least one.
-fn push_carets(page: &mut Page, frame: Frame<'_, '_>, window: LineWindow<'_>, from: usize, to: usize)
+fn push_carets(
+    page: &mut Page,
+    frame: Frame<'_, '_>,
+    window: LineWindow<'_>,
+    from: usize,
+    to: usize,
+)
     ensures { Shows [] page.old page.new }
 {
     push_margin(page, frame.width);

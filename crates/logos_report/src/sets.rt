@@ -4,7 +4,7 @@
 ghost use Rattle.std.specs.Prelude.{◌∷◌, [], nat_lt, if◌then◌else◌};
 ghost use Rattle.logos_report.specs.Views.{fault_of, fault_texts, listed_texts, Shows, place_line, next_value};
 
-use crate::clues::{Meeting, Member, Start, NextFaults};
+use crate::clues::{Meeting, Member, NextFaults, Start};
 use crate::faults::{push_fault, push_head, push_marked};
 use crate::frame::{Marks, push_frame_with, push_offset};
 use crate::notes::{ShownFault, push_help, push_note, push_notes};
