@@ -2,7 +2,8 @@
 //!
 //! Nothing has to be believed of this: what comes of it has to spell no tokens.
 
-use logos_lexeme::lexeme::{LexemeKind, lexeme_at};
+use crate::pieces::first_piece;
+use logos_lexeme::lexeme::LexemeKind;
 use logos_token::error::Memory;
 use std::alloc::Global;
 
@@ -11,14 +12,11 @@ use std::alloc::Global;
 pub(crate) fn plain_text(alloc: Global, text: &str) -> Result<String, Memory> {
     let mut plain = String::new(alloc);
     let mut depth = 0;
-    let mut from = 0;
-    while from < text.len() {
-        let Ok((kind, to)) = lexeme_at(text, from) else {
-            return Ok(plain);
-        };
-        push_piece(&mut plain, kind, &text[from..to], depth)?;
-        depth = depth_after(kind, depth);
-        from = to;
+    let mut left = text;
+    while let Some(first) = first_piece(left) {
+        push_piece(&mut plain, first.kind, first.piece, depth)?;
+        depth = depth_after(first.kind, depth);
+        left = first.rest;
     }
     Ok(plain)
 }

@@ -1,7 +1,8 @@
 //! A source without some of its lexemes.
 
+use crate::pieces::first_piece;
 use crate::staying::Staying;
-use logos_lexeme::lexeme::{LexemeKind, Span, lexeme_at};
+use logos_lexeme::lexeme::{LexemeKind, Span};
 use logos_token::error::Memory;
 use logos_token::token::Tokens;
 use std::alloc::Global;
@@ -30,14 +31,13 @@ pub(crate) fn text_without(
 ) -> Result<String, Memory> {
     let mut thinned = Thinned::new(alloc);
     let mut staying = Staying::new(alloc, left);
-    let mut from = 0;
-    while from < source.len() {
-        let Ok((kind, to)) = lexeme_at(source, from) else {
-            return Ok(thinned.text);
-        };
-        let stays = stays(&mut staying, kind, Span { from, to })?;
-        thinned.add_piece(kind, &source[from..to], stays)?;
-        from = to;
+    let mut left = source;
+    while let Some(first) = first_piece(left) {
+        let from = source.len().saturating_sub(left.len());
+        let to = source.len().saturating_sub(first.rest.len());
+        let stays = stays(&mut staying, first.kind, Span { from, to })?;
+        thinned.add_piece(first.kind, first.piece, stays)?;
+        left = first.rest;
     }
     Ok(thinned.text)
 }

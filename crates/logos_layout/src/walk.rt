@@ -3,8 +3,9 @@
 use crate::classes::{LexemeClass, Punctuation, Role, class_of_name, role_of};
 use crate::laying::{Note, Setting};
 use crate::lines::WordLines;
+use crate::pieces::first_piece;
 use crate::state::{Gap, LayoutState, Open, opened};
-use logos_lexeme::lexeme::{LexemeKind, lexeme_at};
+use logos_lexeme::lexeme::LexemeKind;
 use logos_token::error::Memory;
 use logos_token::token::{Delimiter, Spacing};
 use std::alloc::Global;
@@ -26,14 +27,12 @@ pub(crate) fn lines_of(alloc: Global, text: &str, setting: Setting<'_>) -> Resul
         outer: Vec::new(alloc),
     };
     let mut notes = setting.notes;
-    let mut from = 0;
-    while from < text.len() {
-        let Ok((kind, to)) = lexeme_at(text, from) else {
-            return layout.lines.finish();
-        };
+    let mut left = text;
+    while let Some(first) = first_piece(left) {
+        let from = text.len().saturating_sub(left.len());
         notes = layout.add_note(alloc, notes, from)?;
-        layout.add_piece(kind, &text[from..to], &text.as_bytes()[to..])?;
-        from = to;
+        layout.add_piece(first.kind, first.piece, first.rest.as_bytes())?;
+        left = first.rest;
     }
     layout.lines.finish()
 }

@@ -1,5 +1,5 @@
 -- The lines of faults, one after another, and those of parts of a file.
-use Rattle.std.proofs.Common.{◌≡◌, ◌≤◌, ◌<◌, ◌+◌, ℕ, List, [], ◌∷◌, ◌++◌, length, get_or, drop, take, false, Option, Some, None, IfSome, option_map, sym, ap, ◌∙◌, refl, subst}
+use Rattle.std.proofs.Common.{◌≡◌, ◌≤◌, ◌<◌, ◌+◌, ℕ, List, [], ◌∷◌, ◌++◌, length, get_or, drop, take, Option, Some, None, IfSome, option_map, sym, ap, ◌∙◌, refl, subst}
 use Rattle.std.proofs.lemmas.List.{drop_all, drop_more}
 use Rattle.json.specs.Token.{Token}
 use Rattle.logos_json.proofs.LineLemmas.{one_put, put_text, puts_nothing, puts_then}

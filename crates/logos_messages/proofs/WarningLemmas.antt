@@ -1,5 +1,5 @@
 -- The lines of warnings, one after another.
-use Rattle.std.proofs.Common.{◌≡◌, ◌≤◌, ◌<◌, ◌+◌, ℕ, List, [], ◌∷◌, length, get_or, drop, sym, refl, subst}
+use Rattle.std.proofs.Common.{◌≤◌, ◌<◌, ◌+◌, ℕ, List, [], ◌∷◌, length, get_or, drop, sym, refl, subst}
 use Rattle.std.proofs.lemmas.List.{drop_all, drop_more}
 use Rattle.logos_json.proofs.LineLemmas.{puts_nothing, puts_then}
 use Rattle.logos_json.specs.Lines.{LinesValue}
