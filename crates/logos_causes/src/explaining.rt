@@ -96,8 +96,8 @@ fn explain_item(
     Ok(Explained { clues, warnings })
 }
 
-/// Returns what is known of the faults of an enum, which is given with its span. Adds the warnings of
-/// its callbacks.
+/// Returns what is known of the faults of an enum, which is given with its span. Adds the warnings
+/// of its callbacks.
 fn clues_in(
     alloc: Global,
     source: &str,

@@ -28,7 +28,6 @@ use Rattle.logos_automaton.specs.declared.errors.BuildError.TheVariants.{LimitSi
 use Rattle.logos_codegen.specs.Texts.{named_leaf, reported_as}
 use Rattle.logos_codegen.specs.Rules.{NamedRule, named_rule, named_of_view, rule_of_view, rules_of_views, skips, rules_in, names_in, GraphReports, graph_faults, size_limit, states_limit}
 use Rattle.logos_codegen.specs.Source.{AreReported, IsRefused, faulty}
-use Rattle.logos_codegen.specs.Given.{IsGraphOfSource}
 use Rattle.logos_codegen.specs.inside.Steps.{IsLimit, ReportsGraph, AreGraphFaults, IsGraphMade}
 use Rattle.logos_parser.specs.declared.refusal.Refusal.{Refusal}
 use Rattle.logos_parser.proofs.RefusalLemmas.{refuses_by}

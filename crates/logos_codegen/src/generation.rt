@@ -178,8 +178,8 @@ fn faultless_graph<'s>(
     }
 }
 
-/// Takes an analysis apart, and builds the graph of its leaves. Fails if there are faults, or if the
-/// graph has some.
+/// Takes an analysis apart, and builds the graph of its leaves. Fails if there are faults, or if
+/// the graph has some.
 fn accept_analysis<'s>(analysis: Analysis<'s>) -> Result<(Graph<'s>, EnumHead<'s>), Refusal>
     ensures ok { IfOk result (λ made. IsFaultless analysis.entry.leaves.items
         (utf8_mode (parser_view analysis.entry.parser)) analysis.entry.span

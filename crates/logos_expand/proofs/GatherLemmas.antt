@@ -8,7 +8,6 @@ use Rattle.logos_code.specs.Code.{CodeValue}
 use Rattle.logos_expand.specs.declared.shape.Shape.{Shape}
 use Rattle.logos_codegen.specs.Given.{IsGiven}
 use Rattle.logos_codegen.specs.Source.{IsAccepted, IsRefused, IsWithinSizes}
-use Rattle.logos_codegen.specs.Source.IsRefused.{unread}
 use Rattle.logos_expand.specs.declared.expanding.Gathered.{Gathered}
 use Rattle.logos_causes.specs.Sets.{HasSets}
 use Rattle.logos_report.specs.Sets.{sizes_of}
@@ -208,16 +207,6 @@ spells_enum source rules utf8 a within = record {
 
 pub whole_refused : (shape : Shape) (text : List ℕ) (refusal : Refusal) (clues : Clues) (old new : List Refused) → old ≡ [] → Refuses (IsUnreadable text) refusal → AddsRefusal 0 refusal clues old new → AreRefused shape text new
 whole_refused shape text refusal clues old new e h a = whole (a.are ∙ ap (λ r. r ++ a.bad ∷ []) e) a.is_offset (faults_hold (IsUnreadable text) refusal a.bad.errors h a.faults)
-
--- a source that is not read is refused
-pub unread_refused : (source : List ℕ) (refusal : Refusal) → Refuses (IsUnreadable source) refusal → Refuses (IsRefused source) refusal
-unread_refused source (refusals.Errors errors) h = unread h.1 h.2
-unread_refused source refusals.Memory h = tt
-
-pub expansion_all : {A E : Type 0} (f : A → List ℕ) (result : Result A E) (shape : Shape) (source : List ℕ) (graph : GraphValue) (code : CodeValue) (name : Slice) (export : Option (List ℕ)) → IsGiven source (config_of shape) graph code name export →
-    IfOk result (λ text. IsExpansionBy shape code source (f text)) → IfOk result (λ text. IsExpansion shape source (f text))
-expansion_all f (Ok text) shape source graph code name export g b = expansion_made shape source (f text) graph code name export g b
-expansion_all f (Err error) shape source graph code name export g b = tt
 
 -- what holds after success gives something else
 pub ok_then : {A E One Other : Type 0} (result : Result A E) → (One → Other) → OnOk result One → OnOk result Other

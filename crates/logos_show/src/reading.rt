@@ -4,15 +4,14 @@ ghost use Rattle.std.specs.Prelude.{IfErr, OnOk};
 ghost use Rattle.logos_show.specs.Words.{Appends, IsNoMisuse};
 
 use logos_causes::{
-    Explained, Showing, add_warnings, explain, explain_enum, push_warned, text_of as text_of_lines,
-    warning_lines,
+    Explained, Showing, add_warnings, explain, push_warned, text_of as text_of_lines, warning_lines,
 };
 use logos_codegen::Refusal;
 use logos_codegen::error::{Errors, Memory};
 use logos_codegen::token::Span;
 use logos_host::{Failure, Files, MessageFormat, read_text, write_through};
 use logos_messages::push_messages;
-use logos_report::{Page, Part, Source, Warning, count_errors, push_faults, push_summary};
+use logos_report::{Page, Part, Source, count_errors, push_faults, push_summary};
 use logos_rust_file::{FoundEnum, enums_in};
 use std::alloc::Global;
 use std::io::Write;
@@ -60,82 +59,62 @@ pub(crate) fn refused(
 ) -> Failure<'static>
     ensures { IsNoMisuse result }
 {
-    let Refusal::Errors(errors) = refusal else {
-        return Failure::Memory;
-    };
-    match part_text(alloc, part, showing, &errors) {
-        Ok(text) => Failure::Refused(text),
+    match known_of(alloc, part) {
+        Ok(known) => refused_with(part, showing, refusal, &known),
         Err(Memory) => Failure::Memory,
     }
 }
 
-/// Returns what is written of the faults of a part of a file.
-fn part_text(
-    alloc: Global,
-    part: Part<'_, '_>,
-    showing: Showing,
-    errors: &Errors,
-) -> Result<String, Memory> {
-    let known = explain(alloc, enum_at(alloc, part)?)?;
-    refusal_text(part, showing, errors, Vec::new(alloc), known)
+/// Returns what is known of the enum that begins where a part of a file does, if one does.
+fn known_of(alloc: Global, part: Part<'_, '_>) -> Result<Explained, Memory> {
+    let Explained { clues, warnings } = explain(alloc, enum_at(alloc, part)?)?;
+    let mut warned = Vec::new(alloc);
+    add_warnings(part.offset, warnings, &mut warned)?;
+    Ok(Explained {
+        clues,
+        warnings: warned,
+    })
 }
 
-/// Returns the refusal of an enum with this text, with these warnings, all of its own, and its
-/// faults.
-pub(crate) fn refused_after(
+/// Returns the refusal of a part of a file, with its faults and with what is known of them. The
+/// warnings count from the beginning of the file.
+pub(crate) fn refused_with(
     part: Part<'_, '_>,
-    text: &str,
     showing: Showing,
     refusal: Refusal,
-    warned: Vec<Warning>,
+    known: &Explained,
 ) -> Failure<'static>
     ensures { IsNoMisuse result }
 {
     let Refusal::Errors(errors) = refusal else {
         return Failure::Memory;
     };
-    match enum_text(part, text, showing, &errors, warned) {
+    match refusal_text(part, showing, &errors, known) {
         Ok(text) => Failure::Refused(text),
         Err(Memory) => Failure::Memory,
     }
 }
 
-/// Returns what is written of the faults of an enum with this text, after these warnings and all of
-/// its own.
-fn enum_text(
-    part: Part<'_, '_>,
-    text: &str,
-    showing: Showing,
-    errors: &Errors,
-    warned: Vec<Warning>,
-) -> Result<String, Memory> {
-    let known = explain_enum(showing.alloc, text)?;
-    refusal_text(part, showing, errors, warned, known)
-}
-
-/// Returns what is written of faults, after these warnings and those that are known of the part.
+/// Returns what is written of faults, after the warnings.
 fn refusal_text(
     part: Part<'_, '_>,
     showing: Showing,
     errors: &Errors,
-    warned: Vec<Warning>,
-    known: Explained,
+    known: &Explained,
 ) -> Result<String, Memory> {
     let alloc = showing.alloc;
-    let Explained { clues, warnings } = known;
-    let mut all = warned;
-    add_warnings(part.offset, warnings, &mut all)?;
+    let clues = &known.clues;
     match showing.format {
         MessageFormat::Human => {
             let mut page = Page::new(alloc, showing.is_colored);
-            push_warned(&mut page, part.source, &all);
-            push_faults(&mut page, part, errors, &clues);
-            push_summary(&mut page, count_errors(errors, &clues));
+            push_warned(&mut page, part.source, &known.warnings);
+            push_faults(&mut page, part, errors, clues);
+            push_summary(&mut page, count_errors(errors, clues));
             Ok(page.finish()?)
         }
         MessageFormat::Json => {
-            let mut lines = warning_lines(alloc, part.source, &all)?;
-            push_messages(alloc, &mut lines, part, errors, &clues)?;
+            let mut lines = warning_lines(alloc, part.source, &known.warnings)?;
+            push_messages(alloc, &mut lines, part, errors, clues)?;
             text_of_lines(lines)
         }
     }

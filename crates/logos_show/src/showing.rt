@@ -4,10 +4,11 @@ ghost use Rattle.std.specs.Prelude.{IfErr};
 ghost use Rattle.logos_show.specs.Orders.{IsNoMisuse};
 
 use crate::choosing::has_name;
-use crate::reading::{refused, refused_after, text_of};
+use crate::reading::{refused, refused_with, text_of};
 use logos_answers::{push_costs, push_examples, push_rows};
 use logos_causes::{
-    Showing, add_lexer, add_missing, add_passed, add_text, denial_text, has_lexer, warning_text,
+    Explained, Showing, add_lexer, add_missing, add_passed, add_text, add_warnings, denial_text,
+    explain_enum, has_lexer, warning_text,
 };
 use logos_codegen::error::Memory;
 use logos_codegen::generator::Config;
@@ -207,11 +208,25 @@ fn push_lexer(
     match generate(alloc, one.text, SHAPE) {
         Ok(made) => push_made(alloc, pages, one, &made),
         Err(refusal) => {
-            let warned = mem::replace(&mut pages.warned, Vec::new(alloc));
-            let showing = pages.style.showing;
-            Err(refused_after(one.part, one.text, showing, refusal, warned))
+            let known = known_after(alloc, pages, one)?;
+            Err(refused_with(one.part, pages.style.showing, refusal, &known))
         }
     }
+}
+
+/// Returns what is known of an enum that is refused, with the warnings so far and all of its own.
+fn known_after(
+    alloc: Global,
+    pages: &mut Pages,
+    one: EnumInFile<'_, '_>,
+) -> Result<Explained, Memory> {
+    let Explained { clues, warnings } = explain_enum(alloc, one.text)?;
+    let mut warned = mem::replace(&mut pages.warned, Vec::new(alloc));
+    add_warnings(one.part.offset, warnings, &mut warned)?;
+    Ok(Explained {
+        clues,
+        warnings: warned,
+    })
 }
 
 /// Appends the leaves of a lexer or its examples, and the warnings of its enum and of its leaves.

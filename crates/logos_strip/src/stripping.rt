@@ -55,8 +55,8 @@ pub fn strip_attributes<'s>(alloc: Global, src: &'s str) -> Result<TokenStream<'
     }
 }
 
-/// Returns the same tokens as `strip_attributes`, for a source that is known to spell an enum, as one
-/// from which `generate` has made a lexer. The enum is not read again.
+/// Returns the same tokens as `strip_attributes`, for a source that is known to spell an enum, as
+/// one from which `generate` has made a lexer. The enum is not read again.
 ///
 /// # Errors
 ///

@@ -28,7 +28,7 @@ pub returns-in-Ok-clause-ok : goal.returns-in-Ok-clause-ok
 returns-in-Ok-clause-ok c =
     let read = c.in-Ok.ensures.ok in
     let analysis = c.in-Ok.analysis in
-    let made = c.accept_analysis-in-Ok in
+    let made = c.accept_analysis in
     together (λ x. IsFaultless analysis.leaves.items (utf8_mode (parser_view analysis.parser)) analysis.span analysis.parser.errors x.0) (λ x. IsHeadOf (analysis_view analysis) x.1)
     (λ x. IsGraphMade c.args.src.now (ident_slice x.1.name) (parser_view x.1.options) x.0) made.result
     (λ x found head. subst (λ (o : OptionsView). IsGraphMade c.args.src.now (ident_slice x.1.name) o x.0) (sym head.same_options)
@@ -40,7 +40,7 @@ pub returns-in-Ok-clause-typed : goal.returns-in-Ok-clause-typed
 returns-in-Ok-clause-typed c =
     let read = c.in-Ok.ensures.ok in
     let analysis = c.in-Ok.analysis in
-    let made = c.accept_analysis-in-Ok in
+    let made = c.accept_analysis in
     together (λ x. IsHeadOf (analysis_view analysis) x.1) (λ x. IsHeadOf (analysis_view analysis) x.1) (λ x. HeadHasItsType x.1) made.result
     (λ x head same. rw (head.same_name, head.same_type, head.same_options) read.is_type) made.ensures.head made.ensures.head
 
@@ -48,7 +48,7 @@ pub returns-in-Ok-clause-err : goal.returns-in-Ok-clause-err
 returns-in-Ok-clause-err c =
     let read = c.in-Ok.ensures.ok in
     let analysis = c.in-Ok.analysis in
-    let made = c.accept_analysis-in-Ok in
+    let made = c.accept_analysis in
     by_error (Refuses (AreGraphFaults analysis.leaves.items (utf8_mode (parser_view analysis.parser)) analysis.span analysis.parser.errors)) (Refuses (IsRefused c.args.src.now)) made.result
     (graph_refuses c.args.src.now read.enum analysis.span analysis.leaves.items (parser_view analysis.parser) analysis.parser.errors read.says read.enum_says
     c.in-Ok.ensures.short c.in-Ok.ensures.shallow) made.ensures.err

@@ -1,5 +1,4 @@
-use Rattle.std.proofs.Common.{string_bytes}
-use Rattle.logos_expand.proofs.GatherLemmas.{expansion_all, spells_enum}
+use Rattle.logos_expand.proofs.GatherLemmas.{expansion_made, spells_enum}
 use Rattle.logos_expand.proofs.expanding.expanded.Goals as goal
 
 pub expansion_by-requires : goal.expansion_by-requires
