@@ -222,7 +222,10 @@ fn choice_with<'n>(
 ) -> Result<Choice<'n>, Memory>
     ensures { IfOk result (IsNextChoice choice.entry one) }
 {
-    if !one.derives || choice.exact.is_some() {
+    if !one.derives {
+        return Ok(choice);
+    }
+    if choice.exact.is_some() {
         return Ok(choice);
     }
     let Some(name) = choice.name else {
