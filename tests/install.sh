@@ -125,6 +125,15 @@ installs_release() {
         && [ -f "$room/release/share/logos/runtime/rust/Cargo.toml" ]
 }
 
+# The version names the commit that the release names.
+names_commit() {
+    local name
+    for name in logos_cli logos_show; do
+        "$room/release/bin/$name" --version > "$room/version" || return
+        [ "$(wc -l < "$room/version")" = 2 ] && [ "$(tail -n 1 "$room/version")" = "commit: $(head -n 1 "$room/release/share/logos/COMMIT")" ] || return
+    done
+}
+
 refuses_changed_release() {
     echo >> "$room"/logos-*-linux/runtime/README.md
     ! bash "$room"/logos-*-linux/install.sh "$room/changed" > /dev/null 2>&1 && [ ! -e "$room/changed" ]
@@ -156,6 +165,7 @@ done
 
 expect 'two clones of one commit pack the same bytes' packs_the_same
 expect 'the packed programs are installed, and show the items in README.md' installs_release
+expect 'the packed programs name their commit' names_commit
 expect 'a packed file that has changed is refused' refuses_changed_release
 expect 'a clone with changes is refused' refuses_changed_clone
 

@@ -4,7 +4,8 @@
 #
 # Without --proved they are built without checks at run time where the crates are those of
 # proved.sums, which the gate compares with what it proved, and with checks else. With --proved they
-# are those that the gate builds.
+# are those that the gate builds. Where they are built from a clone without changes, a line after
+# their bytes names its commit, which `--version` of logos_cli and logos_show prints.
 set -euo pipefail
 
 root=$(cd "$(dirname "${BASH_SOURCE[0]}")/.." && pwd)
@@ -87,12 +88,21 @@ build_all() {
     return "$status"
 }
 
+# Prints the line that names the commit of this clone, if no file has changed since.
+commit_line() {
+    [ -z "$built" ] && [ "$(git -C "$root" rev-parse --show-toplevel 2> /dev/null)" = "$root" ] || return 0
+    [ -z "$(git -C "$root" status --porcelain)" ] || return 0
+    printf 'commit: %s\n' "$(git -C "$root" rev-parse HEAD)"
+}
+
 room=$(mktemp -d)
 trap 'rm -rf "$room"' EXIT
 build_all || exit 1
+commit_line > "$room/commit"
 mkdir -p "$bin"
 for name in "${names[@]}"; do
-    cp "$room/$name" "$bin/$name.part"
+    cat "$room/$name" "$room/commit" > "$bin/$name.part"
+    chmod 755 "$bin/$name.part"
     mv "$bin/$name.part" "$bin/$name"
 done
 

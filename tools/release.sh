@@ -9,8 +9,9 @@
 #
 # The programs are those that `.ci/run` has proved and built, and it refuses where a file has
 # changed since. With --built they are taken from a folder in which they were built, and COMMIT says
-# that they are not the proved ones. The same commit and the same programs give the same bytes,
-# wherever the clone lies.
+# that they are not the proved ones. After the bytes of each program a line names the commit, which
+# `--version` of logos_cli and logos_show prints. The same commit and the same programs give the same
+# bytes, wherever the clone lies.
 set -euo pipefail
 
 root=$(cd "$(dirname "${BASH_SOURCE[0]}")/.." && pwd)
@@ -51,13 +52,14 @@ else
     [[ $(bash "$root/tests/proofs.sh" --kept) == *' passed, 0 failed' ]] || refuse 'the gate has not proved this commit here: run bash .ci/run'
     said='The gate proved these programs and built them.'
 fi
-version=$("$(program logos_cli)" --version | awk '{ print $2 }')
+version=$("$(program logos_cli)" --version | awk 'NR == 1 { print $2 }')
 name=logos-$version-x86_64-linux
 room=$(mktemp -d)
 trap 'rm -rf "$room"' EXIT
 mkdir -p "$room/$name/bin"
 for it in logos logos_cli logos_show; do
     install -m 755 "$(program "$it")" "$room/$name/bin/$it"
+    printf 'commit: %s\n' "$commit" >> "$room/$name/bin/$it"
 done
 "${git[@]}" archive HEAD README.md CHANGELOG.md LICENSE-APACHE LICENSE-MIT docs runtime | tar -xf - -C "$room/$name"
 printf '%s\n%s\n' "$commit" "$said" > "$room/$name/COMMIT"

@@ -326,6 +326,27 @@ for case in '1 faulty.rs' '3 none.rs' '2 source.rs more.rs' '2 --check source.rs
     wants "$status" "${case%% *}" ''
 done
 
+# The version names the commit by the last line of the program, if that is `commit: ` and forty
+# hexadecimal digits in lower case.
+mkdir named
+named() {
+    cp "$program" named/logos_cli
+    printf '%s' "$1" >> named/logos_cli
+    printf 'logos_cli 0.1.0 (for logos 0.16)\n%s' "$2" > wanted
+    status=0
+    named/logos_cli --version > out 2> err || status=$?
+    wants "$status" 0 ''
+    same out wanted
+}
+digits=0123456789abcdef0123456789abcdef01234567
+named '' ''
+named $'commit: '"$digits"$'\n' $'commit: '"$digits"$'\n'
+named $'commit: '"$digits"$'\ncommit: '"${digits//0/f}"$'\n' $'commit: '"${digits//0/f}"$'\n'
+for line in "commit: $digits" "commit: ${digits%7}"$'\n' "commit: ${digits}8"$'\n' "commit: ${digits%7}g"$'\n' "commit: ${digits%7}F"$'\n' \
+    "commit: ${digits%7}:"$'\n' "commit: ${digits%7}/"$'\n' "commit: ${digits%7}\`"$'\n' "Commit: $digits"$'\n' "commit:  $digits"$'\n' "commit: $digits "$'\n'; do
+    named "$line" ''
+done
+
 # Messages have colors on a terminal.
 if command -v script > /dev/null; then
     script -qec "'$program' faulty.rs" /dev/null > out || true

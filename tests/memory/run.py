@@ -36,10 +36,10 @@ SOURCES = ["alike", "bytes", "faults", "letters", "sentence", "subpatterns", "wh
 EXPORTED = "whole"
 # The words of each run of the other programs. The lexers of `whole.rs` have faults, so nothing is
 # written for them.
-CLI = ["whole.rs", "right.rs --output written", "right.rs --output folder/", "whole.rs --output written", "whole.rs --output faults.rs --check", "whole.rs --output whole.rs", "whole.rs --shape tailcall", "faults.rs", "--help"]
+CLI = ["whole.rs", "right.rs --output written", "right.rs --output folder/", "whole.rs --output written", "whole.rs --output faults.rs --check", "whole.rs --output whole.rs", "whole.rs --shape tailcall", "faults.rs", "--help", "--version"]
 SHOW = ["whole.rs", "whole.rs input", "whole.rs input --enum Digits", "faults.rs", "faults.rs input", "whole.rs --json", "whole.rs input --json",
         "right.rs --inputs 5", "right.rs --inputs 5 --json", "right.rs --examples --json", "right.rs input --at 1:1 --json", "right.rs whole.rs --compare",
-        "right.rs whole.rs --compare --json"]
+        "right.rs whole.rs --compare --json", "--version"]
 
 
 class Wrong(Exception):

@@ -10,7 +10,7 @@ use crate::options::{ExpandOrder, Request, request_of};
 use logos_causes::Showing;
 use logos_expand::{Expansion, expand};
 use logos_host::{ComparableFiles, Failure, Files, Standing, read_text, report, write_through};
-use logos_options::{Program, with_nearest};
+use logos_options::{PROGRAM, Program, commit_line, with_nearest};
 use logos_report::Source;
 use std::alloc::{AllocError, Global};
 use std::io::{IsTerminal, Write};
@@ -99,11 +99,28 @@ pub(crate) fn run<F: ComparableFiles, O: Write, E: Write + IsTerminal>(
 {
     match request_of(words) {
         Ok(Request::Help) => ended(print_bytes(HELP.as_bytes(), out), err),
-        Ok(Request::Version) => ended(print_bytes(VERSION.as_bytes(), out), err),
+        Ok(Request::Version) => ended(print_version(files, out), err),
         Ok(Request::Expand(order)) => run_order(alloc, order, files, out, err),
         Ok(Request::ExpandEach(batch)) => run_batch(alloc, batch, files, out, err),
         Ok(Request::Derive(order)) => run_derive(alloc, order, files, out, err),
         Err(failure) => failed(&with_nearest(failure, Program::Cli), err),
+    }
+}
+
+/// Prints the version, and the line by which the program names its commit, if it does.
+fn print_version<'w, F: ComparableFiles, O: Write>(
+    files: &F,
+    out: &mut O,
+) -> Result<(), Failure<'w>>
+    ensures { IfErr result (λ failure. status_of failure ≡ 3) }
+{
+    let program = match files.found_bytes(PROGRAM) {
+        Ok(program) => program,
+        Err(AllocError) => return Err(Failure::Memory),
+    };
+    match print_bytes(VERSION.as_bytes(), out) {
+        Ok(()) => print_bytes(commit_line(&program), out),
+        Err(failure) => Err(failure),
     }
 }
 

@@ -1,3 +1,4 @@
+pub mod Commits
 pub mod Given
 pub mod Options
 pub mod Paths

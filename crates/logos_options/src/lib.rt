@@ -2,6 +2,7 @@
 
 #![tactic(auto)]
 
+mod commit;
 mod given;
 mod nearest;
 mod options;
@@ -9,6 +10,7 @@ mod paths;
 mod program;
 mod word_steps;
 
+pub use commit::{PROGRAM, commit_line};
 pub use given::{Answer, Asking, Given, Switches, Values, given_by, given_twice, misuse};
 pub use nearest::with_nearest;
 pub use options::OptionName;

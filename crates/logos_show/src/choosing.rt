@@ -48,14 +48,13 @@ pub(crate) fn lexer_in<'w, E: Write>(
 {
     match found_in(alloc, task, source)? {
         Chosen::One(one) => Ok(one),
-        Chosen::Several(one, other) => one_of(alloc, task, source, (one, other), err),
+        Chosen::Several(one, other) => one_of(task, source, (one, other), err),
         Chosen::Nothing => Err(no_lexer(alloc, source.path(), task.order.name)),
     }
 }
 
 /// Returns the first of several enums, and says so on standard error, if no name is given.
 fn one_of<'w, E: Write>(
-    alloc: Global,
     task: Task<'w>,
     source: &Source<'_>,
     enums: (FoundEnum, FoundEnum),
@@ -64,6 +63,7 @@ fn one_of<'w, E: Write>(
     ensures failed { IfErr result IsNoMisuse }
     ensures first { IfOk result (λ one. one ≡ enums.0) }
 {
+    let alloc = task.showing.alloc;
     if task.order.name.is_some() {
         return Err(several(alloc, task, source, enums));
     }
@@ -222,7 +222,10 @@ fn choice_with<'n>(
 ) -> Result<Choice<'n>, Memory>
     ensures { IfOk result (IsNextChoice choice.entry one) }
 {
-    if !one.derives || choice.exact.is_some() {
+    if !one.derives {
+        return Ok(choice);
+    }
+    if choice.exact.is_some() {
         return Ok(choice);
     }
     let Some(name) = choice.name else {

@@ -9,11 +9,12 @@ use logos_causes::{
 use logos_codegen::Refusal;
 use logos_codegen::error::{Errors, Memory};
 use logos_codegen::token::Span;
-use logos_host::{Failure, Files, MessageFormat, read_text, write_through};
+use logos_host::{ComparableFiles, Failure, Files, MessageFormat, read_text, write_through};
 use logos_messages::push_messages;
+use logos_options::{PROGRAM, commit_line};
 use logos_report::{Page, Part, Source, count_errors, push_faults, push_summary};
 use logos_rust_file::{FoundEnum, enums_in};
-use std::alloc::Global;
+use std::alloc::{AllocError, Global};
 use std::io::Write;
 
 /// Returns all bytes of a file.
@@ -133,6 +134,22 @@ fn enum_at<'t>(alloc: Global, part: Part<'_, 't>) -> Result<&'t str, Memory> {
         }
     }
     Ok("")
+}
+
+/// Prints the version, and the line by which the program names its commit, if it does.
+pub(crate) fn print_version<F: ComparableFiles, O: Write>(
+    version: &str,
+    files: &F,
+    out: &mut O,
+) -> Result<(), Failure<'static>>
+    ensures { IfErr result IsNoMisuse }
+{
+    let program = match files.found_bytes(PROGRAM) {
+        Ok(program) => program,
+        Err(AllocError) => return Err(Failure::Memory),
+    };
+    print_bytes(version.as_bytes(), out)?;
+    print_bytes(commit_line(&program), out)
 }
 
 /// Prints bytes.

@@ -10,13 +10,13 @@ use crate::asking::{
 use crate::choosing::{found_in, lexer_in};
 use crate::comparing::compare;
 use crate::items::{write_item_records, write_items};
-use crate::reading::{print_bytes, read_bytes, refused, text_at, text_of};
+use crate::reading::{print_bytes, print_version, read_bytes, refused, text_at, text_of};
 use crate::showing::{Form, PageStyle, SHAPE, Shown, shown_of};
 use crate::streaming::lex_stream;
 use logos_causes::Showing;
 use logos_codegen::graph::Graph;
 use logos_codegen::{Generated, generate};
-use logos_host::{Failure, Files, report};
+use logos_host::{ComparableFiles, Failure, Files, report};
 use logos_lines::Position;
 use logos_options::{Program, STANDARD_INPUT, with_nearest};
 use logos_questions::{Question, ShowOrder, ShowRequest, request_of};
@@ -82,7 +82,7 @@ pub(crate) struct Host<'h, F, C, E> {
 /// Runs the program, and returns the exit status: 0 done, 1 refused, or two lexers differ, 2 for
 /// words that are not a command, 3 for files, outputs and memory. What is refused or fails has a
 /// message on standard error, and warnings go there too.
-pub(crate) fn run<F: Files, C: Clock + StandardInput, O: Write, E: Write + IsTerminal>(
+pub(crate) fn run<F: ComparableFiles, C: Clock + StandardInput, O: Write, E: Write + IsTerminal>(
     alloc: Global,
     words: &[String],
     host: &mut Host<'_, F, C, E>,
@@ -119,7 +119,7 @@ pub(crate) struct Task<'w> {
 }
 
 /// Does what is asked for, and returns whether what was to be compared is the same.
-fn carry_out<'w, F: Files, C: Clock + StandardInput, O: Write, E: Write + IsTerminal>(
+fn carry_out<'w, F: ComparableFiles, C: Clock + StandardInput, O: Write, E: Write + IsTerminal>(
     alloc: Global,
     request: ShowRequest<'w>,
     host: &mut Host<'_, F, C, E>,
@@ -129,7 +129,7 @@ fn carry_out<'w, F: Files, C: Clock + StandardInput, O: Write, E: Write + IsTerm
 {
     let done = match request {
         ShowRequest::Help => print_bytes(HELP.as_bytes(), out),
-        ShowRequest::Version => print_bytes(VERSION.as_bytes(), out),
+        ShowRequest::Version => print_version(VERSION, host.files, out),
         ShowRequest::Show(order) => {
             let showing = Showing {
                 alloc,
@@ -249,7 +249,7 @@ fn give_inputs<'w, F: Files, C: Clock, O: Write, E: Write + IsTerminal>(
     let path = task.order.file;
     let text = text_at(path, host.files)?;
     let source = Source::new(alloc, path, text.as_str())?;
-    let note = inputs_by_file(alloc, task, &source, host.err, out)?;
+    let note = inputs_by_file(task, &source, host.err, out)?;
     let _ = host.err.write_all(note.as_bytes());
     let _ = host.err.flush();
     Ok(())
@@ -257,7 +257,6 @@ fn give_inputs<'w, F: Files, C: Clock, O: Write, E: Write + IsTerminal>(
 
 /// Writes inputs by the lexer of a file that is asked for, and returns the note about them.
 fn inputs_by_file<'w, O: Write, E: Write>(
-    alloc: Global,
     task: Task<'w>,
     source: &Source<'_>,
     err: &mut E,
@@ -265,6 +264,7 @@ fn inputs_by_file<'w, O: Write, E: Write>(
 ) -> Result<String, Failure<'w>>
     ensures { IfErr result IsNoMisuse }
 {
+    let alloc = task.showing.alloc;
     let one = lexer_in(alloc, task, source, err)?;
     let part = part_of(source, one);
     match generate(alloc, text_of(source, one), SHAPE) {
