@@ -32,6 +32,11 @@ shows_readme() {
         && awk '/^\$ logos_show .*greeting/ { shown = 1; next } shown && /^(\$ |```)/ { exit } shown' "$root/README.md" | cmp -s - "$room/items"
 }
 
+# A shell finds a program through the path, and passes it its name without a folder.
+runs_by_name() {
+    (cd "$root" && PATH=$bin:$PATH logos_show docs/guide/words.rs docs/guide/greeting) | head -n 2 | cmp -s - "$room/items"
+}
+
 # Installed without proofs, a program says whether it kept its checks: it has to, unless its crates
 # are those that were proved, by this toolchain too.
 says_checks() {
@@ -153,6 +158,7 @@ cat "$room/said"
 expect 'the help tells each word' tells_words
 expect 'another word is refused' refuses_word
 expect 'the items in README.md' shows_readme
+expect 'a program that is found through the path shows them too' runs_by_name
 for name in logos logos_cli logos_show; do
     expect "the rows of $name" rows "$name"
 done

@@ -290,11 +290,15 @@ many() { yes "$2" | head -n "$1" | tr -d '\n' || true; }
 many 9000 '#[derive(Logos)] enum E { #[regex("[")] A } ' > enums.rs
 { printf '#[derive(Logos)] enum E { '; many 22000 '#[regex(".*")] V, '; printf '}\n'; } > variants.rs
 for name in enums variants; do
-    status=0
-    (ulimit -t 5 -v 200000; exec "$program" "$name.rs" > out 2> err) || status=$?
-    [ "$status" = 1 ] && [ ! -s out ] && [ "$(wc -c < err)" -lt 1000000 ] && grep -q ' more are not shown$' err || fail "$name.rs: status $status"
-    met=$((met + 1))
+    for format in human json; do
+        status=0
+        (ulimit -t 5 -v 200000; exec "$program" "$name.rs" --message-format "$format" > out 2> err) || status=$?
+        [ "$status" = 1 ] && [ ! -s out ] && [ "$(wc -c < err)" -lt 1000000 ] && grep -q ' more are not shown' err || fail "$name.rs as $format: status $status"
+        met=$((met + 1))
+    done
 done
+# In JSON 50 lines are faults of the code, and one says how many more there are.
+[ "$(grep -c '"level":"error"' err)" = 50 ] && [ "$(grep -c '"level":"failure-note"' err)" = 1 ] || fail "variants.rs as json: other lines"
 
 # Standard output is full, closed, read slowly, or read no more.
 status=0

@@ -21,32 +21,13 @@ TYPE = re.compile(r"^ *(?:pub(?:\([a-z ]+\))? )?(?:struct|enum|trait) ([A-Z]\w*)
 NOT_YET = "different things, of which one has to get another name"
 # Each name that stands in several crates: these, and why it stays.
 STAYS = {
-    "Answer": ("derive options", NOT_YET),
     "Chunk": ("relex walk", "the glossary has both: items that are stored together, and bytes that are stepped over at once"),
     "Classes": ("reduce tables", "classes of what has one row: of states, and of symbols"),
     "Config": ("code graph", "the options of a generator and of a graph, both public"),
     "Counts": ("answers scan", "how many there are of what each crate counts"),
     "Cursor": ("lines walk", "a point that only moves forward, in a text and in a chunk"),
-    "Failure": ("commands host", NOT_YET),
-    "Item": ("machine pattern_tokens", NOT_YET),
-    "Kind": ("lexeme pattern_tokens rust_file", NOT_YET),
-    "Leaf": ("pattern type", NOT_YET),
-    "Listing": ("graph report", NOT_YET),
     "Literal": ("pattern token", "a literal of a source, and one that spells a pattern, both public"),
-    "Mark": ("code derive reduce", NOT_YET),
-    "Opening": ("lexeme pattern_tokens", NOT_YET),
-    "Outcome": ("commands machine", NOT_YET),
-    "Part": ("report type", NOT_YET),
-    "Piece": ("derive lexeme messages", NOT_YET),
-    "Reading": ("inspect scan", NOT_YET),
     "Rows": ("reduce tables", "a list of rows, of two kinds of tables"),
-    "Shown": ("messages report show", NOT_YET),
-    "Site": ("expand warnings", NOT_YET),
-    "Spot": ("derive report type_reader", NOT_YET),
-    "Stand": ("machine search", NOT_YET),
-    "State": ("graph report", NOT_YET),
-    "Turn": ("machine report", NOT_YET),
-    "Window": ("report stream", NOT_YET),
 }
 
 

@@ -7,6 +7,13 @@ use logos_token::token::{Delimiter, Group, Span, TokenError, TokenTree, Tokens, 
 use logos_token::util::begins_with;
 use std::alloc::Global;
 
+/// What a callback belongs to.
+#[derive(Clone, Copy)]
+pub(crate) enum CallbackOwner {
+    Leaf,
+    ErrorType,
+}
+
 /// Adds the warnings of the callbacks of these leaves of a source.
 pub(crate) fn add_callbacks(
     alloc: Global,
@@ -15,7 +22,8 @@ pub(crate) fn add_callbacks(
     warnings: &mut Vec<Warning>,
 ) -> Result<(), Memory> {
     for leaf in leaves {
-        add_callback(alloc, source, leaf.callback.as_ref(), warnings)?;
+        let callback = leaf.callback.as_ref();
+        add_callback(alloc, source, CallbackOwner::Leaf, callback, warnings)?;
     }
     Ok(())
 }
@@ -24,11 +32,12 @@ pub(crate) fn add_callbacks(
 pub(crate) fn add_callback(
     alloc: Global,
     source: &str,
+    owner: CallbackOwner,
     callback: Option<&Callback<'_>>,
     warnings: &mut Vec<Warning>,
 ) -> Result<(), Memory> {
     match callback {
-        Some(Callback::Label(label)) => add_label(label.run(), warnings),
+        Some(Callback::Label(label)) => add_label(owner, label.run(), warnings),
         Some(Callback::Inline(closure)) => add_closure(alloc, source, closure, warnings),
         None => Ok(()),
     }
@@ -54,13 +63,17 @@ fn add(
 const PATH: &str = "write the path of a function, or a closure with one parameter, as `|lex| ..`";
 
 /// Adds the warning of a callback that is not a closure, if it has one.
-fn add_label(label: Tokens<'_, '_>, warnings: &mut Vec<Warning>) -> Result<(), Memory> {
+fn add_label(
+    owner: CallbackOwner,
+    label: Tokens<'_, '_>,
+    warnings: &mut Vec<Warning>,
+) -> Result<(), Memory> {
     let span = label.span();
     if names_option(label) {
         return add(
             span,
             "an option without a value is a callback of this name",
-            "write its value, as in `priority = 3` or `ignore(case)`",
+            help_for_option(owner, label),
             warnings,
         );
     }
@@ -68,15 +81,42 @@ fn add_label(label: Tokens<'_, '_>, warnings: &mut Vec<Warning>) -> Result<(), M
         return add(
             span,
             "this callback is neither the path of a function nor a closure",
-            help_for_label(label),
+            help_for_label(owner, label),
             warnings,
         );
     }
     Ok(())
 }
 
-/// Returns what to do about a callback that is neither a path nor a closure, by its first token.
-fn help_for_label(label: Tokens<'_, '_>) -> &'static str {
+/// Returns what to do about an option without a value.
+fn help_for_option(owner: CallbackOwner, label: Tokens<'_, '_>) -> &'static str {
+    match owner {
+        CallbackOwner::Leaf => "write its value, as in `priority = 3` or `ignore(case)`",
+        CallbackOwner::ErrorType => help_for_error(label),
+    }
+}
+
+/// Returns what to do about a callback that is neither a path nor a closure.
+fn help_for_label(owner: CallbackOwner, label: Tokens<'_, '_>) -> &'static str {
+    match owner {
+        CallbackOwner::Leaf => help_for_leaf(label),
+        CallbackOwner::ErrorType => help_for_error(label),
+    }
+}
+
+/// Returns what to do about such a callback of an error type, which has the option `callback`
+/// alone.
+fn help_for_error(label: Tokens<'_, '_>) -> &'static str {
+    match label.first() {
+        Some(TokenTree::Ident(name)) if name.text == "callback" => {
+            "write its value after `=`, as in `callback = |lex| ..`"
+        }
+        _ => PATH,
+    }
+}
+
+/// Returns what to do about such a callback of a leaf, by its first token.
+fn help_for_leaf(label: Tokens<'_, '_>) -> &'static str {
     match label.first() {
         Some(TokenTree::Ident(name)) if is_option(name.text) => {
             "write the `=`, as in `priority = 3` or `callback = |lex| ..`"

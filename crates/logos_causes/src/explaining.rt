@@ -1,17 +1,21 @@
 //! What is known of a source that is refused, and what warnings a lexer has.
 
-use crate::callbacks::{add_callback, add_callbacks};
+ghost use Rattle.std.specs.Prelude.{◌≡◌, IfOk};
+ghost use Rattle.logos_causes.specs.Words.{HasSets, LeavesHaveSets, set_sizes, sizes_of};
+
+use crate::callbacks::{CallbackOwner, add_callback, add_callbacks};
 use crate::hidden::add_hidden;
 use crate::meetings::meetings_of;
 use crate::starts::starts_of;
+use logos_enum::{ItemEnum, ReadError, read_enum};
 use logos_graph::graph::{BuildError, Config, Graph};
-use logos_parser::analysis::{Analysis, analyze};
-use logos_parser::refusal::Refusal;
-use logos_pattern::leaf::Callback;
+use logos_parser::analysis::{Analysis, analyze_enum};
+use logos_pattern::leaf::{Callback, Leaf};
 use logos_report::{Clues, Warning};
 use logos_token::error::Memory;
+use logos_token::token::{Span, TokenError, tokenize};
+use logos_warnings::item_warnings;
 use std::alloc::{AllocError, Global};
-use std::mem;
 
 /// What is known of a source that is refused.
 #[derive(Debug, Drop)]
@@ -22,34 +26,90 @@ pub struct Explained {
     pub warnings: Vec<Warning>,
 }
 
-/// Returns what is known of a source that is refused, beyond its faults. Nothing is known of one
-/// that cannot be read.
+impl Explained {
+    /// Returns what is known of a source that cannot be read: nothing.
+    fn nothing(alloc: Global) -> Explained {
+        Explained {
+            clues: Clues::none(alloc),
+            warnings: Vec::new(alloc),
+        }
+    }
+}
+
+/// Returns what is known of a source that is refused, beyond its faults, with the warnings of its
+/// callbacks. Nothing is known of one that cannot be read.
 ///
 /// # Errors
 ///
 /// Returns `Memory` if memory runs out.
-pub fn explain(alloc: Global, source: &str) -> Result<Explained, Memory> {
-    match analyze(alloc, source) {
-        Ok(mut analysis) => explain_analysis(alloc, source, &mut analysis),
-        Err(Refusal::Errors(_)) => Ok(Explained {
-            clues: Clues::none(alloc),
-            warnings: Vec::new(alloc),
-        }),
-        Err(Refusal::Memory) => Err(Memory),
+pub fn explain(alloc: Global, source: &str) -> Result<Explained, Memory>
+    // Each set of ambiguous leaves of the source is known, in order.
+    ensures { IfOk result (λ known. HasSets source.now (sizes_of known.clues)) }
+{
+    explain_source(alloc, source, false)
+}
+
+/// Returns the same with all warnings of the enum that the source spells, which derives `Logos`:
+/// first those of `enum_warnings`. So the enum is read once for both.
+///
+/// # Errors
+///
+/// Returns `Memory` if memory runs out.
+pub fn explain_enum(alloc: Global, source: &str) -> Result<Explained, Memory>
+    // Each set of ambiguous leaves of the source is known, in order.
+    ensures { IfOk result (λ known. HasSets source.now (sizes_of known.clues)) }
+{
+    explain_source(alloc, source, true)
+}
+
+/// Returns what is known of a source, with the warnings of `enum_warnings` or without them.
+fn explain_source(alloc: Global, source: &str, warns: bool) -> Result<Explained, Memory>
+    // Each set of ambiguous leaves of the source is known, in order.
+    ensures { IfOk result (λ known. HasSets source.now (sizes_of known.clues)) }
+{
+    let stream = match tokenize(alloc, source) {
+        Ok(stream) => stream,
+        Err(TokenError::Memory) => return Err(Memory),
+        Err(_) => return Ok(Explained::nothing(alloc)),
+    };
+    let tokens = stream.run();
+    match read_enum(alloc, tokens) {
+        Ok(item) => explain_item(alloc, source, (&item, tokens.span()), warns),
+        Err(ReadError::Memory) => Err(Memory),
+        Err(_) => Ok(Explained::nothing(alloc)),
     }
 }
 
-/// Returns what is known of a source with this analysis, whose leaves are taken out of it.
-fn explain_analysis(
+/// Returns what is known of the enum that a source spells, which is given with its span.
+fn explain_item(
     alloc: Global,
     source: &str,
-    analysis: &mut Analysis<'_>,
+    item: (&ItemEnum<'_, '_>, Span),
+    warns: bool,
 ) -> Result<Explained, Memory> {
-    let mut warnings = Vec::new(alloc);
-    add_callback(alloc, source, callback_of(analysis), &mut warnings)?;
-    add_callbacks(alloc, source, &analysis.leaves, &mut warnings)?;
-    let clues = clues_of_analysis(alloc, analysis)?;
+    let mut warnings = if warns {
+        item_warnings(alloc, item.0, true)?
+    } else {
+        Vec::new(alloc)
+    };
+    let clues = clues_in(alloc, source, item, &mut warnings)?;
     Ok(Explained { clues, warnings })
+}
+
+/// Returns what is known of the faults of an enum, which is given with its span. Adds the warnings
+/// of its callbacks.
+fn clues_in(
+    alloc: Global,
+    source: &str,
+    item: (&ItemEnum<'_, '_>, Span),
+    warnings: &mut Vec<Warning>,
+) -> Result<Clues, Memory> {
+    let analysis = analyze_enum(alloc, item.0, item.1)?;
+    let error = callback_of(&analysis);
+    add_callback(alloc, source, CallbackOwner::ErrorType, error, warnings)?;
+    add_callbacks(alloc, source, &analysis.leaves, warnings)?;
+    let utf8_mode = analysis.parser.is_utf8();
+    clues_of_leaves(alloc, leaves_of(analysis), utf8_mode)
 }
 
 /// Returns the callback for errors of an analysis, if there is one.
@@ -60,20 +120,28 @@ fn callback_of<'a, 's>(analysis: &'a Analysis<'s>) -> Option<&'a Callback<'s>> {
     }
 }
 
-/// Returns what is known of the faults of the graph of an analysis, whose leaves are taken out of
-/// it.
-fn clues_of_analysis(alloc: Global, analysis: &mut Analysis<'_>) -> Result<Clues, Memory> {
-    let utf8_mode = analysis.parser.is_utf8();
-    let leaves = mem::replace(&mut analysis.leaves, Vec::new(alloc));
+/// Returns the leaves of an analysis.
+fn leaves_of<'s>(analysis: Analysis<'s>) -> Vec<Leaf<'s>> {
+    analysis.leaves
+}
+
+/// Returns what is known of the faults of the graph of leaves. Nothing is known where a limit keeps
+/// it from being built.
+fn clues_of_leaves(alloc: Global, leaves: Vec<Leaf<'_>>, utf8_mode: bool) -> Result<Clues, Memory>
+    ensures { IfOk result (λ clues. LeavesHaveSets leaves.entry.items (sizes_of clues)) }
+{
     match Graph::new(alloc, leaves, Config { utf8_mode }) {
         Ok(graph) => Ok(clues_of(alloc, &graph)?),
+        Err(BuildError::LimitSize) => Ok(Clues::none(alloc)),
+        Err(BuildError::LimitStates) => Ok(Clues::none(alloc)),
         Err(BuildError::Memory) => Err(Memory),
-        Err(_) => Ok(Clues::none(alloc)),
     }
 }
 
 /// Returns what is known of the faults of a graph.
-fn clues_of(alloc: Global, graph: &Graph<'_>) -> Result<Clues, AllocError> {
+fn clues_of(alloc: Global, graph: &Graph<'_>) -> Result<Clues, AllocError>
+    ensures { IfOk result (λ clues. sizes_of clues ≡ set_sizes graph.now.faults) }
+{
     Ok(Clues {
         meetings: meetings_of(alloc, graph)?,
         starts: starts_of(alloc, graph.leaves())?,
@@ -93,7 +161,13 @@ pub fn lexer_warnings(
     error: Option<&Callback<'_>>,
 ) -> Result<Vec<Warning>, Memory> {
     let mut warnings = Vec::new(alloc);
-    add_callback(alloc, source, error, &mut warnings)?;
+    add_callback(
+        alloc,
+        source,
+        CallbackOwner::ErrorType,
+        error,
+        &mut warnings,
+    )?;
     add_callbacks(alloc, source, graph.leaves(), &mut warnings)?;
     add_hidden(alloc, graph, &mut warnings)?;
     Ok(warnings)

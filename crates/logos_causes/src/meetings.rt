@@ -1,7 +1,8 @@
 //! What is known of the sets of ambiguous leaves of a graph.
 
-ghost use Rattle.std.specs.Prelude.{◌≤◌, IsTrue, length};
+ghost use Rattle.std.specs.Prelude.{◌≡◌, ◌≤◌, ◌++◌, ◌∷◌, [], IfOk, IsTrue, OnOk, length, map};
 ghost use Rattle.std.specs.List.Sorted.{IsStrictlyIncreasing};
+ghost use Rattle.logos_causes.specs.Words.{fault_of, numbers, set_size, set_sizes, size_of};
 
 use crate::names::name_of;
 use crate::quoting::push_quoted;
@@ -16,9 +17,12 @@ use std::alloc::{AllocError, Global};
 const SEARCHED: usize = 10;
 
 /// Returns what is known of each set of ambiguous leaves of a graph, in order.
-pub(crate) fn meetings_of(alloc: Global, graph: &Graph<'_>) -> Result<Vec<Meeting>, AllocError> {
+pub(crate) fn meetings_of(alloc: Global, graph: &Graph<'_>) -> Result<Vec<Meeting>, AllocError>
+    ensures { IfOk result (λ meetings. map size_of meetings.items ≡ set_sizes graph.now.faults) }
+{
     let mut meetings = Vec::new(alloc);
-    for fault in graph.errors() {
+    let faults = graph.errors();
+    for fault in faults {
         add_fault(alloc, graph, fault, &mut meetings)?;
     }
     Ok(meetings)
@@ -30,17 +34,38 @@ fn add_fault(
     graph: &Graph<'_>,
     fault: &GraphError,
     meetings: &mut Vec<Meeting>,
-) -> Result<(), AllocError> {
-    if let GraphError::Disambiguation(leaves) = fault {
-        let set = numbers_of(alloc, leaves)?;
-        let is_searched = meetings.len() < SEARCHED;
-        meetings.push(meeting_of(alloc, graph, &set, is_searched)?)?;
+) -> Result<(), AllocError>
+    ensures { OnOk result (map size_of meetings.new.items
+        ≡ map size_of meetings.old.items ++ set_size (fault_of fault.now)) }
+{
+    match fault {
+        GraphError::Disambiguation(leaves) => add_set(alloc, graph, leaves, meetings),
+        GraphError::EmptyMatch(_) => Ok(()),
+        GraphError::NoUniversalStart => Ok(()),
     }
+}
+
+/// Adds what is known of the set of ambiguous leaves with these numbers.
+fn add_set(
+    alloc: Global,
+    graph: &Graph<'_>,
+    leaves: &[LeafId],
+    meetings: &mut Vec<Meeting>,
+) -> Result<(), AllocError>
+    ensures { OnOk result (map size_of meetings.new.items
+        ≡ map size_of meetings.old.items ++ length (numbers leaves.now) ∷ []) }
+{
+    let set = numbers_of(alloc, leaves)?;
+    let is_searched = meetings.len() < SEARCHED;
+    let meeting = meeting_of(alloc, graph, &set, is_searched)?;
+    meetings.push(meeting)?;
     Ok(())
 }
 
 /// Returns the numbers of leaves.
-fn numbers_of(alloc: Global, leaves: &[LeafId]) -> Result<Vec<usize>, AllocError> {
+fn numbers_of(alloc: Global, leaves: &[LeafId]) -> Result<Vec<usize>, AllocError>
+    ensures { IfOk result (λ set. set.items ≡ numbers leaves.now) }
+{
     let mut set = Vec::new(alloc);
     for leaf in leaves {
         set.push(leaf.0)?;
@@ -54,7 +79,9 @@ fn meeting_of(
     graph: &Graph<'_>,
     set: &[usize],
     is_searched: bool,
-) -> Result<Meeting, AllocError> {
+) -> Result<Meeting, AllocError>
+    ensures { IfOk result (λ meeting. size_of meeting ≡ length set.now) }
+{
     Ok(Meeting {
         names: names_of(alloc, graph.leaves(), set)?,
         note: note_of(alloc, graph, set, is_searched)?,
@@ -62,7 +89,9 @@ fn meeting_of(
 }
 
 /// Returns the names of these leaves.
-fn names_of(alloc: Global, leaves: &[Leaf<'_>], set: &[usize]) -> Result<Vec<String>, AllocError> {
+fn names_of(alloc: Global, leaves: &[Leaf<'_>], set: &[usize]) -> Result<Vec<String>, AllocError>
+    ensures { IfOk result (λ names. length names.items ≡ length set.now) }
+{
     let mut names = Vec::new(alloc);
     for number in set {
         names.push(name_at(alloc, leaves, *number)?)?;

@@ -13,7 +13,7 @@ use Rattle.logos_cli.specs.Deriving.{IsDerived, ShowsErrors, standard_input}
 use Rattle.logos_cli.specs.Orders.{Asked, asks_help, asks_version, asks_expansion, asks_each, asks_derive, OrderValue}
 use Rattle.logos_cli.specs.declared.options.DeriveOrder.{DeriveOrder}
 use Rattle.logos_codegen.specs.Source.{IsRefused}
-use Rattle.logos_derive.specs.declared.answering.Answer.{Answer}
+use Rattle.logos_derive.specs.declared.answering.Template.{Template}
 use Rattle.logos_text.specs.Standing.{StandInOrder}
 use Rattle.logos_token.specs.Faults.{Fault}
 
@@ -33,7 +33,7 @@ pub record IsRewritten {F : Type 0} (makes : F → List ℕ → List ℕ → F �
 -- output, with placeholders.
 abbrev pub IsAnswered : {F : Type 0} → (F → List ℕ → List ℕ → F → Type 0) → DeriveOrder → F → F → Option (List ℕ) → Option (List ℕ) → Type 0
 IsAnswered gives order files after old new =
-    Reads gives files (codes "/dev/stdin") (λ text read. (after ≡ read) × ((answer : Answer) × IsDerived order.shape text answer × Appends old new (string_bytes answer.text)))
+    Reads gives files (codes "/dev/stdin") (λ text read. (after ≡ read) × ((answer : Template) × IsDerived order.shape text answer × Appends old new (string_bytes answer.text)))
 
 -- The enum on standard input has faults, which this text shows.
 abbrev pub IsDeniedAnswer : {F : Type 0} → (F → List ℕ → List ℕ → F → Type 0) → DeriveOrder → F → F → List ℕ → Type 0

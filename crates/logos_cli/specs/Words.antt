@@ -1,6 +1,7 @@
 -- Definitions that clauses cite: of lower crates, and those of this one that name no type of it.
+pub use Rattle.logos_causes.specs.Sets.{HasSets}
 pub use Rattle.logos_codegen.specs.Source.{IsRefused}
-pub use Rattle.logos_derive.specs.declared.answering.Answer.{Answer}
+pub use Rattle.logos_derive.specs.declared.answering.Template.{Template}
 pub use Rattle.logos_expand.specs.Expanding.{IsExpanded}
 pub use Rattle.logos_expand.specs.Gathering.{FailsBy, IsRefusedFor}
 pub use Rattle.logos_host.specs.Failures.{status_of}
@@ -10,7 +11,7 @@ pub use Rattle.logos_options.specs.Given.{given_value}
 pub use Rattle.logos_options.specs.Paths.{texts_of}
 pub use Rattle.logos_report.specs.Faults.{faults_texts}
 pub use Rattle.logos_report.specs.Pages.{StandInOrder}
-pub use Rattle.logos_report.specs.Turns.{sizes_of}
+pub use Rattle.logos_report.specs.Sets.{sizes_of}
 pub use Rattle.logos_rust_file.specs.Handed.{Refuses}
 pub use Rattle.logos_token.specs.Faults.{Fault}
 pub use Rattle.std.specs.Io.KnownBytes.{Appends, Keeps}

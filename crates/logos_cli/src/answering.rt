@@ -2,7 +2,7 @@
 //! implementation to standard output, and writes messages to standard error.
 
 ghost use Rattle.std.specs.Prelude.{◌≡◌, ◌≢◌, ◌⊎◌, ◌≤◌, ◌++◌, ℕ, List, IfOk, IsTrue, string_bytes};
-ghost use Rattle.logos_cli.specs.Views.{Appends, Keeps, Fault, IsRefused, Answer as AnswerValue, IsDerived, ShowsErrors, standard_input, IsAnswered, IsDeniedAnswer};
+ghost use Rattle.logos_cli.specs.Views.{Appends, Keeps, Fault, IsRefused, Template as TemplateValue, IsDerived, ShowsErrors, standard_input, IsAnswered, IsDeniedAnswer};
 
 use crate::implementation::{answer_lines, derived, refusal_lines};
 use crate::options::DeriveOrder;
@@ -10,7 +10,7 @@ use crate::running::{Ending, failed, print_bytes};
 use logos_causes::Showing;
 use logos_codegen::Refusal;
 use logos_codegen::error::{Errors, Memory};
-use logos_derive::Answer;
+use logos_derive::Template;
 use logos_host::{Failure, Files, read_text, write_through};
 use logos_options::STANDARD_INPUT;
 use logos_report::{Source, Warning};
@@ -51,7 +51,7 @@ fn answer_source<O: Write, E: Write + IsTerminal>(
     out: &mut O,
     err: &mut E,
 ) -> Ending
-    ensures done { result.status ≡ 0 → (answer : AnswerValue)
+    ensures done { result.status ≡ 0 → (answer : TemplateValue)
         × IsDerived order.shape source.now answer
         × Appends (O.contents out.old) (O.contents out.new) (string_bytes answer.text) }
     ensures denied { result.status ≡ 1 → (shown : List ℕ) × ((faults : List Fault)
@@ -83,7 +83,7 @@ fn answer_source<O: Write, E: Write + IsTerminal>(
 fn answered(
     source: &str,
     showing: Showing,
-    answer: &Answer,
+    answer: &Template,
     warned: &[Warning],
 ) -> Result<Vec<u8>, Memory> {
     let source = Source::new(showing.alloc, INPUT_NAME, source)?;
@@ -92,7 +92,7 @@ fn answered(
 
 /// Prints an answer, and writes the lines that go with it.
 fn print_answer<O: Write, E: Write>(
-    answer: &Answer,
+    answer: &Template,
     lines: &[u8],
     out: &mut O,
     err: &mut E,

@@ -1,18 +1,18 @@
 //! The answer to the derive macro: the implementation of one enum, with placeholders for what the
 //! user wrote.
 
-ghost use Rattle.std.specs.Prelude.{IfErr, IfOk, List, ℕ, string_bytes};
-ghost use Rattle.logos_cli.specs.Views.{IsRefused, faults_texts, StandInOrder, sizes_of, Refuses, AreFaultLines, IsDerived, IsDerivedBy, ShowsErrors};
+ghost use Rattle.std.specs.Prelude.{IfErr, IfOk, string_bytes};
+ghost use Rattle.logos_cli.specs.Views.{IsRefused, faults_texts, StandInOrder, sizes_of, Refuses, AreFaultLines, HasSets, IsDerived, IsDerivedBy, ShowsErrors};
 
 use logos_causes::{
-    Explained, Showing, add_lexer, add_text, add_warnings, explain, push_warned, warning_text,
+    Explained, Showing, add_lexer, add_text, explain_enum, push_warned, warning_text,
 };
 use logos_codegen::error::{Errors, Memory};
 use logos_codegen::{Generated, Refusal, generate};
-use logos_derive::{Answer, make_answer};
+use logos_derive::{Template, make_template};
 use logos_expand::{Shape, config_of, lexer_text};
 use logos_host::MessageFormat;
-use logos_messages::{Piece, push_messages, push_pieces, push_version, push_warning_messages};
+use logos_messages::{PieceRange, push_messages, push_pieces, push_version, push_warning_messages};
 use logos_report::{Page, Part, Source, Warning, count_errors, push_faults, push_summary};
 use std::alloc::{AllocError, Global};
 
@@ -25,7 +25,7 @@ pub(crate) fn derived(
     shape: Shape,
     source: &str,
     warned: &mut Vec<Warning>,
-) -> Result<Answer, Refusal>
+) -> Result<Template, Refusal>
     ensures done { IfOk result (IsDerived shape source.now) }
     ensures refused { IfErr result (Refuses (IsRefused source.now)) }
 {
@@ -41,7 +41,7 @@ fn derived_by(
     source: &str,
     made: &Generated<'_>,
     warned: &mut Vec<Warning>,
-) -> Result<Answer, Refusal>
+) -> Result<Template, Refusal>
     ensures done { IfOk result (IsDerivedBy shape made.now.code source.now) }
     ensures refused { IfErr result (Refuses (IsRefused source.now)) }
 {
@@ -57,14 +57,14 @@ fn answer_of(
     source: &str,
     made: &Generated<'_>,
     warned: &mut Vec<Warning>,
-) -> Result<Answer, Memory>
+) -> Result<Template, Memory>
     ensures { IfOk result (IsDerivedBy shape made.now.code source.now) }
 {
     let alloc = *warned.allocator();
     add_text(source, 0, true, warned)?;
     add_lexer(source, 0, &made.graph, made.code.error_callback(), warned)?;
     let text = lexer_text(alloc, shape, made)?;
-    make_answer(alloc, source, &made.code, text)
+    make_template(alloc, source, &made.code, text)
 }
 
 /// Returns what standard error gets with an answer: its warnings, and as JSON also the line that
@@ -72,7 +72,7 @@ fn answer_of(
 pub(crate) fn answer_lines(
     source: &Source<'_>,
     showing: Showing,
-    answer: &Answer,
+    answer: &Template,
     warned: &[Warning],
 ) -> Result<Vec<u8>, Memory> {
     match showing.format {
@@ -85,7 +85,7 @@ pub(crate) fn answer_lines(
 fn piece_lines(
     source: &Source<'_>,
     alloc: Global,
-    answer: &Answer,
+    answer: &Template,
     warned: &[Warning],
 ) -> Result<Vec<u8>, Memory> {
     let mut lines = Vec::new(alloc);
@@ -97,10 +97,10 @@ fn piece_lines(
 }
 
 /// Returns the numbers and the spans of the pieces of an answer.
-fn piece_list(alloc: Global, answer: &Answer) -> Result<Vec<Piece>, Memory> {
+fn piece_list(alloc: Global, answer: &Template) -> Result<Vec<PieceRange>, Memory> {
     let mut pieces = Vec::new(alloc);
     for piece in &answer.pieces {
-        pieces.push(Piece {
+        pieces.push(PieceRange {
             number: piece.number,
             from: piece.span.from,
             to: piece.span.to,
@@ -117,23 +117,11 @@ pub(crate) fn refusal_lines(
 ) -> Result<Vec<u8>, Memory>
     ensures { IfOk result (λ lines. ShowsErrors showing.format source.now errors.now lines.items) }
 {
-    let known = known_of(showing.alloc, source.text())?;
+    let known = explain_enum(showing.alloc, source.text())?;
     match showing.format {
         MessageFormat::Human => report_lines(source, showing.is_colored, errors, &known),
         MessageFormat::Json => message_lines(source, errors, &known),
     }
-}
-
-/// Returns what is known of an enum that is refused, with all its warnings.
-fn known_of(alloc: Global, source: &str) -> Result<Explained, Memory> {
-    let mut warned = Vec::new(alloc);
-    add_text(source, 0, true, &mut warned)?;
-    let Explained { clues, warnings } = explain(alloc, source)?;
-    add_warnings(0, warnings, &mut warned)?;
-    Ok(Explained {
-        clues,
-        warnings: warned,
-    })
 }
 
 /// Returns the faults of an enum as lines of JSON, after the line that names the protocol and those
@@ -157,8 +145,8 @@ fn report_lines(
     errors: &Errors,
     known: &Explained,
 ) -> Result<Vec<u8>, Memory>
-    ensures { IfOk result (λ lines. (sizes : List ℕ) × StandInOrder
-        (faults_texts is_colored source.now 0 sizes errors.now) lines.items) }
+    ensures { IfOk result (λ lines. StandInOrder
+        (faults_texts is_colored source.now 0 (sizes_of known.now.clues) errors.now) lines.items) }
 {
     match report_text(source, is_colored, errors, known) {
         Ok(text) => Ok(text.into_bytes()),

@@ -155,7 +155,7 @@ pub struct Code<'s> {
 impl<'s> Model for Code<'s> {
     ghost use Rattle.std.specs.Prelude.{[]};
     ghost use Rattle.logos_code.specs.Views.{codes, named, CodeValue};
-    ghost use Rattle.logos_type.specs.contracts.type_expr.Part as p;
+    ghost use Rattle.logos_type.specs.contracts.type_expr.TypePart as p;
 
     ghost Value = { CodeValue };
 

@@ -5,6 +5,7 @@ use Rattle.logos_lexeme.specs.declared.lexeme.Span.{Span}
 use Rattle.logos_token.specs.Faults.{Fault as SourceFault}
 use Rattle.logos_pattern.specs.declared.leaf.Leaf.{Leaf}
 use Rattle.logos_enum.specs.EnumValues.{EnumValue}
+use Rattle.logos_enum.specs.Values.{Slice}
 use Rattle.logos_definition.specs.Options.{OptionsView, utf8_mode}
 use Rattle.logos_pattern.specs.Leaf.{kind_text, kind_value, is_skip}
 use Rattle.logos_pattern.specs.declared.leaf.VariantKind.{VariantKind}
@@ -15,7 +16,7 @@ use Rattle.logos_leaf.specs.Leaves.{LeafView}
 use Rattle.logos_leaf.specs.LeafViews.{leaf_view}
 use Rattle.logos_parser.specs.Endings.{GivesEnum, IsShallow}
 use Rattle.logos_parser.specs.Refusals.{Refuses as RefusesSource}
-use Rattle.logos_parser.specs.Analyses.{ReadsEnum, AnalysisView}
+use Rattle.logos_parser.specs.Analyses.{ReadsEnum}
 use Rattle.logos_parser.specs.Utf8Faults.{kind_name}
 use Rattle.logos_automaton.specs.Munch.{Rule}
 use Rattle.logos_automaton.specs.Faults.{AreFaults}
@@ -27,7 +28,6 @@ use Rattle.logos_automaton.specs.declared.errors.BuildError.TheVariants.{LimitSi
 use Rattle.logos_codegen.specs.Texts.{named_leaf, reported_as}
 use Rattle.logos_codegen.specs.Rules.{NamedRule, named_rule, named_of_view, rule_of_view, rules_of_views, skips, rules_in, names_in, GraphReports, graph_faults, size_limit, states_limit}
 use Rattle.logos_codegen.specs.Source.{AreReported, IsRefused, faulty}
-use Rattle.logos_codegen.specs.Given.{IsGraphOfSource}
 use Rattle.logos_codegen.specs.inside.Steps.{IsLimit, ReportsGraph, AreGraphFaults, IsGraphMade}
 use Rattle.logos_parser.specs.declared.refusal.Refusal.{Refusal}
 use Rattle.logos_parser.proofs.RefusalLemmas.{refuses_by}
@@ -161,9 +161,9 @@ module _ (source : List ℕ) (enum : EnumValue) (item : Span) (leaves : List Lea
       refuses_by (AreGraphFaults leaves (utf8_mode options) item before) (IsRefused source) (λ faults f. faulty short shallow says (all_reported faults f.1.0 f.1.1) f.0) error r
 
   -- where nothing is reported, the graph is that of an accepted source
-  pub graph_made : (analysis : AnalysisView) (graph : GraphValue) → length source ≤ 16777216 → IsShallow source → enum.name ≡ analysis.name → options ≡ analysis.options →
-      ReportsGraph leaves (utf8_mode options) item before [] (Some graph) → IsGraphMade source analysis graph
-  graph_made analysis graph short shallow is_name same found =
+  pub graph_made : (name : Slice) (graph : GraphValue) → length source ≤ 16777216 → IsShallow source → enum.name ≡ name →
+      ReportsGraph leaves (utf8_mode options) item before [] (Some graph) → IsGraphMade source name options graph
+  graph_made name graph short shallow is_name found =
       let both = both_empty before found.faults (sym found.all) in
       let held = found.is graph refl in
       let made = held.0 in
@@ -184,7 +184,7 @@ module _ (source : List ℕ) (enum : EnumValue) (item : Span) (leaves : List Lea
           same_rules = ap rules_of made.leaves_are ∙ sym (rules_view leaves);
           same_mode = made.mode;
         };
-        of_source = subst (λ (o : OptionsView). IsGraphOfSource source analysis.name o graph) same (record {
+        of_source = record {
           enum = enum;
           item = item;
           says = says;
@@ -193,6 +193,6 @@ module _ (source : List ℕ) (enum : EnumValue) (item : Span) (leaves : List Lea
           same_mode = made.mode;
           of_leaves = subst (λ (given : List Leaf). IsGraphOf given graph.utf8 graph) (sym made.leaves_are) (subst (λ (mode : Bool). IsGraphOf leaves mode graph) (sym made.mode) made);
           faultless = held.1 both.1;
-        });
+        };
         sizes = record { short = short; shallow = shallow; small = rw made.leaves_are small };
       }

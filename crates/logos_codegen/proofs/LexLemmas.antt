@@ -1,22 +1,20 @@
 -- From a code value's runs to the items of maximal munch.
-use Rattle.std.proofs.Common.{◌≡◌, ℕ, Bool, true, false, List, [], ◌∷◌, ◌++◌, length, map, refl, sym, ◌∙◌, arith, append_assoc, append-nil, if◌then◌else◌, MatchBool, IsTrue, IsUtf8, Result, Ok, Err, IfOk, IfErr, Vec, Global}
+use Rattle.std.proofs.Common.{◌≡◌, ℕ, Bool, true, false, List, [], ◌∷◌, ◌++◌, length, map, refl, sym, ◌∙◌, arith, if◌then◌else◌, IsTrue, IsUtf8, Result, Ok, Err, IfOk, IfErr, Vec, Global}
 use Rattle.std.proofs.lemmas.Str.{IsCharBoundary-start}
 use Rattle.std.proofs.lemmas.List.Elements.{All-nil, All-cons}
 use Rattle.std.specs.List.{All}
 use Rattle.logos_hir.specs.Text.{IsBytes}
-use Rattle.logos_automaton.specs.Munch.{Use, Rule, IsInput}
+use Rattle.logos_automaton.specs.Munch.{Rule, IsInput}
 use Rattle.logos_code.specs.Code.{CodeValue}
 use Rattle.logos_code.specs.Headline.{IsLexer, IsCut}
-use Rattle.logos_code.specs.Items.{Callback, Search, Item, asks, MayAnswer, Lexes, over, match, fault, Items}
-use Rattle.logos_machine.specs.LexerValue.{LexerValue, Gives, Ends, item_of}
+use Rattle.logos_code.specs.Items.{Callback, Item, Items}
+use Rattle.logos_machine.specs.LexerValue.{item_of}
 use Rattle.logos_machine.specs.declared.machine.Item.{Item as TheItem}
-use Rattle.logos_code.specs.declared.action.Action.{Action}
-use Rattle.logos_code.specs.declared.action.Action.TheVariants.{Emit, Skip, Error}
 use Rattle.logos_hir.specs.Measure.{is_text}
 use Rattle.logos_attribute.specs.Reports.{only}
 use Rattle.logos_leaf.specs.Leaves.{LeafView}
 use Rattle.logos_code.specs.Order.{AreInOrder, Parts, IsLeftOut}
-use Rattle.logos_code.specs.Runs.{CodeFinds, Runs}
+use Rattle.logos_code.specs.Runs.{Runs}
 use Rattle.logos_generator.proofs.Compose.{runs_iff}
 use Rattle.logos_generator.proofs.InOrder.{in_order, parted}
 use Rattle.logos_parser.specs.Refusals.{IsMemory}

@@ -1,12 +1,12 @@
 -- The texts around the body of a lexer, by the options of its source.
-use Rattle.std.specs.Prelude.{ℕ, Bool, List, [], ◌++◌, codes, Option, Some, None, if◌then◌else◌, length}
+use Rattle.std.specs.Prelude.{ℕ, Bool, List, [], ◌++◌, codes, Option, Some, None, option_map, if◌then◌else◌, length}
 use Rattle.logos_token.specs.Printing.{printed}
 use Rattle.logos_token.specs.Tokens.{TokenList}
+use Rattle.logos_token.specs.Views.{stream_tokens}
 use Rattle.logos_type.specs.Printed.{printed_type}
 use Rattle.logos_type.specs.TypeTrees.{type_tree}
 use Rattle.logos_definition.specs.ErrorTypes.{ErrorView, error_text, run_text}
-use Rattle.logos_definition.specs.Options.{OptionsView}
-use Rattle.logos_definition.specs.ParserViews.{parser_view}
+use Rattle.logos_definition.specs.ErrorTypeViews.{error_view, run_in}
 use Rattle.logos_text.specs.Fronts.{AroundValue, BeginsWith, IsFront, opening_text}
 use Rattle.logos_text.specs.Gaps.{gap_after}
 use Rattle.logos_codegen.specs.declared.generation.Generated.{Generated}
@@ -34,18 +34,14 @@ extras_text run = run_text run ++ gap_after_run run
 abbrev pub input_text : Bool → List ℕ
 input_text utf8 = if utf8 then codes "str " else codes "[ u8 ] "
 
--- The texts around a body, by the options of a source and its mode.
-abbrev pub around_of : OptionsView → Bool → AroundValue
-around_of options utf8 = record {
-  logos = library_text options.logos_path;
-  error = error_type_text options.error_type;
-  extras = extras_text options.extras;
-  source = input_text utf8;
-}
-
--- The texts around the body of what was made of a source.
+-- The texts around the body of what was made of a source, by its options and its mode.
 abbrev pub around_made : Generated → AroundValue
-around_made made = around_of (parser_view made.options) made.graph.utf8
+around_made made = record {
+  logos = library_text (option_map stream_tokens made.options.library);
+  error = error_type_text (option_map error_view made.options.error_type);
+  extras = extras_text (run_in made.options.extras);
+  source = input_text made.graph.utf8;
+}
 
 -- The text begins an implementation of `Logos` for the type of the enum: its head and the imports
 -- of its function.

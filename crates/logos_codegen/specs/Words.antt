@@ -15,7 +15,6 @@ pub use Rattle.logos_graph.specs.GraphOf.{IsGraphOf}
 pub use Rattle.logos_graph.specs.View.{rules_of}
 pub use Rattle.logos_definition.specs.Options.{utf8_mode}
 pub use Rattle.logos_machine.specs.LexerValue.{answers_of, item_of}
-pub use Rattle.logos_parser.specs.Analyses.{HasItsType}
 pub use Rattle.logos_parser.specs.AnalysisViews.{analysis_view}
 pub use Rattle.logos_parser.specs.Endings.{too_long}
 pub use Rattle.logos_parser.specs.Refusals.{IsMemory, Refuses}
@@ -33,4 +32,4 @@ pub use Rattle.logos_codegen.specs.Given.{IsGiven, KeepsEnum, error_callback, va
 pub use Rattle.logos_codegen.specs.RunLaws.{RunsAreCut}
 pub use Rattle.logos_codegen.specs.Source.{IsAccepted, IsRefused, IsWithinLimits, IsWithinSizes}
 pub use Rattle.logos_codegen.specs.Texts.{disambiguation_faults, disambiguation_text, empty_match_faults, fault_at, line_of, named_leaf, other_lines, reported_as}
-pub use Rattle.logos_codegen.specs.inside.Steps.{AreGraphFaults, AreTakenOut, IsFaultless, IsGraphMade, IsLimit, ReportsGraph}
+pub use Rattle.logos_codegen.specs.inside.Steps.{AreGraphFaults, IsFaultless, IsGraphMade, IsLimit, ReportsGraph}

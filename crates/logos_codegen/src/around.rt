@@ -1,15 +1,23 @@
 //! The texts around the body of a lexer. `Generated` prints its text with them.
 
 ghost use Rattle.std.specs.Prelude.{◌≡◌, ◌++◌, IfOk, option_map, option_copied, string_bytes};
-ghost use Rattle.logos_codegen.specs.Views.{stream_tokens, error_view, run_in, parser_view, around_value, around_of, error_type_text, extras_text, gap_after_run, input_text, library_text};
+ghost use Rattle.logos_codegen.specs.Views.{stream_tokens, error_view, run_in, around_value, error_type_text, extras_text, gap_after_run, input_text, library_text};
 
 use logos_definition::error_type::ErrorType;
-use logos_definition::parser::Parser;
 use logos_text::{Around, gap_after};
 use logos_token::error::Memory;
 use logos_token::token::{TokenStream, print};
 use logos_token::util::MaybeVoid;
 use std::alloc::Global;
+
+/// The options of a source that the texts around its code depend on.
+#[derive(Drop)]
+pub(crate) struct AroundOptions<'s> {
+    /// The path of the library, if the source gives one.
+    pub(crate) library: Option<TokenStream<'s>>,
+    pub(crate) error_type: Option<ErrorType<'s>>,
+    pub(crate) extras: MaybeVoid<'s>,
+}
 
 /// The texts around a code, each with the gap after it.
 #[derive(Drop)]
@@ -27,16 +35,19 @@ pub(crate) struct AroundTexts {
 /// # Errors
 ///
 /// Returns `Memory` if memory runs out.
-pub(crate) fn around_texts(alloc: Global, options: &Parser<'_>) -> Result<AroundTexts, Memory>
+pub(crate) fn around_texts(
+    alloc: Global,
+    options: &AroundOptions<'_>,
+) -> Result<AroundTexts, Memory>
     ensures logos { IfOk result (λ texts. string_bytes texts.logos
-        ≡ library_text (parser_view options.now).logos_path) }
+        ≡ library_text (option_map stream_tokens options.now.library)) }
     ensures error { IfOk result (λ texts. string_bytes texts.error
-        ≡ error_type_text (parser_view options.now).error_type) }
+        ≡ error_type_text (option_map error_view options.now.error_type)) }
     ensures extras { IfOk result (λ texts. string_bytes texts.extras
-        ≡ extras_text (parser_view options.now).extras) }
+        ≡ extras_text (run_in options.now.extras)) }
 {
     Ok(AroundTexts {
-        logos: library_text(alloc, options.logos_path.as_ref())?,
+        logos: library_text(alloc, options.library.as_ref())?,
         error: error_text(alloc, options.error_type.as_ref())?,
         extras: extras_text(alloc, &options.extras)?,
     })

@@ -117,7 +117,7 @@ pub struct Language {
 impl Model for Language {
     ghost use Rattle.std.specs.Prelude.{[]};
     ghost use Rattle.logos_codegen.specs.Views.{codes, named, LanguageValue, IsLanguage};
-    ghost use Rattle.logos_type.specs.contracts.type_expr.Part as p;
+    ghost use Rattle.logos_type.specs.contracts.type_expr.TypePart as p;
 
     ghost Value = { LanguageValue };
 

@@ -1,9 +1,9 @@
 //! From a source text to the code of its lexer.
 
 ghost use Rattle.std.specs.Prelude.{◌≡◌, ◌<◌, ◌↔◌, ◌∷◌, ◌++◌, Bool, List, [], length, map, flat_map, option_map, IfOk, IfErr, IsErrAnd, OnOk, IsTrue, string_bytes, option_copied};
-ghost use Rattle.logos_codegen.specs.Views.{Rule, fault_of, ident_slice, callback_view, parser_view, kind_value, utf8_mode, IsGraphOf, rules_of, KeepsGiven, IsLexer, HasItsType, analysis_view, too_long, Refuses, IsMemory, StandInOrder, texts_of, named_leaf, reported_as, IsGiven, KeepsEnum, error_callback, variant_at, RunsAreCut, IsAccepted, IsRefused, IsWithinSizes, IsWithinLimits, IsLimit, ReportsGraph, IsFaultless, AreGraphFaults, IsGraphMade, AreTakenOut, BeginsImplementation, IsFrontOf};
+ghost use Rattle.logos_codegen.specs.Views.{Rule, fault_of, ident_slice, callback_view, parser_view, kind_value, utf8_mode, IsGraphOf, rules_of, KeepsGiven, IsLexer, HeadHasItsType, IsHeadOf, analysis_view, too_long, Refuses, IsMemory, StandInOrder, texts_of, named_leaf, reported_as, IsGiven, KeepsEnum, error_callback, variant_at, RunsAreCut, IsAccepted, IsRefused, IsWithinSizes, IsWithinLimits, IsLimit, ReportsGraph, IsFaultless, AreGraphFaults, IsGraphMade, BeginsImplementation, IsFrontOf};
 
-use crate::around::around_texts;
+use crate::around::{AroundOptions, around_texts};
 use crate::reporting::report_fault;
 use logos_definition::parser::{ExportPath, Parser};
 use logos_generator::code::Code;
@@ -34,7 +34,18 @@ pub struct Generated<'s> {
     pub name: Ident<'s>,
     /// The text of `export_dir`, where the chart of the graph goes, if the source has one.
     pub export_path: Option<String>,
-    /// The options, for the text.
+    /// The options that the text depends on.
+    options: AroundOptions<'s>,
+}
+
+/// What an enum gives beside its leaves and its faults.
+#[derive(Drop)]
+struct EnumHead<'s> {
+    /// The name of the enum.
+    name: Ident<'s>,
+    /// The type that the enum is: its name, and the generic arguments that follow it.
+    this: TypeExpr<'s>,
+    /// The options, without skips and faults.
     options: Parser<'s>,
 }
 
@@ -167,22 +178,39 @@ fn faultless_graph<'s>(
     }
 }
 
-/// Takes the leaves and the faults out of an analysis, and builds the graph of the leaves. Fails if
-/// there are faults, or if the graph has some.
-fn graph_of_analysis<'s>(analysis: &mut Analysis<'s>) -> Result<Graph<'s>, Refusal>
-    ensures ok { IfOk result (IsFaultless analysis.old.leaves.items
-        (utf8_mode (parser_view analysis.old.parser)) analysis.old.span
-        analysis.old.parser.errors) }
-    ensures err { IfErr result (Refuses (AreGraphFaults analysis.old.leaves.items
-        (utf8_mode (parser_view analysis.old.parser)) analysis.old.span
-        analysis.old.parser.errors)) }
-    ensures taken { AreTakenOut (analysis_view analysis.old) (analysis_view analysis.new) }
+/// Takes an analysis apart, and builds the graph of its leaves. Fails if there are faults, or if
+/// the graph has some.
+fn accept_analysis<'s>(analysis: Analysis<'s>) -> Result<(Graph<'s>, EnumHead<'s>), Refusal>
+    ensures ok { IfOk result (λ made. IsFaultless analysis.entry.leaves.items
+        (utf8_mode (parser_view analysis.entry.parser)) analysis.entry.span
+        analysis.entry.parser.errors made.0) }
+    ensures err { IfErr result (Refuses (AreGraphFaults analysis.entry.leaves.items
+        (utf8_mode (parser_view analysis.entry.parser)) analysis.entry.span
+        analysis.entry.parser.errors)) }
+    ensures head { IfOk result (λ made. IsHeadOf (analysis_view analysis.entry) made.1) }
 {
-    let alloc = analysis.parser.errors.alloc();
-    let mode = analysis.parser.is_utf8();
-    let leaves = mem::replace(&mut analysis.leaves, Vec::new(alloc));
-    let errors = mem::replace(&mut analysis.parser.errors, Errors::new(alloc));
-    faultless_graph(leaves, mode, analysis.span, errors)
+    let Analysis {
+        name,
+        span,
+        this,
+        leaves,
+        parser,
+    } = analysis;
+    let mut options = parser;
+    let mode = options.is_utf8();
+    let none = Errors::new(options.errors.alloc());
+    let errors = mem::replace(&mut options.errors, none);
+    match faultless_graph(leaves, mode, span, errors) {
+        Ok(graph) => Ok((
+            graph,
+            EnumHead {
+                name,
+                this,
+                options,
+            },
+        )),
+        Err(refusal) => Err(refusal),
+    }
 }
 
 /// Returns the callback for errors, if there is one.
@@ -196,47 +224,36 @@ fn callback_in<'p, 's>(parser: &'p Parser<'s>) -> Option<&'p Callback<'s>>
     }
 }
 
-/// Makes the code of a graph that finds the longest matches, for the enum of an analysis.
+/// Makes the code of a graph that finds the longest matches, for the enum with this head.
 fn code_of<'s>(
     alloc: Global,
     config: Config,
-    analysis: &Analysis<'s>,
+    head: &EnumHead<'s>,
     graph: &Graph<'s>,
 ) -> Result<Code<'s>, Memory>
     requires of_leaves { IsGraphOf graph.now.leaves graph.now.utf8 graph.now }
     requires faultless { graph.now.faults ≡ [] }
-    requires typed { HasItsType (analysis_view analysis.now) }
+    requires typed { HeadHasItsType head.now }
     ensures lexer { IfOk result (IsLexer (rules_of graph.now.leaves) graph.now.utf8) }
-    ensures keeps { IfOk result (KeepsEnum config (ident_slice analysis.now.name)
-        (parser_view analysis.now.parser) graph.now) }
+    ensures keeps { IfOk result (KeepsEnum config (ident_slice head.now.name)
+        (parser_view head.now.options) graph.now) }
 {
-    let callback = callback_in(&analysis.parser);
-    let mut generator = Generator::new(
-        alloc,
-        config,
-        analysis.name,
-        &analysis.this,
-        graph,
-        callback,
-    );
+    let callback = callback_in(&head.options);
+    let mut generator = Generator::new(alloc, config, head.name, &head.this, graph, callback);
     generator.generate(alloc)
 }
 
-/// Analyzes a source, and builds the graph of its leaves, which are taken out of the analysis.
-/// Fails if the source has faults.
-fn accept<'s>(alloc: Global, src: &'s str) -> Result<(Graph<'s>, Analysis<'s>), Refusal>
-    ensures ok { IfOk result (λ read. IsGraphMade src.now (analysis_view read.1) read.0) }
-    ensures typed { IfOk result (λ read. HasItsType (analysis_view read.1)) }
+/// Analyzes a source, and builds the graph of its leaves. Fails if the source has faults.
+fn accept<'s>(alloc: Global, src: &'s str) -> Result<(Graph<'s>, EnumHead<'s>), Refusal>
+    ensures ok { IfOk result (λ read. IsGraphMade src.now (ident_slice read.1.name)
+        (parser_view read.1.options) read.0) }
+    ensures typed { IfOk result (λ read. HeadHasItsType read.1) }
     ensures err { IfErr result (Refuses (IsRefused src.now)) }
     ensures long { MAX_SOURCE < length src.now → IsErrAnd result (Refuses (λ faults.
         faults ≡ too_long src.now ∷ [])) }
 {
-    let mut analysis = match analyze(alloc, src) {
-        Ok(analysis) => analysis,
-        Err(refusal) => return Err(refusal),
-    };
-    match graph_of_analysis(&mut analysis) {
-        Ok(graph) => Ok((graph, analysis)),
+    match analyze(alloc, src) {
+        Ok(analysis) => accept_analysis(analysis),
         Err(refusal) => Err(refusal),
     }
 }
@@ -253,21 +270,30 @@ fn path_of(export: Option<ExportPath>) -> Option<String>
 }
 
 /// Puts together what `generate` returns.
-fn put_together<'s>(code: Code<'s>, graph: Graph<'s>, analysis: Analysis<'s>) -> Generated<'s>
+fn put_together<'s>(code: Code<'s>, graph: Graph<'s>, head: EnumHead<'s>) -> Generated<'s>
     ensures parts { (result.code ≡ code.entry) × (result.graph ≡ graph.entry)
-        × (result.name ≡ analysis.entry.name) }
+        × (result.name ≡ head.entry.name) }
     ensures path { option_map string_bytes result.export_path
-        ≡ option_map (λ e. e.path) (parser_view analysis.entry.parser).export_path }
+        ≡ option_map (λ e. e.path) (parser_view head.entry.options).export_path }
 {
-    let Analysis { name, parser, .. } = analysis;
-    let mut options = parser;
-    let export_path = path_of(options.export_path.take());
+    let EnumHead { name, options, .. } = head;
+    let Parser {
+        logos_path,
+        error_type,
+        extras,
+        export_path,
+        ..
+    } = options;
     Generated {
         code,
         graph,
         name,
-        export_path,
-        options,
+        export_path: path_of(export_path),
+        options: AroundOptions {
+            library: logos_path,
+            error_type,
+            extras,
+        },
     }
 }
 
@@ -311,12 +337,12 @@ pub fn generate<'s>(alloc: Global, src: &'s str, config: Config) -> Result<Gener
     ensures complete { (rules : List Rule) (utf8 : Bool) → IsAccepted src.now rules utf8 →
         IsWithinLimits src.now rules → IfErr result IsMemory }
 {
-    let (graph, analysis) = match accept(alloc, src) {
+    let (graph, head) = match accept(alloc, src) {
         Ok(read) => read,
         Err(refusal) => return Err(refusal),
     };
-    match code_of(alloc, config, &analysis, &graph) {
-        Ok(code) => Ok(put_together(code, graph, analysis)),
+    match code_of(alloc, config, &head, &graph) {
+        Ok(code) => Ok(put_together(code, graph, head)),
         Err(_) => Err(Refusal::Memory),
     }
 }

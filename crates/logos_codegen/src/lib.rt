@@ -25,4 +25,4 @@ pub use logos_stream::{Stream, StreamItem, Streamed};
 pub use logos_strip::stripping::strip_attributes;
 pub use logos_text::text;
 pub use logos_token::{error, token, util};
-pub use logos_type::{Leaf as TypeToken, Part as TypePart};
+pub use logos_type::{TypePart, TypeToken};

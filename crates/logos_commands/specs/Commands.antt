@@ -5,8 +5,8 @@ use Rattle.logos_parser.specs.declared.refusal.Refusal.{Refusal}
 use Rattle.logos_parser.specs.declared.refusal.Refusal.TheVariants as refusals
 use Rattle.logos_commands.specs.declared.command.Command.{Command}
 use Rattle.logos_commands.specs.declared.command.Command.TheVariants.{Text, Items, Chart, Export, Strip}
-use Rattle.logos_commands.specs.declared.failure.Failure.{Failure}
-use Rattle.logos_commands.specs.declared.failure.Failure.TheVariants.{Read, Write, Output, Refused, NotUtf8, Alike, NotExported, Memory}
+use Rattle.logos_commands.specs.declared.failure.CommandFailure.{CommandFailure}
+use Rattle.logos_commands.specs.declared.failure.CommandFailure.TheVariants.{Read, Write, Output, Refused, NotUtf8, Alike, NotExported, Memory}
 
 -- What the words ask for: the Rust text of the lexer in a file, the items of an input by it, the
 -- chart of its graph, here or in a file, or what is left of the file without what belongs to the
@@ -77,7 +77,7 @@ command_asked (Strip file) = asks_strip file.now
 
 -- 1 where source, input, graph or the path of a chart are refused, 3 where a file or the memory
 -- fails.
-abbrev pub status_of : Failure → ℕ
+abbrev pub status_of : CommandFailure → ℕ
 status_of (Read path) = 3
 status_of (Write path) = 3
 status_of Output = 3
@@ -88,6 +88,6 @@ status_of (NotExported why) = 1
 status_of Memory = 3
 
 -- The failure of a refused source.
-abbrev pub refused_by : Refusal → Failure
+abbrev pub refused_by : Refusal → CommandFailure
 refused_by (refusals.Errors faults) = Refused faults
 refused_by refusals.Memory = Memory

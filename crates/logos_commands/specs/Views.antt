@@ -3,6 +3,6 @@ pub use Rattle.logos_commands.specs.Words.{Action, Appends, AppendsFront, Keeps,
 pub use Rattle.logos_commands.specs.Charts.{destination, export_destination, extension, file_at, file_in, file_name, refusal_by}
 pub use Rattle.logos_commands.specs.Commands.{asked, command_asked, refused_by, status_of}
 pub use Rattle.logos_commands.specs.Runs.{Carries, HasEffect, IsDenied, IsDone, IsLeft, IsPart, IsPartOf, IsTornBy, PrintsItems, PrintsItemsOf, ReadsSource, RefusesExport, RefusesInput, RefusesItems, RefusesLexer, RefusesStripping, prints, shape_of}
-pub use Rattle.logos_commands.specs.declared.failure.Failure.TheVariants.{Memory, Output}
-pub use Rattle.logos_commands.specs.declared.failure.Failure.{Failure}
+pub use Rattle.logos_commands.specs.declared.failure.CommandFailure.TheVariants.{Memory, Output}
+pub use Rattle.logos_commands.specs.declared.failure.CommandFailure.{CommandFailure}
 pub use Rattle.logos_commands.specs.inside.Destinations.{EndsWithLine, FailsAt, effect_of}

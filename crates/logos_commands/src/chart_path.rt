@@ -3,7 +3,7 @@
 ghost use Rattle.std.specs.Prelude.{◌≡◌, IfErr, IfOk, option_copied, string_bytes};
 ghost use Rattle.logos_commands.specs.Views.{with_separator, destination, extension, file_at, file_in, file_name, refusal_by, FailsAt};
 
-use crate::failure::{ExportRefusal, Failure};
+use crate::failure::{CommandFailure, ExportRefusal};
 use std::alloc::{AllocError, Global};
 
 /// Returns the path of the file for the chart of an enum. `path` is the export path of its source:
@@ -13,7 +13,11 @@ use std::alloc::{AllocError, Global};
 ///
 /// Returns `NotExported` if the path has an extension other than `mmd`, and `Memory` when memory
 /// runs out.
-pub(super) fn chart_path(alloc: Global, path: &str, name: &str) -> Result<String, Failure<'static>>
+pub(super) fn chart_path(
+    alloc: Global,
+    path: &str,
+    name: &str,
+) -> Result<String, CommandFailure<'static>>
     ensures file { IfOk result (λ chart.
         file_at (string_bytes chart) ≡ destination path.now name.now) }
     ensures failure { IfErr result (FailsAt (destination path.now name.now)) }
@@ -24,7 +28,7 @@ pub(super) fn chart_path(alloc: Global, path: &str, name: &str) -> Result<String
     if extension == "mmd" {
         return Ok(String::from_str(alloc, path)?);
     }
-    Err(Failure::NotExported(refused_by(extension)))
+    Err(CommandFailure::NotExported(refused_by(extension)))
 }
 
 /// Returns why a chart's path must not have this extension, which is not `mmd`.

@@ -11,7 +11,7 @@ use std::io::{BufWriter, Write};
 
 /// Why a command failed.
 #[derive(Drop)]
-pub(super) enum Failure<'w> {
+pub(super) enum CommandFailure<'w> {
     /// The file at this path cannot be read, or is not UTF-8 where it has to be.
     Read(&'w str),
     /// The file at this path cannot be written.
@@ -42,36 +42,36 @@ pub(super) enum ExportRefusal {
     Extension,
 }
 
-impl From<AllocError> for Failure<'_> {
+impl From<AllocError> for CommandFailure<'_> {
     ghost from_gives = { λ _ failure. failure ≡ OutOfMemory };
 
     fn from(_error: AllocError) -> Self {
-        Failure::Memory
+        CommandFailure::Memory
     }
 }
 
-impl From<Memory> for Failure<'_> {
+impl From<Memory> for CommandFailure<'_> {
     ghost from_gives = { λ _ failure. failure ≡ OutOfMemory };
 
     fn from(_error: Memory) -> Self {
-        Failure::Memory
+        CommandFailure::Memory
     }
 }
 
-impl From<Refusal> for Failure<'_> {
+impl From<Refusal> for CommandFailure<'_> {
     ghost from_gives = { λ refusal failure. failure ≡ refused_by refusal };
 
     fn from(refusal: Refusal) -> Self {
         match refusal {
-            Refusal::Errors(errors) => Failure::Refused(errors),
-            Refusal::Memory => Failure::Memory,
+            Refusal::Errors(errors) => CommandFailure::Refused(errors),
+            Refusal::Memory => CommandFailure::Memory,
         }
     }
 }
 
 /// Writes the failure's message, flushes the writer, and returns the failure's status. Errors of
 /// the writer are ignored.
-pub(super) fn report<E: Write>(failure: &Failure<'_>, err: &mut E) -> u8
+pub(super) fn report<E: Write>(failure: &CommandFailure<'_>, err: &mut E) -> u8
     ensures { result ≡ status_of failure.now }
 {
     let status = write_message(failure, err);
@@ -80,40 +80,40 @@ pub(super) fn report<E: Write>(failure: &Failure<'_>, err: &mut E) -> u8
 }
 
 /// Writes the failure's message, and returns its status.
-fn write_message<E: Write>(failure: &Failure<'_>, err: &mut E) -> u8
+fn write_message<E: Write>(failure: &CommandFailure<'_>, err: &mut E) -> u8
     ensures { result ≡ status_of failure.now }
 {
     match failure {
-        Failure::Refused(errors) => {
+        CommandFailure::Refused(errors) => {
             let _ = write_faults(errors, err);
             1
         }
-        Failure::NotUtf8 { valid_up_to } => {
+        CommandFailure::NotUtf8 { valid_up_to } => {
             let _ = writeln!(err, "NotUtf8 {valid_up_to}");
             1
         }
-        Failure::Alike { s, t } => {
+        CommandFailure::Alike { s, t } => {
             let _ = writeln!(err, "states {s} and {t} are alike");
             1
         }
-        Failure::NotExported(why) => {
+        CommandFailure::NotExported(why) => {
             let text = export_message(*why);
             let _ = writeln!(err, "{text}");
             1
         }
-        Failure::Read(path) => {
+        CommandFailure::Read(path) => {
             let _ = writeln!(err, "cannot read {path}");
             3
         }
-        Failure::Write(path) => {
+        CommandFailure::Write(path) => {
             let _ = writeln!(err, "cannot write {path}");
             3
         }
-        Failure::Output => {
+        CommandFailure::Output => {
             let _ = writeln!(err, "cannot write standard output");
             3
         }
-        Failure::Memory => {
+        CommandFailure::Memory => {
             let _ = writeln!(err, "out of memory");
             3
         }

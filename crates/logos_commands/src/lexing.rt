@@ -3,7 +3,7 @@
 ghost use Rattle.std.specs.Prelude.{◌≡◌, ◌++◌, ◌+◌, ◌<◌, ◌≤◌, ℕ, List, [], IfErr, OnOk, IsTrue, IsUtf8, vec_len, vec_capacity};
 ghost use Rattle.logos_commands.specs.Views.{Appends, Keeps, Action as Answer, answers_of, item_of, WritesLines, emits, line_of, AppendsFront, status_of, Output, IsTornBy, PrintsItems, PrintsItemsOf, RefusesInput, RefusesItems};
 
-use crate::failure::Failure;
+use crate::failure::CommandFailure;
 use crate::lines::{LONGEST, write_line};
 use crate::reading::{read, read_text};
 use logos_codegen::code::Code;
@@ -35,7 +35,7 @@ pub(super) fn lex<'w, F: Files, O: Write>(
     request: LexRequest<'w>,
     files: &mut F,
     out: &mut O,
-) -> Result<(), Failure<'w>>
+) -> Result<(), CommandFailure<'w>>
     ensures done { OnOk result (PrintsItems F.read_gives request.entry.source.now
         request.entry.input.now files.old files.new (O.contents out.old) (O.contents out.new)) }
     ensures denied { IfErr result (λ failure. status_of failure ≡ 1 →
@@ -62,7 +62,7 @@ fn lex_by_source<O: Write>(
     input: &[u8],
     config: Config,
     out: &mut O,
-) -> Result<(), Failure<'static>>
+) -> Result<(), CommandFailure<'static>>
     ensures done { OnOk result (PrintsItemsOf source.now input.now (O.contents out.old)
         (O.contents out.new)) }
     ensures denied { IfErr result (λ failure. status_of failure ≡ 1 →
@@ -72,7 +72,7 @@ fn lex_by_source<O: Write>(
 {
     match generate(alloc, source, config) {
         Ok(made) => lex_by_code(alloc, &made.code, input, out),
-        Err(refusal) => Err(Failure::from(refusal)),
+        Err(refusal) => Err(CommandFailure::from(refusal)),
     }
 }
 
@@ -82,7 +82,7 @@ fn lex_by_code<O: Write>(
     code: &Code<'_>,
     input: &[u8],
     out: &mut O,
-) -> Result<(), Failure<'static>>
+) -> Result<(), CommandFailure<'static>>
     ensures text { OnOk result (IsTrue code.now.utf8 → IsUtf8 input.now) }
     ensures lines { OnOk result (WritesLines code.now emits input.now 0 [] (O.contents out.old)
         (O.contents out.new)) }
@@ -98,7 +98,7 @@ fn lex_by_code<O: Write>(
             let mut lexer = lexer;
             write_lines(&mut lexer, &mut block, out)
         }
-        Err(error) => Err(Failure::NotUtf8 {
+        Err(error) => Err(CommandFailure::NotUtf8 {
             valid_up_to: error.valid_up_to,
         }),
     }
@@ -110,7 +110,7 @@ fn write_lines<C: Fn(LeafId, &[u8]) -> Action, O: Write>(
     lexer: &mut Lexer<'_, '_, '_, C>,
     block: &mut Vec<u8>,
     out: &mut O,
-) -> Result<(), Failure<'static>>
+) -> Result<(), CommandFailure<'static>>
     requires callable { C.IsAlwaysCallable lexer.old.callback }
     requires room { (vec_len block.old < BLOCK) × (BLOCK + LONGEST ≤ vec_capacity block.old) }
     ensures lines { OnOk result (WritesLines lexer.old.code
@@ -126,7 +126,7 @@ fn write_lines<C: Fn(LeafId, &[u8]) -> Action, O: Write>(
 }
 
 /// Writes a block if it is full, and empties it.
-fn write_if_full<O: Write>(block: &mut Vec<u8>, out: &mut O) -> Result<(), Failure<'static>>
+fn write_if_full<O: Write>(block: &mut Vec<u8>, out: &mut O) -> Result<(), CommandFailure<'static>>
     ensures few { vec_len block.new < BLOCK }
     ensures room { vec_capacity block.new ≡ vec_capacity block.old }
     ensures written { OnOk result (AppendsFront (O.contents out.old) (O.contents out.new)
@@ -135,18 +135,18 @@ fn write_if_full<O: Write>(block: &mut Vec<u8>, out: &mut O) -> Result<(), Failu
 {
     match write_full(block, BLOCK, out) {
         Ok(()) => Ok(()),
-        Err(_) => Err(Failure::Output),
+        Err(_) => Err(CommandFailure::Output),
     }
 }
 
 /// Writes what is left in a block, and flushes the writer.
-fn write_rest<O: Write>(block: &[u8], out: &mut O) -> Result<(), Failure<'static>>
+fn write_rest<O: Write>(block: &[u8], out: &mut O) -> Result<(), CommandFailure<'static>>
     ensures written { OnOk result (Appends (O.contents out.old) (O.contents out.new) block.now) }
     ensures failure { IfErr result (λ failure. failure ≡ Output) }
 {
     match write_through(block, out) {
         Ok(()) => Ok(()),
-        Err(_) => Err(Failure::Output),
+        Err(_) => Err(CommandFailure::Output),
     }
 }
 

@@ -4,7 +4,7 @@ ghost use Rattle.std.specs.Prelude.{◌≡◌, ◌≢◌, ◌++◌, ◌∷◌, [
 ghost use Rattle.logos_commands.specs.Views.{ident_slice, mermaid_of, StandInOrder, texts_of, export_destination, file_at, EndsWithLine, FailsAt, effect_of, status_of, IsLeft, IsPart, IsPartOf, ReadsSource, prints, shape_of, RefusesExport, RefusesLexer, RefusesStripping};
 
 use crate::chart_path::chart_path;
-use crate::failure::{ExportRefusal, Failure};
+use crate::failure::{CommandFailure, ExportRefusal};
 use crate::reading::read_text;
 use logos_codegen::generator::Config;
 use logos_codegen::graph::{Graph, State};
@@ -15,7 +15,7 @@ use std::alloc::Global;
 
 /// The outcome of a command.
 #[derive(Drop)]
-pub(super) enum Outcome {
+pub(super) enum CommandOutcome {
     /// A text for standard output.
     Text(String),
     /// A chart, and the path of the file that it is written to.
@@ -44,7 +44,7 @@ pub(super) fn of_file<'w, F: Files>(
     file: &'w str,
     asked: Asked,
     files: &mut F,
-) -> Result<Outcome, Failure<'w>>
+) -> Result<CommandOutcome, CommandFailure<'w>>
     ensures done { IfOk result (λ outcome. ReadsSource F.read_gives file.now files.old files.new
         (λ source. IsPartOf asked source (effect_of outcome))) }
     ensures denied { IfErr result (λ failure. status_of failure ≡ 1 →
@@ -56,14 +56,18 @@ pub(super) fn of_file<'w, F: Files>(
 }
 
 /// Makes the outcome of a command on a source.
-fn of_source(alloc: Global, source: &str, asked: Asked) -> Result<Outcome, Failure<'static>>
+fn of_source(
+    alloc: Global,
+    source: &str,
+    asked: Asked,
+) -> Result<CommandOutcome, CommandFailure<'static>>
     ensures done { IfOk result (λ outcome. IsPartOf asked source.now (effect_of outcome)) }
     ensures denied { IfErr result (λ failure. status_of failure ≡ 1 →
         RefusesLexer source.now asked failure) }
 {
     match generate(alloc, source, shape_of(asked)) {
         Ok(made) => of_lexer(alloc, &made, asked),
-        Err(refusal) => Err(Failure::from(refusal)),
+        Err(refusal) => Err(CommandFailure::from(refusal)),
     }
 }
 
@@ -78,7 +82,11 @@ fn shape_of(asked: Asked) -> Config
 }
 
 /// Makes the outcome of a command on a lexer.
-fn of_lexer(alloc: Global, made: &Generated<'_>, asked: Asked) -> Result<Outcome, Failure<'static>>
+fn of_lexer(
+    alloc: Global,
+    made: &Generated<'_>,
+    asked: Asked,
+) -> Result<CommandOutcome, CommandFailure<'static>>
     ensures part { IfOk result (λ outcome. IsPart asked made.now.graph made.now.code
         (ident_slice made.now.name) (option_map string_bytes made.now.export_path)
         (effect_of outcome)) }
@@ -88,14 +96,14 @@ fn of_lexer(alloc: Global, made: &Generated<'_>, asked: Asked) -> Result<Outcome
         failure) }
 {
     match asked {
-        Asked::Text(_) => Ok(Outcome::Text(text_of_lexer(alloc, made)?)),
-        Asked::Chart => Ok(Outcome::Text(tested_chart(alloc, &made.graph)?)),
+        Asked::Text(_) => Ok(CommandOutcome::Text(text_of_lexer(alloc, made)?)),
+        Asked::Chart => Ok(CommandOutcome::Text(tested_chart(alloc, &made.graph)?)),
         Asked::Export => export_of_lexer(alloc, made),
     }
 }
 
 /// Returns the Rust text of a lexer, and LF.
-fn text_of_lexer(alloc: Global, made: &Generated<'_>) -> Result<String, Failure<'static>>
+fn text_of_lexer(alloc: Global, made: &Generated<'_>) -> Result<String, CommandFailure<'static>>
     ensures text { IfOk result (λ text. EndsWithLine (StandInOrder (texts_of made.now.code))
         (string_bytes text)) }
     ensures failed { IfErr result (λ failure. status_of failure ≡ 3) }
@@ -110,7 +118,7 @@ pub(super) fn stripped<'w, F: Files>(
     alloc: Global,
     file: &'w str,
     files: &mut F,
-) -> Result<Outcome, Failure<'w>>
+) -> Result<CommandOutcome, CommandFailure<'w>>
     ensures done { IfOk result (λ outcome. ReadsSource F.read_gives file.now files.old files.new
         (λ source. IsLeft source (effect_of outcome))) }
     ensures denied { IfErr result (λ failure. status_of failure ≡ 1 →
@@ -119,13 +127,13 @@ pub(super) fn stripped<'w, F: Files>(
 {
     let source = read_text(file, files)?;
     match stripped_source(alloc, source.as_str()) {
-        Ok(text) => Ok(Outcome::Text(text)),
+        Ok(text) => Ok(CommandOutcome::Text(text)),
         Err(failure) => Err(failure),
     }
 }
 
 /// Returns the enum of a source without the attributes of the derive macro, and LF.
-fn stripped_source(alloc: Global, source: &str) -> Result<String, Failure<'static>>
+fn stripped_source(alloc: Global, source: &str) -> Result<String, CommandFailure<'static>>
     ensures done { IfOk result (λ text. IsLeft source.now (prints (string_bytes text))) }
     ensures denied { IfErr result (λ failure. status_of failure ≡ 1 →
         RefusesStripping source.now failure) }
@@ -137,7 +145,10 @@ fn stripped_source(alloc: Global, source: &str) -> Result<String, Failure<'stati
 }
 
 /// Makes the chart of the graph of a lexer, for the file that its source names.
-fn export_of_lexer(alloc: Global, made: &Generated<'_>) -> Result<Outcome, Failure<'static>>
+fn export_of_lexer(
+    alloc: Global,
+    made: &Generated<'_>,
+) -> Result<CommandOutcome, CommandFailure<'static>>
     ensures chart { IfOk result (λ outcome. IsPart Asked.Export made.now.graph made.now.code
         (ident_slice made.now.name) (option_map string_bytes made.now.export_path)
         (effect_of outcome)) }
@@ -147,11 +158,11 @@ fn export_of_lexer(alloc: Global, made: &Generated<'_>) -> Result<Outcome, Failu
 {
     let path = path_of_chart(alloc, made)?;
     let text = tested_chart(alloc, &made.graph)?;
-    Ok(Outcome::Chart { path, text })
+    Ok(CommandOutcome::Chart { path, text })
 }
 
 /// Returns the path of the file that a source names for its chart.
-fn path_of_chart(alloc: Global, made: &Generated<'_>) -> Result<String, Failure<'static>>
+fn path_of_chart(alloc: Global, made: &Generated<'_>) -> Result<String, CommandFailure<'static>>
     ensures file { IfOk result (λ chart. file_at (string_bytes chart) ≡ export_destination
         (option_map string_bytes made.now.export_path) made.now.name.text.now) }
     ensures failure { IfErr result (FailsAt (export_destination
@@ -159,12 +170,12 @@ fn path_of_chart(alloc: Global, made: &Generated<'_>) -> Result<String, Failure<
 {
     match &made.export_path {
         Some(path) => chart_path(alloc, path.as_str(), made.name.text),
-        None => Err(Failure::NotExported(ExportRefusal::NoPath)),
+        None => Err(CommandFailure::NotExported(ExportRefusal::NoPath)),
     }
 }
 
 /// Returns the chart of a graph, after testing that each state differs from the next.
-fn tested_chart(alloc: Global, graph: &Graph<'_>) -> Result<String, Failure<'static>>
+fn tested_chart(alloc: Global, graph: &Graph<'_>) -> Result<String, CommandFailure<'static>>
     ensures chart { IfOk result (λ text. string_bytes text ≡ mermaid_of graph.now.states) }
     ensures failed { IfErr result (λ failure. status_of failure ≡ 3) }
 {
@@ -173,7 +184,7 @@ fn tested_chart(alloc: Global, graph: &Graph<'_>) -> Result<String, Failure<'sta
 }
 
 /// Refuses a graph in which a state is like the next.
-fn test_neighbours(alloc: Global, graph: &Graph<'_>) -> Result<(), Failure<'static>>
+fn test_neighbours(alloc: Global, graph: &Graph<'_>) -> Result<(), CommandFailure<'static>>
     ensures { IfErr result (λ failure. status_of failure ≡ 3) }
 {
     let mut before: Option<State> = None;
@@ -187,7 +198,12 @@ fn test_neighbours(alloc: Global, graph: &Graph<'_>) -> Result<(), Failure<'stat
 }
 
 /// Refuses two different states if no text shows a difference between them.
-fn test_pair(alloc: Global, graph: &Graph<'_>, s: State, t: State) -> Result<(), Failure<'static>>
+fn test_pair(
+    alloc: Global,
+    graph: &Graph<'_>,
+    s: State,
+    t: State,
+) -> Result<(), CommandFailure<'static>>
     ensures { IfErr result (λ failure. status_of failure ≡ 3) }
 {
     let is_pair = graph.contains(s) & graph.contains(t);
@@ -198,7 +214,7 @@ fn test_pair(alloc: Global, graph: &Graph<'_>, s: State, t: State) -> Result<(),
     if graph.checks(s, t, difference.bytes.as_slice(), difference.at_end) {
         Ok(())
     } else {
-        Err(Failure::Alike {
+        Err(CommandFailure::Alike {
             s: s.index(),
             t: t.index(),
         })

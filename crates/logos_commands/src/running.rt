@@ -1,12 +1,12 @@
 //! Running commands: from words to a status.
 
 ghost use Rattle.std.specs.Prelude.{◌≡◌, ◌≤◌, ◌⊎◌, ◌↔◌, None, map, string_bytes, IfErr, IfSome, OnOk};
-ghost use Rattle.logos_commands.specs.Views.{Appends, Keeps, asked, command_asked, status_of, effect_of, Carries, HasEffect, IsDone, IsDenied, IsLeft, IsPartOf, ReadsSource, RefusesLexer, RefusesStripping, Failure as Why};
+ghost use Rattle.logos_commands.specs.Views.{Appends, Keeps, asked, command_asked, status_of, effect_of, Carries, HasEffect, IsDone, IsDenied, IsLeft, IsPartOf, ReadsSource, RefusesLexer, RefusesStripping, CommandFailure as Why};
 
 use crate::command::{Command, command_of};
-use crate::failure::{Failure, report};
+use crate::failure::{CommandFailure, report};
 use crate::lexing::lex;
-use crate::outcome::{Asked, Outcome, of_file, stripped};
+use crate::outcome::{Asked, CommandOutcome, of_file, stripped};
 use logos_host::{FileError, Files, write_through};
 use std::alloc::Global;
 use std::io::{ErrorKind, Write};
@@ -55,7 +55,7 @@ fn carry_out<'w, F: Files, O: Write>(
     command: Command<'w>,
     files: &mut F,
     out: &mut O,
-) -> Result<(), Failure<'w>>
+) -> Result<(), CommandFailure<'w>>
     ensures done { OnOk result (IsDone F.read_gives F.write_makes (command_asked command.entry)
         files.old files.new (O.contents out.old) (O.contents out.new)) }
     ensures denied { IfErr result (λ failure. status_of failure ≡ 1 →
@@ -81,7 +81,7 @@ fn write_lexer<'w, F: Files, O: Write>(
     asked: Asked,
     files: &mut F,
     out: &mut O,
-) -> Result<(), Failure<'w>>
+) -> Result<(), CommandFailure<'w>>
     ensures done { OnOk result (Carries F.read_gives F.write_makes file.now files.old files.new
         (O.contents out.old) (O.contents out.new) (IsPartOf asked)) }
     ensures denied { IfErr result (λ failure. status_of failure ≡ 1 →
@@ -102,7 +102,7 @@ fn write_stripped<'w, F: Files, O: Write>(
     file: &'w str,
     files: &mut F,
     out: &mut O,
-) -> Result<(), Failure<'w>>
+) -> Result<(), CommandFailure<'w>>
     ensures done { OnOk result (Carries F.read_gives F.write_makes file.now files.old files.new
         (O.contents out.old) (O.contents out.new) IsLeft) }
     ensures denied { IfErr result (λ failure. status_of failure ≡ 1 →
@@ -119,40 +119,44 @@ fn write_stripped<'w, F: Files, O: Write>(
 
 /// Writes an outcome to standard output or to a file.
 fn deliver<F: Files, O: Write>(
-    outcome: Outcome,
+    outcome: CommandOutcome,
     files: &mut F,
     out: &mut O,
-) -> Result<(), Failure<'static>>
+) -> Result<(), CommandFailure<'static>>
     ensures done { OnOk result (HasEffect F.write_makes (effect_of outcome) files.old files.new
         (O.contents out.old) (O.contents out.new)) }
     ensures failed { IfErr result (λ failure. status_of failure ≡ 3) }
 {
     match outcome {
-        Outcome::Text(text) => write_out(text.as_str(), out),
-        Outcome::Chart { path, text } => write_file(path, text.as_str(), files),
+        CommandOutcome::Text(text) => write_out(text.as_str(), out),
+        CommandOutcome::Chart { path, text } => write_file(path, text.as_str(), files),
     }
 }
 
 /// Writes a text to standard output, and flushes it.
-fn write_out<O: Write>(text: &str, out: &mut O) -> Result<(), Failure<'static>>
+fn write_out<O: Write>(text: &str, out: &mut O) -> Result<(), CommandFailure<'static>>
     ensures done { OnOk result (Appends (O.contents out.old) (O.contents out.new) text.now) }
     ensures failed { IfErr result (λ failure. status_of failure ≡ 3) }
 {
     match write_through(text.as_bytes(), out) {
         Ok(()) => Ok(()),
-        Err(_) => Err(Failure::Output),
+        Err(_) => Err(CommandFailure::Output),
     }
 }
 
 /// Writes a text to a file.
-fn write_file<F: Files>(path: String, text: &str, files: &mut F) -> Result<(), Failure<'static>>
+fn write_file<F: Files>(
+    path: String,
+    text: &str,
+    files: &mut F,
+) -> Result<(), CommandFailure<'static>>
     ensures done { OnOk result (F.write_makes files.old (string_bytes path) text.now files.new) }
     ensures failed { IfErr result (λ failure. status_of failure ≡ 3) }
 {
     match files.write(path.as_str(), text.as_bytes()) {
         Ok(()) => Ok(()),
-        Err(FileError::Memory) => Err(Failure::Memory),
-        Err(_) => Err(Failure::Write(path)),
+        Err(FileError::Memory) => Err(CommandFailure::Memory),
+        Err(_) => Err(CommandFailure::Write(path)),
     }
 }
 
@@ -163,7 +167,7 @@ pub fn refuse_words<E: Write>(why: ErrorKind, err: &mut E) -> u8
     ensures known { (result ≡ 2) ⊎ (result ≡ 3) }
 {
     match why {
-        ErrorKind::OutOfMemory => report(&Failure::Memory, err),
+        ErrorKind::OutOfMemory => report(&CommandFailure::Memory, err),
         _ => usage(err),
     }
 }

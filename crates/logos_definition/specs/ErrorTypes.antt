@@ -1,5 +1,5 @@
 -- Error types and their callbacks.
-use Rattle.std.specs.Prelude.{ℕ, Bool, true, false, List, [], ◌∷◌, codes, Option, Some, None, if◌then◌else◌}
+use Rattle.std.specs.Prelude.{ℕ, Bool, false, List, [], ◌∷◌, codes, Option, Some, None, if◌then◌else◌}
 use Rattle.std.specs.Str.{bytes_eq}
 use Rattle.logos_lexeme.specs.declared.lexeme.Span.{Span}
 use Rattle.logos_token.specs.Faults.{Fault}

@@ -1,6 +1,6 @@
 pub mod Parts
 pub mod Pieces
-pub mod Answers
+pub mod Templates
 pub mod inside
 pub mod Words
 pub mod Views

@@ -1,32 +1,32 @@
 //! An implementation with placeholders, and the pieces for which they stand.
 
 ghost use Rattle.std.specs.Prelude.{IfOk, IfSome, string_bytes};
-ghost use Rattle.logos_derive.specs.Views.{IsAnswer};
+ghost use Rattle.logos_derive.specs.Views.{IsTemplate};
 
 use crate::checking::puts_back;
 use crate::filling::filled;
-use crate::piece::Piece;
-use crate::placing::{Spot, Texts, pieces_at};
+use crate::piece::SourcePiece;
+use crate::placing::{PrintedPart, Texts, pieces_at};
 use crate::prefix::new_prefix;
-use crate::spots::spots_of;
+use crate::printed::printed_parts;
 use logos_code::code::Code;
 use logos_token::error::Memory;
 use std::alloc::Global;
 
 /// An implementation with placeholders.
 #[derive(Drop)]
-pub struct Answer {
+pub struct Template {
     /// The implementation. A placeholder stands for each piece.
     pub text: String,
     /// What each placeholder begins with. Its number follows.
     pub prefix: String,
     /// The pieces, in the order of their placeholders.
-    pub pieces: Vec<Piece>,
+    pub pieces: Vec<SourcePiece>,
 }
 
 /// Returns the implementation of an enum with placeholders for the pieces of its source: what the
 /// user wrote and the implementation repeats. `text` is the implementation, printed from `code`.
-/// With the pieces put back, the answer is this text. The placeholders begin with what stands
+/// With the pieces put back, the template is this text. The placeholders begin with what stands
 /// neither in the source nor in the implementation.
 ///
 /// What is printed in another form than it is written is not a piece. If no beginning of
@@ -35,18 +35,18 @@ pub struct Answer {
 /// # Errors
 ///
 /// Returns `Memory` if memory runs out.
-pub fn make_answer(
+pub fn make_template(
     alloc: Global,
     source: &str,
     code: &Code<'_>,
     text: String,
-) -> Result<Answer, Memory>
-    ensures { IfOk result (IsAnswer source.now (string_bytes text)) }
+) -> Result<Template, Memory>
+    ensures { IfOk result (IsTemplate source.now (string_bytes text)) }
 {
-    let spots = spots_of(alloc, source, code)?;
-    match marked(alloc, source, text.as_str(), &spots) {
-        Ok(Some(answer)) => Ok(answer),
-        Ok(None) => Ok(Answer {
+    let parts = printed_parts(alloc, source, code)?;
+    match marked(alloc, source, text.as_str(), &parts) {
+        Ok(Some(template)) => Ok(template),
+        Ok(None) => Ok(Template {
             text,
             prefix: String::new(alloc),
             pieces: Vec::new(alloc),
@@ -56,8 +56,13 @@ pub fn make_answer(
 }
 
 /// Returns an implementation with placeholders, if the pieces can be put back.
-fn marked(alloc: Global, source: &str, text: &str, spots: &[Spot]) -> Result<Option<Answer>, Memory>
-    ensures { IfOk result (λ found. IfSome found (IsAnswer source.now text.now)) }
+fn marked(
+    alloc: Global,
+    source: &str,
+    text: &str,
+    parts: &[PrintedPart],
+) -> Result<Option<Template>, Memory>
+    ensures { IfOk result (λ found. IfSome found (IsTemplate source.now text.now)) }
 {
     let Some(prefix) = new_prefix(alloc, source, text)? else {
         return Ok(None);
@@ -67,12 +72,12 @@ fn marked(alloc: Global, source: &str, text: &str, spots: &[Spot]) -> Result<Opt
         text,
         prefix: prefix.as_str(),
     };
-    let pieces = pieces_at(alloc, texts, spots)?;
+    let pieces = pieces_at(alloc, texts, parts)?;
     let shown = filled(alloc, text, &pieces)?;
     if !puts_back(shown.as_str(), text, &pieces) {
         return Ok(None);
     }
-    Ok(Some(Answer {
+    Ok(Some(Template {
         text: shown,
         prefix,
         pieces,

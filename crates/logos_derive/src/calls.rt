@@ -19,20 +19,20 @@ pub struct Call {
 
 /// What stands before a callback.
 #[derive(Clone, Copy)]
-struct Mark {
+struct CallbackFront {
     front: &'static str,
     /// How many bytes at the end of the front are of the statement.
     length: usize,
 }
 
 /// The callback of a leaf.
-const OF_LEAF: Mark = Mark {
+const OF_LEAF: CallbackFront = CallbackFront {
     front: "{ let cb_result = ",
     length: 16,
 };
 
 /// The callback for errors.
-const OF_ERROR: Mark = Mark {
+const OF_ERROR: CallbackFront = CallbackFront {
     front: ":: Error { let ",
     length: 4,
 };
@@ -62,15 +62,15 @@ pub fn calls_in(alloc: Global, code: &Code<'_>, text: &str) -> Result<Vec<Call>,
 fn add_call(
     text: &str,
     offset: usize,
-    mark: Mark,
+    before: CallbackFront,
     callback: &Callback<'_>,
     calls: &mut Vec<Call>,
 ) -> Result<usize, Memory> {
-    let Some(after) = after_next(text, offset, mark.front) else {
+    let Some(after) = after_next(text, offset, before.front) else {
         return Ok(offset);
     };
     calls.push(Call {
-        offset: after.saturating_sub(mark.length),
+        offset: after.saturating_sub(before.length),
         from: start_of(callback),
     })?;
     Ok(after)

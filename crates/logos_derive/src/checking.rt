@@ -5,8 +5,8 @@ ghost use Rattle.std.specs.Prelude.{◌≡◌, ◌<◌, ◌+◌, IfSome, IsTrue,
 ghost use Rattle.logos_derive.specs.Views.{IsCharBoundary, StandsAt, IsPutBack, GoesOn};
 
 use crate::parts::after_part;
-use crate::piece::Piece;
-use logos_lexeme::lexeme::{Kind, lexeme_at};
+use crate::piece::SourcePiece;
+use logos_lexeme::lexeme::{LexemeKind, lexeme_at};
 
 /// How far the comparison is.
 #[derive(Clone, Copy)]
@@ -21,7 +21,7 @@ struct Progress {
 
 /// Returns whether a text with each piece put back, in order, is the other text.
 #[tactic(auto, using(crate::proofs::BackLemmas::all_back))]
-pub(crate) fn puts_back(shown: &str, text: &str, pieces: &[Piece]) -> bool
+pub(crate) fn puts_back(shown: &str, text: &str, pieces: &[SourcePiece]) -> bool
     ensures { IsTrue result → IsPutBack shown.now text.now pieces.now 0 0 }
 {
     let mut progress = Progress {
@@ -39,7 +39,7 @@ pub(crate) fn puts_back(shown: &str, text: &str, pieces: &[Piece]) -> bool
 }
 
 /// Compares one more lexeme, or puts a piece back. `None` if the texts differ there.
-fn step(shown: &str, text: &str, pieces: &[Piece], progress: Progress) -> Option<Progress>
+fn step(shown: &str, text: &str, pieces: &[SourcePiece], progress: Progress) -> Option<Progress>
     requires inside { progress.shown < length shown.now }
     requires boundary { IsCharBoundary shown.now progress.shown }
     ensures { IfSome result (GoesOn shown.now text.now pieces.now progress) }
@@ -58,10 +58,10 @@ fn step(shown: &str, text: &str, pieces: &[Piece], progress: Progress) -> Option
 }
 
 /// Returns whether a lexeme is the placeholder of a piece.
-fn is_placeholder(kind: Kind, lexeme: &str, piece: &Piece) -> bool
-    ensures { IsTrue result → (kind ≡ Kind.Identifier) × (lexeme.now ≡ string_bytes piece.now.name) }
+fn is_placeholder(kind: LexemeKind, lexeme: &str, piece: &SourcePiece) -> bool
+    ensures { IsTrue result → (kind ≡ LexemeKind.Identifier) × (lexeme.now ≡ string_bytes piece.now.name) }
 {
-    matches!(kind, Kind::Identifier) && lexeme == piece.name.as_str()
+    matches!(kind, LexemeKind::Identifier) && lexeme == piece.name.as_str()
 }
 
 /// Compares a lexeme that is not a placeholder and ends at `end`.
@@ -78,7 +78,7 @@ fn stay(text: &str, lexeme: &str, end: usize, progress: Progress) -> Option<Prog
 }
 
 /// Puts a piece back in place of a placeholder that ends at `end`.
-fn put_back(text: &str, piece: &Piece, end: usize, progress: Progress) -> Option<Progress>
+fn put_back(text: &str, piece: &SourcePiece, end: usize, progress: Progress) -> Option<Progress>
     ensures { IfSome result (λ next. (next.shown ≡ end) × (next.count ≡ progress.count + 1)
         × StandsAt text.now progress.text (string_bytes piece.now.text) next.text) }
 {

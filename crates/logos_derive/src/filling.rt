@@ -1,11 +1,11 @@
 //! Puts placeholders into an implementation.
 
-use crate::piece::Piece;
+use crate::piece::SourcePiece;
 use logos_token::error::Memory;
 use std::alloc::Global;
 
 /// Returns an implementation with a placeholder in place of each piece.
-pub(crate) fn filled(alloc: Global, text: &str, pieces: &[Piece]) -> Result<String, Memory> {
+pub(crate) fn filled(alloc: Global, text: &str, pieces: &[SourcePiece]) -> Result<String, Memory> {
     let mut shown = String::new(alloc);
     let mut from = 0;
     for piece in pieces {

@@ -12,8 +12,8 @@ mod parts;
 mod piece;
 mod placing;
 mod prefix;
-mod spots;
+mod printed;
 
-pub use answering::{Answer, make_answer};
+pub use answering::{Template, make_template};
 pub use calls::{Call, calls_in};
-pub use piece::Piece;
+pub use piece::SourcePiece;

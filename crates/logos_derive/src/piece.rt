@@ -5,7 +5,7 @@ use logos_token::token::Span;
 /// A part of a source that is printed in an implementation, with the identifier that stands for it
 /// there.
 #[derive(Drop)]
-pub struct Piece {
+pub struct SourcePiece {
     /// The number of the piece, from 0 on.
     pub number: usize,
     /// The placeholder: an identifier that ends with the number.

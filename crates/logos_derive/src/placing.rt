@@ -4,14 +4,14 @@ ghost use Rattle.std.specs.Prelude.{All, IfOk, OnOk, string_bytes};
 ghost use Rattle.logos_derive.specs.Views.{IsPieceOf, KeepsPieces};
 
 use crate::parts::{after_part, part_text};
-use crate::piece::Piece;
+use crate::piece::SourcePiece;
 use logos_token::error::Memory;
 use logos_token::token::Span;
 use std::alloc::Global;
 
-/// Where a part of a source is printed, if it is printed as it is written.
+/// A part of a source that an implementation prints, mostly as it is written.
 #[derive(Clone, Copy)]
-pub(crate) struct Spot {
+pub(crate) struct PrintedPart {
     /// What stands before it in the implementation.
     pub(crate) front: &'static str,
     /// The part, in bytes of the source.
@@ -28,21 +28,21 @@ pub(crate) struct Texts<'t> {
     pub(crate) prefix: &'t str,
 }
 
-/// Returns the pieces at spots, which are in the order of the implementation. A part that is
-/// printed in another form is left out; after a spot that is missing no piece is found.
+/// Returns the pieces of parts, which are in the order of the implementation. A part that is
+/// printed in another form is left out; after one whose front is missing no piece is found.
 pub(crate) fn pieces_at(
     alloc: Global,
     texts: Texts<'_>,
-    spots: &[Spot],
-) -> Result<Vec<Piece>, Memory>
+    parts: &[PrintedPart],
+) -> Result<Vec<SourcePiece>, Memory>
     ensures { IfOk result (λ pieces.
         All (IsPieceOf texts.entry.prefix.now texts.entry.source.now) pieces.items) }
 {
     let mut pieces = Vec::new(alloc);
     let mut offset = 0;
-    for spot in spots {
-        offset = match after_next(texts.text, offset, spot.front) {
-            Some(after) => add_piece(alloc, texts, after, spot.span, &mut pieces)?,
+    for part in parts {
+        offset = match after_next(texts.text, offset, part.front) {
+            Some(after) => add_piece(alloc, texts, after, part.span, &mut pieces)?,
             None => return Ok(pieces),
         };
     }
@@ -63,7 +63,7 @@ fn add_piece(
     texts: Texts<'_>,
     offset: usize,
     span: Span,
-    pieces: &mut Vec<Piece>,
+    pieces: &mut Vec<SourcePiece>,
 ) -> Result<usize, Memory>
     ensures { OnOk result (KeepsPieces texts.entry.prefix.now texts.entry.source.now
         pieces.old.items pieces.new.items) }
@@ -77,7 +77,7 @@ fn add_piece(
     if end != offset {
         let number = pieces.len();
         let prefix = texts.prefix;
-        pieces.push(Piece {
+        pieces.push(SourcePiece {
             number,
             name: format!(in alloc; "{prefix}{number}")?,
             span,

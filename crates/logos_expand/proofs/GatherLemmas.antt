@@ -3,12 +3,15 @@ use Rattle.std.proofs.Common.{◌≡◌, ◌==◌, ◌≤◌, ◌<◌, ◌+◌, 
 use Rattle.std.proofs.lemmas.List.{append-nil}
 use Rattle.std.proofs.Math.Seq.{drop-cons}
 use Rattle.std.proofs.Math.ListN.{drop_of_length-le}
+use Rattle.logos_automaton.specs.Munch.{Rule}
 use Rattle.logos_code.specs.Code.{CodeValue}
 use Rattle.logos_expand.specs.declared.shape.Shape.{Shape}
 use Rattle.logos_codegen.specs.Given.{IsGiven}
-use Rattle.logos_codegen.specs.Source.{IsRefused}
-use Rattle.logos_codegen.specs.Source.IsRefused.{unread}
+use Rattle.logos_codegen.specs.Source.{IsAccepted, IsRefused, IsWithinSizes}
 use Rattle.logos_expand.specs.declared.expanding.Gathered.{Gathered}
+use Rattle.logos_causes.specs.Sets.{HasSets}
+use Rattle.logos_report.specs.Sets.{sizes_of}
+use Rattle.logos_report.specs.declared.clues.Clues.{Clues}
 use Rattle.logos_report.specs.declared.refused.Refused.{Refused}
 use Rattle.logos_expand.specs.Expanding.{IsExpansion, IsExpanded, IsFileOf, IsUnreadable, Replaces, config_of, text_at}
 use Rattle.logos_expand.specs.Expanding.Replaces.{ended as r_ended, stays as r_stays, gives as r_gives}
@@ -27,6 +30,7 @@ use Rattle.logos_lexeme.specs.declared.lexeme.Span.{Span}
 use Rattle.logos_rust_file.specs.Handed.{Refusal}
 use Rattle.logos_rust_file.specs.Handed as refusals
 use Rattle.logos_rust_file.specs.Handed.{Refuses}
+use Rattle.logos_strip.specs.Results.{SpellsEnum}
 use Rattle.logos_token.specs.Faults.{Fault}
 
 -- ---- the enums of a file, one after another
@@ -103,14 +107,15 @@ faults_hold : (Hold : List Fault → Type 0) (refusal : Refusal) (faults : List 
 faults_hold Hold (refusals.Errors errors) faults h a = subst Hold (sym a) h
 faults_hold Hold refusals.Memory faults h a = absurd a
 
-pub refuses_one : (shape : Shape) (text : List ℕ) (one : FoundEnum) (refusal : Refusal) (old new : Gathered) (source : List ℕ) → source ≡ text_at text one → one.derives ≡ true → Refuses (IsRefused source) refusal →
-    AddsRefusal one.span.from refusal old.refused.items new.refused.items → new.parts.items ≡ old.parts.items → GathersOne shape text one old new
-refuses_one shape text one refusal old new source k e h a p = record {
+pub refuses_one : (shape : Shape) (text : List ℕ) (one : FoundEnum) (refusal : Refusal) (clues : Clues) (old new : Gathered) (source : List ℕ) → source ≡ text_at text one → one.derives ≡ true → Refuses (IsRefused source) refusal →
+    HasSets source (sizes_of clues) → AddsRefusal one.span.from refusal clues old.refused.items new.refused.items → new.parts.items ≡ old.parts.items → GathersOne shape text one old new
+refuses_one shape text one refusal clues old new source k e h s a p = record {
   parts = [];
   refused = a.bad ∷ [];
   parts_are = p ∙ sym (append-nil old.parts.items);
   refused_are = a.are;
-  completes = λ rest more worse g. g_refuses e a.is_offset (subst (λ bytes. IsRefused bytes a.bad.errors) k (faults_hold (IsRefused source) refusal a.bad.errors h a.faults)) g;
+  completes = λ rest more worse g. g_refuses e a.is_offset (subst (λ bytes. IsRefused bytes a.bad.errors) k (faults_hold (IsRefused source) refusal a.bad.errors h a.faults))
+      (subst (λ bytes. HasSets bytes (sizes_of a.bad.clues)) k (subst (λ (known : Clues). HasSets source (sizes_of known)) (sym a.known) s)) g;
 }
 
 -- ---- all enums
@@ -119,7 +124,7 @@ replaces_all : (shape : Shape) (text : List ℕ) (found : List FoundEnum) (parts
 replaces_all shape text _ _ _ g_ended e = r_ended
 replaces_all shape text _ _ _ (g_stays d g) e = r_stays d (replaces_all shape text _ _ _ g e)
 replaces_all shape text _ _ _ (g_gives d s x g) e = r_gives d s x (replaces_all shape text _ _ _ g e)
-replaces_all shape text _ _ _ (g_refuses d s x g) e = absurd cc
+replaces_all shape text _ _ _ (g_refuses d s x k g) e = absurd cc
 
 -- the result of a file without faults
 pub expanded_all : (shape : Shape) (text bytes : List ℕ) (found : List FoundEnum) (gathered : Gathered) → AreEnumsOf text found → GathersAll shape text found gathered → gathered.refused.items ≡ [] →
@@ -164,7 +169,7 @@ order_parts shape text _ _ _ from to (g_stays {one} {rest} {parts} {refused} d g
     earlier from one.span.to (map part_span parts) to (omega (arith, o.0, o.1)) (order_parts shape text rest parts refused one.span.to to g o.2)
 order_parts shape text _ _ _ from to (g_gives {one} {part} {rest} {parts} {refused} d s x g) o =
     rw s (o.0, o.1, order_parts shape text rest parts refused one.span.to to g o.2)
-order_parts shape text _ _ _ from to (g_refuses {one} {bad} {rest} {parts} {refused} d s x g) o =
+order_parts shape text _ _ _ from to (g_refuses {one} {bad} {rest} {parts} {refused} d s x k g) o =
     earlier from one.span.to (map part_span parts) to (omega (arith, o.0, o.1)) (order_parts shape text rest parts refused one.span.to to g o.2)
 
 pub ordered_parts : (shape : Shape) (text : List ℕ) (found : List FoundEnum) (gathered : Gathered) → GathersAll shape text found gathered → AreInOrder 0 (map found_span found) (length text) →
@@ -187,20 +192,21 @@ expansion_made shape source shown graph code name export g b = record {
   is = b.prints.is;
 }
 
+-- a source without faults spells an enum
+pub spells_enum : (source : List ℕ) (rules : List Rule) (utf8 : Bool) → IsAccepted source rules utf8 → IsWithinSizes source rules → SpellsEnum source
+spells_enum source rules utf8 a within = record {
+  tokens = a.says.tokens;
+  enum = a.enum;
+  spelled = a.says.spelled;
+  reads = a.says.reads;
+  short = within.short;
+  shallow = within.shallow a.says.tokens a.says.spelled;
+}
+
 -- ---- refusals
 
-pub whole_refused : (shape : Shape) (text : List ℕ) (refusal : Refusal) (old new : List Refused) → old ≡ [] → Refuses (IsUnreadable text) refusal → AddsRefusal 0 refusal old new → AreRefused shape text new
-whole_refused shape text refusal old new e h a = whole (a.are ∙ ap (λ r. r ++ a.bad ∷ []) e) a.is_offset (faults_hold (IsUnreadable text) refusal a.bad.errors h a.faults)
-
--- a source that is not read is refused
-pub unread_refused : (source : List ℕ) (refusal : Refusal) → Refuses (IsUnreadable source) refusal → Refuses (IsRefused source) refusal
-unread_refused source (refusals.Errors errors) h = unread h.1 h.2
-unread_refused source refusals.Memory h = tt
-
-pub expansion_all : {A E : Type 0} (f : A → List ℕ) (result : Result A E) (shape : Shape) (source : List ℕ) (graph : GraphValue) (code : CodeValue) (name : Slice) (export : Option (List ℕ)) → IsGiven source (config_of shape) graph code name export →
-    IfOk result (λ text. IsExpansionBy shape code source (f text)) → IfOk result (λ text. IsExpansion shape source (f text))
-expansion_all f (Ok text) shape source graph code name export g b = expansion_made shape source (f text) graph code name export g b
-expansion_all f (Err error) shape source graph code name export g b = tt
+pub whole_refused : (shape : Shape) (text : List ℕ) (refusal : Refusal) (clues : Clues) (old new : List Refused) → old ≡ [] → Refuses (IsUnreadable text) refusal → AddsRefusal 0 refusal clues old new → AreRefused shape text new
+whole_refused shape text refusal clues old new e h a = whole (a.are ∙ ap (λ r. r ++ a.bad ∷ []) e) a.is_offset (faults_hold (IsUnreadable text) refusal a.bad.errors h a.faults)
 
 -- what holds after success gives something else
 pub ok_then : {A E One Other : Type 0} (result : Result A E) → (One → Other) → OnOk result One → OnOk result Other
@@ -208,9 +214,9 @@ ok_then (Ok done) f h = f h
 ok_then (Err error) f h = tt
 
 -- an enum with faults was gathered, where there was memory for them
-pub refuses_then : {A E : Type 0} (result : Result A E) (shape : Shape) (text : List ℕ) (one : FoundEnum) (refusal : Refusal) (old new : Gathered) (source : List ℕ) → Refuses (IsRefused source) refusal →
-    OnOk result (AddsRefusal one.span.from refusal old.refused.items new.refused.items) → new.parts.items ≡ old.parts.items → source ≡ text_at text one → one.derives ≡ true → OnOk result (GathersOne shape text one old new)
-refuses_then result shape text one refusal old new source h a p k e = ok_then result (λ b. refuses_one shape text one refusal old new source k e h b p) a
+pub refuses_then : {A E : Type 0} (result : Result A E) (shape : Shape) (text : List ℕ) (one : FoundEnum) (refusal : Refusal) (clues : Clues) (old new : Gathered) (source : List ℕ) → Refuses (IsRefused source) refusal → HasSets source (sizes_of clues) →
+    OnOk result (AddsRefusal one.span.from refusal clues old.refused.items new.refused.items) → new.parts.items ≡ old.parts.items → source ≡ text_at text one → one.derives ≡ true → OnOk result (GathersOne shape text one old new)
+refuses_then result shape text one refusal clues old new source h s a p k e = ok_then result (λ b. refuses_one shape text one refusal clues old new source k e h s b p) a
 
 -- what holds of a result gives something else of it
 pub wraps : {A E : Type 0} {One Other : A → Type 0} (result : Result A E) → ((a : A) → One a → Other a) → IfOk result One → IfOk result Other

@@ -1,3 +1,2 @@
 pub mod GatherLemmas
 pub mod ShownLemmas
-pub mod LineLemmas

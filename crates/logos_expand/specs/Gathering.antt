@@ -3,6 +3,7 @@ use Rattle.std.specs.Prelude.{◌≡◌, ◌≢◌, ◌⊎◌, ◌++◌, ℕ, Bo
 use Rattle.logos_host.specs.declared.message_format.MessageFormat.{MessageFormat}
 use Rattle.logos_host.specs.declared.message_format.MessageFormat.TheVariants.{Human, Json}
 use Rattle.logos_expand.specs.declared.shape.Shape.{Shape}
+use Rattle.logos_causes.specs.Sets.{HasSets}
 use Rattle.logos_codegen.specs.Source.{IsRefused}
 use Rattle.logos_expand.specs.declared.expanding.Gathered.{Gathered}
 use Rattle.logos_report.specs.declared.refused.Refused.{Refused}
@@ -16,9 +17,11 @@ use Rattle.logos_host.specs.Failures.{status_of}
 use Rattle.logos_report.specs.Pages.{StandInOrder}
 use Rattle.logos_report.specs.Parts.{refused_texts}
 use Rattle.logos_report.specs.Places.{SourceValue}
-use Rattle.logos_messages.specs.Messages.{AreMessages}
+use Rattle.logos_report.specs.Sets.{sizes_of}
+use Rattle.logos_messages.specs.Messages.{AreRefusedMessages}
 
--- Each enum that derives `Logos` gives a part or has faults, in order, and no other one does.
+-- Each enum that derives `Logos` gives a part or has faults, in order, and no other one does. Of
+-- one that has faults all sets of ambiguous leaves are known.
 pub data Gathers (shape : Shape) (text : List ℕ) : List FoundEnum → List Replacement → List Refused → Type 0 where
   ended : Gathers shape text [] [] []
   stays : {one : FoundEnum} {rest : List FoundEnum} {parts : List Replacement} {refused : List Refused} →
@@ -27,7 +30,8 @@ pub data Gathers (shape : Shape) (text : List ℕ) : List FoundEnum → List Rep
       one.derives ≡ true → part.span ≡ one.span → IsExpansion shape (text_at text one) (string_bytes part.text) → Gathers shape text rest parts refused →
       Gathers shape text (one ∷ rest) (part ∷ parts) refused
   refuses : {one : FoundEnum} {bad : Refused} {rest : List FoundEnum} {parts : List Replacement} {refused : List Refused} →
-      one.derives ≡ true → bad.offset ≡ one.span.from → IsRefused (text_at text one) bad.errors → Gathers shape text rest parts refused →
+      one.derives ≡ true → bad.offset ≡ one.span.from → IsRefused (text_at text one) bad.errors → HasSets (text_at text one) (sizes_of bad.clues) →
+      Gathers shape text rest parts refused →
       Gathers shape text (one ∷ rest) parts (bad ∷ refused)
 
 -- All these enums were gathered.
@@ -40,15 +44,9 @@ pub data AreRefused (shape : Shape) (text : List ℕ) (refused : List Refused) :
   whole : {bad : Refused} → refused ≡ bad ∷ [] → bad.offset ≡ 0 → IsUnreadable text bad.errors → AreRefused shape text refused
   lexers : {found : List FoundEnum} {parts : List Replacement} → AreEnumsOf text found → Gathers shape text found parts refused → refused ≢ [] → AreRefused shape text refused
 
--- These are lines of JSON, one for each fault, in order.
-abbrev pub AreLinesOf : SourceValue → List Refused → List ℕ → Type 0
-AreLinesOf source [] lines = lines ≡ []
-AreLinesOf source (one ∷ rest) lines =
-    (first more : List ℕ) × (lines ≡ first ++ more) × AreMessages source one.offset one.errors first × AreLinesOf source rest more
-
--- These lines are at the end of a text.
+-- The lines of JSON of all faults are at the end of a text.
 abbrev pub EndsWithLines : SourceValue → List Refused → List ℕ → Type 0
-EndsWithLines source refused text = (front lines : List ℕ) × (text ≡ front ++ lines) × AreLinesOf source refused lines
+EndsWithLines source refused text = (front lines : List ℕ) × (text ≡ front ++ lines) × AreRefusedMessages source refused lines
 
 -- What is shown of faults, in order: a report, with or without colors, or lines of JSON.
 abbrev pub ShowsRefused : MessageFormat → SourceValue → List Refused → List ℕ → Type 0

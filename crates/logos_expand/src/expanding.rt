@@ -1,24 +1,25 @@
 //! A file with the derive of its lexers expanded.
 
 ghost use Rattle.std.specs.Prelude.{◌≡◌, ◌≤◌, ◌++◌, All, IfErr, IfOk, IsTrue, OnOk, length, map, string_bytes};
-ghost use Rattle.logos_expand.specs.Views.{IsRefused, AreInOrder, IsFoundCut, found_span, part_span, AreEnumsOf, StandInOrder, Refuses, IsExpanded, IsExpansion, IsFileOf, IsShown, IsUnreadable, config_of, AreRefused, EndsWithLines, FailsFor, GathersAll, ShowsRefused, refused_texts, AddsRefusal, GathersOne, IsExpansionBy};
+ghost use Rattle.logos_expand.specs.Views.{IsRefused, AreInOrder, IsFoundCut, found_span, part_span, AreEnumsOf, StandInOrder, Refuses, IsExpanded, IsExpansion, IsFileOf, IsShown, IsUnreadable, config_of, AreRefused, EndsWithLines, FailsFor, GathersAll, ShowsRefused, refused_texts, AddsRefusal, GathersOne, HasSets, IsExpansionBy, sizes_of, SpellsEnum};
 
 use crate::head::with_head;
 use crate::printing::{Site, printed_with};
 use crate::shape::Shape;
 use logos_causes::{
     Explained, Showing, add_lexer, add_missing, add_passed, add_text, add_warnings, denial_text,
-    explain, push_warned, text_of, warning_lines, warning_text,
+    explain_enum, push_warned, text_of, warning_lines, warning_text,
 };
 use logos_codegen::error::Memory;
 use logos_codegen::generator::Config;
-use logos_codegen::{Generated, Refusal, generate, strip_attributes};
+use logos_codegen::{Generated, Refusal, generate};
 use logos_host::{Failure, MessageFormat};
-use logos_messages::push_messages;
+use logos_messages::push_refused_messages;
 use logos_report::{
-    Clues, Page, Part, Refused, Source, Warning, count_errors, push_refused, push_summary,
+    Clues, Page, Refused, Source, Warning, count_errors, push_refused, push_summary,
 };
 use logos_rust_file::{FoundEnum, Replacement, enums_in, replace};
+use logos_strip::stripping::strip_enum;
 use logos_tables::tables;
 use std::alloc::{AllocError, Global};
 
@@ -195,9 +196,8 @@ fn gather_enum(
 {
     let span = one.span;
     let source = &text[span.from..span.to];
-    add_text(source, span.from, one.derives, warned)?;
     if !one.derives {
-        return Ok(());
+        return add_text(source, span.from, false, warned);
     }
     let site = Site {
         offset: span.from,
@@ -216,10 +216,12 @@ fn gather_enum(
     }
 }
 
-/// Returns what is known of an enum that is refused, and adds its warnings. Its text begins at an
-/// offset of the file.
-fn clues_of(text: &str, offset: usize, warned: &mut Vec<Warning>) -> Result<Clues, Memory> {
-    let Explained { clues, warnings } = explain(*warned.allocator(), text)?;
+/// Returns what is known of an enum that is refused, and adds all its warnings. Its text begins at
+/// an offset of the file.
+fn clues_of(text: &str, offset: usize, warned: &mut Vec<Warning>) -> Result<Clues, Memory>
+    ensures { IfOk result (λ clues. HasSets text.now (sizes_of clues)) }
+{
+    let Explained { clues, warnings } = explain_enum(*warned.allocator(), text)?;
     add_warnings(offset, warnings, warned)?;
     Ok(clues)
 }
@@ -231,7 +233,7 @@ fn push_refusal(
     refusal: Refusal,
     clues: Clues,
 ) -> Result<(), Memory>
-    ensures { OnOk result (AddsRefusal offset refusal refused.old.items refused.new.items) }
+    ensures { OnOk result (AddsRefusal offset refusal clues refused.old.items refused.new.items) }
 {
     match refusal {
         Refusal::Errors(errors) => {
@@ -273,51 +275,44 @@ pub fn lexer_text(alloc: Global, shape: Shape, made: &Generated<'_>) -> Result<S
 }
 
 /// Returns an enum without what belongs to the derive, and the implementation. Adds the warnings of
-/// its lexer.
+/// the enum and of its lexer.
 fn expanded(source: &str, site: Site<'_, '_>, warned: &mut Vec<Warning>) -> Result<String, Refusal>
     ensures done { IfOk result
         (λ text. IsExpansion site.entry.shape source.now (string_bytes text)) }
     ensures refused { IfErr result (Refuses (IsRefused source.now)) }
 {
-    let alloc = *warned.allocator();
-    match generate(alloc, source, config_of(site.shape)) {
-        Ok(made) => match add_lexer_of(source, site, &made, warned) {
-            Ok(()) => expansion_by(alloc, source, site, &made),
-            Err(Memory) => Err(Refusal::Memory),
-        },
-        Err(refusal) => Err(refusal),
-    }
-}
-
-/// Adds the warnings of the lexer of an enum.
-fn add_lexer_of(
-    source: &str,
-    site: Site<'_, '_>,
-    made: &Generated<'_>,
-    warned: &mut Vec<Warning>,
-) -> Result<(), Memory> {
-    let error = made.code.error_callback();
-    add_lexer(source, site.offset, &made.graph, error, warned)
-}
-
-/// Returns an enum without what belongs to the derive, and the text of its lexer.
-fn expansion_by(
-    alloc: Global,
-    source: &str,
-    site: Site<'_, '_>,
-    made: &Generated<'_>,
-) -> Result<String, Refusal>
-    ensures done { IfOk result (λ text.
-        IsExpansionBy site.entry.shape made.now.code source.now (string_bytes text)) }
-    ensures refused { IfErr result (Refuses (IsRefused source.now)) }
-{
-    match strip_attributes(alloc, source) {
-        Ok(left) => match printed_with(alloc, source, left.run(), site, made) {
+    match generate(*warned.allocator(), source, config_of(site.shape)) {
+        Ok(made) => match expansion_by(source, site, &made, warned) {
             Ok(text) => Ok(text),
             Err(Memory) => Err(Refusal::Memory),
         },
         Err(refusal) => Err(refusal),
     }
+}
+
+/// Returns an enum without what belongs to the derive, and the text of its lexer. Adds the warnings
+/// of both.
+fn expansion_by(
+    source: &str,
+    site: Site<'_, '_>,
+    made: &Generated<'_>,
+    warned: &mut Vec<Warning>,
+) -> Result<String, Memory>
+    requires { SpellsEnum source.now }
+    ensures { IfOk result (λ text.
+        IsExpansionBy site.entry.shape made.now.code source.now (string_bytes text)) }
+{
+    let alloc = *warned.allocator();
+    add_text(source, site.offset, true, warned)?;
+    add_lexer(
+        source,
+        site.offset,
+        &made.graph,
+        made.code.error_callback(),
+        warned,
+    )?;
+    let left = strip_enum(alloc, source)?;
+    printed_with(alloc, source, left.run(), site, made)
 }
 
 /// Returns the refusal of a file, with the text of all its faults.
@@ -355,7 +350,7 @@ fn faults_text(
     }
 }
 
-/// Returns a line of JSON for each warning and each fault of a file.
+/// Returns a line of JSON for each warning and each fault of a file, but no more than 50 of a code.
 fn fault_lines(
     alloc: Global,
     source: &Source<'_>,
@@ -365,16 +360,7 @@ fn fault_lines(
     ensures { IfOk result (λ lines. EndsWithLines source.now refused.now lines.items) }
 {
     let mut lines = warning_lines(alloc, source, warned)?;
-    for one in refused {
-        let offset = one.offset;
-        push_messages(
-            alloc,
-            &mut lines,
-            Part { source, offset },
-            &one.errors,
-            &one.clues,
-        )?;
-    }
+    push_refused_messages(alloc, &mut lines, source, refused)?;
     Ok(lines)
 }
 

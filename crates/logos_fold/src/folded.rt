@@ -19,7 +19,7 @@ pub struct Folded<'c, 's> {
 impl<'c, 's> Model for Folded<'c, 's> {
     ghost use Rattle.std.specs.Prelude.{[]};
     ghost use Rattle.logos_fold.specs.Words.{codes, named, AreFolded, FoldedValue};
-    ghost use Rattle.logos_type.specs.contracts.type_expr.Part as p;
+    ghost use Rattle.logos_type.specs.contracts.type_expr.TypePart as p;
 
     ghost Value = { FoldedValue };
 

@@ -39,7 +39,7 @@ impl<'g, 's> Model for Generator<'g, 's> {
     ghost use Rattle.std.specs.Prelude.{◌≡◌, [], option_copied};
     ghost use Rattle.logos_generator.specs.Words.{codes, named, GeneratorValue};
     ghost use Rattle.logos_hir.specs.contracts.hir.Hir as e;
-    ghost use Rattle.logos_type.specs.contracts.type_expr.Part as p;
+    ghost use Rattle.logos_type.specs.contracts.type_expr.TypePart as p;
 
     ghost Value = { GeneratorValue };
 

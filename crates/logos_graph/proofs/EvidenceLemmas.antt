@@ -5,7 +5,7 @@ use Rattle.logos_reduce.specs.Table.{size, to, mark, type_of}
 use Rattle.logos_reduce.specs.Evidence as of_table
 use Rattle.logos_reduce.specs.Evidence.{mark_with_end, mark_after}
 use Rattle.logos_reduce.specs.SymbolWords.{state_after}
-use Rattle.logos_reduce.specs.declared.table.Mark.{Mark}
+use Rattle.logos_reduce.specs.declared.table.StateMarks.{StateMarks}
 use Rattle.logos_reduce.specs.declared.table.Table.{Table}
 use Rattle.logos_graph.specs.Graph.{GraphState, type_after, Distinguishes}
 use Rattle.logos_graph.specs.Least.{IsEvidence}
@@ -33,7 +33,7 @@ module _ (table : Table) (graph : List GraphState) (shows : Shows table graph) w
       go None e ih = type_stuck table graph shows s b bytes ends l (first_byte b bytes ok) e
       go (Some t) e ih = type_step table graph shows s b t bytes ends l (first_byte b bytes ok) e ∙ ih t ends (other_bytes b bytes ok) (edge_within table s b t e).1
 
-  same_marks : (a b : Option Mark) → option_map type_of a ≡ option_map type_of b → a ≡ b
+  same_marks : (a b : Option StateMarks) → option_map type_of a ≡ option_map type_of b → a ≡ b
   same_marks None None e = refl
   same_marks None (Some b) e = absurd (cc)
   same_marks (Some a) None e = absurd (cc)

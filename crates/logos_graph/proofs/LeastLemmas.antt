@@ -8,11 +8,11 @@ use Rattle.logos_graph.specs.Graph.{GraphState, type_after, Distinguishes}
 use Rattle.logos_reduce.specs.SymbolWords.{state_after, WordDistinguishes}
 use Rattle.logos_reduce.specs.Table.{size, to, mark, type_of}
 use Rattle.logos_graph.specs.ReduceShown.{Shows}
-use Rattle.logos_reduce.specs.declared.table.Mark.{Mark}
+use Rattle.logos_reduce.specs.declared.table.StateMarks.{StateMarks}
 use Rattle.logos_reduce.specs.declared.table.Table.{Table}
 use Rattle.logos_reduce.proofs.tables.EdgeLemmas.{edge_within, edge_symbol}
 
-pub same_mark : (a b : Mark) → type_of a ≡ type_of b → a ≡ b
+pub same_mark : (a b : StateMarks) → type_of a ≡ type_of b → a ≡ b
 same_mark a b e = λ i. record { accept = (e i).accept; early = (e i).early }
 
 module _ (table : Table) (graph : List GraphState) (shows : Shows table graph) where

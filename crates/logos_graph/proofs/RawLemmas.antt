@@ -24,7 +24,7 @@ use Rattle.logos_reduce.specs.Raw.{IsRaw, IsReached}
 use Rattle.logos_reduce.specs.Edges.{IsMarked, Edges, reach, Leads, to_mark, onward, to_end}
 use Rattle.logos_reduce.specs.Rows.{target_by, target_in, AreWide, IsClosed}
 use Rattle.logos_reduce.specs.RowsView.{rows_of}
-use Rattle.logos_reduce.specs.declared.table.Mark.{Mark}
+use Rattle.logos_reduce.specs.declared.table.StateMarks.{StateMarks}
 use Rattle.logos_reduce.specs.declared.table.Table.{Table}
 use Rattle.logos_reduce.proofs.tables.PushLemmas.{pushed, length_pushed}
 use Rattle.logos_reduce.proofs.tables.RowLemmas.{symbol_below, source_below}
@@ -144,7 +144,7 @@ module _ (leaves : List Leaf) (dfa : Automaton) (total : IsTotal dfa) (starts : 
     where
       go : (s < size table) ⊎ (size table ≤ s) → (mark table s).early ≡ None
       go (inl l) = (marks s (omega (arith, l, states))).2.early
-      go (inr l) = ap (λ (m : Mark). m.early) (behind s l)
+      go (inr l) = ap (λ (m : StateMarks). m.early) (behind s l)
 
   -- a state that lists nothing has no mark
   none_listed : (s : ℕ) → slice_get dfa.matches s ≡ Some [] → (mark table s).accept ≡ None

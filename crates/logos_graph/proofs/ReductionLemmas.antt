@@ -7,7 +7,7 @@ use Rattle.logos_reduce.specs.Prune.{IsOfUse, IsPrunedTable}
 use Rattle.logos_reduce.specs.Settle.{accepted, AllAccepted, IsSpare, IsNeeded, IsSettled}
 use Rattle.logos_reduce.specs.Table.{mark_in, size, to, mark, type_of, edges}
 use Rattle.logos_reduce.specs.declared.merge.blocks.Split.{Split}
-use Rattle.logos_reduce.specs.declared.table.Mark.{Mark}
+use Rattle.logos_reduce.specs.declared.table.StateMarks.{StateMarks}
 use Rattle.logos_reduce.specs.declared.table.Table.{Table}
 use Rattle.logos_reduce.proofs.numbering.StateLemmas as num
 use Rattle.logos_reduce.proofs.tables.EdgeLemmas.{edge_within, unmarked_past}
@@ -49,7 +49,7 @@ module _ (old new : Table) (late_only : (s : ℕ) → (mark old s).early ≡ Non
       go : (s < size old) ⊎ (size old ≤ s) → settled.AllAccept (to old) (λ s. to old s 256) (edges old).type_of s leaf
       go (inl l) = common s leaf ((h.early s l leaf).0 e)
       go (inr l) =
-          let past : (mark new s).early ≡ None = ap (λ (m : Mark). m.early) (unmarked_past new s (let n = h.states in omega arith)) in
+          let past : (mark new s).early ≡ None = ap (λ (m : StateMarks). m.early) (unmarked_past new s (let n = h.states in omega arith)) in
           absurd (cc)
 
   pub early_all : (s leaf : ℕ) → settled.AllAccept (to old) (λ s. to old s 256) (edges old).type_of s leaf → (mark new s).early ≡ Some leaf
@@ -84,7 +84,7 @@ module _ (old new : Table) (late_only : (s : ℕ) → (mark old s).early ≡ Non
 
       go : (t < size old) ⊎ (size old ≤ t) → settled.IsKept (to old) (λ s. to old s 256) (edges old).type_of (edges new).type_of t
       go (inl l) = inside (h.late t l)
-      go (inr l) = inl (ap (λ (m : Mark). m.accept) (unmarked_past new t (let n = h.states in omega arith) ∙ sym (unmarked_past old t l)))
+      go (inr l) = inl (ap (λ (m : StateMarks). m.accept) (unmarked_past new t (let n = h.states in omega arith) ∙ sym (unmarked_past old t l)))
 
   pub are_settled : settled.AreSettled (to old) (λ s. to old s 256) (edges old).type_of (edges new).type_of
   are_settled = record { late_only = late_only; early = early_of; kept = kept_mark }

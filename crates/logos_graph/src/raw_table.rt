@@ -8,7 +8,7 @@ use logos_automaton::dfa::parts::{end_at, leaves_at, row_at, state_count};
 use logos_automaton::dfa::{Dfa, Row as ByteRow};
 use logos_pattern::leaf::Leaf;
 use logos_reduce::rows::{Row, Rows};
-use logos_reduce::table::{Mark, Table};
+use logos_reduce::table::{StateMarks, Table};
 use std::alloc::{AllocError, Global};
 
 /// Returns the priority of a leaf, or 0 if there is no leaf with this number.
@@ -49,21 +49,21 @@ fn first_leaf(leaves: &[Leaf<'_>], listed: &[usize]) -> Option<usize>
 }
 
 /// Returns the mark of a state that lists these leaves.
-fn raw_mark(leaves: &[Leaf<'_>], listed: &[usize]) -> Mark
+fn raw_mark(leaves: &[Leaf<'_>], listed: &[usize]) -> StateMarks
     ensures { IsRawMark (rules_of leaves.now) (length leaves.now) listed.now result }
 {
     let accept = match first_leaf(leaves, listed) {
         Some(leaf) if leaf < leaves.len() => Some(leaf),
         _ => None,
     };
-    Mark {
+    StateMarks {
         accept,
         early: None,
     }
 }
 
 /// Returns the marks of all states.
-fn raw_marks(alloc: Global, leaves: &[Leaf<'_>], dfa: &Dfa) -> Result<Vec<Mark>, AllocError>
+fn raw_marks(alloc: Global, leaves: &[Leaf<'_>], dfa: &Dfa) -> Result<Vec<StateMarks>, AllocError>
     ensures len { IfOk result (λ marks. vec_len marks ≡ length (dfa_of dfa.now).matches) }
     ensures marks { IfOk result (λ marks. (s : ℕ) → s < length (dfa_of dfa.now).matches →
         IsMarkOf (rules_of leaves.now) (length leaves.now) (dfa_of dfa.now) s

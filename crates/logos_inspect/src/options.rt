@@ -1,6 +1,6 @@
 //! The options that follow the literal of a leaf, and say what its pattern matches.
 
-use logos_lexeme::lexeme::{Kind, lexeme_at};
+use logos_lexeme::lexeme::{LexemeKind, lexeme_at};
 
 /// Options of a leaf's definition.
 #[derive(Clone, Copy, Debug, PartialEq, Eq)]
@@ -13,7 +13,7 @@ pub struct LeafOptions {
 
 /// How far the arguments after a literal are read.
 #[derive(Clone, Copy)]
-struct Reading<'t> {
+struct ArgumentReading<'t> {
     /// The text that is left.
     rest: &'t str,
     /// How many delimiters are open.
@@ -26,7 +26,7 @@ struct Reading<'t> {
 /// Returns the options that stand in a text after an offset, up to the end of the delimiters around
 /// it.
 pub(crate) fn options_from(text: &str, from: usize) -> LeafOptions {
-    let mut reading = Reading {
+    let mut reading = ArgumentReading {
         rest: rest_at(text, from),
         depth: 0,
         words: ("", ""),
@@ -53,7 +53,7 @@ fn rest_at(text: &str, from: usize) -> &str {
 }
 
 /// Reads one more word; `None` at the end of the delimiters around all words, or of the text.
-fn after_word<'t>(reading: Reading<'t>) -> Option<Reading<'t>> {
+fn after_word<'t>(reading: ArgumentReading<'t>) -> Option<ArgumentReading<'t>> {
     if reading.rest.is_empty() || !reading.rest.is_char_boundary(0) {
         return None;
     }
@@ -62,9 +62,9 @@ fn after_word<'t>(reading: Reading<'t>) -> Option<Reading<'t>> {
     };
     let (word, rest) = reading.rest.split_at_checked(to)?;
     match kind {
-        Kind::Gap | Kind::Doc => Some(Reading { rest, ..reading }),
-        Kind::Closing(_) if reading.depth == 0 => None,
-        _ => Some(Reading {
+        LexemeKind::Gap | LexemeKind::Doc => Some(ArgumentReading { rest, ..reading }),
+        LexemeKind::Closing(_) if reading.depth == 0 => None,
+        _ => Some(ArgumentReading {
             rest,
             depth: depth_after(reading.depth, kind),
             words: (reading.words.1, word),
@@ -74,16 +74,16 @@ fn after_word<'t>(reading: Reading<'t>) -> Option<Reading<'t>> {
 }
 
 /// Returns how many delimiters are open after a word.
-fn depth_after(depth: usize, kind: Kind) -> usize {
+fn depth_after(depth: usize, kind: LexemeKind) -> usize {
     match kind {
-        Kind::Opening(_) => depth.saturating_add(1),
-        Kind::Closing(_) => depth.saturating_sub(1),
+        LexemeKind::Opening(_) => depth.saturating_add(1),
+        LexemeKind::Closing(_) => depth.saturating_sub(1),
         _ => depth,
     }
 }
 
 /// Returns the options with the one that one more word completes.
-fn options_after(reading: Reading<'_>, word: &str) -> LeafOptions {
+fn options_after(reading: ArgumentReading<'_>, word: &str) -> LeafOptions {
     let options = reading.options;
     match (reading.depth, reading.words.0, reading.words.1, word) {
         (1, "ignore", "(", "case") => LeafOptions {

@@ -1,5 +1,5 @@
 -- What stands in lines that grow step by step.
-use Rattle.std.proofs.Common.{◌≡◌, ◌≤◌, ◌<◌, ◌+◌, ℕ, suc, Bool, true, false, IsTrue, List, [], ◌∷◌, ◌++◌, length, get_or, drop, append_assoc, sym, ap, ◌∙◌, refl, subst}
+use Rattle.std.proofs.Common.{◌≡◌, ◌≤◌, ◌<◌, ◌+◌, ℕ, Bool, true, false, List, [], ◌∷◌, ◌++◌, length, get_or, drop, append_assoc, sym, ap, ◌∙◌, refl, subst}
 use Rattle.std.proofs.lemmas.List.{append-nil, at_drop_more, at_drop_all}
 use Rattle.std.proofs.lemmas.Str.{IsUtf8-from_is_utf8, is_utf8-from_IsUtf8}
 use Rattle.std.specs.List.{flat_map}
@@ -92,6 +92,13 @@ put_text shown first last bytes e t puts finishes =
     let all = puts.whole t finishes.whole in
     let is : bytes ≡ all.1 = finishes.is (puts.ended t) ∙ all.2 ∙ ap (λ x. x ++ all.1) e in
     subst (AreLines shown) (sym is) all.3
+
+-- The same of one line.
+pub one_text : (shown : List Token) (first last : LinesValue) (bytes : List ℕ) → first.before ≡ [] → first.tokens ≡ [] → Gains shown first last → (ended : LinesValue) → Ends last ended → Finishes ended bytes → IsLine shown bytes
+one_text shown first last bytes e t gained ended ends finishes =
+    let all = put_text (shown ∷ []) first ended bytes e t (one_put gained ends) finishes in
+    let is : bytes ≡ all.0 = all.4 ∙ ap (λ rest. all.0 ++ rest) all.3 ∙ append-nil all.0 in
+    subst (IsLine shown) (sym is) all.2
 
 -- Bytes that are not UTF-8 do not pass the test.
 not_utf8 : (bytes : List ℕ) → ¬ IsUtf8 bytes → is_utf8 bytes ≡ false

@@ -68,7 +68,7 @@ impl JsonLines {
     }
 
     /// Ends a list.
-    fn end_array(&mut self)
+    pub fn end_list(&mut self)
         ensures { Gains (end_array ∷ []) self.old self.new }
     {
         if self.writer.end_array().is_err() {
@@ -83,6 +83,14 @@ impl JsonLines {
         if self.writer.key(name).is_err() {
             self.is_whole = false;
         }
+    }
+
+    /// Begins a member with a list, whose elements are pushed next.
+    pub fn begin_list(&mut self, name: &str)
+        ensures { Gains (key name.now ∷ begin_array ∷ []) self.old self.new }
+    {
+        self.push_name(name);
+        self.begin_array();
     }
 
     /// Appends a text, as the value of a member.
@@ -198,10 +206,9 @@ impl JsonLines {
     fn push_list(&mut self, name: &str, bytes: &[u8])
         ensures { Gains (list_member name.now (flat_map byte_tokens bytes.now)) self.old self.new }
     {
-        self.push_name(name);
-        self.begin_array();
+        self.begin_list(name);
         self.push_elements(bytes);
-        self.end_array();
+        self.end_list();
     }
 
     /// Appends numbers, as elements of a list.

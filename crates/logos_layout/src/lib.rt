@@ -9,6 +9,7 @@ mod conditions;
 mod inner;
 mod laying;
 mod lines;
+mod pieces;
 mod plain;
 mod state;
 mod staying;

@@ -2,7 +2,8 @@
 //!
 //! Nothing has to be believed of this: what comes of it has to spell no tokens.
 
-use logos_lexeme::lexeme::{Kind, lexeme_at};
+use crate::pieces::first_piece;
+use logos_lexeme::lexeme::LexemeKind;
 use logos_token::error::Memory;
 use std::alloc::Global;
 
@@ -11,33 +12,35 @@ use std::alloc::Global;
 pub(crate) fn plain_text(alloc: Global, text: &str) -> Result<String, Memory> {
     let mut plain = String::new(alloc);
     let mut depth = 0;
-    let mut from = 0;
-    while from < text.len() {
-        let Ok((kind, to)) = lexeme_at(text, from) else {
-            return Ok(plain);
-        };
-        push_piece(&mut plain, kind, &text[from..to], depth)?;
-        depth = depth_after(kind, depth);
-        from = to;
+    let mut left = text;
+    while let Some(first) = first_piece(left) {
+        push_piece(&mut plain, first.kind, first.piece, depth)?;
+        depth = depth_after(first.kind, depth);
+        left = first.rest;
     }
     Ok(plain)
 }
 
 /// Returns how many delimiters are open after a lexeme.
-fn depth_after(kind: Kind, depth: usize) -> usize {
+fn depth_after(kind: LexemeKind, depth: usize) -> usize {
     match kind {
-        Kind::Opening(_) => depth.saturating_add(1),
-        Kind::Closing(_) => depth.saturating_sub(1),
+        LexemeKind::Opening(_) => depth.saturating_add(1),
+        LexemeKind::Closing(_) => depth.saturating_sub(1),
         _ => depth,
     }
 }
 
 /// Appends a lexeme or a gap, inside so many delimiters. An attribute is put into a comment.
-fn push_piece(plain: &mut String, kind: Kind, piece: &str, depth: usize) -> Result<(), Memory> {
+fn push_piece(
+    plain: &mut String,
+    kind: LexemeKind,
+    piece: &str,
+    depth: usize,
+) -> Result<(), Memory> {
     match (kind, depth) {
-        (Kind::Doc, 0) => push_comment(plain, piece),
-        (Kind::Punctuation(_), 0) if piece == "#" => push(plain, "/* ", piece),
-        (Kind::Closing(_), 1) => push(plain, piece, " */"),
+        (LexemeKind::Doc, 0) => push_comment(plain, piece),
+        (LexemeKind::Punctuation(_), 0) if piece == "#" => push(plain, "/* ", piece),
+        (LexemeKind::Closing(_), 1) => push(plain, piece, " */"),
         _ => push(plain, piece, ""),
     }
 }

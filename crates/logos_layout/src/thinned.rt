@@ -1,7 +1,8 @@
 //! A source without some of its lexemes.
 
+use crate::pieces::first_piece;
 use crate::staying::Staying;
-use logos_lexeme::lexeme::{Kind, Span, lexeme_at};
+use logos_lexeme::lexeme::{LexemeKind, Span};
 use logos_token::error::Memory;
 use logos_token::token::Tokens;
 use std::alloc::Global;
@@ -30,22 +31,21 @@ pub(crate) fn text_without(
 ) -> Result<String, Memory> {
     let mut thinned = Thinned::new(alloc);
     let mut staying = Staying::new(alloc, left);
-    let mut from = 0;
-    while from < source.len() {
-        let Ok((kind, to)) = lexeme_at(source, from) else {
-            return Ok(thinned.text);
-        };
-        let stays = stays(&mut staying, kind, Span { from, to })?;
-        thinned.add_piece(kind, &source[from..to], stays)?;
-        from = to;
+    let mut left = source;
+    while let Some(first) = first_piece(left) {
+        let from = source.len().saturating_sub(left.len());
+        let to = source.len().saturating_sub(first.rest.len());
+        let stays = stays(&mut staying, first.kind, Span { from, to })?;
+        thinned.add_piece(first.kind, first.piece, stays)?;
+        left = first.rest;
     }
     Ok(thinned.text)
 }
 
 /// Returns whether a lexeme stays. A gap is none.
-fn stays(staying: &mut Staying<'_, '_>, kind: Kind, span: Span) -> Result<bool, Memory> {
+fn stays(staying: &mut Staying<'_, '_>, kind: LexemeKind, span: Span) -> Result<bool, Memory> {
     match kind {
-        Kind::Gap => Ok(false),
+        LexemeKind::Gap => Ok(false),
         _ => staying.pass(span),
     }
 }
@@ -63,9 +63,9 @@ impl Thinned {
     }
 
     /// Adds a gap, a lexeme that stays, or one that is left out.
-    fn add_piece(&mut self, kind: Kind, piece: &str, stays: bool) -> Result<(), Memory> {
+    fn add_piece(&mut self, kind: LexemeKind, piece: &str, stays: bool) -> Result<(), Memory> {
         match kind {
-            Kind::Gap => self.add_gap(piece),
+            LexemeKind::Gap => self.add_gap(piece),
             _ if stays => self.add(piece),
             _ => {
                 self.leave_out(kind);
@@ -88,11 +88,11 @@ impl Thinned {
     }
 
     /// Leaves a lexeme out.
-    fn leave_out(&mut self, kind: Kind) {
+    fn leave_out(&mut self, kind: LexemeKind) {
         self.is_cut = true;
         match kind {
-            Kind::Opening(_) => self.depth = self.depth.saturating_add(1),
-            Kind::Closing(_) => self.depth = self.depth.saturating_sub(1),
+            LexemeKind::Opening(_) => self.depth = self.depth.saturating_add(1),
+            LexemeKind::Closing(_) => self.depth = self.depth.saturating_sub(1),
             _ => {}
         }
     }

@@ -3,8 +3,9 @@
 use crate::classes::{LexemeClass, Punctuation, Role, class_of_name, role_of};
 use crate::laying::{Note, Setting};
 use crate::lines::WordLines;
+use crate::pieces::first_piece;
 use crate::state::{Gap, LayoutState, Open, opened};
-use logos_lexeme::lexeme::{Kind, lexeme_at};
+use logos_lexeme::lexeme::LexemeKind;
 use logos_token::error::Memory;
 use logos_token::token::{Delimiter, Spacing};
 use std::alloc::Global;
@@ -26,33 +27,31 @@ pub(crate) fn lines_of(alloc: Global, text: &str, setting: Setting<'_>) -> Resul
         outer: Vec::new(alloc),
     };
     let mut notes = setting.notes;
-    let mut from = 0;
-    while from < text.len() {
-        let Ok((kind, to)) = lexeme_at(text, from) else {
-            return layout.lines.finish();
-        };
+    let mut left = text;
+    while let Some(first) = first_piece(left) {
+        let from = text.len().saturating_sub(left.len());
         notes = layout.add_note(alloc, notes, from)?;
-        layout.add_piece(kind, &text[from..to], &text.as_bytes()[to..])?;
-        from = to;
+        layout.add_piece(first.kind, first.piece, first.rest.as_bytes())?;
+        left = first.rest;
     }
     layout.lines.finish()
 }
 
 impl Layout {
     /// Adds a lexeme or a gap that these bytes follow.
-    fn add_piece(&mut self, kind: Kind, piece: &str, ahead: &[u8]) -> Result<(), Memory> {
+    fn add_piece(&mut self, kind: LexemeKind, piece: &str, ahead: &[u8]) -> Result<(), Memory> {
         let last = self.state.last;
         match kind {
-            Kind::Gap => self.add_gap(piece),
-            Kind::Identifier => self.add(class_of_name(piece, last), piece),
-            Kind::Literal => self.add(LexemeClass::Literal, piece),
-            Kind::Doc => self.add(LexemeClass::Comment, piece),
-            Kind::Punctuation(spacing) => {
+            LexemeKind::Gap => self.add_gap(piece),
+            LexemeKind::Identifier => self.add(class_of_name(piece, last), piece),
+            LexemeKind::Literal => self.add(LexemeClass::Literal, piece),
+            LexemeKind::Doc => self.add(LexemeClass::Comment, piece),
+            LexemeKind::Punctuation(spacing) => {
                 let role = self.role(first_byte(piece), spacing);
                 self.add(LexemeClass::Sign(role), piece)
             }
-            Kind::Opening(delimiter) => self.open(delimiter, piece, ahead),
-            Kind::Closing(delimiter) => self.close(delimiter, piece),
+            LexemeKind::Opening(delimiter) => self.open(delimiter, piece, ahead),
+            LexemeKind::Closing(delimiter) => self.close(delimiter, piece),
         }
     }
 

@@ -1,5 +1,6 @@
 -- The leaves of definitions, and their faults.
 use Rattle.std.specs.Prelude.{◌≡◌, ℕ, ◌*◌, Bool, true, false, not, ◌&&◌, List, [], length, codes, Option, Some, None, unwrap_or, if◌then◌else◌}
+use Rattle.std.specs.Option.{option_or}
 use Rattle.std.specs.Str.{chars}
 use Rattle.logos_lexeme.specs.declared.lexeme.Span.{Span}
 use Rattle.logos_token.specs.declared.error.fault_code.FaultCode.TheVariants.{GreedyDot, PriorityOverflow}
@@ -103,14 +104,9 @@ abbrev pub fitted_report : DefinitionView → KindValue → Tree → Option ℕ 
 fitted_report d kind tree (Some priority) = without_faults (Some (leaf_with false d kind tree priority))
 fitted_report d kind tree None = with_faults None (only (priority_overflow d.literal.token.span))
 
--- The first priority, or the other one where there is no first.
-abbrev pub given_or : Option ℕ → Option ℕ → Option ℕ
-given_or (Some priority) other = Some priority
-given_or None other = other
-
 -- The priority of a `regex`: the given one, or the default of the tree if it fits.
 abbrev pub regex_priority : DefinitionView → Tree → Option ℕ
-regex_priority d tree = given_or d.priority (fitted (value tree))
+regex_priority d tree = option_or d.priority (fitted (value tree))
 
 -- The leaf of a pattern whose text spells this tree.
 abbrev pub tree_report : DefinitionView → KindValue → Tree → Report (Option LeafView)

@@ -1,7 +1,7 @@
 //! Leaves of definitions. Skips and attributes of variants call it, once for each leaf.
 
 ghost use Rattle.std.specs.Prelude.{◌≡◌, ◌++◌, IfOk, IfSome, OnOk, OnErr, true, false, option_map, chars, string_bytes};
-ghost use Rattle.logos_leaf.specs.Words.{literal_tree, KindValue, pattern_tree, source_of, is_token, kind_value, token_of, literal_view, IsReport, definition_view, IsRead, pattern_text, subst_report, names_of, bytes_of, is_string, escaped_of, leaf_with, token_priority, token_leaf, regex_priority, given_or, greedy_faults, tree_report, IsTokenLeaf, IsRegexLeaf, leaf_view, leaf_by, IsFoldedLeaf, IsWholeLeaf};
+ghost use Rattle.logos_leaf.specs.Words.{literal_tree, KindValue, pattern_tree, source_of, is_token, kind_value, token_of, literal_view, IsReport, definition_view, IsRead, pattern_text, subst_report, names_of, bytes_of, is_string, escaped_of, leaf_with, token_priority, token_leaf, regex_priority, greedy_faults, tree_report, IsTokenLeaf, IsRegexLeaf, leaf_view, leaf_by, IsFoldedLeaf, IsWholeLeaf};
 
 use crate::fault::{report_greedy_dot, report_overflow};
 use logos_definition::definition::Definition;
@@ -157,22 +157,12 @@ fn check_greedy(
     Ok(())
 }
 
-/// Returns the first priority, or the second one when there is no first.
-fn given_or(first: Option<usize>, second: Option<usize>) -> Option<usize>
-    ensures { result ≡ given_or first second }
-{
-    match first {
-        Some(priority) => Some(priority),
-        None => second,
-    }
-}
-
 /// Returns the priority of a pattern: the given one, or its default if that fits `usize`.
 fn regex_priority(definition: &Definition<'_>, pattern: &Pattern<'_>) -> Option<usize>
     ensures { result
         ≡ regex_priority (definition_view definition.now) (pattern_tree pattern.now) }
 {
-    given_or(definition.priority, pattern.priority())
+    definition.priority.or(pattern.priority())
 }
 
 /// Returns a pattern with its priority: the given one, or its default. Returns `None` when its

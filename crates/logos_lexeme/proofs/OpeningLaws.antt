@@ -6,7 +6,7 @@ use Rattle.std.proofs.lemmas.List.Sums.{prefix_len_passes, prefix_len_stops}
 use Rattle.std.specs.Char.{is_ascii_digit}
 use Rattle.logos_lexeme.specs.LexemeCharacters.{character, past, is_space}
 use Rattle.logos_lexeme.specs.LexemeOpenings.{hashes, raw_opening, string_opening, character_opening, bytes_opening, literal_opening, line_kind, block_kind, comment_opening, name_at, single_kind, other_opening, is_lifetime_name, literal_at, opening_at, prefix_of}
-use Rattle.logos_lexeme.specs.declared.lexeme.Kind.{Kind}
+use Rattle.logos_lexeme.specs.declared.lexeme.LexemeKind.{LexemeKind}
 use Rattle.logos_lexeme.specs.declared.lexeme.openings.Content.{Content}
 use Rattle.logos_lexeme.specs.declared.lexeme.openings.Content.TheVariants.{Text, Bytes, C}
 use Rattle.logos_lexeme.specs.declared.lexeme.openings.Opening.{Opening}
@@ -51,7 +51,7 @@ gives-or : (P : Opening → Type 0) (o : Option Opening) (other : Opening) → G
 gives-or P None other g p = p
 gives-or P (Some x) other g p = g
 
-single-or : (P : Opening → Type 0) → ((kind : Kind) → P (Single kind)) → P Nothing → (o : Option Kind) → P (unwrap_or (option_map Single o) Nothing)
+single-or : (P : Opening → Type 0) → ((kind : LexemeKind) → P (Single kind)) → P Nothing → (o : Option LexemeKind) → P (unwrap_or (option_map Single o) Nothing)
 single-or P single nothing None = nothing
 single-or P single nothing (Some kind) = single kind
 
@@ -88,14 +88,14 @@ module _ (P : Opening → Type 0) (bytes : List ℕ) where
   unfolding literal_at
   literal_at-gives at gives = cond_both (is_lifetime_name bytes at) _ _ (Gives P) (λ _. tt) (λ _. gives)
 
-  comment-gives : (at : ℕ) → ((kind : Kind) → get_or bytes (at + 1) 0 ≡ 47 → P (Line kind)) → ((kind : Kind) → P (Block kind)) → Gives P (comment_opening bytes at)
+  comment-gives : (at : ℕ) → ((kind : LexemeKind) → get_or bytes (at + 1) 0 ≡ 47 → P (Line kind)) → ((kind : LexemeKind) → P (Block kind)) → Gives P (comment_opening bytes at)
   unfolding comment_opening
   comment-gives at line block =
       cond_both (not (get_or bytes at 0 == 47)) _ _ (Gives P) (λ _. tt) (λ _.
       cond_both (get_or bytes (at + 1) 0 == 47) _ _ (Gives P) (λ e. line (line_kind bytes (at + 2)) (eqb-true (get_or bytes (at + 1) 0) 47 e)) (λ _.
       cond_both (get_or bytes (at + 1) 0 == 42) _ _ (Gives P) (λ _. block (block_kind bytes (at + 2))) (λ _. tt)))
 
-  other-gives : (at : ℕ) → P Space → P Word → ((kind : Kind) → P (Single kind)) → P Nothing → P (other_opening bytes at)
+  other-gives : (at : ℕ) → P Space → P Word → ((kind : LexemeKind) → P (Single kind)) → P Nothing → P (other_opening bytes at)
   unfolding other_opening
   other-gives at space word single nothing =
       cond_both (is_space (character bytes at)) _ _ P (λ _. space) (λ _.
@@ -104,8 +104,8 @@ module _ (P : Opening → Type 0) (bytes : List ℕ) where
 
   opening-gives : (at : ℕ) → P Number → ((content : Content) → get_or bytes (at + prefix_of content) 0 ≡ 34 → P (Quotes content)) → ((content : Content) (count : ℕ) → get_or bytes (at + prefix_of content + 1 + count) 0 ≡ 34 → P (Raw content count)) → ((content : Content) → P (Apostrophes content)) →
       (get_or bytes at 0 ≡ 39 → get_or bytes (past bytes (at + 1)) 0 ≡ 39 → P Character) →
-      ((kind : Kind) → get_or bytes (at + 1) 0 ≡ 47 → P (Line kind)) → ((kind : Kind) → P (Block kind)) →
-      P Space → P Word → ((kind : Kind) → P (Single kind)) → P Nothing → P (opening_at bytes at)
+      ((kind : LexemeKind) → get_or bytes (at + 1) 0 ≡ 47 → P (Line kind)) → ((kind : LexemeKind) → P (Block kind)) →
+      P Space → P Word → ((kind : LexemeKind) → P (Single kind)) → P Nothing → P (opening_at bytes at)
   unfolding opening_at
   opening-gives at number quotes raw escaped character line block space word single nothing =
       gives-or P (literal_at bytes at) _ (literal_at-gives at (literal-gives at number quotes raw escaped character))
@@ -115,9 +115,9 @@ module _ (P : Opening → Type 0) (bytes : List ℕ) where
 module _ (bytes : List ℕ) (at : ℕ) where
   -- the two slashes of a line comment are inside
   abbrev LineFits : Opening → Type 0
-  LineFits o = (kind : Kind) → o ≡ Line kind → at + 2 ≤ length bytes
+  LineFits o = (kind : LexemeKind) → o ≡ Line kind → at + 2 ≤ length bytes
 
-  pub line_fits : (kind : Kind) → opening_at bytes at ≡ Line kind → at + 2 ≤ length bytes
+  pub line_fits : (kind : LexemeKind) → opening_at bytes at ≡ Line kind → at + 2 ≤ length bytes
   line_fits = opening-gives LineFits bytes at (λ k e. absurd (cc)) (λ c p k e. absurd (cc)) (λ c n p k e. absurd (cc)) (λ c k e. absurd (cc))
       (λ p q k e. absurd (cc)) (λ kind p k e. omega (arith, inside_from_byte bytes (at + 1) (omega arith))) (λ kind k e. absurd (cc))
       (λ k e. absurd (cc)) (λ k e. absurd (cc)) (λ kind k e. absurd (cc)) (λ k e. absurd (cc))

@@ -6,8 +6,8 @@ use Rattle.logos_lexeme.specs.LexemeCharacters.{character, past, is_space, is_st
 use Rattle.logos_lexeme.specs.declared.lexeme.Spacing.{Spacing}
 use Rattle.logos_lexeme.specs.declared.lexeme.Spacing.TheVariants.{Alone, Joint}
 use Rattle.logos_lexeme.specs.declared.lexeme.Delimiter.TheVariants.{Parenthesis, Bracket, Brace}
-use Rattle.logos_lexeme.specs.declared.lexeme.Kind.{Kind}
-use Rattle.logos_lexeme.specs.declared.lexeme.Kind.TheVariants.{Gap, Identifier, Literal, Doc, Punctuation, Opening as OpeningKind, Closing}
+use Rattle.logos_lexeme.specs.declared.lexeme.LexemeKind.{LexemeKind}
+use Rattle.logos_lexeme.specs.declared.lexeme.LexemeKind.TheVariants.{Gap, Identifier, Literal, Doc, Punctuation, Opening as OpeningKind, Closing}
 use Rattle.logos_lexeme.specs.declared.lexeme.openings.Content.{Content}
 use Rattle.logos_lexeme.specs.declared.lexeme.openings.Content.TheVariants.{Text, Bytes, C}
 use Rattle.logos_lexeme.specs.declared.lexeme.openings.Opening.{Opening}
@@ -53,13 +53,13 @@ literal_opening bytes at =
     else string_opening Text bytes at)))
 
 -- `///` that no `/` follows, and `//!`, are documentation; `at` is the offset after `//`.
-unfoldable pub line_kind : List ℕ → ℕ → Kind
+unfoldable pub line_kind : List ℕ → ℕ → LexemeKind
 line_kind bytes at =
     if (slice_index bytes at == 33) || ((slice_index bytes at == 47) && not (slice_index bytes (at + 1) == 47)) then Doc else Gap
 
 -- `/**` that neither `*` nor `/` follows, and `/*!`, are documentation; `at` is the offset after
 -- `/*`.
-unfoldable pub block_kind : List ℕ → ℕ → Kind
+unfoldable pub block_kind : List ℕ → ℕ → LexemeKind
 block_kind bytes at =
     if (slice_index bytes at == 33) || ((slice_index bytes at == 42) && not ((slice_index bytes (at + 1) == 42) || (slice_index bytes (at + 1) == 47))) then Doc else Gap
 
@@ -84,7 +84,7 @@ spacing bytes at =
     if (is_mark (slice_index bytes at) || (slice_index bytes at == 39)) && not (is_some (comment_opening bytes at)) then Joint else Alone
 
 -- The delimiters.
-unfoldable pub delimiter_kind : ℕ → Option Kind
+unfoldable pub delimiter_kind : ℕ → Option LexemeKind
 delimiter_kind c =
     if c == 40 then Some (OpeningKind Parenthesis)
     else (if c == 41 then Some (Closing Parenthesis)
@@ -96,7 +96,7 @@ delimiter_kind c =
 
 -- A lexeme of one character: punctuation, the `'` of a lifetime, a delimiter, or U+FEFF
 -- that a text may begin with.
-unfoldable pub single_kind : List ℕ → ℕ → Option Kind
+unfoldable pub single_kind : List ℕ → ℕ → Option LexemeKind
 single_kind bytes at =
     let c = character bytes at in
     if is_mark c then Some (Punctuation (spacing bytes (past bytes at)))
@@ -138,7 +138,7 @@ prefix_of Bytes = 1
 prefix_of C = 1
 
 -- The kind of a lexeme that opens so.
-abbrev pub kind_of : Opening → Kind
+abbrev pub kind_of : Opening → LexemeKind
 kind_of Space = Gap
 kind_of (Line kind) = kind
 kind_of (Block kind) = kind

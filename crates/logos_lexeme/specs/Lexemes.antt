@@ -5,19 +5,19 @@ use Rattle.logos_lexeme.specs.LexemeOpenings.{opening_at, kind_of}
 use Rattle.logos_lexeme.specs.LexemeEnds.{Ends, IsSuffix}
 use Rattle.logos_lexeme.specs.LiteralBodies.{IsSound}
 use Rattle.logos_lexeme.specs.declared.lexeme.Span.{Span}
-use Rattle.logos_lexeme.specs.declared.lexeme.Kind.{Kind}
-use Rattle.logos_lexeme.specs.declared.lexeme.Kind.TheVariants.{Literal}
+use Rattle.logos_lexeme.specs.declared.lexeme.LexemeKind.{LexemeKind}
+use Rattle.logos_lexeme.specs.declared.lexeme.LexemeKind.TheVariants.{Literal}
 use Rattle.logos_lexeme.specs.declared.lexeme.LexicalKind.{LexicalKind}
 use Rattle.logos_lexeme.specs.declared.lexeme.LexicalKind.TheVariants.{BadCharacter, BadLiteral, Unterminated, Unbalanced}
 use Rattle.logos_lexeme.specs.declared.lexeme.openings.Opening.TheVariants.{Nothing}
 
 -- A literal reaches to the end of its suffix; anything else has no suffix.
-abbrev pub IsSuffixed : List ℕ → Kind → ℕ → ℕ → Type 0
+abbrev pub IsSuffixed : List ℕ → LexemeKind → ℕ → ℕ → Type 0
 IsSuffixed bytes Literal end to = IsSuffix bytes end to
 IsSuffixed bytes _ end to = to ≡ end
 
 -- The next lexeme or gap: what opens at `from` ends, keeps to its rules, and is of this kind.
-pub record IsNext (bytes : List ℕ) (from : ℕ) (kind : Kind) (to : ℕ) : Type 0 where
+pub record IsNext (bytes : List ℕ) (from : ℕ) (kind : LexemeKind) (to : ℕ) : Type 0 where
   pub end : ℕ
   pub ends : Ends bytes from (opening_at bytes from) end
   pub sound : IsSound bytes from (opening_at bytes from) end

@@ -49,7 +49,7 @@ pub enum Delimiter {
 
 /// The kinds of lexemes and gaps.
 #[derive(Clone, Copy, Debug, PartialEq, Eq)]
-pub enum Kind {
+pub enum LexemeKind {
     /// White space, a comment that is not documentation, or U+FEFF at the start of the
     /// text.
     Gap,
@@ -90,7 +90,7 @@ pub enum LexicalKind {
 /// `Unterminated` with the span up to the end of the source if a literal or a comment does not end,
 /// and `BadLiteral` with the span of the literal without its suffix if it breaks its rules.
 /// Delimiters are not matched here, so `Unbalanced` is never returned.
-pub fn lexeme_at(source: &str, from: usize) -> Result<(Kind, usize), (LexicalKind, Span)>
+pub fn lexeme_at(source: &str, from: usize) -> Result<(LexemeKind, usize), (LexicalKind, Span)>
     requires inside { from < length source.now }
     requires boundary { IsCharBoundary source.now from }
     ensures ok { IfOk result (λ r. IsNext source.now from r.0 r.1) }
@@ -109,7 +109,7 @@ pub fn lexeme_at(source: &str, from: usize) -> Result<(Kind, usize), (LexicalKin
         return Err((LexicalKind::BadLiteral, Span { from, to: end }));
     }
     match kind_of(opens) {
-        Kind::Literal => Ok((Kind::Literal, suffix_end(source, end))),
+        LexemeKind::Literal => Ok((LexemeKind::Literal, suffix_end(source, end))),
         kind => Ok((kind, end)),
     }
 }

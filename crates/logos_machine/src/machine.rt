@@ -55,7 +55,7 @@ pub struct Lexer<'c, 's, 'i, C> {
 impl<'c, 's, 'i, C> Model for Lexer<'c, 's, 'i, C> {
     ghost use Rattle.std.specs.Prelude.{◌≤◌, [], length};
     ghost use Rattle.logos_machine.specs.Views.{codes, named, LexerValue};
-    ghost use Rattle.logos_type.specs.contracts.type_expr.Part as p;
+    ghost use Rattle.logos_type.specs.contracts.type_expr.TypePart as p;
 
     ghost Value = { LexerValue C };
 

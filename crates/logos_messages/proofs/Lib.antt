@@ -1,5 +1,3 @@
-pub mod QuietLemmas
 pub mod LineLemmas
 pub mod MessageLemmas
-pub mod PieceLemmas
 pub mod WarningLemmas

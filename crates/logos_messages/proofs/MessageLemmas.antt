@@ -1,62 +1,76 @@
--- The lines of faults, one after another.
-use Rattle.std.proofs.Common.{◌≡◌, ◌≤◌, ◌<◌, ◌+◌, ℕ, List, [], ◌++◌, length, get_or, drop, append_assoc, true, false, Option, Some, None, IfSome, option_map, sym, ap, ◌∙◌, refl, subst}
-use Rattle.std.proofs.lemmas.List.{append-nil}
-use Rattle.std.proofs.Math.ListN.{drop_of_length-le}
-use Rattle.logos_token.specs.declared.error.SpannedError.{SpannedError}
-use Rattle.logos_token.specs.FaultView.{fault_of, faults_of}
-use Rattle.logos_report.specs.Places.{SourceValue}
-use Rattle.logos_report.proofs.FaultLemmas.{next_left}
-use Rattle.logos_token.specs.Faults.{Fault}
-use Rattle.logos_report.specs.Faults.{fault_texts}
+-- The lines of faults, one after another, and those of parts of a file.
+use Rattle.std.proofs.Common.{◌≡◌, ◌≤◌, ◌<◌, ◌+◌, ℕ, List, [], ◌∷◌, ◌++◌, length, get_or, drop, take, Option, Some, None, IfSome, option_map, sym, ap, ◌∙◌, refl, subst}
+use Rattle.std.proofs.lemmas.List.{drop_all, drop_more}
+use Rattle.json.specs.Token.{Token}
+use Rattle.logos_json.proofs.LineLemmas.{one_put, put_text, puts_nothing, puts_then}
+use Rattle.logos_json.specs.Lines.{Ends, Finishes, LinesValue, Puts}
+use Rattle.logos_lexeme.specs.declared.lexeme.Span.{Span}
+use Rattle.logos_report.proofs.FaultLemmas.{next_front}
+use Rattle.logos_report.proofs.PartLemmas.{front_more}
+use Rattle.logos_report.specs.declared.refused.Refused.{Refused}
 use Rattle.logos_report.specs.Pages.{StandInOrder}
+use Rattle.logos_report.specs.Parts.{all_faults}
+use Rattle.logos_report.specs.Places.{SourceValue}
+use Rattle.logos_token.specs.declared.error.SpannedError.{SpannedError}
+use Rattle.logos_token.specs.Faults.{Fault}
+use Rattle.logos_token.specs.FaultView.{fault_of, faults_of}
 use Rattle.logos_messages.specs.Growing.{GivesMessage}
-use Rattle.logos_messages.specs.Lines.{Finishes, LineValue}
-use Rattle.logos_messages.specs.Messages.{AreMessages, IsMessage}
-use Rattle.logos_messages.specs.Shown.{Shown}
-use Rattle.logos_messages.specs.Tokens.{fault_tokens}
-use Rattle.logos_messages.proofs.LineLemmas.{finished}
+use Rattle.logos_messages.specs.Messages.{AreMessages, AreRefusedMessages, LinesAfter, PartLines, PutsAfter, PutsCounted, PutsFrom}
+use Rattle.logos_messages.specs.Shown.{IsShown, Shown}
+use Rattle.logos_messages.specs.Tokens.{diagnostic_tokens}
 
--- The line of the next fault, and those after it.
-pub next_message : (source : SourceValue) (begin : ℕ) (faults : List SpannedError) (i : ℕ) (d : SpannedError) (line rest : List ℕ) → i < length faults →
-    IsMessage source begin (fault_of (get_or faults i d)) line → AreMessages source begin (faults_of (drop (i + 1) faults)) rest → AreMessages source begin (faults_of (drop i faults)) (line ++ rest)
-next_message source begin faults i d line rest l m r =
-    subst (λ list. AreMessages source begin (faults_of list) (line ++ rest)) (sym (next_left faults i d l)) (line, rest, refl, m, r)
+-- the lines for the next fault, and for those after it
+pub next_counted : (source : SourceValue) (begin : ℕ) (all earlier : List Fault) (faults : List SpannedError) (i : ℕ) (d : SpannedError) {old middle new : LinesValue} → i < length faults →
+    PutsCounted source begin all (earlier ++ faults_of (take i faults)) (fault_of (get_or faults i d)) old middle →
+    PutsAfter source begin all (earlier ++ faults_of (take (i + 1) faults)) (faults_of (drop (i + 1) faults)) middle new →
+    PutsAfter source begin all (earlier ++ faults_of (take i faults)) (faults_of (drop i faults)) old new
+next_counted source begin all earlier faults i d {old} {middle} {new} l one rest =
+    let front = earlier ++ faults_of (take i faults) in
+    let later = subst (λ f. LinesAfter source begin all f (faults_of (drop (i + 1) faults)) rest.0) (next_front earlier faults i d l) rest.1 in
+    subst (λ list. PutsAfter source begin all front (faults_of list) old new) (sym (drop_more faults i d l)) (one.0 ++ rest.0, (one.0, rest.0, refl, one.1, later), puts_then one.2 rest.2)
 
--- The lines so far, with that of the next fault.
-pub next_lines : (source : SourceValue) (begin : ℕ) (faults : List SpannedError) (i : ℕ) (d : SpannedError) (lines line all : List ℕ) → i < length faults → all ≡ lines ++ line →
-    IsMessage source begin (fault_of (get_or faults i d)) line →
-    ((rest : List ℕ) → AreMessages source begin (faults_of (drop i faults)) rest → AreMessages source begin (faults_of faults) (lines ++ rest)) →
-    (rest : List ℕ) → AreMessages source begin (faults_of (drop (i + 1) faults)) rest → AreMessages source begin (faults_of faults) (all ++ rest)
-next_lines source begin faults i d lines line all l e m completes rest r =
-    let whole : lines ++ (line ++ rest) ≡ all ++ rest = sym (append_assoc lines line rest) ∙ ap (λ x. x ++ rest) (sym e) in
-    subst (AreMessages source begin (faults_of faults)) whole (completes (line ++ rest) (next_message source begin faults i d line rest l m r))
+-- no fault is left
+pub none_counted : (source : SourceValue) (begin : ℕ) (all front : List Fault) (faults : List SpannedError) (i : ℕ) (lines : LinesValue) → length faults ≤ i →
+    PutsAfter source begin all front (faults_of (drop i faults)) lines lines
+none_counted source begin all front faults i lines l =
+    subst (λ list. PutsAfter source begin all front (faults_of list) lines lines) (sym (drop_all i faults l)) ([], refl, puts_nothing lines)
 
--- No fault is left.
-pub no_message : (source : SourceValue) (begin : ℕ) (faults : List SpannedError) (i : ℕ) → length faults ≤ i → AreMessages source begin (faults_of (drop i faults)) []
-no_message source begin faults i l = subst (λ list. AreMessages source begin (faults_of list) []) (sym (drop_of_length-le faults l)) refl
+-- the lines for the next part, and for those after it
+pub part_then : (source : SourceValue) (parts : List Refused) (number : ℕ) (one : Refused) {old middle : LinesValue} → number < length parts → one ≡ get_or parts number one →
+    PutsAfter source one.offset (all_faults parts) (all_faults (take number parts)) one.errors old middle → (new : LinesValue) → PutsFrom source parts (number + 1) middle new → PutsFrom source parts number old new
+part_then source parts number one {old} {middle} l e puts new rest =
+    let all = all_faults parts in
+    let front = all_faults (take number parts) in
+    let same : all_faults (take (number + 1) parts) ≡ front ++ one.errors = front_more parts number one l ∙ ap (λ (x : Refused). front ++ x.errors) (sym e) in
+    let later = subst (λ f. PartLines source all f (drop (number + 1) parts) rest.0) same rest.1 in
+    let next : drop number parts ≡ one ∷ drop (number + 1) parts = drop_more parts number one l ∙ ap (λ (x : Refused). x ∷ drop (number + 1) parts) (sym e) in
+    (puts.0 ++ rest.0, subst (λ list. PartLines source all front list (puts.0 ++ rest.0)) (sym next) (puts.0, rest.0, refl, puts.1, later), puts_then puts.2 rest.2)
 
-pub all_lines : (source : SourceValue) (begin : ℕ) (faults : List SpannedError) (i : ℕ) (lines : List ℕ) → length faults ≤ i →
-    ((rest : List ℕ) → AreMessages source begin (faults_of (drop i faults)) rest → AreMessages source begin (faults_of faults) (lines ++ rest)) → AreMessages source begin (faults_of faults) lines
-all_lines source begin faults i lines l completes = subst (AreMessages source begin (faults_of faults)) (append-nil lines) (completes [] (no_message source begin faults i l))
+-- no part is left
+pub none_left : (source : SourceValue) (parts : List Refused) (number : ℕ) (lines : LinesValue) → length parts ≤ number → PutsFrom source parts number lines lines
+none_left source parts number lines l =
+    ([], subst (λ list. PartLines source (all_faults parts) (all_faults (take number parts)) list []) (sym (drop_all number parts l)) refl, puts_nothing lines)
 
--- What holds of the bytes of a text that may be there.
+-- a text that may be there, and its bytes
 of_bytes : {S : Type 0} (bytes : S → List ℕ) (P : List ℕ → Type 0) (text : Option S) → IfSome text (λ t. P (bytes t)) → IfSome (option_map bytes text) P
 of_bytes bytes P (Some text) h = h
 of_bytes bytes P None h = tt
 
--- The line of a fault is finished.
-pub message_of : {S : Type 0} (bytes : S → List ℕ) (source : SourceValue) (begin : ℕ) (fault : Fault) {lines out : List ℕ} {first last : LineValue} (rendered : Option S) (shown : Option (List ℕ)) →
-    shown ≡ option_map bytes rendered → IfSome rendered (λ text. StandInOrder (fault_texts false source begin fault) (bytes text)) → first ≡ record { before = lines; tokens = []; is_whole = true } →
-    GivesMessage source begin fault shown first last → Finishes last out → (line : List ℕ) × (out ≡ lines ++ line) × IsMessage source begin fault line
-message_of bytes source begin fault rendered shown e h f g d =
-    let all : Shown = record { lines = g.lines; other_lines = g.other_lines; notes = g.notes; rendered = shown } in
-    let done = finished (fault_tokens source begin fault all) f g.gained d in
-    let P : List ℕ → Type 0 = λ text. StandInOrder (fault_texts false source begin fault) text in (
-      done.0,
-      done.1,
-      record {
-        shown = all;
-        may = record { lines = g.are; other_lines = g.are_other; rendered = subst (λ o. IfSome o P) (sym e) (of_bytes bytes P rendered h) };
-        line = done.2;
-      },
+-- what was pushed with this report, and then ended, is a line
+pub message_put : {S : Type 0} (bytes : S → List ℕ) (source : SourceValue) (begin : ℕ) (head : List Token) (span : Span) (also : Option Span) (texts : List (List ℕ)) {old middle new : LinesValue} (rendered : Option S)
+    (text : Option (List ℕ)) → text ≡ option_map bytes rendered → IfSome rendered (λ t. StandInOrder texts (bytes t)) → GivesMessage source begin head span also text old middle → Ends middle new →
+    (shown : Shown) × IsShown source texts shown × Puts (diagnostic_tokens source begin head span also shown ∷ []) old new
+message_put bytes source begin head span also texts rendered text e h g ends =
+    let P : List ℕ → Type 0 = λ t. StandInOrder texts t in (
+      g.shown,
+      record { lines = g.lines; other_lines = g.other_lines; rendered = subst (λ o. IfSome o P) (sym (g.is ∙ e)) (of_bytes bytes P rendered h) },
+      one_put g.gained ends,
     )
+
+-- the bytes of these lines
+pub messages_written : (source : SourceValue) (begin : ℕ) (faults : List Fault) (first last : LinesValue) (bytes : List ℕ) → first.before ≡ [] → first.tokens ≡ [] → PutsAfter source begin faults [] faults first last → Finishes last bytes →
+    AreMessages source begin faults bytes
+messages_written source begin faults first last bytes e t puts finishes = (puts.0, puts.1, put_text puts.0 first last bytes e t puts.2 finishes)
+
+pub refused_written : (source : SourceValue) (parts : List Refused) (first last : LinesValue) (bytes : List ℕ) → first.before ≡ [] → first.tokens ≡ [] → PutsFrom source parts 0 first last → Finishes last bytes → AreRefusedMessages source parts bytes
+refused_written source parts first last bytes e t puts finishes = (puts.0, puts.1, put_text puts.0 first last bytes e t puts.2 finishes)

@@ -1,4 +1,3 @@
-pub mod Lines
 pub mod Shown
 pub mod Tokens
 pub mod Growing

@@ -1,19 +1,81 @@
--- The lines of faults.
-use Rattle.std.specs.Prelude.{◌≡◌, ℕ, List, [], ◌∷◌, ◌++◌}
+-- The lines of faults: of those of one code 50, and how many more there are.
+use Rattle.std.specs.Prelude.{◌≡◌, ◌==◌, nat_lt, ℕ, Bool, true, false, List, [], ◌∷◌, ◌++◌, drop, take}
+use Rattle.json.specs.Token.{Token}
+use Rattle.logos_json.specs.Lines.{AreLines, LinesValue, Puts}
+use Rattle.logos_report.specs.declared.refused.Refused.{Refused}
+use Rattle.logos_report.specs.Faults.{fault_texts, left_out, rest_line, seen_of}
+use Rattle.logos_report.specs.Pages.{StandInOrder}
+use Rattle.logos_report.specs.Parts.{all_faults}
 use Rattle.logos_report.specs.Places.{SourceValue}
 use Rattle.logos_token.specs.Faults.{Fault}
-use Rattle.logos_messages.specs.Lines.{IsLine}
+use Rattle.logos_token.specs.declared.error.fault_code.FaultCode.{FaultCode}
 use Rattle.logos_messages.specs.Shown.{IsShown, Shown}
-use Rattle.logos_messages.specs.Tokens.{fault_tokens}
+use Rattle.logos_messages.specs.Tokens.{fault_tokens, rest_tokens}
 
--- These bytes are the line of a fault of the part of a file that begins at an offset.
-pub record IsMessage (source : SourceValue) (begin : ℕ) (fault : Fault) (bytes : List ℕ) : Type 0 where
+-- These tokens are the line of a fault of the part of a file that begins at an offset: the report
+-- has the line of the fault and the one that names its position.
+pub record IsFaultLine (source : SourceValue) (begin : ℕ) (fault : Fault) (tokens : List Token) : Type 0 where
   pub shown : Shown
-  pub may : IsShown source begin fault shown
-  pub line : IsLine (fault_tokens source begin fault shown) bytes
+  pub may : IsShown source (fault_texts false source begin fault) shown
+  pub is : tokens ≡ fault_tokens source begin fault shown
 
--- These bytes are the lines of faults, one for each, in order.
+-- These tokens are the line that says how many faults of a code are left out, as its report does.
+pub record IsRestLine (code : FaultCode) (count : ℕ) (tokens : List Token) : Type 0 where
+  pub rendered : List ℕ
+  pub stands : StandInOrder (rest_line false code count ∷ []) rendered
+  pub is : tokens ≡ rest_tokens code count rendered
+
+-- The lines for a fault: its own if it is shown, and else how many are left out, at the first of
+-- these.
+abbrev pub LinesFor : Bool → Bool → SourceValue → ℕ → Fault → ℕ → List (List Token) → Type 0
+LinesFor true is_first source begin fault count lines = (line : List Token) × IsFaultLine source begin fault line × (lines ≡ line ∷ [])
+LinesFor false true source begin fault count lines = (line : List Token) × IsRestLine fault.code count line × (lines ≡ line ∷ [])
+LinesFor false false source begin fault count lines = lines ≡ []
+
+-- The lines for a fault of a list, after those in front of it: it is shown if fewer than 50 in
+-- front have its code.
+abbrev pub CountedLines : SourceValue → ℕ → List Fault → List Fault → Fault → List (List Token) → Type 0
+CountedLines source begin all front fault lines =
+    LinesFor (nat_lt (seen_of fault.code front) 50) (seen_of fault.code front == 50) source begin fault (left_out fault.code all) lines
+
+-- The same for the faults after some in front, in order.
+abbrev pub LinesAfter : SourceValue → ℕ → List Fault → List Fault → List Fault → List (List Token) → Type 0
+LinesAfter source begin all front [] lines = lines ≡ []
+LinesAfter source begin all front (fault ∷ faults) lines =
+    (first rest : List (List Token)) × (lines ≡ first ++ rest) × CountedLines source begin all front fault first × LinesAfter source begin all (front ++ fault ∷ []) faults rest
+
+-- The same for parts of a file, one after another, where the first faults are those of all parts,
+-- and the others those of the parts in front.
+abbrev pub PartLines : SourceValue → List Fault → List Fault → List Refused → List (List Token) → Type 0
+PartLines source all front [] lines = lines ≡ []
+PartLines source all front (part ∷ parts) lines =
+    (first rest : List (List Token)) × (lines ≡ first ++ rest) × LinesAfter source part.offset all front part.errors first × PartLines source all (front ++ part.errors) parts rest
+
+-- These bytes are the lines of the faults of the part of a file that begins at an offset.
 abbrev pub AreMessages : SourceValue → ℕ → List Fault → List ℕ → Type 0
-AreMessages source begin [] lines = lines ≡ []
-AreMessages source begin (fault ∷ faults) lines =
-    (first rest : List ℕ) × (lines ≡ first ++ rest) × IsMessage source begin fault first × AreMessages source begin faults rest
+AreMessages source begin faults text = (lines : List (List Token)) × LinesAfter source begin faults [] faults lines × AreLines lines text
+
+-- These bytes are the lines of the faults of all parts of a file.
+abbrev pub AreRefusedMessages : SourceValue → List Refused → List ℕ → Type 0
+AreRefusedMessages source parts text = (lines : List (List Token)) × PartLines source (all_faults parts) [] parts lines × AreLines lines text
+
+-- These lines were pushed.
+abbrev pub PutsCounted : SourceValue → ℕ → List Fault → List Fault → Fault → LinesValue → LinesValue → Type 0
+PutsCounted source begin all front fault old new = (lines : List (List Token)) × CountedLines source begin all front fault lines × Puts lines old new
+
+-- The line of a fault was pushed.
+abbrev pub PutsFault : SourceValue → ℕ → Fault → LinesValue → LinesValue → Type 0
+PutsFault source begin fault old new = (line : List Token) × IsFaultLine source begin fault line × Puts (line ∷ []) old new
+
+-- The line that says how many faults of a code are left out was pushed.
+abbrev pub PutsRest : FaultCode → ℕ → LinesValue → LinesValue → Type 0
+PutsRest code count old new = (line : List Token) × IsRestLine code count line × Puts (line ∷ []) old new
+
+-- The lines for the faults after some in front were pushed.
+abbrev pub PutsAfter : SourceValue → ℕ → List Fault → List Fault → List Fault → LinesValue → LinesValue → Type 0
+PutsAfter source begin all front faults old new = (lines : List (List Token)) × LinesAfter source begin all front faults lines × Puts lines old new
+
+-- The lines for the parts of a file from one with this number on were pushed.
+abbrev pub PutsFrom : SourceValue → List Refused → ℕ → LinesValue → LinesValue → Type 0
+PutsFrom source parts number old new =
+    (lines : List (List Token)) × PartLines source (all_faults parts) (all_faults (take number parts)) (drop number parts) lines × Puts lines old new

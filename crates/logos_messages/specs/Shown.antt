@@ -1,10 +1,8 @@
--- What is shown of a fault beside itself.
-use Rattle.std.specs.Prelude.{ℕ, List, [], ◌∷◌, Option, IfSome, false}
+-- What is shown of a fault or a warning beside itself.
+use Rattle.std.specs.Prelude.{ℕ, List, [], ◌∷◌, Option, IfSome}
 use Rattle.logos_lines.specs.Starts.{IsLineOf}
 use Rattle.logos_report.specs.Places.{SourceValue}
 use Rattle.logos_report.specs.Pages.{StandInOrder}
-use Rattle.logos_report.specs.Faults.{fault_texts}
-use Rattle.logos_token.specs.Faults.{Fault}
 
 -- A line of a file, and the columns of a span in it, without the last one.
 pub record Marked : Type 0 where
@@ -17,8 +15,8 @@ pub record Note : Type 0 where
   pub level : List ℕ
   pub text : List ℕ
 
--- What is shown of a fault beside itself: lines of the file at its span and at its second one,
--- notes and helps, and its report.
+-- What is shown of a fault or a warning beside itself: lines of the file at its span and at its
+-- second one, notes and helps, and its report.
 pub record Shown : Type 0 where
   pub lines : List Marked
   pub other_lines : List Marked
@@ -26,13 +24,13 @@ pub record Shown : Type 0 where
   pub rendered : Option (List ℕ)
 
 -- These are lines of a file.
-abbrev pub AreLines : List ℕ → List Marked → Type 0
-AreLines text [] = Unit {0}
-AreLines text (line ∷ lines) = ((number : ℕ) × IsLineOf text number line.text) × AreLines text lines
+abbrev pub AreLinesOf : List ℕ → List Marked → Type 0
+AreLinesOf text [] = Unit {0}
+AreLinesOf text (line ∷ lines) = ((number : ℕ) × IsLineOf text number line.text) × AreLinesOf text lines
 
--- This may be shown of a fault of the part of a file that begins at an offset: the lines are lines
--- of the file, and the report has the line of the fault and the one that names its position.
-pub record IsShown (source : SourceValue) (begin : ℕ) (fault : Fault) (shown : Shown) : Type 0 where
-  pub lines : AreLines source.text shown.lines
-  pub other_lines : AreLines source.text shown.other_lines
-  pub rendered : IfSome shown.rendered (λ text. StandInOrder (fault_texts false source begin fault) text)
+-- This may be shown: the lines are lines of the file, and these texts stand in the report, in
+-- order.
+pub record IsShown (source : SourceValue) (texts : List (List ℕ)) (shown : Shown) : Type 0 where
+  pub lines : AreLinesOf source.text shown.lines
+  pub other_lines : AreLinesOf source.text shown.other_lines
+  pub rendered : IfSome shown.rendered (λ text. StandInOrder texts text)

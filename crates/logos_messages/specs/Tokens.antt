@@ -1,38 +1,19 @@
--- The tokens of a fault, in rustc's schema of diagnostics.
-use Rattle.std.specs.Prelude.{ℕ, List, [], ◌∷◌, ◌++◌, Bool, true, false, Option, Some, None, if◌then◌else◌, codes, decimal}
+-- The tokens of faults and warnings, in rustc's schema of diagnostics.
+use Rattle.std.specs.Prelude.{ℕ, List, [], ◌∷◌, ◌++◌, true, false, Option, Some, None, if◌then◌else◌, codes, decimal, string_bytes}
 use Rattle.std.specs.List.{flat_map}
-use Rattle.json.specs.Token.{Token, begin_array, begin_object, boolean, end_array, end_object, key, null, number, string}
+use Rattle.json.specs.Token.{Token, begin_object, end_object, key}
+use Rattle.logos_json.specs.Members.{bool_member, list_member, maybe_text, null_member, number_member, text_member}
 use Rattle.logos_lexeme.specs.declared.lexeme.Span.{Span}
 use Rattle.logos_lines.specs.declared.place.Position.{Position}
 use Rattle.logos_lines.specs.Places.{place_at}
 use Rattle.logos_report.specs.Codes.{is_error}
 use Rattle.logos_report.specs.Faults.{first_line}
 use Rattle.logos_report.specs.Places.{SourceValue, in_file}
+use Rattle.logos_report.specs.declared.warnings.Warning.{Warning}
 use Rattle.logos_token.specs.FaultNames.{name_of}
 use Rattle.logos_token.specs.Faults.{Fault}
 use Rattle.logos_token.specs.declared.error.fault_code.FaultCode.{FaultCode}
 use Rattle.logos_messages.specs.Shown.{Marked, Note, Shown}
-
--- A member with a text, with a number, with true or false, with null, and with a text or null.
-abbrev pub text_member : List ℕ → List ℕ → List Token
-text_member name text = key name ∷ string text ∷ []
-
-abbrev pub number_member : List ℕ → ℕ → List Token
-number_member name value = key name ∷ number (decimal value) ∷ []
-
-abbrev pub bool_member : List ℕ → Bool → List Token
-bool_member name value = key name ∷ boolean value ∷ []
-
-abbrev pub null_member : List ℕ → List Token
-null_member name = key name ∷ null ∷ []
-
-abbrev pub maybe_member : List ℕ → Option (List ℕ) → List Token
-maybe_member name (Some text) = text_member name text
-maybe_member name None = null_member name
-
--- A member with a list of these tokens.
-abbrev pub list_member : List ℕ → List Token → List Token
-list_member name items = key name ∷ begin_array ∷ (items ++ end_array ∷ [])
 
 -- A line of a file with the columns of a span in it.
 abbrev pub marked_tokens : Marked → List Token
@@ -79,23 +60,54 @@ note_tokens note =
 abbrev pub error_tokens : FaultCode → List Token
 error_tokens code = key (codes "code") ∷ begin_object ∷ (text_member (codes "code") (name_of code) ++ (null_member (codes "explanation") ++ end_object ∷ []))
 
--- The code and the level of a fault. That of an earlier definition is a note.
-abbrev pub code_tokens : FaultCode → List Token
-code_tokens code =
-    if is_error code then error_tokens code ++ text_member (codes "level") (codes "error")
-    else null_member (codes "code") ++ text_member (codes "level") (codes "note")
+-- The code of a fault, as a member. An earlier definition, which a fault speaks of, has none.
+abbrev pub code_member : FaultCode → List Token
+code_member code = if is_error code then error_tokens code else null_member (codes "code")
 
--- What a line of a fault begins with: that it is a diagnostic, its message, its code and its level.
-abbrev pub head_tokens : Fault → List Token
-head_tokens fault = text_member (codes "$message_type") (codes "diagnostic") ++ (text_member (codes "message") (first_line fault.message) ++ code_tokens fault.code)
+-- The level of a fault. That of an earlier definition is a note.
+abbrev pub level_of : FaultCode → List ℕ
+level_of code = if is_error code then codes "error" else codes "note"
 
--- The spans of a fault.
-abbrev pub spans_tokens : SourceValue → ℕ → Fault → List Marked → List Marked → List Token
-spans_tokens source begin fault lines other_lines =
-    list_member (codes "spans") (span_tokens source begin fault.span None lines ++ other_tokens source begin fault.also other_lines)
+-- That a line is a diagnostic, and its message.
+abbrev pub message_tokens : List ℕ → List Token
+message_tokens message = text_member (codes "$message_type") (codes "diagnostic") ++ text_member (codes "message") message
 
--- A fault with what is shown of it.
+-- What a line begins with: that it is a diagnostic, its message, its code and its level.
+abbrev pub head_tokens : List ℕ → List Token → List ℕ → List Token
+head_tokens message code level = message_tokens message ++ (code ++ text_member (codes "level") level)
+
+-- The same of a fault, and of a warning with this message.
+abbrev pub fault_head : Fault → List Token
+fault_head fault = head_tokens (first_line fault.message) (code_member fault.code) (level_of fault.code)
+
+abbrev pub warning_head : List ℕ → List Token
+warning_head message = head_tokens message (null_member (codes "code")) (codes "warning")
+
+-- The spans of a fault or a warning: the one that it is about, and the second one, if it has one.
+abbrev pub spans_tokens : SourceValue → ℕ → Span → Option Span → List Marked → List Marked → List Token
+spans_tokens source begin span also lines other_lines =
+    list_member (codes "spans") (span_tokens source begin span None lines ++ other_tokens source begin also other_lines)
+
+-- What begins with this head and is about this span, and perhaps about a second one, with what is
+-- shown of it.
+abbrev pub diagnostic_tokens : SourceValue → ℕ → List Token → Span → Option Span → Shown → List Token
+diagnostic_tokens source begin head span also shown =
+    begin_object ∷ (head ++ (spans_tokens source begin span also shown.lines shown.other_lines ++
+    (list_member (codes "children") (flat_map note_tokens shown.notes) ++ (maybe_text (codes "rendered") shown.rendered ++ end_object ∷ []))))
+
+-- A fault, and a warning, with what is shown of it.
 abbrev pub fault_tokens : SourceValue → ℕ → Fault → Shown → List Token
-fault_tokens source begin fault shown =
-    begin_object ∷ (head_tokens fault ++ (spans_tokens source begin fault shown.lines shown.other_lines ++
-    (list_member (codes "children") (flat_map note_tokens shown.notes) ++ (maybe_member (codes "rendered") shown.rendered ++ end_object ∷ []))))
+fault_tokens source begin fault shown = diagnostic_tokens source begin (fault_head fault) fault.span fault.also shown
+
+abbrev pub warning_tokens : SourceValue → ℕ → Warning → Shown → List Token
+warning_tokens source begin warning shown = diagnostic_tokens source begin (warning_head (string_bytes warning.message)) warning.span warning.also shown
+
+-- That faults of a code are left out, with this message and this report.
+abbrev pub left_out_tokens : List ℕ → FaultCode → List ℕ → List Token
+left_out_tokens message code rendered =
+    begin_object ∷ (head_tokens message (code_member code) (codes "failure-note") ++
+    (list_member (codes "spans") [] ++ (list_member (codes "children") [] ++ (text_member (codes "rendered") rendered ++ end_object ∷ []))))
+
+-- The same with the message that says how many these are.
+abbrev pub rest_tokens : FaultCode → ℕ → List ℕ → List Token
+rest_tokens code count rendered = left_out_tokens (decimal count ++ codes " more are not shown") code rendered

@@ -3,14 +3,14 @@
 ghost use Rattle.std.specs.Prelude.{◌≡◌, ◌++◌, ℕ, List, IfOk, OnErr, OnOk, decimal, string_bytes};
 ghost use Rattle.logos_messages.specs.Views.{flat_map, Gains, IsLine, named_piece_tokens, piece_tokens, pieces_tokens, version_tokens};
 
-use crate::line::Line;
+use logos_json::JsonLines;
 use logos_token::error::Memory;
 use std::alloc::{AllocError, Global};
 
 /// A piece of a source: the bytes `from..to`, for which an identifier stands that ends with the
 /// number.
 #[derive(Clone, Copy, Debug, PartialEq, Eq)]
-pub struct Piece {
+pub struct PieceRange {
     pub number: usize,
     pub from: usize,
     pub to: usize,
@@ -35,21 +35,22 @@ pub fn push_version(alloc: Global, lines: &mut Vec<u8>, program: &str) -> Result
 fn version_line(alloc: Global, program: &str) -> Result<Vec<u8>, AllocError>
     ensures { IfOk result (λ line. IsLine (version_tokens program.now) line.items) }
 {
-    let mut line = Line::new(Vec::new(alloc));
-    push_version_object(&mut line, program);
-    let out = line.finish()?;
-    Ok(out)
+    let mut lines = JsonLines::new(alloc, Vec::new(alloc));
+    push_version_object(&mut lines, program);
+    lines.end_line();
+    let line = lines.finish()?;
+    Ok(line)
 }
 
 /// Appends the protocol and the program.
-fn push_version_object(line: &mut Line, program: &str)
-    ensures { Gains (version_tokens program.now) line.old line.new }
+fn push_version_object(lines: &mut JsonLines, program: &str)
+    ensures { Gains (version_tokens program.now) lines.old lines.new }
 {
-    line.begin_object();
-    line.push_text("reason", "version");
-    line.push_number("protocol", 1);
-    line.push_text("program", program);
-    line.end_object();
+    lines.begin_object();
+    lines.push_text("reason", "version");
+    lines.push_number("protocol", 1);
+    lines.push_text("program", program);
+    lines.end_object();
 }
 
 /// Appends the line that lists the pieces. The name of a piece is `prefix` and its number.
@@ -61,7 +62,7 @@ pub fn push_pieces(
     alloc: Global,
     lines: &mut Vec<u8>,
     prefix: &str,
-    pieces: &[Piece],
+    pieces: &[PieceRange],
 ) -> Result<(), Memory>
     ensures pushed { OnOk result ((line : List ℕ) × (lines.new.items ≡ lines.old.items ++ line)
         × IsLine (pieces_tokens prefix.now pieces.now) line) }
@@ -73,33 +74,34 @@ pub fn push_pieces(
 }
 
 /// Returns the line that lists the pieces.
-fn pieces_line(alloc: Global, prefix: &str, pieces: &[Piece]) -> Result<Vec<u8>, AllocError>
+fn pieces_line(alloc: Global, prefix: &str, pieces: &[PieceRange]) -> Result<Vec<u8>, AllocError>
     ensures { IfOk result (λ line. IsLine (pieces_tokens prefix.now pieces.now) line.items) }
 {
-    let mut line = Line::new(Vec::new(alloc));
-    line.begin_object();
-    line.push_text("reason", "pieces");
-    line.begin_list("pieces");
-    push_each_piece(&mut line, alloc, prefix, pieces)?;
-    line.end_list();
-    line.end_object();
-    let out = line.finish()?;
-    Ok(out)
+    let mut lines = JsonLines::new(alloc, Vec::new(alloc));
+    lines.begin_object();
+    lines.push_text("reason", "pieces");
+    lines.begin_list("pieces");
+    push_each_piece(&mut lines, alloc, prefix, pieces)?;
+    lines.end_list();
+    lines.end_object();
+    lines.end_line();
+    let line = lines.finish()?;
+    Ok(line)
 }
 
 /// Appends each piece.
 fn push_each_piece(
-    line: &mut Line,
+    lines: &mut JsonLines,
     alloc: Global,
     prefix: &str,
-    pieces: &[Piece],
+    pieces: &[PieceRange],
 ) -> Result<(), AllocError>
-    ensures { OnOk result (Gains (flat_map (piece_tokens prefix.now) pieces.now) line.old line.new) }
+    ensures { OnOk result (Gains (flat_map (piece_tokens prefix.now) pieces.now) lines.old lines.new) }
 {
     let mut name = String::new(alloc);
     for piece in pieces {
         set_name(&mut name, prefix, piece.number)?;
-        push_piece(line, name.as_str(), *piece);
+        push_piece(lines, name.as_str(), *piece);
     }
     Ok(())
 }
@@ -117,12 +119,12 @@ fn set_name(name: &mut String, prefix: &str, number: usize) -> Result<(), AllocE
 }
 
 /// Appends a piece with this name.
-fn push_piece(line: &mut Line, name: &str, piece: Piece)
-    ensures { Gains (named_piece_tokens name.now piece) line.old line.new }
+fn push_piece(lines: &mut JsonLines, name: &str, piece: PieceRange)
+    ensures { Gains (named_piece_tokens name.now piece) lines.old lines.new }
 {
-    line.begin_object();
-    line.push_text("name", name);
-    line.push_number("from", piece.from);
-    line.push_number("to", piece.to);
-    line.end_object();
+    lines.begin_object();
+    lines.push_text("name", name);
+    lines.push_number("from", piece.from);
+    lines.push_number("to", piece.to);
+    lines.end_object();
 }

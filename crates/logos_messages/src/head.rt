@@ -1,41 +1,54 @@
 //! What the line of a fault begins with.
 
-ghost use Rattle.std.specs.Prelude.{◌≡◌, ◌++◌, [], ◌∷◌, codes};
-ghost use Rattle.logos_messages.specs.Words.{name_of, fault_of, Gains, code_tokens, error_tokens, head_tokens};
+ghost use Rattle.std.specs.Prelude.{◌≡◌, ◌++◌, [], ◌∷◌, codes, if◌then◌else◌};
+ghost use Rattle.logos_messages.specs.Words.{Gains, code_member, error_tokens, fault_head, fault_of, level_of, message_tokens, name_of};
 
-use crate::line::Line;
+use logos_json::JsonLines;
 use logos_report::{first_line, is_error};
 use logos_token::error::{FaultCode, SpannedError};
 
 /// Appends that a line is a diagnostic, and the message, the code and the level of its fault.
-pub(crate) fn push_head(line: &mut Line, fault: &SpannedError)
-    ensures { Gains (head_tokens (fault_of fault.now)) line.old line.new }
+pub(crate) fn push_head(lines: &mut JsonLines, fault: &SpannedError)
+    ensures { Gains (fault_head (fault_of fault.now)) lines.old lines.new }
 {
-    line.push_text("$message_type", "diagnostic");
-    line.push_text("message", first_line(fault.message.as_str()));
-    push_code(line, fault.code);
+    push_message(lines, first_line(fault.message.as_str()));
+    push_code(lines, fault.code);
+    lines.push_text("level", level_of(fault.code));
 }
 
-/// Appends the code and the level of a fault.
-fn push_code(line: &mut Line, code: FaultCode)
-    ensures { Gains (code_tokens code) line.old line.new }
+/// Appends that a line is a diagnostic, and its message.
+pub(crate) fn push_message(lines: &mut JsonLines, message: &str)
+    ensures { Gains (message_tokens message.now) lines.old lines.new }
+{
+    lines.push_text("$message_type", "diagnostic");
+    lines.push_text("message", message);
+}
+
+/// Appends the code of a fault, as a member.
+pub(crate) fn push_code(lines: &mut JsonLines, code: FaultCode)
+    ensures { Gains (code_member code) lines.old lines.new }
 {
     if is_error(code) {
-        push_error_code(line, code);
-        line.push_text("level", "error");
+        push_error_code(lines, code);
     } else {
-        line.push_null("code");
-        line.push_text("level", "note");
+        lines.push_null("code");
     }
 }
 
-/// Appends the code of a fault that is an error.
-fn push_error_code(line: &mut Line, code: FaultCode)
-    ensures { Gains (error_tokens code) line.old line.new }
+/// Returns the level of a fault.
+fn level_of(code: FaultCode) -> &'static str
+    ensures { result.now ≡ level_of code }
 {
-    line.push_name("code");
-    line.begin_object();
-    line.push_text("code", code.name());
-    line.push_null("explanation");
-    line.end_object();
+    if is_error(code) { "error" } else { "note" }
+}
+
+/// Appends the code of a fault that is an error.
+fn push_error_code(lines: &mut JsonLines, code: FaultCode)
+    ensures { Gains (error_tokens code) lines.old lines.new }
+{
+    lines.push_name("code");
+    lines.begin_object();
+    lines.push_text("code", code.name());
+    lines.push_null("explanation");
+    lines.end_object();
 }

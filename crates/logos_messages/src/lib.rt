@@ -4,14 +4,15 @@
 #![tactic(auto)]
 
 mod answer;
+mod fault;
 mod head;
-mod line;
 mod marked;
 mod messages;
 mod notes;
+mod rest;
 mod spans;
 mod warnings;
 
-pub use answer::{Piece, push_pieces, push_version};
-pub use messages::push_messages;
+pub use answer::{PieceRange, push_pieces, push_version};
+pub use messages::{push_messages, push_refused_messages};
 pub use warnings::push_warning_messages;

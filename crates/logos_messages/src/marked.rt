@@ -3,7 +3,7 @@
 ghost use Rattle.std.specs.Prelude.{◌≡◌, [], ◌∷◌};
 ghost use Rattle.logos_messages.specs.Words.{Gains, GivesLineList, GivesLines, marked_tokens};
 
-use crate::line::Line;
+use logos_json::JsonLines;
 use logos_lines::Position;
 use logos_report::Source;
 
@@ -22,33 +22,33 @@ pub(crate) struct Reach {
 
 /// Appends the lines of a span, as a member. Lines that are long are left out, and so are all lines
 /// of a span that has many.
-pub(crate) fn push_lines(line: &mut Line, source: &Source<'_>, reach: Reach)
-    ensures { GivesLineList source.now.text line.old line.new }
+pub(crate) fn push_lines(lines: &mut JsonLines, source: &Source<'_>, reach: Reach)
+    ensures { GivesLineList source.now.text lines.old lines.new }
 {
-    line.begin_list("text");
-    push_each_line(line, source, reach);
-    line.end_list();
+    lines.begin_list("text");
+    push_each_line(lines, source, reach);
+    lines.end_list();
 }
 
 /// Appends the lines of a span that are not long, if there are few.
-fn push_each_line(line: &mut Line, source: &Source<'_>, reach: Reach)
-    ensures { GivesLines source.now.text line.old line.new }
+fn push_each_line(lines: &mut JsonLines, source: &Source<'_>, reach: Reach)
+    ensures { GivesLines source.now.text lines.old lines.new }
 {
     if reach.last.line.saturating_sub(reach.first.line) > LINES {
         return;
     }
     for number in reach.first.line..reach.last.line.saturating_add(1) {
-        push_line(line, source, reach, number);
+        push_line(lines, source, reach, number);
     }
 }
 
 /// Appends a line, unless it is long.
-fn push_line(line: &mut Line, source: &Source<'_>, reach: Reach, number: usize)
-    ensures { GivesLines source.now.text line.old line.new }
+fn push_line(lines: &mut JsonLines, source: &Source<'_>, reach: Reach, number: usize)
+    ensures { GivesLines source.now.text lines.old lines.new }
 {
     if let Some(text) = source.short_line(number, LONG) {
         push_marked(
-            line,
+            lines,
             text,
             first_column(reach, number),
             last_column(reach, number, text),
@@ -75,13 +75,13 @@ fn last_column(reach: Reach, number: usize, text: &str) -> usize {
 }
 
 /// Appends a line with the columns of a span in it.
-fn push_marked(line: &mut Line, text: &str, from: usize, to: usize)
-    ensures { Gains (marked_tokens (record { text = text.now; from = from; to = to })) line.old
-        line.new }
+fn push_marked(lines: &mut JsonLines, text: &str, from: usize, to: usize)
+    ensures { Gains (marked_tokens (record { text = text.now; from = from; to = to })) lines.old
+        lines.new }
 {
-    line.begin_object();
-    line.push_text("text", text);
-    line.push_number("highlight_start", from);
-    line.push_number("highlight_end", to);
-    line.end_object();
+    lines.begin_object();
+    lines.push_text("text", text);
+    lines.push_number("highlight_start", from);
+    lines.push_number("highlight_end", to);
+    lines.end_object();
 }

@@ -1,24 +1,26 @@
-//! The faults of a source, one line for each.
+//! The faults of a source, one line for each, but no more than 50 of a code.
 
-ghost use Rattle.std.specs.Prelude.{◌≡◌, ◌++◌, List, ℕ, false, IfOk, IfSome, OnErr, OnOk, string_bytes, option_map};
-ghost use Rattle.logos_messages.specs.Words.{fault_of, faults_of, fault_texts, StandInOrder, GivesMessage, GivesSpanList, AreMessages, IsMessage};
+ghost use Rattle.std.specs.Prelude.{◌≡◌, ◌≤◌, ◌<◌, ◌+◌, ◌++◌, List, ℕ, IfOk, OnErr, OnOk, length, take};
+ghost use Rattle.logos_json.specs.Lines.{LinesValue};
+ghost use Rattle.logos_messages.specs.Words.{AreMessages, AreRefusedMessages, PutsAfter, PutsCounted, PutsFrom, all_faults, fault_of, faults_of, listed_faults};
 
-use crate::head::push_head;
-use crate::line::Line;
-use crate::marked::LONG;
-use crate::notes::push_notes;
-use crate::spans::{push_other, push_span};
-use logos_report::{Clues, Member, Page, Part, Start, Turn, first_turn, push_fault};
-use logos_token::error::{Errors, Memory, SpannedError};
-use logos_token::token::Span;
+use crate::fault::{FaultMessage, push_fault_line};
+use crate::rest::push_rest_line;
+use logos_json::JsonLines;
+use logos_report::{
+    Clues, FaultListing, MOST, NextFaults, Part, Refused, Source, count_in, first_faults, seen_in,
+};
+use logos_token::error::{Errors, Memory};
 use std::alloc::{AllocError, Global};
 
 /// Appends a line of JSON for each fault of a part of a file, in order. A line has the members of
 /// rustc's diagnostics, of which `rendered` is what `push_faults` shows of the fault, without
 /// colors. What is known of faults beyond what they say is among its notes.
 ///
-/// Lines of the file that have more than 400 bytes are left out, and then `rendered` is null. So
-/// the lines take memory linear in the faults and their messages.
+/// Of the faults of one code 50 have a line. In place of the next one a line of the level
+/// `failure-note` says how many are left out. Lines of the file that have more than 400 bytes are
+/// left out, and then `rendered` is null. So the lines take memory linear in the messages of the
+/// faults that have one.
 ///
 /// # Errors
 ///
@@ -34,126 +36,162 @@ pub fn push_messages(
         × AreMessages part.entry.source.now part.entry.offset errors.now added) }
     ensures unchanged { OnErr result (lines.new.items ≡ lines.old.items) }
 {
-    let mut added = message_lines(alloc, part, errors.list(), first_turn(clues))?;
+    let mut added = message_lines(alloc, part, errors, clues)?;
     lines.append(&mut added)?;
     Ok(())
 }
 
-/// Returns the lines of these faults, of which sets of ambiguous leaves come first in this turn.
+/// Appends the lines of the faults of these parts of a file, in order, as `push_messages` does. Of
+/// the faults of one code in all parts 50 have a line.
+///
+/// # Errors
+///
+/// Returns `Memory` if memory runs out. `lines` is then unchanged.
+pub fn push_refused_messages(
+    alloc: Global,
+    lines: &mut Vec<u8>,
+    source: &Source<'_>,
+    refused: &[Refused],
+) -> Result<(), Memory>
+    ensures pushed { OnOk result ((added : List ℕ) × (lines.new.items ≡ lines.old.items ++ added)
+        × AreRefusedMessages source.now refused.now added) }
+    ensures unchanged { OnErr result (lines.new.items ≡ lines.old.items) }
+{
+    let mut added = refused_lines(alloc, source, refused)?;
+    lines.append(&mut added)?;
+    Ok(())
+}
+
+/// Returns the lines of the faults of a part of a file.
 fn message_lines(
     alloc: Global,
     part: Part<'_, '_>,
-    faults: &[SpannedError],
-    first: Turn<'_>,
+    errors: &Errors,
+    clues: &Clues,
 ) -> Result<Vec<u8>, AllocError>
-    ensures { IfOk result (λ lines. AreMessages part.entry.source.now part.entry.offset
-        (faults_of faults.now) lines.items) }
+    ensures { IfOk result (λ lines. AreMessages part.entry.source.now part.entry.offset errors.now
+        lines.items) }
 {
-    let mut lines = Vec::new(alloc);
-    let mut turn = first;
-    for fault in faults {
-        lines = with_message(
-            lines,
-            alloc,
-            Shown {
-                part,
-                faults,
-                fault,
-                member: turn.member(fault),
-                starts: turn.starts(fault.code),
-            },
-        )?;
-        turn = turn.after(fault);
-    }
-    Ok(lines)
+    let mut lines = JsonLines::new(alloc, Vec::new(alloc));
+    let listing = FaultListing {
+        earlier: &[],
+        faults: errors.list(),
+        later: &[],
+    };
+    push_all(&mut lines, alloc, part, listing, first_faults(clues))?;
+    let bytes = lines.finish()?;
+    Ok(bytes)
 }
 
-/// A fault, with what belongs to it.
-#[derive(Clone, Copy)]
-pub(crate) struct Shown<'f, 'p, 't> {
-    pub(crate) part: Part<'p, 't>,
-    /// The faults of this part of the file.
-    faults: &'f [SpannedError],
-    /// The one that is shown.
-    pub(crate) fault: &'f SpannedError,
-    /// What it is in a set of ambiguous leaves of which something is known.
-    pub(crate) member: Option<Member<'f>>,
-    /// The patterns that explain it.
-    pub(crate) starts: &'f [Start],
-}
-
-/// Returns these lines, and that of a fault.
-fn with_message(
-    lines: Vec<u8>,
+/// Returns the lines of the faults of these parts of a file.
+fn refused_lines(
     alloc: Global,
-    shown: Shown<'_, '_, '_>,
+    source: &Source<'_>,
+    refused: &[Refused],
 ) -> Result<Vec<u8>, AllocError>
-    ensures { IfOk result (λ all. (line : List ℕ) × (all.items ≡ lines.items ++ line)
-        × IsMessage shown.entry.part.source.now shown.entry.part.offset
-        (fault_of shown.entry.fault.now) line) }
+    ensures { IfOk result (λ lines. AreRefusedMessages source.now refused.now lines.items) }
 {
-    let rendered = rendered(alloc, shown)?;
-    let mut line = Line::new(lines);
-    push_message(&mut line, shown, text_of(&rendered));
-    let all = line.finish()?;
-    Ok(all)
+    let mut lines = JsonLines::new(alloc, Vec::new(alloc));
+    push_parts(&mut lines, alloc, source, refused)?;
+    let bytes = lines.finish()?;
+    Ok(bytes)
 }
 
-/// Returns a text that may be there.
-pub(crate) fn text_of(text: &Option<String>) -> Option<&str>
-    ensures { option_map (λ t. t.now) result ≡ option_map string_bytes text.now }
+/// Appends the lines of the faults of these parts of a file.
+fn push_parts(
+    lines: &mut JsonLines,
+    alloc: Global,
+    source: &Source<'_>,
+    refused: &[Refused],
+) -> Result<(), AllocError>
+    ensures { OnOk result (PutsFrom source.now refused.now 0 lines.old lines.new) }
 {
-    match text {
-        Some(text) => Some(text.as_str()),
-        None => None,
+    for number in 0..refused.len() {
+        push_part(lines, alloc, source, refused, number)?;
     }
+    Ok(())
 }
 
-/// Appends a fault, and this report of it.
-fn push_message(line: &mut Line, shown: Shown<'_, '_, '_>, rendered: Option<&str>)
-    ensures { GivesMessage shown.entry.part.source.now shown.entry.part.offset
-        (fault_of shown.entry.fault.now) (option_map (λ t. t.now) rendered.entry) line.old line.new }
+/// Appends the lines of the faults of the part with a number.
+fn push_part(
+    lines: &mut JsonLines,
+    alloc: Global,
+    source: &Source<'_>,
+    refused: &[Refused],
+    number: usize,
+) -> Result<(), AllocError>
+    requires { number < length refused.now }
+    ensures { OnOk result ((new : LinesValue) → PutsFrom source.now refused.now (number + 1) lines.new
+        new → PutsFrom source.now refused.now number lines.old new) }
 {
-    line.begin_object();
-    push_head(line, shown.fault);
-    push_spans(line, shown.part, shown.fault);
-    push_notes(line, shown);
-    line.push_maybe("rendered", rendered);
-    line.end_object();
+    let one = &refused[number];
+    let offset = one.offset;
+    let listing = FaultListing {
+        earlier: &refused[..number],
+        faults: one.errors.list(),
+        later: &refused[number + 1..],
+    };
+    push_all(
+        lines,
+        alloc,
+        Part { source, offset },
+        listing,
+        first_faults(&one.clues),
+    )
 }
 
-/// Appends the spans of a fault, as a member.
-fn push_spans(line: &mut Line, part: Part<'_, '_>, fault: &SpannedError)
-    ensures { GivesSpanList part.entry.source.now part.entry.offset (fault_of fault.now) line.old
-        line.new }
+/// Appends the lines of the faults of a part, of which these come first.
+fn push_all(
+    lines: &mut JsonLines,
+    alloc: Global,
+    part: Part<'_, '_>,
+    listing: FaultListing<'_>,
+    first: NextFaults<'_>,
+) -> Result<(), AllocError>
+    ensures { OnOk result (PutsAfter part.entry.source.now part.entry.offset
+        (listed_faults listing.entry) (all_faults listing.entry.earlier.now)
+        (faults_of listing.entry.faults.now) lines.old lines.new) }
 {
-    line.begin_list("spans");
-    push_span(line, part, fault.span, None);
-    push_other(line, part, fault.also);
-    line.end_list();
-}
-
-/// Returns the report of a fault without colors, or `None` if its lines are long.
-fn rendered(alloc: Global, shown: Shown<'_, '_, '_>) -> Result<Option<String>, AllocError>
-    ensures { IfOk result (λ text. IfSome text (λ text. StandInOrder (fault_texts false
-        shown.entry.part.source.now shown.entry.part.offset (fault_of shown.entry.fault.now))
-        (string_bytes text))) }
-{
-    if has_long_line(shown.part, shown.fault.span) {
-        return Ok(None);
+    let faults = listing.faults;
+    let mut next = first;
+    for number in 0..faults.len() {
+        let fault = &faults[number];
+        let message = FaultMessage {
+            part,
+            faults,
+            fault,
+            member: next.member(fault),
+            starts: next.starts(fault.code),
+        };
+        push_counted(lines, alloc, listing, number, message)?;
+        next = next.after(fault);
     }
-    let mut page = Page::new(alloc, false);
-    push_fault(&mut page, shown.part, shown.faults, shown.fault);
-    Ok(Some(page.finish()?))
+    Ok(())
 }
 
-/// Returns whether a span begins or ends in a long line.
-pub(crate) fn has_long_line(part: Part<'_, '_>, span: Span) -> bool {
-    is_long(part, span.from) | is_long(part, span.to)
-}
-
-/// Returns whether the line of an offset is long.
-fn is_long(part: Part<'_, '_>, offset: usize) -> bool {
-    let line = part.position(offset).line;
-    part.source.short_line(line, LONG).is_none()
+/// Appends the line of a fault of a part, which has this number there. Of the faults of one code 50
+/// have a line. In place of the next one stands how many are left out.
+fn push_counted(
+    lines: &mut JsonLines,
+    alloc: Global,
+    listing: FaultListing<'_>,
+    number: usize,
+    message: FaultMessage<'_, '_, '_>,
+) -> Result<(), AllocError>
+    requires { number ≤ length listing.faults.now }
+    ensures { OnOk result (PutsCounted message.entry.part.source.now message.entry.part.offset
+        (listed_faults listing.entry)
+        (all_faults listing.entry.earlier.now ++ faults_of (take number listing.entry.faults.now))
+        (fault_of message.entry.fault.now) lines.old lines.new) }
+{
+    let code = message.fault.code;
+    let seen = seen_in(listing.earlier, &listing.faults[..number], code);
+    if seen < MOST {
+        return push_fault_line(lines, alloc, message);
+    }
+    if seen == MOST {
+        let count = count_in(listing, code).saturating_sub(MOST);
+        return push_rest_line(lines, alloc, code, count);
+    }
+    Ok(())
 }

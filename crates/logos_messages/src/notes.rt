@@ -1,72 +1,83 @@
 //! The notes and the help of a fault.
 
-ghost use Rattle.std.specs.Prelude.{◌≡◌, [], ◌∷◌};
+ghost use Rattle.std.specs.Prelude.{◌≡◌, [], ◌∷◌, option_map, string_bytes};
 ghost use Rattle.logos_messages.specs.Words.{Gains, GivesNoteList, GivesNotes, list_member, note_tokens, nothing_tokens};
 
-use crate::line::Line;
-use crate::messages::Shown;
-use logos_report::{Member, Part, Start, help_of};
+use crate::fault::FaultMessage;
+use logos_json::JsonLines;
+use logos_report::{MOST, Member, Part, Start, help_of};
 use logos_token::error::SpannedError;
 
 /// Appends the notes and the help of a fault, as a member.
-pub(crate) fn push_notes(line: &mut Line, shown: Shown<'_, '_, '_>)
-    ensures { GivesNoteList line.old line.new }
+pub(crate) fn push_notes(lines: &mut JsonLines, message: FaultMessage<'_, '_, '_>)
+    ensures { GivesNoteList lines.old lines.new }
 {
-    line.begin_list("children");
-    push_other_lines(line, shown.fault.message.as_str());
-    push_starts(line, shown.starts);
-    push_advice(line, shown);
-    line.end_list();
+    lines.begin_list("children");
+    push_other_lines(lines, message.fault.message.as_str());
+    push_starts(lines, message.starts);
+    push_advice(lines, message);
+    lines.end_list();
 }
 
-/// Appends a note for each pattern that can look at what stands before its first byte.
-fn push_starts(line: &mut Line, starts: &[Start])
-    ensures { GivesNotes line.old line.new }
+/// Appends a note for each pattern that can look at what stands before its first byte, but no more
+/// than 50.
+fn push_starts(lines: &mut JsonLines, starts: &[Start])
+    ensures { GivesNotes lines.old lines.new }
 {
-    for start in starts {
-        push_one(line, "note", start.name.as_str());
+    for start in &starts[..starts.len().min(MOST)] {
+        push_one(lines, "note", start.name.as_str());
     }
 }
 
 /// Appends what is known of a set of ambiguous leaves, and what to do about a fault.
-fn push_advice(line: &mut Line, shown: Shown<'_, '_, '_>)
-    ensures { GivesNotes line.old line.new }
+fn push_advice(lines: &mut JsonLines, message: FaultMessage<'_, '_, '_>)
+    ensures { GivesNotes lines.old lines.new }
 {
-    push_known(line, shown.member);
-    push_help(line, shown.part, shown.fault);
+    push_known(lines, message.member);
+    push_help(lines, message.part, message.fault);
 }
 
 /// Appends what is known of a set of ambiguous leaves, if this is one of its faults.
-fn push_known(line: &mut Line, member: Option<Member<'_>>)
-    ensures { GivesNotes line.old line.new }
+fn push_known(lines: &mut JsonLines, member: Option<Member<'_>>)
+    ensures { GivesNotes lines.old lines.new }
 {
     if let Some(member) = member {
-        push_one(line, "note", member.meeting.note.as_str());
+        push_one(lines, "note", member.meeting.note.as_str());
+    }
+}
+
+/// Returns a text that may be there.
+pub(crate) fn text_of(text: &Option<String>) -> Option<&str>
+    ensures { option_map (λ t. t.now) result ≡ option_map string_bytes text.now }
+{
+    match text {
+        Some(text) => Some(text.as_str()),
+        None => None,
     }
 }
 
 /// Appends a note or a help.
-pub(crate) fn push_one(line: &mut Line, level: &str, text: &str)
-    ensures { GivesNotes line.old line.new }
+pub(crate) fn push_one(lines: &mut JsonLines, level: &str, text: &str)
+    ensures { GivesNotes lines.old lines.new }
 {
-    push_note(line, level, text);
+    push_note(lines, level, text);
 }
 
 /// Appends a note for each line of a message after its first one.
-fn push_other_lines(line: &mut Line, message: &str)
-    ensures { GivesNotes line.old line.new }
+fn push_other_lines(lines: &mut JsonLines, message: &str)
+    ensures { GivesNotes lines.old lines.new }
 {
     for text in message.split('\n').skip(1) {
-        push_other_line(line, text);
+        push_other_line(lines, text);
     }
 }
 
 /// Appends a note for a line of a message, unless it is empty.
-fn push_other_line(line: &mut Line, text: &str)
-    ensures { GivesNotes line.old line.new }
+fn push_other_line(lines: &mut JsonLines, text: &str)
+    ensures { GivesNotes lines.old lines.new }
 {
     if !text.is_empty() {
-        push_note(line, "note", without_margin(text));
+        push_note(lines, "note", without_margin(text));
     }
 }
 
@@ -79,39 +90,39 @@ fn without_margin(text: &str) -> &str {
 }
 
 /// Appends what to do about a fault, if there is something to say.
-fn push_help(line: &mut Line, part: Part<'_, '_>, fault: &SpannedError)
-    ensures { GivesNotes line.old line.new }
+fn push_help(lines: &mut JsonLines, part: Part<'_, '_>, fault: &SpannedError)
+    ensures { GivesNotes lines.old lines.new }
 {
     if let Some(help) = help_of(part, fault) {
-        push_note(line, "help", help);
+        push_note(lines, "help", help);
     }
 }
 
 /// Appends a note or a help.
-fn push_note(line: &mut Line, level: &str, text: &str)
-    ensures { Gains (note_tokens (record { level = level.now; text = text.now })) line.old line.new }
+fn push_note(lines: &mut JsonLines, level: &str, text: &str)
+    ensures { Gains (note_tokens (record { level = level.now; text = text.now })) lines.old lines.new }
 {
-    line.begin_object();
-    line.push_text("message", text);
-    line.push_null("code");
-    line.push_text("level", level);
-    push_nothing_else(line);
-    line.end_object();
+    lines.begin_object();
+    lines.push_text("message", text);
+    lines.push_null("code");
+    lines.push_text("level", level);
+    push_nothing_else(lines);
+    lines.end_object();
 }
 
 /// Appends that a note has no spans, no notes and no report of its own.
-fn push_nothing_else(line: &mut Line)
-    ensures { Gains nothing_tokens line.old line.new }
+fn push_nothing_else(lines: &mut JsonLines)
+    ensures { Gains nothing_tokens lines.old lines.new }
 {
-    push_empty_list(line, "spans");
-    push_empty_list(line, "children");
-    line.push_null("rendered");
+    push_empty_list(lines, "spans");
+    push_empty_list(lines, "children");
+    lines.push_null("rendered");
 }
 
 /// Appends a member with an empty list.
-fn push_empty_list(line: &mut Line, name: &str)
-    ensures { Gains (list_member name.now []) line.old line.new }
+pub(crate) fn push_empty_list(lines: &mut JsonLines, name: &str)
+    ensures { Gains (list_member name.now []) lines.old lines.new }
 {
-    line.begin_list(name);
-    line.end_list();
+    lines.begin_list(name);
+    lines.end_list();
 }

@@ -1,80 +1,102 @@
-//! The spans of a fault.
+//! The spans of a fault or a warning.
 
 ghost use Rattle.std.specs.Prelude.{◌≡◌, [], ◌∷◌, List, Some, None, codes, option_map};
-ghost use Rattle.logos_messages.specs.Words.{Gains, GivesOther, GivesSpan, bytes_tokens, label_tokens, positions_tokens};
+ghost use Rattle.logos_messages.specs.Words.{Gains, GivesOther, GivesSpan, GivesSpanList, bytes_tokens, label_tokens, positions_tokens};
 
-use crate::line::Line;
-use crate::marked::{Reach, push_lines};
+use crate::marked::{LONG, Reach, push_lines};
+use logos_json::JsonLines;
 use logos_report::Part;
 use logos_token::token::Span;
 
 /// Appends a span of a part of a file. Without a label it is the one that its fault is about.
-pub(crate) fn push_span(line: &mut Line, part: Part<'_, '_>, span: Span, label: Option<&str>)
+fn push_span(lines: &mut JsonLines, part: Part<'_, '_>, span: Span, label: Option<&str>)
     ensures { GivesSpan part.entry.source.now part.entry.offset span (option_map (λ t. t.now) label.entry)
-        line.old line.new }
+        lines.old lines.new }
 {
     let reach = Reach {
         first: part.position(span.from),
         last: part.position(span.to),
     };
-    line.begin_object();
-    push_bytes(line, part, span);
-    push_positions(line, reach);
-    push_label(line, label);
-    push_lines(line, part.source, reach);
-    line.end_object();
+    lines.begin_object();
+    push_bytes(lines, part, span);
+    push_positions(lines, reach);
+    push_label(lines, label);
+    push_lines(lines, part.source, reach);
+    lines.end_object();
 }
 
 /// Appends the second span of a fault, if it has one.
-pub(crate) fn push_other(line: &mut Line, part: Part<'_, '_>, also: Option<Span>)
-    ensures { GivesOther part.entry.source.now part.entry.offset also line.old line.new }
+fn push_other(lines: &mut JsonLines, part: Part<'_, '_>, also: Option<Span>)
+    ensures { GivesOther part.entry.source.now part.entry.offset also lines.old lines.new }
 {
     if let Some(span) = also {
-        push_span(line, part, span, Some("see also"));
+        push_span(lines, part, span, Some("see also"));
     }
 }
 
-/// Appends the file of a span, and its bytes.
-fn push_bytes(line: &mut Line, part: Part<'_, '_>, span: Span)
-    ensures { Gains (bytes_tokens part.entry.source.now part.entry.offset span) line.old line.new }
+/// Appends the spans of a fault or a warning, as a member: the one that it is about, and the second
+/// one, if it has one.
+pub(crate) fn push_spans(lines: &mut JsonLines, part: Part<'_, '_>, span: Span, also: Option<Span>)
+    ensures { GivesSpanList part.entry.source.now part.entry.offset span also lines.old lines.new }
 {
-    line.push_text("file_name", part.source.path());
-    line.push_number("byte_start", span.from.saturating_add(part.offset));
-    line.push_number("byte_end", span.to.saturating_add(part.offset));
+    lines.begin_list("spans");
+    push_span(lines, part, span, None);
+    push_other(lines, part, also);
+    lines.end_list();
+}
+
+/// Appends the file of a span, and its bytes.
+fn push_bytes(lines: &mut JsonLines, part: Part<'_, '_>, span: Span)
+    ensures { Gains (bytes_tokens part.entry.source.now part.entry.offset span) lines.old lines.new }
+{
+    lines.push_text("file_name", part.source.path());
+    lines.push_number("byte_start", span.from.saturating_add(part.offset));
+    lines.push_number("byte_end", span.to.saturating_add(part.offset));
 }
 
 /// Appends the lines and the columns of a span.
-fn push_positions(line: &mut Line, reach: Reach)
-    ensures { Gains (positions_tokens reach.first reach.last) line.old line.new }
+fn push_positions(lines: &mut JsonLines, reach: Reach)
+    ensures { Gains (positions_tokens reach.first reach.last) lines.old lines.new }
 {
-    line.push_number("line_start", reach.first.line);
-    line.push_number("line_end", reach.last.line);
-    line.push_number("column_start", reach.first.column);
-    line.push_number("column_end", reach.last.column);
+    lines.push_number("line_start", reach.first.line);
+    lines.push_number("line_end", reach.last.line);
+    lines.push_number("column_start", reach.first.column);
+    lines.push_number("column_end", reach.last.column);
 }
 
 /// Appends whether a span is the one that its fault is about, and its label.
-fn push_label(line: &mut Line, label: Option<&str>)
-    ensures { Gains (label_tokens (option_map (λ t. t.now) label.entry)) line.old line.new }
+fn push_label(lines: &mut JsonLines, label: Option<&str>)
+    ensures { Gains (label_tokens (option_map (λ t. t.now) label.entry)) lines.old lines.new }
 {
     match label {
-        Some(label) => push_other_label(line, label),
-        None => push_primary(line),
+        Some(label) => push_other_label(lines, label),
+        None => push_primary(lines),
     }
 }
 
 /// Appends the label of a second span.
-fn push_other_label(line: &mut Line, label: &str)
-    ensures { Gains (label_tokens (Some label.now)) line.old line.new }
+fn push_other_label(lines: &mut JsonLines, label: &str)
+    ensures { Gains (label_tokens (Some label.now)) lines.old lines.new }
 {
-    line.push_bool("is_primary", false);
-    line.push_text("label", label);
+    lines.push_bool("is_primary", false);
+    lines.push_text("label", label);
 }
 
 /// Appends that a span is the one that its fault is about.
-fn push_primary(line: &mut Line)
-    ensures { Gains (label_tokens None) line.old line.new }
+fn push_primary(lines: &mut JsonLines)
+    ensures { Gains (label_tokens None) lines.old lines.new }
 {
-    line.push_bool("is_primary", true);
-    line.push_null("label");
+    lines.push_bool("is_primary", true);
+    lines.push_null("label");
+}
+
+/// Returns whether a span begins or ends in a long line.
+pub(crate) fn has_long_line(part: Part<'_, '_>, span: Span) -> bool {
+    is_long(part, span.from) | is_long(part, span.to)
+}
+
+/// Returns whether the line of an offset is long.
+fn is_long(part: Part<'_, '_>, offset: usize) -> bool {
+    let line = part.position(offset).line;
+    part.source.short_line(line, LONG).is_none()
 }

@@ -1,19 +1,15 @@
 //! The warnings of a part of a file, one line for each.
 
 ghost use Rattle.std.specs.Prelude.{◌≡◌, ◌++◌, ℕ, List, false, IfOk, IfSome, OnErr, OnOk, option_map, string_bytes};
-ghost use Rattle.logos_messages.specs.Words.{StandInOrder, shown_of, warning_texts, GivesNoteList, GivesNotes, Gains, AreWarnings, GivesSpans, GivesWarning, IsWarning};
-ghost use Rattle.logos_messages.specs.Warnings.{head_tokens};
+ghost use Rattle.logos_messages.specs.Words.{AreWarnings, Gains, GivesMessage, GivesNoteList, GivesNotes, PutsWarning, PutsWarnings, StandInOrder, shown_of, warning_head, warning_texts};
 
-use crate::line::Line;
-use crate::messages::{has_long_line, text_of};
-use crate::notes::push_one;
-use crate::spans::{push_other, push_span};
-use logos_report::{Page, Part, Warning, push_warning};
+use crate::head::push_message;
+use crate::notes::{push_one, text_of};
+use crate::spans::{has_long_line, push_spans};
+use logos_json::JsonLines;
+use logos_report::{Page, Part, Warning, first_of, push_warning};
 use logos_token::error::Memory;
 use std::alloc::{AllocError, Global};
-
-/// How many warnings of a part of a file have a line.
-const MOST: usize = 50;
 
 /// Appends a line of JSON for each warning of a part of a file, in order, but no more than 50. A
 /// line has the members of rustc's diagnostics, of which `rendered` is the report of the warning,
@@ -37,17 +33,6 @@ pub fn push_warning_messages(
     Ok(())
 }
 
-/// Returns those of these warnings that have a line.
-fn first_of(warnings: &[Warning]) -> &[Warning]
-    ensures { result.now ≡ shown_of warnings.now }
-{
-    if warnings.len() > MOST {
-        &warnings[..MOST]
-    } else {
-        warnings
-    }
-}
-
 /// Returns the lines of these warnings.
 fn warning_lines(
     alloc: Global,
@@ -57,79 +42,83 @@ fn warning_lines(
     ensures { IfOk result (λ lines. AreWarnings part.entry.source.now part.entry.offset
         warnings.now lines.items) }
 {
-    let mut lines = Vec::new(alloc);
-    for warning in warnings {
-        lines = with_warning(lines, alloc, part, warning)?;
-    }
-    Ok(lines)
+    let mut lines = JsonLines::new(alloc, Vec::new(alloc));
+    push_all(&mut lines, alloc, part, warnings)?;
+    let bytes = lines.finish()?;
+    Ok(bytes)
 }
 
-/// Returns these lines, and that of a warning.
-fn with_warning(
-    lines: Vec<u8>,
+/// Appends the lines of these warnings.
+fn push_all(
+    lines: &mut JsonLines,
+    alloc: Global,
+    part: Part<'_, '_>,
+    warnings: &[Warning],
+) -> Result<(), AllocError>
+    ensures { OnOk result (PutsWarnings part.entry.source.now part.entry.offset warnings.now
+        lines.old lines.new) }
+{
+    for warning in warnings {
+        push_line(lines, alloc, part, warning)?;
+    }
+    Ok(())
+}
+
+/// Appends the line of a warning.
+fn push_line(
+    lines: &mut JsonLines,
     alloc: Global,
     part: Part<'_, '_>,
     warning: &Warning,
-) -> Result<Vec<u8>, AllocError>
-    ensures { IfOk result (λ all. (line : List ℕ) × (all.items ≡ lines.items ++ line)
-        × IsWarning part.entry.source.now part.entry.offset warning.now line) }
+) -> Result<(), AllocError>
+    ensures { OnOk result (PutsWarning part.entry.source.now part.entry.offset warning.now
+        lines.old lines.new) }
 {
     let rendered = rendered(alloc, part, warning)?;
-    let mut line = Line::new(lines);
-    push_object(&mut line, part, warning, text_of(&rendered));
-    let all = line.finish()?;
-    Ok(all)
+    push_object(lines, part, warning, text_of(&rendered));
+    lines.end_line();
+    Ok(())
 }
 
 /// Appends a warning, and this report of it.
-fn push_object(line: &mut Line, part: Part<'_, '_>, warning: &Warning, rendered: Option<&str>)
-    ensures { GivesWarning part.entry.source.now part.entry.offset warning.now
-        (option_map (λ t. t.now) rendered.entry) line.old line.new }
+fn push_object(lines: &mut JsonLines, part: Part<'_, '_>, warning: &Warning, rendered: Option<&str>)
+    ensures { GivesMessage part.entry.source.now part.entry.offset
+        (warning_head (string_bytes warning.now.message)) warning.now.span warning.now.also
+        (option_map (λ t. t.now) rendered.entry) lines.old lines.new }
 {
-    line.begin_object();
-    push_head(line, warning.message.as_str());
-    push_spans(line, part, warning);
-    push_notes(line, warning);
-    line.push_maybe("rendered", rendered);
-    line.end_object();
+    lines.begin_object();
+    push_head(lines, warning.message.as_str());
+    push_spans(lines, part, warning.span, warning.also);
+    push_notes(lines, warning);
+    lines.push_maybe_text("rendered", rendered);
+    lines.end_object();
 }
 
 /// Appends that a line is a diagnostic, and the message and the level of its warning.
-fn push_head(line: &mut Line, message: &str)
-    ensures { Gains (head_tokens message.now) line.old line.new }
+fn push_head(lines: &mut JsonLines, message: &str)
+    ensures { Gains (warning_head message.now) lines.old lines.new }
 {
-    line.push_text("$message_type", "diagnostic");
-    line.push_text("message", message);
-    line.push_null("code");
-    line.push_text("level", "warning");
-}
-
-/// Appends the spans of a warning, as a member.
-fn push_spans(line: &mut Line, part: Part<'_, '_>, warning: &Warning)
-    ensures { GivesSpans part.entry.source.now part.entry.offset warning.now line.old line.new }
-{
-    line.begin_list("spans");
-    push_span(line, part, warning.span, None);
-    push_other(line, part, warning.also);
-    line.end_list();
+    push_message(lines, message);
+    lines.push_null("code");
+    lines.push_text("level", "warning");
 }
 
 /// Appends the note and the help of a warning, as a member.
-fn push_notes(line: &mut Line, warning: &Warning)
-    ensures { GivesNoteList line.old line.new }
+fn push_notes(lines: &mut JsonLines, warning: &Warning)
+    ensures { GivesNoteList lines.old lines.new }
 {
-    line.begin_list("children");
-    push_text(line, "note", text_of(&warning.note));
-    push_text(line, "help", warning.help);
-    line.end_list();
+    lines.begin_list("children");
+    push_text(lines, "note", text_of(&warning.note));
+    push_text(lines, "help", warning.help);
+    lines.end_list();
 }
 
 /// Appends a note or a help, if there is one.
-fn push_text(line: &mut Line, level: &str, text: Option<&str>)
-    ensures { GivesNotes line.old line.new }
+fn push_text(lines: &mut JsonLines, level: &str, text: Option<&str>)
+    ensures { GivesNotes lines.old lines.new }
 {
     if let Some(text) = text {
-        push_one(line, level, text);
+        push_one(lines, level, text);
     }
 }
 

@@ -37,16 +37,17 @@ pub record AnalysisView : Type 0 where
   pub this : Tree
   pub faults : List Fault
 
--- The type of the enum is its name, followed by the generic arguments that the options give.
-abbrev pub HasItsType : AnalysisView → Type 0
-HasItsType analysis = analysis.this ≡ enum_type analysis.name.text (generics analysis.options.types)
+-- This is the type of the enum with this name and these options: its name, followed by the generic
+-- arguments that the options give.
+abbrev pub HasItsType : Slice → OptionsView → Tree → Type 0
+HasItsType name options this = this ≡ enum_type name.text (generics options.types)
 
 -- This is the analysis of an enum whose tokens have the span `at`.
 pub record IsEnumAnalysis (enum : EnumValue) (at : Span) (analysis : AnalysisView) : Type 0 where
   pub is_name : enum.name ≡ analysis.name
   pub is_span : at ≡ analysis.span
   pub says : ReadsEnum enum analysis.leaves analysis.options analysis.faults
-  pub is_type : HasItsType analysis
+  pub is_type : HasItsType analysis.name analysis.options analysis.this
 
 -- This is the analysis of tokens that are read as an enum.
 pub record IsTokenAnalysis (tokens : TokenList) (analysis : AnalysisView) : Type 0 where
@@ -60,4 +61,4 @@ pub record IsAnalysis (source : List ℕ) (analysis : AnalysisView) : Type 0 whe
   pub says : GivesEnum source enum analysis.span
   pub is_name : enum.name ≡ analysis.name
   pub enum_says : ReadsEnum enum analysis.leaves analysis.options analysis.faults
-  pub is_type : HasItsType analysis
+  pub is_type : HasItsType analysis.name analysis.options analysis.this

@@ -3,12 +3,12 @@
 ghost use Rattle.std.specs.Prelude.{◌≡◌, ◌∷◌, ◌++◌, [], IfOk, OnOk, map, option_map};
 ghost use Rattle.logos_parser.specs.Words.{tree_of, type_tree, generics_of, argument, arguments, lifetime_argument, bracketed, enum_type};
 
-use logos_type::{Leaf, Part, TypeExpr};
+use logos_type::{TypeExpr, TypePart, TypeToken};
 use logos_type_params::Generics;
 use std::alloc::{AllocError, Global};
 
 /// Appends a part at the end.
-fn push_part<'s>(parts: &mut Vec<Part<'s>>, part: Part<'s>) -> Result<(), AllocError>
+fn push_part<'s>(parts: &mut Vec<TypePart<'s>>, part: TypePart<'s>) -> Result<(), AllocError>
     ensures { OnOk result (map tree_of parts.new.items
         ≡ map tree_of parts.old.items ++ tree_of part.entry ∷ []) }
 {
@@ -18,15 +18,15 @@ fn push_part<'s>(parts: &mut Vec<Part<'s>>, part: Part<'s>) -> Result<(), AllocE
 
 /// Appends an argument of a type, with a comma before it unless it is the first one.
 fn push_argument<'s>(
-    parts: &mut Vec<Part<'s>>,
+    parts: &mut Vec<TypePart<'s>>,
     is_first: bool,
-    part: Part<'s>,
+    part: TypePart<'s>,
 ) -> Result<(), AllocError>
     ensures { OnOk result (map tree_of parts.new.items
         ≡ map tree_of parts.old.items ++ argument is_first (tree_of part.entry)) }
 {
     if !is_first {
-        parts.push(Part::Leaf(Leaf::Mark(',')))?;
+        parts.push(TypePart::Leaf(TypeToken::Mark(',')))?;
     }
     parts.push(part)?;
     Ok(())
@@ -34,7 +34,7 @@ fn push_argument<'s>(
 
 /// Appends types as arguments, with a comma before each unless it is the first one.
 fn push_arguments<'s>(
-    parts: &mut Vec<Part<'s>>,
+    parts: &mut Vec<TypePart<'s>>,
     is_first: bool,
     types: Vec<TypeExpr<'s>>,
 ) -> Result<(), AllocError>
@@ -50,12 +50,12 @@ fn push_arguments<'s>(
 }
 
 /// Appends the lifetime `'s`, if the enum has one.
-fn push_lifetime<'s>(parts: &mut Vec<Part<'s>>, lifetime: bool) -> Result<(), AllocError>
+fn push_lifetime<'s>(parts: &mut Vec<TypePart<'s>>, lifetime: bool) -> Result<(), AllocError>
     ensures { OnOk result (map tree_of parts.new.items
         ≡ map tree_of parts.old.items ++ lifetime_argument lifetime) }
 {
     if lifetime {
-        parts.push(Part::Leaf(Leaf::Lifetime("s")))?;
+        parts.push(TypePart::Leaf(TypeToken::Lifetime("s")))?;
     }
     Ok(())
 }
@@ -71,12 +71,12 @@ fn bracketed<'s>(
         (record { lifetime = lifetime; types = map type_tree types.entry.items })) }
 {
     let mut parts = Vec::new(alloc);
-    push_part(&mut parts, Part::Leaf(Leaf::Word(name)))?;
-    push_part(&mut parts, Part::Leaf(Leaf::Mark('<')))?;
+    push_part(&mut parts, TypePart::Leaf(TypeToken::Word(name)))?;
+    push_part(&mut parts, TypePart::Leaf(TypeToken::Mark('<')))?;
     push_lifetime(&mut parts, lifetime)?;
     push_arguments(&mut parts, !lifetime, types)?;
-    push_part(&mut parts, Part::Leaf(Leaf::Mark('>')))?;
-    let part = Part::Whole(parts);
+    push_part(&mut parts, TypePart::Leaf(TypeToken::Mark('>')))?;
+    let part = TypePart::Whole(parts);
     Ok(TypeExpr { part })
 }
 
@@ -96,7 +96,7 @@ pub fn enum_type<'s>(
     match generics {
         Some(Generics { lifetime, types }) => bracketed(alloc, name, lifetime, types),
         None => Ok(TypeExpr {
-            part: Part::Name(name),
+            part: TypePart::Name(name),
         }),
     }
 }

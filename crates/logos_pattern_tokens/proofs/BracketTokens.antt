@@ -8,8 +8,8 @@ use Rattle.logos_hir.specs.declared.property.AsciiKind.{AsciiKind}
 use Rattle.logos_hir.specs.declared.property.PerlKind.{PerlKind}
 use Rattle.logos_pattern_tokens.specs.declared.bracket.token.Symbol.{Symbol}
 use Rattle.logos_pattern_tokens.specs.declared.bracket.token.Symbol.TheVariants.{Character, Byte}
-use Rattle.logos_pattern_tokens.specs.declared.bracket.token.Item.{Item}
-use Rattle.logos_pattern_tokens.specs.declared.bracket.token.Item.TheVariants as items
+use Rattle.logos_pattern_tokens.specs.declared.bracket.token.BracketItem.{BracketItem}
+use Rattle.logos_pattern_tokens.specs.declared.bracket.token.BracketItem.TheVariants as items
 use Rattle.logos_hir.specs.declared.sets.operands.SetOperator.{SetOperator}
 use Rattle.logos_hir.specs.declared.sets.operands.SetOperator.TheVariants.{Intersection, Difference, SymmetricDifference}
 use Rattle.logos_pattern_tokens.specs.declared.bracket.token.Lead.{Lead}
@@ -173,7 +173,7 @@ ranged_taken a text rest item s = pick BracketTakes text (begins_range rest) (la
         first_true true y h = refl
         first_true false y h = absurd cc
 
-lone_taken : (item : Item) (text rest : Text) → (begins_range rest ≡ false → BracketTakes (tokens.Item item) text rest) → IsTaken BracketTakes text (lone_at item rest)
+lone_taken : (item : BracketItem) (text rest : Text) → (begins_range rest ≡ false → BracketTakes (tokens.Item item) text rest) → IsTaken BracketTakes text (lone_at item rest)
 unfolding lone_at
 lone_taken item text rest h = pick BracketTakes text (begins_range rest) None (Some (tokens.Item item, rest)) (λ _. tt) h
 
@@ -396,7 +396,7 @@ range_is a b after rest e s le =
     let in_order : leb (code_of a) (code_of b) ≡ true = le-leb _ _ le in
     rw (e, symbol_is b after rest s, in_order) refl
 
-lone_is : (item : Item) (rest : Text) → begins_range rest ≡ false → lone_at item rest ≡ Some (tokens.Item item, rest)
+lone_is : (item : BracketItem) (rest : Text) → begins_range rest ≡ false → lone_at item rest ≡ Some (tokens.Item item, rest)
 unfolding lone_at
 lone_is item rest e = rw e refl
 

@@ -8,8 +8,8 @@ use Rattle.logos_pattern_tokens.specs.declared.error.Fault.TheVariants as faults
 use Rattle.logos_pattern_tokens.specs.declared.token.Change.{Change}
 use Rattle.logos_pattern_tokens.specs.declared.token.Operator.{Operator}
 use Rattle.logos_pattern_tokens.specs.declared.token.Atom.{Atom}
-use Rattle.logos_pattern_tokens.specs.declared.token.Opening.{Opening as OpeningValue}
-use Rattle.logos_pattern_tokens.specs.declared.token.Opening.TheVariants.{Capture, Named, Plain}
+use Rattle.logos_pattern_tokens.specs.declared.token.GroupOpening.{GroupOpening as OpeningValue}
+use Rattle.logos_pattern_tokens.specs.declared.token.GroupOpening.TheVariants.{Capture, Named, Plain}
 use Rattle.logos_pattern_tokens.specs.declared.token.Token.{Token as TokenValue}
 use Rattle.logos_pattern_tokens.specs.declared.token.Token.TheVariants as values
 use Rattle.logos_pattern_tokens.specs.bracket.Form.{Bracket}

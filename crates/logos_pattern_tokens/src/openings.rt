@@ -5,7 +5,7 @@ ghost use Rattle.logos_pattern_tokens.specs.Views.{no_change, set_once, with_let
 
 use crate::counts::cut_at;
 use crate::error::{Fault, Kind};
-use crate::token::{Change, Opening, Token};
+use crate::token::{Change, GroupOpening, Token};
 use unicode::properties::{GeneralCategory, GeneralCategoryGroup, is_alphabetic};
 
 /// Returns whether a group's name may start with the character.
@@ -66,7 +66,7 @@ fn name_at(text: &[char]) -> Result<(Token<'_>, &[char]), Fault>
     if !is_name(name) {
         return Err(Fault::Syntax(Kind::GroupSyntax));
     }
-    Ok((Token::Open(Opening::Named(name)), rest))
+    Ok((Token::Open(GroupOpening::Named(name)), rest))
 }
 
 /// Reads what comes after `(?P`.
@@ -225,7 +225,11 @@ fn letters_from(start: Letters, text: &[char]) -> Result<(Token<'_>, &[char]), F
             return setting_end(letters, Token::Setting(letters.change), after);
         }
         if *c == ':' {
-            return setting_end(letters, Token::Open(Opening::Plain(letters.change)), after);
+            return setting_end(
+                letters,
+                Token::Open(GroupOpening::Plain(letters.change)),
+                after,
+            );
         }
         letters = next_letter(letters, *c)?;
         rest = after;
@@ -244,7 +248,7 @@ fn option_at(text: &[char]) -> Result<(Token<'_>, &[char]), Fault>
 {
     match text {
         [] => Err(Fault::Syntax(Kind::Unclosed)),
-        [':', rest @ ..] => Ok((Token::Open(Opening::Plain(no_change())), rest)),
+        [':', rest @ ..] => Ok((Token::Open(GroupOpening::Plain(no_change())), rest)),
         ['<', rest @ ..] => name_at(rest),
         ['P', rest @ ..] => python_at(rest),
         _ => letters_from(no_letters(), text),
@@ -275,6 +279,6 @@ pub fn group_at(text: &[char]) -> Result<(Token<'_>, &[char]), Fault>
 {
     match text {
         ['?', rest @ ..] => option_at(rest),
-        _ => Ok((Token::Open(Opening::Capture), text)),
+        _ => Ok((Token::Open(GroupOpening::Capture), text)),
     }
 }

@@ -68,7 +68,7 @@ pub enum Atom {
 
 /// How a group opens.
 #[derive(Clone, Copy)]
-pub enum Opening<'t> {
+pub enum GroupOpening<'t> {
     /// `(`
     Capture,
     /// `(?P<name>` or `(?<name>`
@@ -82,7 +82,7 @@ pub enum Opening<'t> {
 pub enum Token<'t> {
     Atom(Atom),
     Bar,
-    Open(Opening<'t>),
+    Open(GroupOpening<'t>),
     Close,
     /// `(?flags)`
     Setting(Change),

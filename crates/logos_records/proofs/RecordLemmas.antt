@@ -1,8 +1,6 @@
 -- Objects, one after another.
 use Rattle.std.proofs.Common.{◌≡◌, ◌≤◌, ◌<◌, ◌+◌, ℕ, suc, List, [], ◌∷◌, ◌++◌, length, get_or, take, drop, map, sym, ap, ◌∙◌, arith, subst}
-use Rattle.std.proofs.Math.Seq.{drop-cons}
-use Rattle.std.proofs.Math.ListN.{drop_of_length-le}
-use Rattle.std.proofs.lemmas.List.{at_drop_more, at_drop_all}
+use Rattle.std.proofs.lemmas.List.{at_drop_all, at_drop_more, drop_all, drop_more}
 use Rattle.std.specs.List.{flat_map}
 use Rattle.json.specs.Token.{Token, begin_object, end_object}
 use Rattle.logos_answers.proofs.InputLemmas.{map_take}
@@ -17,22 +15,17 @@ pub object_put : {members : List Token} {old begun middle ended new : LinesValue
     Puts (object members ∷ []) old new
 object_put a b c d = one_put (gains_then a (gains_then b c)) d
 
-next_left : (rows : List LeafRow) (i : ℕ) (d : LeafRow) → i < length rows → drop i rows ≡ get_or rows i d ∷ drop (i + 1) rows
-next_left rows i d l =
-    let k : suc i ≡ i + 1 = omega arith in
-    drop-cons rows i d l ∙ ap (λ n. get_or rows i d ∷ drop n rows) k
-
 -- The object of the next leaf, and those of the rest.
 pub next_leaf : (name : List ℕ) (rows : List LeafRow) (i : ℕ) (d : LeafRow) {old middle new : LinesValue} → i < length rows → Puts (object (leaf_members name i (get_or rows i d)) ∷ []) old middle →
     Puts (leaf_objects name (i + 1) (drop (i + 1) rows)) middle new → Puts (leaf_objects name i (drop i rows)) old new
 next_leaf name rows i d {old} {middle} {new} l a b =
     let k : i + 1 ≡ suc i = omega arith in
     let rest = subst (λ n. Puts (leaf_objects name n (drop (i + 1) rows)) middle new) k b in
-    subst (λ list. Puts (leaf_objects name i list) old new) (sym (next_left rows i d l)) (puts_then a rest)
+    subst (λ list. Puts (leaf_objects name i list) old new) (sym (drop_more rows i d l)) (puts_then a rest)
 
 -- No leaf is left.
 pub no_leaf : (name : List ℕ) (rows : List LeafRow) (i : ℕ) (lines : LinesValue) → length rows ≤ i → Puts (leaf_objects name i (drop i rows)) lines lines
-no_leaf name rows i lines l = subst (λ list. Puts (leaf_objects name i list) lines lines) (sym (drop_of_length-le rows l)) (puts_nothing lines)
+no_leaf name rows i lines l = subst (λ list. Puts (leaf_objects name i list) lines lines) (sym (drop_all i rows l)) (puts_nothing lines)
 
 module _ {X : Type 0} (bytes : X → List ℕ) (f : List ℕ → List (List Token)) (xs : List X) (k : ℕ) where
   -- The lines of the next input, and those of the rest.

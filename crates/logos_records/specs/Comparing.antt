@@ -1,5 +1,5 @@
 -- The object of a comparison of two lexers.
-use Rattle.std.specs.Prelude.{ℕ, Bool, List, [], ◌∷◌, ◌++◌, codes, option_map}
+use Rattle.std.specs.Prelude.{ℕ, Bool, List, ◌∷◌, ◌++◌, codes, option_map}
 use Rattle.json.specs.Token.{Token, key}
 use Rattle.logos_json.specs.Members.{bool_member, bytes_member, maybe_number, maybe_text, object}
 use Rattle.logos_answers.specs.declared.differing.Finding.{Finding}

@@ -3,17 +3,17 @@ use Rattle.std.specs.Prelude.{◌≢◌, ◌<◌, ℕ, List, Option, Some, optio
 use Rattle.std.specs.List.{All}
 use Rattle.logos_reduce.specs.Table.{size, to, mark}
 use Rattle.logos_reduce.specs.SymbolWords.{state_after}
-use Rattle.logos_reduce.specs.declared.table.Mark.{Mark}
+use Rattle.logos_reduce.specs.declared.table.StateMarks.{StateMarks}
 use Rattle.logos_reduce.specs.declared.table.Table.{Table}
 
 module _ (table : Table) where
   -- The mark of a state, or of the one to which the end leads from it.
-  abbrev pub mark_with_end : ℕ → Bool → Option Mark
+  abbrev pub mark_with_end : ℕ → Bool → Option StateMarks
   mark_with_end s ends =
       if ends then option_map (mark table) (to table s 256) else Some (mark table s)
 
   -- The mark after the bytes, with the end after them where the flag is set.
-  abbrev pub mark_after : ℕ → List ℕ → Bool → Option Mark
+  abbrev pub mark_after : ℕ → List ℕ → Bool → Option StateMarks
   mark_after s bytes ends = option_and_then (λ t. mark_with_end t ends)
       (state_after table (Some s) bytes)
 

@@ -1,7 +1,7 @@
 -- Words of symbols, and the states that they distinguish.
 use Rattle.std.specs.Prelude.{◌≢◌, ℕ, List, [], ◌∷◌, Option, Some, None, option_map}
 use Rattle.logos_reduce.specs.Table.{to, mark}
-use Rattle.logos_reduce.specs.declared.table.Mark.{Mark}
+use Rattle.logos_reduce.specs.declared.table.StateMarks.{StateMarks}
 use Rattle.logos_reduce.specs.declared.table.Table.{Table}
 
 module _ (table : Table) where
@@ -12,7 +12,7 @@ module _ (table : Table) where
   state_after (Some s) (k ∷ word) = state_after (to table s k) word
 
   -- The mark of that state.
-  abbrev pub outcome : ℕ → List ℕ → Option Mark
+  abbrev pub outcome : ℕ → List ℕ → Option StateMarks
   outcome s word = option_map (mark table) (state_after (Some s) word)
 
   -- The word leads from the two states to different marks, or can be followed from exactly one of

@@ -3,11 +3,11 @@ use Rattle.std.specs.Prelude.{ℕ, List, Option, None, slice_index_or, vec_len}
 use Rattle.logos_reduce.specs.Edges.{StateType, Edges}
 use Rattle.logos_reduce.specs.Rows.{target_in}
 use Rattle.logos_reduce.specs.RowsView.{rows_of}
-use Rattle.logos_reduce.specs.declared.table.Mark.{Mark}
+use Rattle.logos_reduce.specs.declared.table.StateMarks.{StateMarks}
 use Rattle.logos_reduce.specs.declared.table.Table.{Table}
 
 -- The mark at an index.
-abbrev pub mark_in : List Mark → ℕ → Mark
+abbrev pub mark_in : List StateMarks → ℕ → StateMarks
 mark_in marks s = slice_index_or marks s (record { accept = None; early = None })
 
 -- How many states it has.
@@ -19,10 +19,10 @@ abbrev pub to : Table → ℕ → ℕ → Option ℕ
 to table = target_in (rows_of table.rows)
 
 -- The mark of a state.
-abbrev pub mark : Table → ℕ → Mark
+abbrev pub mark : Table → ℕ → StateMarks
 mark table = mark_in table.marks.items
 
-abbrev pub type_of : Mark → StateType
+abbrev pub type_of : StateMarks → StateType
 type_of m = record { accept = m.accept; early = m.early }
 
 -- The graph that it stands for.

@@ -6,7 +6,7 @@ ghost use Rattle.logos_reduce.specs.Views.{size, to, GivesEvidence, mark_with_en
 
 use crate::reduction::Reduction;
 use crate::rows::{END, WIDTH};
-use crate::table::{Mark, Table};
+use crate::table::{StateMarks, Table};
 use std::alloc::{AllocError, Global};
 
 /// Returns the state to which bytes lead from a state.
@@ -23,7 +23,7 @@ fn state_after(table: &Table, s: usize, bytes: &[u8]) -> Option<usize>
 }
 
 /// Returns the mark of a state, or of the one to which the end leads from it.
-fn mark_with_end(table: &Table, s: usize, at_end: bool) -> Option<Mark>
+fn mark_with_end(table: &Table, s: usize, at_end: bool) -> Option<StateMarks>
     requires { s < size table.now }
     ensures { result ≡ mark_with_end table.now s at_end }
 {
@@ -35,7 +35,7 @@ fn mark_with_end(table: &Table, s: usize, at_end: bool) -> Option<Mark>
 }
 
 /// Returns the mark to which bytes lead from a state, with the end after them or without.
-fn mark_after(table: &Table, s: usize, bytes: &[u8], at_end: bool) -> Option<Mark>
+fn mark_after(table: &Table, s: usize, bytes: &[u8], at_end: bool) -> Option<StateMarks>
     requires { s < size table.now }
     ensures { result ≡ mark_after table.now s bytes.now at_end }
 {
@@ -44,7 +44,7 @@ fn mark_after(table: &Table, s: usize, bytes: &[u8], at_end: bool) -> Option<Mar
 }
 
 /// Returns whether two marks differ, or exactly one is there.
-fn differ(one: Option<Mark>, other: Option<Mark>) -> bool
+fn differ(one: Option<StateMarks>, other: Option<StateMarks>) -> bool
     ensures { IsTrue result ↔ (one ≢ other) }
 {
     one != other

@@ -7,7 +7,7 @@ use crate::merge::Partition;
 use crate::merge::refine::block_of;
 use crate::order::Order;
 use crate::rows::{Row, Rows, WIDTH, entry_before, target_at};
-use crate::table::{Mark, Table};
+use crate::table::{StateMarks, Table};
 use std::alloc::{AllocError, Global};
 
 /// Adds a block to the order, if there is one and it is not there yet.
@@ -172,7 +172,7 @@ fn numbered_marks(
     table: &Table,
     merged: &Partition,
     order: &Order,
-) -> Result<Vec<Mark>, AllocError>
+) -> Result<Vec<StateMarks>, AllocError>
     requires room { vec_len merged.now.leaders ≡ vec_len order.now.numbers }
     requires leaders { (i : ℕ) → i < vec_len order.now.states →
         slice_index merged.now.leaders.items (slice_index order.now.states.items i)

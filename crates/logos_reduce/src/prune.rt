@@ -7,11 +7,11 @@ ghost use Rattle.logos_reduce.specs.Views.{has, IsMet, Grows, IsMarked, target_b
 use crate::lists::predecessors;
 use crate::order::Order;
 use crate::rows::{END, Row, Rows, WIDTH, entry_before, target_at};
-use crate::table::{Mark, Table};
+use crate::table::{StateMarks, Table};
 use std::alloc::{AllocError, Global};
 
 /// Returns whether there is a mark.
-fn is_marked(mark: Mark) -> bool
+fn is_marked(mark: StateMarks) -> bool
     ensures { IsTrue result ↔ IsMarked (type_of mark) }
 {
     mark.early.is_some() || mark.accept.is_some()

@@ -5,7 +5,7 @@ ghost use Rattle.std.specs.Prelude.{◌≡◌, ◌≢◌, ℕ, ◌+◌, ◌<◌,
 ghost use Rattle.logos_reduce.specs.Views.{size, to, mark, mark_in, IsNeeded, IsSpare, IsSettled, accepted_in, IsCommonIn, AreCommonIn, AreCommon, IsSet, AreNeeded, IsMarkedBy};
 
 use crate::rows::{END, Row, WIDTH, changed_target, target_at};
-use crate::table::{Mark, Table};
+use crate::table::{StateMarks, Table};
 use std::alloc::{AllocError, Global};
 
 /// Returns the leaf that is accepted where a row leads by a symbol.
@@ -109,11 +109,11 @@ fn needed_marks(
 }
 
 /// Returns the mark of a state, once its early mark is known.
-fn settled_mark(mark: Mark, early: Option<usize>, needed: bool) -> Mark
+fn settled_mark(mark: StateMarks, early: Option<usize>, needed: bool) -> StateMarks
     ensures early { result.early ≡ early }
     ensures accept { result.accept ≡ (if needed then mark.accept else None) }
 {
-    Mark {
+    StateMarks {
         accept: if needed { mark.accept } else { None },
         early,
     }
@@ -125,7 +125,7 @@ fn settled_marks(
     table: &Table,
     early: &Vec<Option<usize>>,
     needed: &Vec<bool>,
-) -> Result<Vec<Mark>, AllocError>
+) -> Result<Vec<StateMarks>, AllocError>
     requires early { vec_len early.now ≡ size table.now }
     requires needed { vec_len needed.now ≡ size table.now }
     ensures len { IfOk result (λ v. vec_len v ≡ size table.now) }

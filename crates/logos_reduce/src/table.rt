@@ -9,7 +9,7 @@ use crate::rows::{Row, Rows, WIDTH, target_at};
 
 /// The leaves whose matches end where a state is, or one byte before.
 #[derive(Clone, Copy, PartialEq, Eq, Drop)]
-pub struct Mark {
+pub struct StateMarks {
     /// The leaf whose match ends one byte before.
     pub accept: Option<usize>,
     /// The leaf whose match ends there.
@@ -19,7 +19,7 @@ pub struct Mark {
 /// States, with a mark and a row of targets for each.
 #[derive(Drop)]
 pub struct Table {
-    pub(crate) marks: Vec<Mark>,
+    pub(crate) marks: Vec<StateMarks>,
     pub(crate) rows: Rows,
     ghost same_len: { length (rows_of rows) ≡ vec_len marks },
     ghost closed: { IsClosed (vec_len marks) (rows_of rows) },
@@ -34,7 +34,7 @@ impl Table {
     /// There is a mark for each row, each target is the number of a state, and there are fewer than
     /// 4,294,967,295 states. The rows are added one by one with `Rows::push`, in the order of the
     /// states.
-    pub fn new(marks: Vec<Mark>, rows: Rows) -> Table
+    pub fn new(marks: Vec<StateMarks>, rows: Rows) -> Table
         requires same_len { length (rows_of rows) ≡ vec_len marks }
         requires closed { IsClosed (vec_len marks) (rows_of rows) }
         requires few { vec_len marks + 1 < 2 ^ 32 }
@@ -52,7 +52,7 @@ impl Table {
     }
 
     /// Returns the mark of a state.
-    pub fn mark(&self, s: usize) -> Mark
+    pub fn mark(&self, s: usize) -> StateMarks
         requires { s < size self.now }
         ensures { result ≡ mark self.now s }
     {

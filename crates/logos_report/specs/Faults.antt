@@ -5,7 +5,7 @@ use Rattle.std.specs.Str.{bytes_eq}
 use Rattle.logos_token.specs.Faults.{Fault}
 use Rattle.logos_token.specs.FaultNames.{name_of}
 use Rattle.logos_report.specs.Codes.{is_error}
-use Rattle.logos_report.specs.Turns.{TurnValue, first_turn, follows, turn_after}
+use Rattle.logos_report.specs.Sets.{NextValue, first_faults, follows, next_after}
 use Rattle.logos_token.specs.declared.error.fault_code.FaultCode.{FaultCode}
 use Rattle.logos_report.specs.declared.page.Style.TheVariants.{Error, Frame, Strong}
 use Rattle.logos_report.specs.Pages.{painted}
@@ -39,17 +39,18 @@ has_name name fault = bytes_eq (name_of fault.code) name
 abbrev pub seen_of : FaultCode → List Fault → ℕ
 seen_of code faults = min (count_by (has_name (name_of code)) faults) 51
 
--- The line that says how many faults of a code are left out.
+-- How many faults of a code are left out, as the line says it that stands in their place.
 abbrev pub rest_text : ℕ → List ℕ
 rest_text count = codes ": " ++ (decimal count ++ codes " more are not shown")
 
+-- The line that says how many faults of a code are left out.
 abbrev pub rest_line : Bool → FaultCode → ℕ → List ℕ
 rest_line is_colored code count = code_text is_colored code ++ (painted is_colored Strong (rest_text count) ++ codes "\n")
 
 -- The same of a fault that comes next: one that belongs to an earlier report is a position of that.
-abbrev pub listed_texts : Bool → SourceValue → ℕ → TurnValue → Fault → List (List ℕ)
-listed_texts is_colored source begin turn fault =
-    if follows turn fault then place_line is_colored source begin fault.span.from ∷ [] else fault_texts is_colored source begin fault
+abbrev pub listed_texts : Bool → SourceValue → ℕ → NextValue → Fault → List (List ℕ)
+listed_texts is_colored source begin next fault =
+    if follows next fault then place_line is_colored source begin fault.span.from ∷ [] else fault_texts is_colored source begin fault
 
 -- How many of all faults are left out, or the largest number without those that are shown.
 abbrev pub left_out : FaultCode → List Fault → ℕ
@@ -57,22 +58,22 @@ left_out code all = min (count_by (has_name (name_of code)) all) (2 ^ 64 - 1) - 
 
 -- What is shown of a fault of a list, after those in front of it: its lines, if fewer than 50 in
 -- front have its code; and in place of the next one how many of all are left out.
-abbrev pub counted_texts : Bool → SourceValue → ℕ → List Fault → List Fault → TurnValue → Fault → List (List ℕ)
-counted_texts is_colored source begin all front turn fault =
-    if nat_lt (seen_of fault.code front) 50 then listed_texts is_colored source begin turn fault
+abbrev pub counted_texts : Bool → SourceValue → ℕ → List Fault → List Fault → NextValue → Fault → List (List ℕ)
+counted_texts is_colored source begin all front next fault =
+    if nat_lt (seen_of fault.code front) 50 then listed_texts is_colored source begin next fault
     else if seen_of fault.code front == 50 then rest_line is_colored fault.code (left_out fault.code all) ∷ []
     else []
 
 -- The same for the faults after some in front, in order.
-abbrev pub texts_after : Bool → SourceValue → ℕ → List Fault → List Fault → TurnValue → List Fault → List (List ℕ)
-texts_after is_colored source begin all front turn [] = []
-texts_after is_colored source begin all front turn (fault ∷ faults) =
-    counted_texts is_colored source begin all front turn fault ++ texts_after is_colored source begin all (front ++ fault ∷ []) (turn_after turn fault) faults
+abbrev pub texts_after : Bool → SourceValue → ℕ → List Fault → List Fault → NextValue → List Fault → List (List ℕ)
+texts_after is_colored source begin all front next [] = []
+texts_after is_colored source begin all front next (fault ∷ faults) =
+    counted_texts is_colored source begin all front next fault ++ texts_after is_colored source begin all (front ++ fault ∷ []) (next_after next fault) faults
 
 -- The same for all faults of a part of a file; the sets of ambiguous leaves have these sizes, in
 -- order, and each set one report.
 abbrev pub faults_texts : Bool → SourceValue → ℕ → List ℕ → List Fault → List (List ℕ)
-faults_texts is_colored source begin sizes faults = texts_after is_colored source begin faults [] (first_turn sizes) faults
+faults_texts is_colored source begin sizes faults = texts_after is_colored source begin faults [] (first_faults sizes) faults
 
 -- The line that says how many errors there are.
 abbrev pub count_text : ℕ → List ℕ

@@ -1,5 +1,5 @@
 pub mod Codes
-pub mod Turns
+pub mod Sets
 pub mod Shown
 pub mod Pages
 pub mod Places

@@ -3,24 +3,24 @@ use Rattle.std.specs.Prelude.{ℕ, Bool, List, [], ◌∷◌, ◌++◌, drop, ta
 use Rattle.std.specs.List.{flat_map}
 use Rattle.logos_token.specs.Faults.{Fault}
 use Rattle.logos_token.specs.FaultView.{faults_of}
-use Rattle.logos_report.specs.declared.refused.Listing.{Listing}
+use Rattle.logos_report.specs.declared.refused.FaultListing.{FaultListing}
 use Rattle.logos_report.specs.declared.refused.Refused.{Refused}
 use Rattle.logos_report.specs.Faults.{texts_after}
 use Rattle.logos_report.specs.Places.{SourceValue}
-use Rattle.logos_report.specs.Turns.{first_turn, sizes_of}
+use Rattle.logos_report.specs.Sets.{first_faults, sizes_of}
 
 -- All faults of these parts of a file, in order.
 abbrev pub all_faults : List Refused → List Fault
 all_faults parts = flat_map (λ part. part.errors) parts
 
 -- The same of a part and of those around it.
-abbrev pub listed_faults : Listing → List Fault
+abbrev pub listed_faults : FaultListing → List Fault
 listed_faults listing = all_faults listing.earlier.now ++ (faults_of listing.faults.now ++ all_faults listing.later.now)
 
 -- What is shown of the faults of a part, where the first ones are those of all parts, and the
 -- others those of the parts in front.
 abbrev pub part_texts : Bool → SourceValue → List Fault → List Fault → Refused → List (List ℕ)
-part_texts is_colored source all front part = texts_after is_colored source part.offset all front (first_turn (sizes_of part.clues)) part.errors
+part_texts is_colored source all front part = texts_after is_colored source part.offset all front (first_faults (sizes_of part.clues)) part.errors
 
 -- The same of parts one after another.
 abbrev pub parts_texts : Bool → SourceValue → List Fault → List Fault → List Refused → List (List ℕ)

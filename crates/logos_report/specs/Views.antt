@@ -4,5 +4,5 @@ pub use Rattle.logos_report.specs.Faults.{code_text, count_text, counted_texts, 
 pub use Rattle.logos_report.specs.Pages.{Gains, Shows, begun, ended, painted, style_text, times}
 pub use Rattle.logos_report.specs.Parts.{all_faults, listed_faults, refused_texts, texts_from}
 pub use Rattle.logos_report.specs.Places.{arrow_line, in_file, place_line, shown_place, shown_position}
-pub use Rattle.logos_report.specs.Turns.{begins_error, errors_after, first_turn, follows, sizes_of, stepped, turn_after, turn_value}
+pub use Rattle.logos_report.specs.Sets.{begins_error, errors_after, first_faults, follows, sizes_of, stepped, next_after, next_value}
 pub use Rattle.logos_report.specs.Warnings.{all_texts, shown_of, warning_head, warning_texts, warnings_texts}

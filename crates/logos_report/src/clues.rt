@@ -1,7 +1,7 @@
 //! What is known of faults of a graph beyond what they say. Who builds the graph finds it.
 
 ghost use Rattle.std.specs.Prelude.{◌≡◌, [], MatchOption, false, nat_lt};
-ghost use Rattle.logos_report.specs.Views.{fault_of, is_ambiguity, follows, sizes_of, stepped, turn_after, turn_value};
+ghost use Rattle.logos_report.specs.Views.{fault_of, is_ambiguity, follows, sizes_of, stepped, next_after, next_value};
 
 use logos_token::error::{FaultCode, SpannedError};
 use logos_token::token::Span;
@@ -48,7 +48,7 @@ impl Clues {
 
 /// Which faults come next: how many of those of sets of ambiguous leaves are passed.
 #[derive(Clone, Copy)]
-pub struct Turn<'c> {
+pub struct NextFaults<'c> {
     /// The sets of which not all faults are passed.
     meetings: &'c [Meeting],
     /// How many faults of the first of them are passed.
@@ -66,10 +66,10 @@ pub struct Member<'c> {
 }
 
 /// Returns that no fault is passed.
-pub fn first_turn(clues: &Clues) -> Turn<'_>
-    ensures { turn_value result ≡ record { sizes = sizes_of clues.now; passed = 0 } }
+pub fn first_faults(clues: &Clues) -> NextFaults<'_>
+    ensures { next_value result ≡ record { sizes = sizes_of clues.now; passed = 0 } }
 {
-    Turn {
+    NextFaults {
         meetings: &clues.meetings,
         passed: 0,
         starts: &clues.starts,
@@ -84,29 +84,29 @@ fn is_ambiguity(code: FaultCode) -> bool
 }
 
 /// Returns what comes next after a fault of a set of ambiguous leaves.
-fn stepped(turn: Turn<'_>) -> Turn<'_>
-    ensures { turn_value result ≡ stepped (turn_value turn.entry) (turn_value turn.entry).sizes }
+fn stepped(next: NextFaults<'_>) -> NextFaults<'_>
+    ensures { next_value result ≡ stepped (next_value next.entry) (next_value next.entry).sizes }
 {
-    let [meeting, rest @ ..] = turn.meetings else {
-        return turn;
+    let [meeting, rest @ ..] = next.meetings else {
+        return next;
     };
-    if turn.passed < meeting.names.len().saturating_sub(1) {
-        return Turn {
-            passed: turn.passed + 1,
-            ..turn
+    if next.passed < meeting.names.len().saturating_sub(1) {
+        return NextFaults {
+            passed: next.passed + 1,
+            ..next
         };
     }
-    Turn {
+    NextFaults {
         meetings: rest,
         passed: 0,
-        ..turn
+        ..next
     }
 }
 
-impl<'c> Turn<'c> {
+impl<'c> NextFaults<'c> {
     /// Returns what comes next after a fault.
-    pub fn after(self, fault: &SpannedError) -> Turn<'c>
-        ensures { turn_value result ≡ turn_after (turn_value self.entry) (fault_of fault.now) }
+    pub fn after(self, fault: &SpannedError) -> NextFaults<'c>
+        ensures { next_value result ≡ next_after (next_value self.entry) (fault_of fault.now) }
     {
         if is_ambiguity(fault.code) {
             stepped(self)
@@ -118,8 +118,8 @@ impl<'c> Turn<'c> {
     /// Returns the member of a set of ambiguous leaves that a fault which comes next is, if
     /// something is known of the set.
     pub fn member(self, fault: &SpannedError) -> Option<Member<'c>>
-        ensures { MatchOption result (follows (turn_value self.entry) (fault_of fault.now) ≡ false)
-            (λ member. follows (turn_value self.entry) (fault_of fault.now)
+        ensures { MatchOption result (follows (next_value self.entry) (fault_of fault.now) ≡ false)
+            (λ member. follows (next_value self.entry) (fault_of fault.now)
             ≡ nat_lt 0 member.number) }
     {
         match self.meetings {
@@ -133,7 +133,7 @@ impl<'c> Turn<'c> {
 
     /// Returns whether a fault that comes next belongs to the report of an earlier one.
     pub(crate) fn follows(self, fault: &SpannedError) -> bool
-        ensures { result ≡ follows (turn_value self.entry) (fault_of fault.now) }
+        ensures { result ≡ follows (next_value self.entry) (fault_of fault.now) }
     {
         match self.member(fault) {
             Some(member) => member.number > 0,

@@ -1,20 +1,20 @@
 //! The faults of a file.
 
 ghost use Rattle.std.specs.Prelude.{◌≡◌, ◌≤◌, ◌++◌, ◌==◌, ◌∷◌, [], codes, if◌then◌else◌, length, take};
-ghost use Rattle.logos_report.specs.Views.{count_by, name_of, fault_of, faults_of, is_error, shown_text, code_text, count_text, counted_texts, fault_texts, faults_texts, texts_after, first_line, has_name, head_line, rest_line, rest_text, seen_of, summary_line, all_faults, listed_faults, begins_error, errors_after, first_turn, sizes_of, turn_value, Gains, Shows, painted, place_line};
+ghost use Rattle.logos_report.specs.Views.{count_by, name_of, fault_of, faults_of, is_error, shown_text, code_text, count_text, counted_texts, fault_texts, faults_texts, texts_after, first_line, has_name, head_line, rest_line, rest_text, seen_of, summary_line, all_faults, listed_faults, begins_error, errors_after, first_faults, sizes_of, next_value, Gains, Shows, painted, place_line};
 
-use crate::clues::{Clues, Turn, first_turn};
+use crate::clues::{Clues, NextFaults, first_faults};
 use crate::frame::{Marks, push_frame_with, push_offset};
 use crate::inner::caret_span;
-use crate::notes::{Shown, push_notes};
+use crate::notes::{ShownFault, push_notes};
 use crate::page::{Page, Style};
-use crate::refused::{Listing, count_in, seen_in};
+use crate::refused::{FaultListing, count_in, seen_in};
 use crate::sets::push_listed;
 use crate::source::Part;
 use logos_token::error::{Errors, FaultCode, SpannedError};
 
 /// How many faults of one code are shown of a file.
-pub(crate) const MOST: usize = 50;
+pub const MOST: usize = 50;
 
 /// Appends the faults of a part of a file, in order. For each, a line with the name of its code and
 /// the first line of its message, and one with its position in the file stand in what is pushed. Of
@@ -24,25 +24,30 @@ pub fn push_faults(page: &mut Page, part: Part<'_, '_>, errors: &Errors, clues: 
     ensures { Shows (faults_texts page.old.is_colored part.entry.source.now part.entry.offset
         (sizes_of clues.now) errors.now) page.old page.new }
 {
-    let listing = Listing {
+    let listing = FaultListing {
         earlier: &[],
         faults: errors.list(),
         later: &[],
     };
-    push_all(page, part, listing, first_turn(clues));
+    push_all(page, part, listing, first_faults(clues));
 }
 
-/// Appends the faults of a part, of which sets of ambiguous leaves come first in this turn.
-pub(crate) fn push_all(page: &mut Page, part: Part<'_, '_>, listing: Listing<'_>, first: Turn<'_>)
+/// Appends the faults of a part, of which these come first.
+pub(crate) fn push_all(
+    page: &mut Page,
+    part: Part<'_, '_>,
+    listing: FaultListing<'_>,
+    first: NextFaults<'_>,
+)
     ensures { Shows (texts_after page.old.is_colored part.entry.source.now part.entry.offset
         (listed_faults listing.entry) (all_faults listing.entry.earlier.now)
-        (turn_value first.entry) (faults_of listing.entry.faults.now)) page.old page.new }
+        (next_value first.entry) (faults_of listing.entry.faults.now)) page.old page.new }
 {
     let mut number = 0;
-    let mut turn = first;
+    let mut next = first;
     for fault in listing.faults {
-        push_counted(page, part, listing, number, fault, turn);
-        turn = turn.after(fault);
+        push_counted(page, part, listing, number, fault, next);
+        next = next.after(fault);
         number += 1;
     }
 }
@@ -52,28 +57,28 @@ pub(crate) fn push_all(page: &mut Page, part: Part<'_, '_>, listing: Listing<'_>
 fn push_counted(
     page: &mut Page,
     part: Part<'_, '_>,
-    listing: Listing<'_>,
+    listing: FaultListing<'_>,
     number: usize,
     fault: &SpannedError,
-    turn: Turn<'_>,
+    next: NextFaults<'_>,
 )
     requires { number ≤ length listing.faults.now }
     ensures { Shows (counted_texts page.old.is_colored part.entry.source.now part.entry.offset
         (listed_faults listing.entry)
         (all_faults listing.entry.earlier.now ++ faults_of (take number listing.entry.faults.now))
-        (turn_value turn.entry) (fault_of fault.now)) page.old page.new }
+        (next_value next.entry) (fault_of fault.now)) page.old page.new }
 {
     let code = fault.code;
     let seen = seen_in(listing.earlier, &listing.faults[..number], code);
     if seen < MOST {
-        push_listed(page, part, listing.faults, fault, turn);
+        push_listed(page, part, listing.faults, fault, next);
     } else if seen == MOST {
         push_rest(page, code, count_in(listing, code).saturating_sub(MOST));
     }
 }
 
 /// Appends how many faults of a code are left out, and an empty line.
-fn push_rest(page: &mut Page, code: FaultCode, count: usize)
+pub fn push_rest(page: &mut Page, code: FaultCode, count: usize)
     ensures { Shows (rest_line page.old.is_colored code count ∷ []) page.old page.new }
 {
     push_rest_line(page, code, count);
@@ -140,29 +145,29 @@ fn has_code(fault: &SpannedError, code: FaultCode) -> bool
 /// definition that an error speaks of, and a set of ambiguous leaves of which something is known
 /// has one report.
 pub fn count_errors(errors: &Errors, clues: &Clues) -> usize
-    ensures { result ≡ errors_after (first_turn (sizes_of clues.now)) errors.now }
+    ensures { result ≡ errors_after (first_faults (sizes_of clues.now)) errors.now }
 {
-    count_all(errors.list(), first_turn(clues))
+    count_all(errors.list(), first_faults(clues))
 }
 
 /// Returns how many reports of errors these faults give.
-fn count_all(faults: &[SpannedError], first: Turn<'_>) -> usize
-    ensures { result ≡ errors_after (turn_value first.entry) (faults_of faults.now) }
+fn count_all(faults: &[SpannedError], first: NextFaults<'_>) -> usize
+    ensures { result ≡ errors_after (next_value first.entry) (faults_of faults.now) }
 {
     let mut count = 0;
-    let mut turn = first;
+    let mut next = first;
     for fault in faults {
-        count += usize::from(begins_error(turn, fault));
-        turn = turn.after(fault);
+        count += usize::from(begins_error(next, fault));
+        next = next.after(fault);
     }
     count
 }
 
 /// Returns whether a report of an error begins with a fault.
-fn begins_error(turn: Turn<'_>, fault: &SpannedError) -> bool
-    ensures { result ≡ begins_error (turn_value turn.entry) (fault_of fault.now) }
+fn begins_error(next: NextFaults<'_>, fault: &SpannedError) -> bool
+    ensures { result ≡ begins_error (next_value next.entry) (fault_of fault.now) }
 {
-    is_error(fault.code) & !turn.follows(fault)
+    is_error(fault.code) & !next.follows(fault)
 }
 
 /// Returns whether a fault with this code is an error.
@@ -217,7 +222,7 @@ pub fn push_fault(
     let width = push_span(page, part, fault);
     push_notes(
         page,
-        Shown {
+        ShownFault {
             part,
             faults,
             fault,

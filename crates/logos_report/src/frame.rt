@@ -5,7 +5,7 @@ ghost use Rattle.logos_report.specs.Views.{shown_text, Gains, Shows, arrow_line,
 
 use crate::page::{Page, Style};
 use crate::source::{Part, Source};
-use crate::window::{Spot, Window, window_at};
+use crate::window::{FileSpot, LineWindow, window_at};
 use logos_lines::Position;
 use logos_token::token::Span;
 
@@ -14,9 +14,9 @@ use logos_token::token::Span;
 struct Frame<'p, 't> {
     source: &'p Source<'t>,
     /// Where the span begins.
-    first: Spot,
+    first: FileSpot,
     /// Where it ends.
-    last: Spot,
+    last: FileSpot,
     /// How wide the column of line numbers is.
     width: usize,
     /// The style of the carets and of the label.
@@ -82,8 +82,8 @@ fn frame_of<'p, 't>(part: Part<'p, 't>, marks: Marks<'p>) -> Frame<'p, 't> {
 }
 
 /// Returns the spot in the file of an offset of a part.
-fn spot_in(part: Part<'_, '_>, offset: usize) -> Spot {
-    Spot {
+fn spot_in(part: Part<'_, '_>, offset: usize) -> FileSpot {
+    FileSpot {
         offset: offset.saturating_add(part.offset),
         position: part.position(offset),
     }
@@ -91,12 +91,12 @@ fn spot_in(part: Part<'_, '_>, offset: usize) -> Spot {
 
 /// Returns where what is shown of a span ends: at the end of the line before, where it ends with a
 /// line.
-fn last_shown(source: &Source<'_>, first: Spot, end: Spot) -> Spot {
+fn last_shown(source: &Source<'_>, first: FileSpot, end: FileSpot) -> FileSpot {
     if (end.position.column > 1) | (lines_after(first, end) == 0) {
         return end;
     }
     let offset = end.offset.saturating_sub(1);
-    Spot {
+    FileSpot {
         offset,
         position: source.position(offset),
     }
@@ -186,7 +186,7 @@ fn push_dots(page: &mut Page, frame: Frame<'_, '_>)
 }
 
 /// Returns how many lines a spot is below another one.
-fn lines_after(first: Spot, last: Spot) -> usize {
+fn lines_after(first: FileSpot, last: FileSpot) -> usize {
     last.position.line.saturating_sub(first.position.line)
 }
 
@@ -209,7 +209,7 @@ fn push_margin(page: &mut Page, width: usize)
 }
 
 /// Appends what is shown of a line of the file, with its number.
-fn push_line(page: &mut Page, frame: Frame<'_, '_>, line: usize, window: Window<'_>)
+fn push_line(page: &mut Page, frame: Frame<'_, '_>, line: usize, window: LineWindow<'_>)
     ensures { Shows [] page.old page.new }
 {
     push_line_number(page, line, frame.width);
@@ -233,7 +233,13 @@ fn push_line_number(page: &mut Page, line: usize, width: usize)
 
 /// Appends carets under what is shown of a line, from a column to another one, which is not under
 /// them. There is at least one.
-fn push_carets(page: &mut Page, frame: Frame<'_, '_>, window: Window<'_>, from: usize, to: usize)
+fn push_carets(
+    page: &mut Page,
+    frame: Frame<'_, '_>,
+    window: LineWindow<'_>,
+    from: usize,
+    to: usize,
+)
     ensures { Shows [] page.old page.new }
 {
     push_margin(page, frame.width);

@@ -90,7 +90,7 @@ fn piece_at(sight: Sight<'_>, byte: usize) -> Option<Span> {
     let reader = Reader {
         is_raw: prefix.contains('r'),
         is_bytes,
-        state: State::Plain,
+        state: LiteralState::Plain,
         piece: Span {
             from: prefix.len().saturating_add(1),
             to: prefix.len().saturating_add(1),
@@ -117,7 +117,7 @@ fn length_in_front(before: &str, is_bytes: bool) -> usize {
 
 /// What a character of a literal continues.
 #[derive(Clone, Copy)]
-enum State {
+enum LiteralState {
     /// Nothing: a piece begins.
     Plain,
     /// A backslash.
@@ -137,7 +137,7 @@ enum State {
 struct Reader {
     is_raw: bool,
     is_bytes: bool,
-    state: State,
+    state: LiteralState,
     /// The piece that is being read, in bytes of the literal.
     piece: Span,
 }
@@ -162,8 +162,8 @@ impl Reader {
     /// or 0 if none ends.
     fn after(self, character: char) -> (Reader, usize) {
         let from = match self.state {
-            State::Plain => self.piece.to,
-            State::Blanks if !character.is_ascii_whitespace() => self.piece.to,
+            LiteralState::Plain => self.piece.to,
+            LiteralState::Blanks if !character.is_ascii_whitespace() => self.piece.to,
             _ => self.piece.from,
         };
         let (state, length) = self.step(character);
@@ -183,61 +183,61 @@ impl Reader {
 
     /// Returns what the next character continues, and how many bytes the piece that ends with this
     /// one spells, or 0 if none ends.
-    fn step(self, character: char) -> (State, usize) {
+    fn step(self, character: char) -> (LiteralState, usize) {
         match self.state {
-            State::Plain => self.begin(character),
-            State::Escape => escape(character),
-            State::Hex => (
-                State::Digit {
+            LiteralState::Plain => self.begin(character),
+            LiteralState::Escape => escape(character),
+            LiteralState::Hex => (
+                LiteralState::Digit {
                     is_high: character >= '8',
                 },
                 0,
             ),
-            State::Digit { is_high } => {
+            LiteralState::Digit { is_high } => {
                 let is_escaped = is_high & self.is_bytes;
-                (State::Plain, if is_escaped { 4 } else { 1 })
+                (LiteralState::Plain, if is_escaped { 4 } else { 1 })
             }
-            State::Number(number) => digit(number, character),
-            State::Blanks if character.is_ascii_whitespace() => (State::Blanks, 0),
-            State::Blanks => self.begin(character),
+            LiteralState::Number(number) => digit(number, character),
+            LiteralState::Blanks if character.is_ascii_whitespace() => (LiteralState::Blanks, 0),
+            LiteralState::Blanks => self.begin(character),
         }
     }
 
     /// Returns the same of a character that begins a piece. CR is read only in front of LF, and is
     /// left out.
-    fn begin(self, character: char) -> (State, usize) {
+    fn begin(self, character: char) -> (LiteralState, usize) {
         if (character == '\\') & !self.is_raw {
-            (State::Escape, 0)
+            (LiteralState::Escape, 0)
         } else if character == '\r' {
-            (State::Plain, 0)
+            (LiteralState::Plain, 0)
         } else {
-            (State::Plain, character.len_utf8())
+            (LiteralState::Plain, character.len_utf8())
         }
     }
 }
 
 /// Returns the same of a character after a backslash.
-fn escape(character: char) -> (State, usize) {
+fn escape(character: char) -> (LiteralState, usize) {
     match character {
-        'x' => (State::Hex, 0),
-        'u' => (State::Number(0), 0),
-        '\r' => (State::Blanks, 0),
-        '\n' => (State::Blanks, 0),
-        _ => (State::Plain, 1),
+        'x' => (LiteralState::Hex, 0),
+        'u' => (LiteralState::Number(0), 0),
+        '\r' => (LiteralState::Blanks, 0),
+        '\n' => (LiteralState::Blanks, 0),
+        _ => (LiteralState::Plain, 1),
     }
 }
 
 /// Returns the same of a character in `\u{..}`.
-fn digit(number: u32, character: char) -> (State, usize) {
+fn digit(number: u32, character: char) -> (LiteralState, usize) {
     if character == '}' {
-        return (State::Plain, utf8_length(number));
+        return (LiteralState::Plain, utf8_length(number));
     }
     match character.to_digit(16) {
         Some(value) => (
-            State::Number(number.wrapping_mul(16).wrapping_add(value)),
+            LiteralState::Number(number.wrapping_mul(16).wrapping_add(value)),
             0,
         ),
-        None => (State::Number(number), 0),
+        None => (LiteralState::Number(number), 0),
     }
 }
 

@@ -16,11 +16,13 @@ mod source;
 mod warnings;
 mod window;
 
-pub use clues::{Clues, Meeting, Member, Start, Turn, first_turn};
-pub use faults::{count_errors, first_line, is_error, push_fault, push_faults, push_summary};
+pub use clues::{Clues, Meeting, Member, NextFaults, Start, first_faults};
+pub use faults::{
+    MOST, count_errors, first_line, is_error, push_fault, push_faults, push_rest, push_summary,
+};
 pub use frame::{digits, push_frame, push_place};
 pub use page::{Page, Style};
-pub use refused::{Refused, push_refused};
+pub use refused::{FaultListing, Refused, count_in, push_refused, seen_in};
 pub use sight::help_of;
 pub use source::{Part, Source};
-pub use warnings::{Warning, push_warning, push_warnings};
+pub use warnings::{Warning, first_of, push_warning, push_warnings};

@@ -12,7 +12,7 @@ use logos_token::error::{FaultCode, SpannedError};
 
 /// A fault that was shown with its position. What belongs to it follows.
 #[derive(Clone, Copy)]
-pub(crate) struct Shown<'f, 'p, 't> {
+pub(crate) struct ShownFault<'f, 'p, 't> {
     pub(crate) part: Part<'p, 't>,
     /// The faults of this part of the file.
     pub(crate) faults: &'f [SpannedError],
@@ -23,7 +23,7 @@ pub(crate) struct Shown<'f, 'p, 't> {
 }
 
 /// Appends the notes and the help of a fault, and an empty line.
-pub(crate) fn push_notes(page: &mut Page, shown: Shown<'_, '_, '_>)
+pub(crate) fn push_notes(page: &mut Page, shown: ShownFault<'_, '_, '_>)
     ensures { Shows [] page.old page.new }
 {
     push_other_lines(page, shown);
@@ -34,7 +34,7 @@ pub(crate) fn push_notes(page: &mut Page, shown: Shown<'_, '_, '_>)
 }
 
 /// Appends which subpattern is put in, if that is why carets stand under all of a literal.
-fn push_put_in(page: &mut Page, shown: Shown<'_, '_, '_>)
+fn push_put_in(page: &mut Page, shown: ShownFault<'_, '_, '_>)
     ensures { Shows [] page.old page.new }
 {
     if let Some(put) = put_in(shown.part, shown.fault) {
@@ -76,7 +76,7 @@ fn push_note_mark(page: &mut Page, width: usize)
 }
 
 /// Appends the position of the second span of a fault, if it has one.
-fn push_other_place(page: &mut Page, shown: Shown<'_, '_, '_>)
+fn push_other_place(page: &mut Page, shown: ShownFault<'_, '_, '_>)
     ensures { Shows [] page.old page.new }
 {
     if let Some(also) = shown.fault.also {
@@ -87,7 +87,7 @@ fn push_other_place(page: &mut Page, shown: Shown<'_, '_, '_>)
 }
 
 /// Appends what to do about a fault, if there is something to say.
-pub(crate) fn push_help(page: &mut Page, shown: Shown<'_, '_, '_>)
+pub(crate) fn push_help(page: &mut Page, shown: ShownFault<'_, '_, '_>)
     ensures { Shows [] page.old page.new }
 {
     if let Some(help) = help_of(shown.part, shown.fault) {
@@ -98,7 +98,7 @@ pub(crate) fn push_help(page: &mut Page, shown: Shown<'_, '_, '_>)
 
 /// Appends the lines of a message after its first one. The other patterns of an ambiguity get their
 /// positions.
-fn push_other_lines(page: &mut Page, shown: Shown<'_, '_, '_>)
+fn push_other_lines(page: &mut Page, shown: ShownFault<'_, '_, '_>)
     ensures { Shows [] page.old page.new }
 {
     let mut next = 0;
@@ -109,7 +109,7 @@ fn push_other_lines(page: &mut Page, shown: Shown<'_, '_, '_>)
 
 /// Appends a line of a message. Faults from `next` on may be those of other patterns of an
 /// ambiguity. Returns where to look for the next one.
-fn push_other_line(page: &mut Page, shown: Shown<'_, '_, '_>, line: &str, next: usize) -> usize
+fn push_other_line(page: &mut Page, shown: ShownFault<'_, '_, '_>, line: &str, next: usize) -> usize
     ensures { Shows [] page.old page.new }
 {
     if line.is_empty() {
@@ -127,7 +127,7 @@ fn push_other_line(page: &mut Page, shown: Shown<'_, '_, '_>, line: &str, next: 
 }
 
 /// Appends the position of the fault with this number, if there is one, and ends the line.
-fn push_pattern_place(page: &mut Page, shown: Shown<'_, '_, '_>, number: usize)
+fn push_pattern_place(page: &mut Page, shown: ShownFault<'_, '_, '_>, number: usize)
     ensures { Shows [] page.old page.new }
 {
     if let Some(other) = shown.faults.get(number) {
@@ -139,7 +139,7 @@ fn push_pattern_place(page: &mut Page, shown: Shown<'_, '_, '_>, number: usize)
 
 /// Returns the number, at least `from`, of another fault that is an ambiguity of the pattern with
 /// this name, or the number of faults if there is none.
-fn find_pattern(shown: Shown<'_, '_, '_>, name: &str, from: usize) -> usize {
+fn find_pattern(shown: ShownFault<'_, '_, '_>, name: &str, from: usize) -> usize {
     for number in from..shown.faults.len() {
         if is_other_ambiguity(&shown.faults[number], shown.fault, name) {
             return number;

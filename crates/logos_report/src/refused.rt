@@ -4,7 +4,7 @@ ghost use Rattle.std.specs.Prelude.{◌≡◌, ◌++◌, ◌+◌, ◌<◌, ◌^�
 ghost use Rattle.logos_report.specs.Pages.{PageValue};
 ghost use Rattle.logos_report.specs.Views.{Shows, all_faults, count_by, faults_of, has_name, listed_faults, name_of, refused_texts, seen_of, texts_from};
 
-use crate::clues::{Clues, first_turn};
+use crate::clues::{Clues, first_faults};
 use crate::faults::{MOST, count_code, push_all, seen_of};
 use crate::page::Page;
 use crate::source::{Part, Source};
@@ -23,13 +23,13 @@ pub struct Refused {
 
 /// The faults of a part of a file, and the parts around it.
 #[derive(Clone, Copy)]
-pub(crate) struct Listing<'f> {
+pub struct FaultListing<'f> {
     /// The parts in front of it.
-    pub(crate) earlier: &'f [Refused],
+    pub earlier: &'f [Refused],
     /// Its faults.
-    pub(crate) faults: &'f [SpannedError],
+    pub faults: &'f [SpannedError],
     /// The parts after it.
-    pub(crate) later: &'f [Refused],
+    pub later: &'f [Refused],
 }
 
 /// Appends the faults of these parts of a file, in order, as `push_faults` does. Of the faults of
@@ -52,7 +52,7 @@ fn push_part(page: &mut Page, source: &Source<'_>, refused: &[Refused], number: 
 {
     let one = &refused[number];
     let offset = one.offset;
-    let listing = Listing {
+    let listing = FaultListing {
         earlier: &refused[..number],
         faults: one.errors.list(),
         later: &refused[number + 1..],
@@ -61,13 +61,13 @@ fn push_part(page: &mut Page, source: &Source<'_>, refused: &[Refused], number: 
         page,
         Part { source, offset },
         listing,
-        first_turn(&one.clues),
+        first_faults(&one.clues),
     );
 }
 
 /// Returns how many faults of these parts, and of some more, have a code, but no more than one
 /// above the number that is shown. It looks from the last one on.
-pub(crate) fn seen_in(earlier: &[Refused], front: &[SpannedError], code: FaultCode) -> usize
+pub fn seen_in(earlier: &[Refused], front: &[SpannedError], code: FaultCode) -> usize
     ensures { result ≡ seen_of code (all_faults earlier.now ++ faults_of front.now) }
 {
     let mut left = earlier.len();
@@ -83,7 +83,7 @@ pub(crate) fn seen_in(earlier: &[Refused], front: &[SpannedError], code: FaultCo
 }
 
 /// Returns how many faults of a part and of those around it have a code, or the largest number.
-pub(crate) fn count_in(listing: Listing<'_>, code: FaultCode) -> usize
+pub fn count_in(listing: FaultListing<'_>, code: FaultCode) -> usize
     ensures { result ≡ min (count_by (has_name (name_of code)) (listed_faults listing.entry))
         (2 ^ 64 - 1) }
 {

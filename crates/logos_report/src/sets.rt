@@ -2,12 +2,12 @@
 //! at what stands before their first byte.
 
 ghost use Rattle.std.specs.Prelude.{◌∷◌, [], nat_lt, if◌then◌else◌};
-ghost use Rattle.logos_report.specs.Views.{fault_of, fault_texts, listed_texts, Shows, place_line, turn_value};
+ghost use Rattle.logos_report.specs.Views.{fault_of, fault_texts, listed_texts, Shows, place_line, next_value};
 
-use crate::clues::{Meeting, Member, Start, Turn};
+use crate::clues::{Meeting, Member, NextFaults, Start};
 use crate::faults::{push_fault, push_head, push_marked};
 use crate::frame::{Marks, push_frame_with, push_offset};
-use crate::notes::{Shown, push_help, push_note, push_notes};
+use crate::notes::{ShownFault, push_help, push_note, push_notes};
 use crate::page::{Page, Style};
 use crate::source::Part;
 use logos_token::error::SpannedError;
@@ -21,14 +21,14 @@ pub(crate) fn push_listed(
     part: Part<'_, '_>,
     faults: &[SpannedError],
     fault: &SpannedError,
-    turn: Turn<'_>,
+    next: NextFaults<'_>,
 )
     ensures { Shows (listed_texts page.old.is_colored part.entry.source.now part.entry.offset
-        (turn_value turn.entry) (fault_of fault.now)) page.old page.new }
+        (next_value next.entry) (fault_of fault.now)) page.old page.new }
 {
-    match turn.member(fault) {
+    match next.member(fault) {
         Some(member) => push_member(page, part, fault, member),
-        None => push_single(page, part, faults, fault, turn.starts(fault.code)),
+        None => push_single(page, part, faults, fault, next.starts(fault.code)),
     }
 }
 
@@ -41,7 +41,7 @@ fn push_member(page: &mut Page, part: Part<'_, '_>, fault: &SpannedError, member
         (fault_of fault.now)) page.old page.new }
 {
     let width = push_place_of(page, part, fault, member);
-    let shown = Shown {
+    let shown = ShownFault {
         part,
         faults: &[],
         fault,
@@ -82,7 +82,7 @@ fn push_begin(page: &mut Page, part: Part<'_, '_>, fault: &SpannedError, label: 
 }
 
 /// Appends what is known of a set of ambiguous leaves, if this is the last of its faults.
-fn push_end(page: &mut Page, shown: Shown<'_, '_, '_>, member: Member<'_>)
+fn push_end(page: &mut Page, shown: ShownFault<'_, '_, '_>, member: Member<'_>)
     ensures { Shows [] page.old page.new }
 {
     if member.is_last() {
@@ -91,7 +91,7 @@ fn push_end(page: &mut Page, shown: Shown<'_, '_, '_>, member: Member<'_>)
 }
 
 /// Appends on what text leaves meet and what to do, and an empty line.
-fn push_meeting(page: &mut Page, shown: Shown<'_, '_, '_>, meeting: &Meeting)
+fn push_meeting(page: &mut Page, shown: ShownFault<'_, '_, '_>, meeting: &Meeting)
     ensures { Shows [] page.old page.new }
 {
     push_note(page, shown.width, "note", meeting.note.as_str());
@@ -128,7 +128,7 @@ fn push_explained(page: &mut Page, part: Part<'_, '_>, fault: &SpannedError, sta
     push_starts(page, part, &starts[..starts.len().min(MOST)]);
     push_notes(
         page,
-        Shown {
+        ShownFault {
             part,
             faults: &[],
             fault,

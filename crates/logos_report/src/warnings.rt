@@ -38,7 +38,7 @@ pub fn push_warnings(page: &mut Page, part: Part<'_, '_>, warnings: &[Warning])
 }
 
 /// Returns those of these warnings that are shown.
-fn first_of(warnings: &[Warning]) -> &[Warning]
+pub fn first_of(warnings: &[Warning]) -> &[Warning]
     ensures { result.now ≡ shown_of warnings.now }
 {
     if warnings.len() > MOST {

@@ -21,7 +21,7 @@ const FAR: usize = 800;
 
 /// A spot in a file: its offset and its position.
 #[derive(Clone, Copy)]
-pub(crate) struct Spot {
+pub(crate) struct FileSpot {
     /// In bytes of the file.
     pub(crate) offset: usize,
     pub(crate) position: Position,
@@ -29,7 +29,7 @@ pub(crate) struct Spot {
 
 /// What is near a spot in a line, and how much of it is left out.
 #[derive(Clone, Copy)]
-pub(crate) struct Window<'t> {
+pub(crate) struct LineWindow<'t> {
     /// What is near the spot.
     text: &'t str,
     /// How many characters of the line stand in front of it.
@@ -41,14 +41,14 @@ pub(crate) struct Window<'t> {
 }
 
 /// Returns what is shown of the line of a spot of a file.
-pub(crate) fn window_at<'t>(source: &Source<'t>, spot: Spot) -> Window<'t> {
+pub(crate) fn window_at<'t>(source: &Source<'t>, spot: FileSpot) -> LineWindow<'t> {
     let text = source.text();
     let bytes = text.as_bytes();
     let from = character_at(text, near_start(bytes, spot.offset));
     let to = near_end(bytes, from, spot.offset.saturating_add(FAR));
     let near = text.get(from..character_at(text, to)).unwrap_or("");
     let before = text.get(from..spot.offset).unwrap_or("").chars().count();
-    let window = Window {
+    let window = LineWindow {
         text: near,
         front: spot
             .position
@@ -58,7 +58,7 @@ pub(crate) fn window_at<'t>(source: &Source<'t>, spot: Spot) -> Window<'t> {
         skipped: 0,
         goes_on: !ends_at(bytes, to),
     };
-    Window {
+    LineWindow {
         skipped: skipped_of(window, before),
         ..window
     }
@@ -113,7 +113,7 @@ fn character_at(text: &str, offset: usize) -> usize {
 
 /// Returns how many characters of a window are left out in front of the spot that has so many in
 /// front of it.
-fn skipped_of(window: Window<'_>, before: usize) -> usize {
+fn skipped_of(window: LineWindow<'_>, before: usize) -> usize {
     let width = columns(window.text, 0, before);
     let is_whole = (window.front == 0) & !window.goes_on;
     let is_near = (window.front == 0) & (width <= NEAR);
@@ -147,7 +147,7 @@ fn characters_in(text: &str, columns: usize) -> usize {
     count
 }
 
-impl Window<'_> {
+impl LineWindow<'_> {
     /// Returns whether nothing is shown.
     pub(crate) fn is_empty(self) -> bool {
         self.text.is_empty()

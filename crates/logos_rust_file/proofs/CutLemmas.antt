@@ -1,7 +1,7 @@
 -- Tokens, and so the enums of a text, begin and end between characters.
-use Rattle.std.proofs.Common.{ℕ, List, [], ◌∷◌, ◌++◌, All, IsUtf8, sym}
+use Rattle.std.proofs.Common.{ℕ, List, All, IsUtf8, sym}
 use Rattle.std.proofs.lemmas.List.Elements.{All-nil, All-cons, All-append}
-use Rattle.logos_token.specs.Tokens.{Token, TokenList, also, IsRestOf}
+use Rattle.logos_token.specs.Tokens.{TokenList, also, IsRestOf}
 use Rattle.logos_token.specs.Spelling.{Spells}
 use Rattle.logos_token.proofs.reading.SpanLemmas.{RunCut, append_front, append_back, span_cut, spelled_cut}
 use Rattle.logos_rust_file.specs.declared.finding.FoundEnum.{FoundEnum}

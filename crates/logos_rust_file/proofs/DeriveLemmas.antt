@@ -1,5 +1,5 @@
 -- An enum derives `Logos` exactly where stripping takes an entry away.
-use Rattle.std.proofs.Common.{◌≡◌, ◌==◌, ◌&&◌, ◌||◌, not, if◌then◌else◌, ℕ, Bool, true, false, List, Option, Some, None, Result, Ok, Err, refl, sym, ap, ◌∙◌, subst, codes, eqb-true}
+use Rattle.std.proofs.Common.{◌≡◌, ◌==◌, ◌||◌, ℕ, Bool, true, false, List, Option, Some, None, Result, Ok, refl, sym, ◌∙◌, subst, codes, eqb-true}
 use Rattle.std.specs.Str.{bytes_eq}
 use Rattle.std.proofs.lemmas.Slice.Eq.{bytes_eq-Decides}
 use Rattle.logos_lexeme.specs.declared.lexeme.Span.{Span}
@@ -7,9 +7,8 @@ use Rattle.logos_lexeme.specs.declared.lexeme.Spacing.{Spacing}
 use Rattle.logos_lexeme.specs.declared.lexeme.Delimiter.{Delimiter}
 use Rattle.logos_lexeme.specs.declared.lexeme.Delimiter.TheVariants.{Parenthesis, Bracket, Brace}
 use Rattle.logos_token.specs.Tokens.{Token, TokenList, identifier, punctuation, literal, doc, group, none, also}
-use Rattle.logos_token.specs.First.{after_word}
 use Rattle.logos_enum.specs.declared.error.ReadError.{ReadError}
-use Rattle.logos_enum.specs.Attributes.{attribute_mismatch, unless, after_attributes, after_hash, Attributes, stand, announced_in, after_keyword, after_visibility}
+use Rattle.logos_enum.specs.Attributes.{attribute_mismatch, unless, after_attributes, after_hash, Attributes, stand, announced_in}
 use Rattle.logos_enum.specs.Enum.{Reads, reads}
 use Rattle.logos_enum.specs.EnumValues.{EnumValue}
 use Rattle.logos_enum.specs.Marks.{hash, is_none, is_outer}
@@ -18,9 +17,9 @@ use Rattle.logos_strip.specs.declared.spots.Scope.TheVariants.{Enum, Attribute, 
 use Rattle.logos_strip.specs.declared.spots.TokenSpot.{TokenSpot}
 use Rattle.logos_strip.specs.declared.spots.TokenSpot.TheVariants.{Open, Hash, Gone, Named, Within}
 use Rattle.logos_strip.specs.Entries.{has_entries, loses_inside, loses_entry, loses_derive}
-use Rattle.logos_strip.specs.Helpers.{is_comma, is_helper_name, is_helper_path, is_macro_entry, holds_after}
+use Rattle.logos_strip.specs.Helpers.{is_comma, is_helper_name, is_helper_path, is_macro_entry}
 use Rattle.logos_strip.specs.Spots.{goes, spot_after, scope_of, scope_inside, after_part}
-use Rattle.logos_rust_file.specs.Derives.{lists_macro, begins_list, derives_in, derives, derives_after}
+use Rattle.logos_rust_file.specs.Derives.{lists_macro, begins_list, derives_in, derives}
 
 true_or : (b : Bool) → (true || b) ≡ true
 true_or b = refl

@@ -4,3 +4,4 @@ mod FindLemmas
 mod OrderLemmas
 mod ReplaceLemmas
 mod CutLemmas
+mod NameLemmas

@@ -1,23 +1,16 @@
 -- The enums of a file, by its tokens.
-use Rattle.std.specs.Prelude.{◌≡◌, ◌↔◌, ℕ, List, [], ◌∷◌, ◌++◌, IsTrue, Ok}
+use Rattle.std.specs.Prelude.{◌≡◌, ℕ, List, [], ◌∷◌, ◌++◌}
 use Rattle.logos_token.specs.Tokens.{Token, TokenList, also, append, run_span}
 use Rattle.logos_token.specs.Spelling.{Spells}
-use Rattle.logos_enum.specs.Enum.{Reads}
-use Rattle.logos_enum.specs.EnumValues.{EnumValue}
 use Rattle.logos_rust_file.specs.declared.finding.FoundEnum.{FoundEnum}
 use Rattle.logos_rust_file.specs.Derives.{derives}
-use Rattle.logos_rust_file.specs.Fronts.{kind_of, ends, is_enum, is_module, is_other}
+use Rattle.logos_rust_file.specs.Fronts.{kind_of, ends, is_enum, is_module, is_other, name_of}
 
--- The tokens are an enum.
-pub record IsEnum (run : TokenList) : Type 0 where
-  pub value : EnumValue
-  pub reads : Reads run (Ok value)
-
--- This is an item with these tokens.
+-- This is an enum with these tokens.
 pub record Describes (item : TokenList) (found : FoundEnum) : Type 0 where
   pub span : found.span ≡ run_span item
+  pub name : found.name ≡ name_of item
   pub derives : found.derives ≡ derives item
-  pub well_formed : IsTrue found.is_well_formed ↔ IsEnum item
 
 -- These are the enums among the items of a run, in order, and inside its modules that have a body.
 -- An enum begins with what stands before its `enum`, and other tokens are skipped, groups as a

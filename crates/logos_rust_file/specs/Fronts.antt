@@ -1,14 +1,15 @@
 -- The items of a file as runs of tokens: what comes before an item, and which kind of item it is.
-use Rattle.std.specs.Prelude.{ℕ, ◌==◌, if◌then◌else◌, Bool, true, false, codes}
+use Rattle.std.specs.Prelude.{ℕ, ◌==◌, if◌then◌else◌, Bool, true, false, codes, Option, Some, None}
 use Rattle.std.specs.Str.{bytes_eq}
 use Rattle.logos_lexeme.specs.declared.lexeme.Delimiter.TheVariants.{Bracket, Brace}
-use Rattle.logos_token.specs.Tokens.{Token, TokenList, identifier, punctuation, doc, group, none, also}
+use Rattle.logos_lexeme.specs.declared.lexeme.Span.{Span}
+use Rattle.logos_token.specs.Tokens.{Token, TokenList, identifier, punctuation, doc, group, none, also, rest_of}
 use Rattle.logos_token.specs.Views.{tokens_of}
 use Rattle.logos_enum.specs.Attributes.{after_visibility}
 use Rattle.logos_enum.specs.Extents.{after_generics}
 use Rattle.logos_enum.specs.Marks.{hash, is_outer}
-use Rattle.logos_rust_file.specs.declared.fronts.Kind.{Kind}
-use Rattle.logos_rust_file.specs.declared.fronts.Kind.TheVariants.{End, Enum, Module, Other}
+use Rattle.logos_rust_file.specs.declared.fronts.ItemKind.{ItemKind}
+use Rattle.logos_rust_file.specs.declared.fronts.ItemKind.TheVariants.{End, Enum, Module, Other}
 
 -- `;`
 abbrev pub semicolon : ℕ
@@ -23,7 +24,7 @@ pub data KindValue : Type 0 where
   is_other : (rest : TokenList) → KindValue
 
 -- The same, by the tokens of its parts.
-abbrev pub kind_value : Kind → KindValue
+abbrev pub kind_value : ItemKind → KindValue
 kind_value End = ends
 kind_value (Enum rest) = is_enum (tokens_of rest)
 kind_value (Module inside rest) = is_module (tokens_of inside) (tokens_of rest)
@@ -81,3 +82,13 @@ kind_at (also token rest) = is_other rest
 -- The kind of the item that comes first.
 abbrev pub kind_of : TokenList → KindValue
 kind_of run = kind_at (after_visibility (after_attributes run))
+
+-- The span of the identifier that comes first, if one does.
+abbrev pub name_at : TokenList → Option Span
+name_at (also (identifier text span) rest) = Some span
+name_at run = None
+
+-- The span of the name of an enum with these tokens: of the identifier that follows `enum`, if one
+-- does.
+abbrev pub name_of : TokenList → Option Span
+name_of item = name_at (rest_of (after_visibility (after_attributes item)))

@@ -1,12 +1,11 @@
 //! The enums of a file. `logos_cli` and `logos_show` call `enums_in` once for each file.
 
-ghost use Rattle.std.specs.Prelude.{◌≡◌, ◌↔◌, ◌∷◌, [], All, IfOk, IfErr, IsTrue, OnOk, length, map};
-ghost use Rattle.logos_rust_file.specs.Views.{Fault, tokens_of, EndsReading, Refuses, AreEnumsOf, Describes, Finds, IsEnum, AreInOrder, IsFoundCut, found_span, AddsItem, AddsRun};
+ghost use Rattle.std.specs.Prelude.{◌≡◌, ◌∷◌, [], All, IfOk, IfErr, OnOk, length, map};
+ghost use Rattle.logos_rust_file.specs.Views.{Fault, tokens_of, EndsReading, Refuses, AreEnumsOf, Describes, Finds, AreInOrder, IsFoundCut, found_span, AddsItem, AddsRun};
 
 use crate::derives::derives;
-use crate::fronts::{Kind, kind_of};
+use crate::fronts::{ItemKind, kind_of, name_of};
 use crate::names::derives_by_name;
-use logos_enum::{ReadError, read_enum};
 use logos_parser::reading::unreadable;
 use logos_parser::refusal::Refusal;
 use logos_token::error::Memory;
@@ -19,12 +18,13 @@ pub struct FoundEnum {
     /// Its span in the file, in bytes: from its first attribute, its visibility or `enum` to the
     /// end of its braces.
     pub span: Span,
+    /// The span of its name in the file, in bytes: of the identifier that follows `enum`, if one
+    /// does.
+    pub name: Option<Span>,
     /// Whether one of its `derive` attributes lists `Logos`, `logos::Logos` or `::logos::Logos`.
     pub derives: bool,
     /// Whether one of these entries is `Logos` without a path, which the file then imports.
     pub by_name: bool,
-    /// Whether `read_enum` reads it without a fault.
-    pub is_well_formed: bool,
 }
 
 /// Returns the enums of a Rust file, in order: those at its top level and those in the bodies of
@@ -56,17 +56,17 @@ fn enums_of(alloc: Global, tokens: Tokens<'_, '_>) -> Result<Vec<FoundEnum>, Mem
     ensures { IfOk result (λ found. Finds (tokens_of tokens.entry) found.items) }
 {
     let mut found = Vec::new(alloc);
-    add_all(alloc, tokens, &mut found)?;
+    add_all(tokens, &mut found)?;
     Ok(found)
 }
 
 /// Appends the enums of all these items.
 #[cycle(find)]
-fn add_all(alloc: Global, run: Tokens<'_, '_>, found: &mut Vec<FoundEnum>) -> Result<(), Memory>
+fn add_all(run: Tokens<'_, '_>, found: &mut Vec<FoundEnum>) -> Result<(), Memory>
     ensures { OnOk result (AddsRun (tokens_of run.entry) found.old.items found.new.items) }
 {
     let mut tokens = run;
-    while let Some(rest) = add_first(alloc, tokens, found)? {
+    while let Some(rest) = add_first(tokens, found)? {
         tokens = rest;
     }
     Ok(())
@@ -75,45 +75,33 @@ fn add_all(alloc: Global, run: Tokens<'_, '_>, found: &mut Vec<FoundEnum>) -> Re
 /// Appends the enums of the first item. Returns what follows it, or `None` if there is no item.
 #[cycle(find)]
 fn add_first<'t, 's>(
-    alloc: Global,
     tokens: Tokens<'t, 's>,
     found: &mut Vec<FoundEnum>,
 ) -> Result<Option<Tokens<'t, 's>>, Memory>
     ensures { IfOk result (AddsItem (tokens_of tokens.entry) found.old.items found.new.items) }
 {
     match kind_of(tokens) {
-        Kind::End => Ok(None),
-        Kind::Enum { rest } => {
-            found.push(describe(alloc, tokens.before(rest))?)?;
+        ItemKind::End => Ok(None),
+        ItemKind::Enum { rest } => {
+            found.push(describe(tokens.before(rest)))?;
             Ok(Some(rest))
         }
-        Kind::Module { inside, rest } => {
-            add_all(alloc, inside, found)?;
+        ItemKind::Module { inside, rest } => {
+            add_all(inside, found)?;
             Ok(Some(rest))
         }
-        Kind::Other { rest } => Ok(Some(rest)),
+        ItemKind::Other { rest } => Ok(Some(rest)),
     }
 }
 
 /// Returns the enum with these tokens.
-fn describe(alloc: Global, item: Tokens<'_, '_>) -> Result<FoundEnum, Memory>
-    ensures { IfOk result (Describes (tokens_of item.entry)) }
+fn describe(item: Tokens<'_, '_>) -> FoundEnum
+    ensures { Describes (tokens_of item.entry) result }
 {
-    Ok(FoundEnum {
+    FoundEnum {
         span: item.span(),
+        name: name_of(item),
         derives: derives(item),
         by_name: derives_by_name(item),
-        is_well_formed: is_well_formed(alloc, item)?,
-    })
-}
-
-/// Returns whether `read_enum` reads these tokens without a fault.
-fn is_well_formed(alloc: Global, item: Tokens<'_, '_>) -> Result<bool, Memory>
-    ensures { IfOk result (λ is. IsTrue is ↔ IsEnum (tokens_of item.entry)) }
-{
-    match read_enum(alloc, item) {
-        Ok(_) => Ok(true),
-        Err(ReadError::Memory) => Err(Memory),
-        Err(_) => Ok(false),
     }
 }

@@ -1,14 +1,14 @@
-//! What comes before an item, and which kind of item it is.
+//! What comes before an item, which kind of item it is, and the name of an enum.
 
 ghost use Rattle.std.specs.Prelude.{◌≡◌, ◌<◌, MatchOption};
-ghost use Rattle.logos_rust_file.specs.Views.{Token, also, count_of, tokens_of, tree_of, after_attributes, after_body, after_hash, after_head, braced_in, ends_body, kind_at, kind_of, kind_value, module_in};
+ghost use Rattle.logos_rust_file.specs.Views.{Token, also, count_of, tokens_of, tree_of, after_attributes, after_body, after_hash, after_head, braced_in, ends_body, kind_at, kind_of, kind_value, module_in, name_at, name_of};
 
 use logos_enum::{is_outer, skip_generics, skip_visibility};
-use logos_token::token::{Delimiter, TokenTree, Tokens};
+use logos_token::token::{Delimiter, Span, TokenTree, Tokens};
 
 /// What a run of items begins with, after attributes and a visibility.
 #[derive(Clone, Copy)]
-pub(crate) enum Kind<'t, 's> {
+pub(crate) enum ItemKind<'t, 's> {
     /// Nothing.
     End,
     /// An enum. `rest` follows it.
@@ -27,7 +27,7 @@ pub(crate) enum Kind<'t, 's> {
 }
 
 /// Returns the kind of the item that comes first.
-pub(crate) fn kind_of<'t, 's>(tokens: Tokens<'t, 's>) -> Kind<'t, 's>
+pub(crate) fn kind_of<'t, 's>(tokens: Tokens<'t, 's>) -> ItemKind<'t, 's>
     ensures { kind_value result ≡ kind_of (tokens_of tokens.entry) }
 {
     kind_at(skip_visibility(skip_attributes(tokens)))
@@ -75,42 +75,42 @@ fn skip_attributes<'t, 's>(tokens: Tokens<'t, 's>) -> Tokens<'t, 's>
 }
 
 /// Returns the kind of an item by what follows its visibility.
-fn kind_at<'t, 's>(tokens: Tokens<'t, 's>) -> Kind<'t, 's>
+fn kind_at<'t, 's>(tokens: Tokens<'t, 's>) -> ItemKind<'t, 's>
     ensures { kind_value result ≡ kind_at (tokens_of tokens.entry) }
 {
     let Some(tree) = tokens.first() else {
-        return Kind::End;
+        return ItemKind::End;
     };
     let rest = tokens.rest();
     match tree {
-        TokenTree::Ident(word) if word.text == "enum" => Kind::Enum {
+        TokenTree::Ident(word) if word.text == "enum" => ItemKind::Enum {
             rest: skip_body(skip_head(rest)),
         },
         TokenTree::Ident(word) if word.text == "mod" => module_at(rest),
-        _ => Kind::Other { rest },
+        _ => ItemKind::Other { rest },
     }
 }
 
 /// Returns a module after its `mod`, if a name and braces come first.
-fn module_at<'t, 's>(tokens: Tokens<'t, 's>) -> Kind<'t, 's>
+fn module_at<'t, 's>(tokens: Tokens<'t, 's>) -> ItemKind<'t, 's>
     ensures { kind_value result ≡ module_in (tokens_of tokens.entry) }
 {
     match tokens.first() {
         Some(TokenTree::Ident(_)) => braced_module(tokens, tokens.rest()),
-        _ => Kind::Other { rest: tokens },
+        _ => ItemKind::Other { rest: tokens },
     }
 }
 
 /// Returns a module after its name, if braces come first. Without them `tokens` are left.
-fn braced_module<'t, 's>(tokens: Tokens<'t, 's>, after: Tokens<'t, 's>) -> Kind<'t, 's>
+fn braced_module<'t, 's>(tokens: Tokens<'t, 's>, after: Tokens<'t, 's>) -> ItemKind<'t, 's>
     ensures { kind_value result ≡ braced_in (tokens_of tokens.entry) (tokens_of after.entry) }
 {
     match after.first() {
-        Some(TokenTree::Group(group)) if group.delimiter == Delimiter::Brace => Kind::Module {
+        Some(TokenTree::Group(group)) if group.delimiter == Delimiter::Brace => ItemKind::Module {
             inside: group.run(),
             rest: after.rest(),
         },
-        _ => Kind::Other { rest: tokens },
+        _ => ItemKind::Other { rest: tokens },
     }
 }
 
@@ -147,5 +147,23 @@ fn ends_body(tree: TokenTree<'_, '_>) -> bool
         TokenTree::Group(group) => group.delimiter == Delimiter::Brace,
         TokenTree::Punct(punct) => punct.character == ';',
         _ => false,
+    }
+}
+
+/// Returns the span of the name of an enum with these tokens: of the identifier that follows
+/// `enum`, if one does.
+pub(crate) fn name_of(item: Tokens<'_, '_>) -> Option<Span>
+    ensures { result ≡ name_of (tokens_of item.entry) }
+{
+    name_at(skip_visibility(skip_attributes(item)).rest())
+}
+
+/// Returns the span of the identifier that comes first, if one does.
+fn name_at(tokens: Tokens<'_, '_>) -> Option<Span>
+    ensures { result ≡ name_at (tokens_of tokens.entry) }
+{
+    match tokens.first() {
+        Some(TokenTree::Ident(word)) => Some(word.span),
+        _ => None,
     }
 }

@@ -1,11 +1,18 @@
 //! Laws of the enums of a file. No code calls these functions: the contract of each is a proved
 //! law.
 
-ghost use Rattle.std.specs.Prelude.{◌≡◌, Ok};
+ghost use Rattle.std.specs.Prelude.{◌≡◌, Ok, Some};
 ghost use Rattle.logos_rust_file.specs.Words.{TokenList, Reads, EnumValue, loses_derive, derives};
+ghost use Rattle.logos_rust_file.specs.Views.{name_of};
 
 /// An enum derives `Logos` exactly where stripping takes an entry of a `derive` away.
 pub fn derives_where_stripped()
     ensures { (tokens : TokenList) (value : EnumValue) → Reads tokens (Ok value) →
         derives tokens ≡ loses_derive tokens }
+{}
+
+/// An enum that `read_enum` reads is found with the name that is read.
+pub fn names_as_read()
+    ensures { (tokens : TokenList) (value : EnumValue) → Reads tokens (Ok value) →
+        name_of tokens ≡ Some value.name.span }
 {}

@@ -1,33 +1,51 @@
 //! The paths of enums in a file. `logos_show` asks for them where an enum is given by its name.
 
-use logos_enum::{ReadError, read_enum};
-use logos_lexeme::lexeme::{Kind, lexeme_at};
+use crate::finding::FoundEnum;
+use logos_lexeme::lexeme::{LexemeKind, lexeme_at};
 use logos_token::error::Memory;
-use logos_token::token::{Delimiter, TokenError, tokenize};
+use logos_token::token::Delimiter;
 use std::alloc::Global;
 
 /// The lexeme that comes first in a text, and the text after it.
 #[derive(Clone, Copy)]
 struct Word<'t> {
-    kind: Kind,
+    kind: LexemeKind,
     text: &'t str,
     rest: &'t str,
 }
 
-/// Returns the path of an enum with this text in its file, as `lexers::Token`: the names of the
-/// modules that are open at the end of the text before it, and its own, which is empty if it is not
-/// well formed.
+/// Returns the path of an enum of a file with this text, as `lexers::Token`: the names of the
+/// modules that are open where it begins, and its own, which is empty if it has none.
 ///
 /// # Errors
 ///
 /// Returns `Memory` if memory runs out.
-pub fn path_of(alloc: Global, before: &str, text: &str) -> Result<String, Memory> {
+pub fn path_of(alloc: Global, text: &str, found: FoundEnum) -> Result<String, Memory> {
     let mut path = String::new(alloc);
-    for level in &levels_of(alloc, before)? {
+    for level in &levels_of(alloc, before(text, found))? {
         push_level(&mut path, *level)?;
     }
-    path.push_str(name_of(alloc, text)?)?;
+    path.push_str(name_in(text, found))?;
     Ok(path)
+}
+
+/// Returns the text before an enum.
+fn before(text: &str, found: FoundEnum) -> &str {
+    match text.get(..found.span.from) {
+        Some(before) => before,
+        None => "",
+    }
+}
+
+/// Returns the name of an enum, or an empty text if it has none.
+fn name_in(text: &str, found: FoundEnum) -> &str {
+    let Some(span) = found.name else {
+        return "";
+    };
+    match text.get(span.from..span.to) {
+        Some(name) => name,
+        None => "",
+    }
 }
 
 /// Appends the name of a module and `::`.
@@ -37,20 +55,6 @@ fn push_level(path: &mut String, level: &str) -> Result<(), Memory> {
         path.push_str("::")?;
     }
     Ok(())
-}
-
-/// Returns the name of an enum, or an empty text if it is not well formed.
-fn name_of<'t>(alloc: Global, text: &'t str) -> Result<&'t str, Memory> {
-    let stream = match tokenize(alloc, text) {
-        Ok(stream) => stream,
-        Err(TokenError::Memory) => return Err(Memory),
-        Err(_) => return Ok(""),
-    };
-    match read_enum(alloc, stream.run()) {
-        Ok(item) => Ok(item.name.text),
-        Err(ReadError::Memory) => Err(Memory),
-        Err(_) => Ok(""),
-    }
 }
 
 /// Returns the modules whose braces are open at the end of a text, in order, and an empty text for
@@ -85,7 +89,7 @@ fn first_word<'t>(text: &'t str) -> Option<Word<'t>> {
 /// Returns the last two words after one more; gaps and documentation are none.
 fn words_after<'t>(words: (&'t str, &'t str), word: Word<'t>) -> (&'t str, &'t str) {
     match word.kind {
-        Kind::Gap | Kind::Doc => words,
+        LexemeKind::Gap | LexemeKind::Doc => words,
         _ => (words.1, word.text),
     }
 }
@@ -97,10 +101,10 @@ fn note_brace<'t>(
     word: Word<'t>,
 ) -> Result<(), Memory> {
     match word.kind {
-        Kind::Opening(Delimiter::Brace) => {
+        LexemeKind::Opening(Delimiter::Brace) => {
             levels.push(if words.0 == "mod" { words.1 } else { "" })?;
         }
-        Kind::Closing(Delimiter::Brace) => {
+        LexemeKind::Closing(Delimiter::Brace) => {
             let _ = levels.pop();
         }
         _ => {}

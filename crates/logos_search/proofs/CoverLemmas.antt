@@ -1,4 +1,4 @@
--- Inputs that take the steps from all stands.
+-- Inputs that take the steps from all pending points.
 use Rattle.std.proofs.Common.{◌≡◌, ◌⊎◌, ℕ, ◌<◌, ◌==◌, Bool, true, false, ◌&&◌, List, [], ◌∷◌, ◌++◌, All, Option, Some, None, IsSomeAnd, IsTrue, option_and_then, slice_get, refl, sym, ap, ◌∙◌, subst, inl, inr, ⊎_elim, eq-eqb}
 use Rattle.std.specs.Prelude.{Contains}
 use Rattle.std.proofs.lemmas.List.Elements.{All-append, All-cons, All-head, All-tail, Contains-append_left, Contains-push, Contains-push_cases}
@@ -7,16 +7,16 @@ use Rattle.logos_search.specs.Covering.{Takes, OneTakes, AreCovering, step_to, e
 use Rattle.logos_search.specs.Machines.{IsInput, after}
 use Rattle.logos_search.specs.Rests.{more, rest_by, rest_over, completion}
 use Rattle.logos_search.specs.inside.Covers.{IsExplored, IsWayBy, Adds, IsCover, AreCoveredAt}
-use Rattle.logos_search.specs.inside.Stands.{stand_at, stand_next, stand_goal}
+use Rattle.logos_search.specs.inside.PendingPoints.{pending_at, pending_next, pending_goal}
 use Rattle.logos_search.specs.inside.Visits.{IsWayTo}
 use Rattle.logos_search.specs.declared.point.Point.{Point}
 use Rattle.logos_search.specs.declared.rest.Rest.{Rest}
 use Rattle.logos_search.specs.declared.steps.InputStep.{InputStep}
-use Rattle.logos_search.specs.declared.visits.Stand.{Stand}
+use Rattle.logos_search.specs.declared.visits.PendingPoint.{PendingPoint}
 use Rattle.logos_search.specs.declared.visits.Visit.{Visit}
 use Rattle.logos_search.proofs.CompletionLemmas.{over_append, over_open, first_open, completes, completion_is_bytes}
 use Rattle.logos_search.proofs.RestLemmas.{utf8_is_done, done_is_utf8}
-use Rattle.logos_search.proofs.StandLemmas.{joined, joined_is, both_go, both_true, rests, texts, is_zero}
+use Rattle.logos_search.proofs.PendingLemmas.{joined, joined_is, both_go, both_true, rests, texts, is_zero}
 use Rattle.logos_search.proofs.StepLemmas.{takes_here, takes_after, takes_end}
 
 module _ (next : Point → ℕ → Option Point) (is_goal : Point → Bool) (utf8 : Bool) (start : Point) where
@@ -24,17 +24,17 @@ module _ (next : Point → ℕ → Option Point) (is_goal : Point → Bool) (utf
   done_is_input : (bytes : List ℕ) (rest : Rest) → All (λ b. b < 256) bytes → rest_over utf8 (more 0) bytes ≡ Some rest → rest.count ≡ 0 → IsInput utf8 bytes
   done_is_input bytes rest are e z = (are, λ t. done_is_utf8 bytes rest (texts next is_goal utf8 start utf8 bytes rest e t) z)
 
-  module _ (ks : List Stand) (ws : List Visit) (explored : IsExplored next utf8 start ks ws) where
+  module _ (ks : List PendingPoint) (ws : List Visit) (explored : IsExplored next utf8 start ks ws) where
     -- ---- An input for a step
 
-    leads_there : (number : ℕ) (at : Stand) (front : List ℕ) → IsWayTo (stand_next next utf8) ks ws number at front →
+    leads_there : (number : ℕ) (at : PendingPoint) (front : List ℕ) → IsWayTo (pending_next next utf8) ks ws number at front →
         (after next start front ≡ Some at.point) × (rest_over utf8 (more 0) front ≡ Some at.rest)
-    leads_there number at front way = joined_is _ _ at (sym (both_go next utf8 start (more 0) front) ∙ way.way (stand_at start (more 0)) explored.first)
+    leads_there number at front way = joined_is _ _ at (sym (both_go next utf8 start (more 0) front) ∙ way.way (pending_at start (more 0)) explored.first)
 
-    pub input_by : (number b : ℕ) (at to : Stand) (bytes : List ℕ) → slice_get ks number ≡ Some at → stand_next next utf8 at b ≡ Some to → b < 256 →
+    pub input_by : (number b : ℕ) (at to : PendingPoint) (bytes : List ℕ) → slice_get ks number ≡ Some at → pending_next next utf8 at b ≡ Some to → b < 256 →
         IsWayBy ks ws number b to.rest bytes → IsInput utf8 bytes × Takes next start bytes (step_to at.point to.point)
     input_by number b at to bytes there step is_byte by =
-        let way = by.way (stand_next next utf8) at explored.tree there in
+        let way = by.way (pending_next next utf8) at explored.tree there in
         let front = leads_there number at by.front way in
         let on = joined_is (next at.point b) (rest_by utf8 at.rest b) to step in
         let one : rest_over utf8 at.rest (b ∷ []) ≡ Some to.rest = ap (option_and_then (λ (r : Rest). Some r)) on.1 in
@@ -53,7 +53,7 @@ module _ (next : Point → ℕ → Option Point) (is_goal : Point → Bool) (utf
           subst (λ (bs : List ℕ). Takes next start bs (step_to at.point to.point)) (sym by.parts) takes,
         )
 
-    pub input_to : (number : ℕ) (at : Stand) (bytes : List ℕ) → IsWayTo (stand_next next utf8) ks ws number at bytes → stand_goal is_goal at ≡ true →
+    pub input_to : (number : ℕ) (at : PendingPoint) (bytes : List ℕ) → IsWayTo (pending_next next utf8) ks ws number at bytes → pending_goal is_goal at ≡ true →
         IsInput utf8 bytes × Takes next start bytes (end_at at.point)
     input_to number at bytes way goal =
         let there = leads_there number at bytes way in
@@ -63,7 +63,7 @@ module _ (next : Point → ℕ → Option Point) (is_goal : Point → Bool) (utf
         last true b e = e
         last false b e = cc
 
-        zero_of : (s : Stand) → stand_goal is_goal s ≡ true → s.rest.count ≡ 0
+        zero_of : (s : PendingPoint) → pending_goal is_goal s ≡ true → s.rest.count ≡ 0
         zero_of s e = is_zero next is_goal utf8 start s.rest.count (last (is_goal s.point) (s.rest.count == 0) e)
 
     -- ---- All steps
@@ -74,9 +74,9 @@ module _ (next : Point → ℕ → Option Point) (is_goal : Point → Bool) (utf
     abbrev Done : Rest → List ℕ → Type 0
     Done rest bytes = (r : Rest) × (rest_over utf8 rest bytes ≡ Some r) × (r.count ≡ 0)
 
-    module _ (steps : List InputStep) (covered : (i : ℕ) (at : Stand) → slice_get ks i ≡ Some at → AreCoveredAt next is_goal utf8 steps at) where
+    module _ (steps : List InputStep) (covered : (i : ℕ) (at : PendingPoint) → slice_get ks i ≡ Some at → AreCoveredAt next is_goal utf8 steps at) where
       abbrev AllOn : List ℕ → Type 0
-      AllOn bytes = (step : InputStep) (i : ℕ) (at : Stand) → All (λ b. b < 256) bytes → slice_get ks i ≡ Some at → Done at.rest bytes → Takes next at.point bytes step →
+      AllOn bytes = (step : InputStep) (i : ℕ) (at : PendingPoint) → All (λ b. b < 256) bytes → slice_get ks i ≡ Some at → Done at.rest bytes → Takes next at.point bytes step →
           Wanted step → Contains steps step
 
       one_more : (b : ℕ) (bytes : List ℕ) → AllOn bytes → AllOn (b ∷ bytes)
@@ -85,17 +85,17 @@ module _ (next : Point → ℕ → Option Point) (is_goal : Point → Bool) (utf
           byte : b < 256
           byte = All-head (λ x. x < 256) b bytes are
 
-          leads : (to : Point) (r : Rest) → next at.point b ≡ Some to → rest_by utf8 at.rest b ≡ Some r → stand_next next utf8 at b ≡ Some (stand_at to r)
+          leads : (to : Point) (r : Rest) → next at.point b ≡ Some to → rest_by utf8 at.rest b ≡ Some r → pending_next next utf8 at b ≡ Some (pending_at to r)
           leads to r e f = ap (λ (o : Option Point). joined o (rest_by utf8 at.rest b)) e ∙ ap (joined (Some to)) f
 
           go : (o : Option Point) → next at.point b ≡ o → (q : Option Rest) → rest_by utf8 at.rest b ≡ q →
               IsSomeAnd o (λ t. (step ≡ step_to at.point t) ⊎ Takes next t bytes step) → option_and_then (λ r. rest_over utf8 r bytes) q ≡ Some done.0 → Contains steps step
           go None e q f t d = absurd t
           go (Some to) e None f t d = cc
-          go (Some to) e (Some r) f (inl s) d = subst (Contains steps) (sym s) ((covered i at there).bytes b byte (stand_at to r) (leads to r e f))
+          go (Some to) e (Some r) f (inl s) d = subst (Contains steps) (sym s) ((covered i at there).bytes b byte (pending_at to r) (leads to r e f))
           go (Some to) e (Some r) f (inr t) d =
-              let met = explored.closed i b at (slice_get_within ks i at there) there byte (stand_at to r) (leads to r e f) in
-              ih step met.number (stand_at to r) (All-tail (λ x. x < 256) b bytes are) met.stands_there (done.0, d, done.2) t wanted
+              let met = explored.closed i b at (slice_get_within ks i at there) there byte (pending_at to r) (leads to r e f) in
+              ih step met.number (pending_at to r) (All-tail (λ x. x < 256) b bytes are) met.stands_there (done.0, d, done.2) t wanted
 
       at_end : AllOn []
       at_end step i at are there done takes wanted =
@@ -111,7 +111,7 @@ module _ (next : Point → ℕ → Option Point) (is_goal : Point → Bool) (utf
       covers_all inputs cover = record {
         are_inputs = cover.are_inputs;
         all = λ bytes step input takes wanted.
-            cover.taken step (all_on bytes step 0 (stand_at start (more 0)) input.0 explored.first
+            cover.taken step (all_on bytes step 0 (pending_at start (more 0)) input.0 explored.first
             (rests next is_goal utf8 start utf8 bytes (λ t. utf8_is_done bytes (input.1 t))) takes wanted);
       }
 

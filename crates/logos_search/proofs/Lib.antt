@@ -5,6 +5,6 @@ pub mod MeetLemmas
 pub mod OrderLemmas
 pub mod RestLemmas
 pub mod ShortestLemmas
-pub mod StandLemmas
+pub mod PendingLemmas
 pub mod StepLemmas
 pub mod VisitLemmas

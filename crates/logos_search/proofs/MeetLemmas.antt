@@ -1,4 +1,4 @@
--- A set that has a stand or a step already stays as it is.
+-- A set that has a pending point or a step already stays as it is.
 use Rattle.std.proofs.Common.{◌≡◌, ℕ, Bool, true, false, not, ◌&&◌, if◌then◌else◌, List, refl, sym, ◌∙◌, arith}
 use Rattle.std.proofs.lemmas.Bool.{and_parts}
 use Rattle.std.proofs.lemmas.Bool.Decides.{nat_tests}
@@ -6,7 +6,7 @@ use mathlib.Core.Bool.{beq}
 use lib.Dec.{eqb}
 use Rattle.logos_search.specs.declared.point.Point.{Point}
 use Rattle.logos_search.specs.declared.steps.InputStep.{InputStep}
-use Rattle.logos_search.specs.declared.visits.Stand.{Stand}
+use Rattle.logos_search.specs.declared.visits.PendingPoint.{PendingPoint}
 
 equal : (m n : ℕ) → eqb m n ≡ true → n ≡ m
 equal m n e = grind (arith, nat_tests)
@@ -31,10 +31,10 @@ same_point a b e =
     let last = alike a.last b.last s.1 in
     λ i. record { here = here i; there = there i; begun = begun i; met = met i; last = last i }
 
-pub same_stand : (a b : Stand) →
+pub same_pending : (a b : PendingPoint) →
     ((eqb a.point.here b.point.here && (eqb a.point.there b.point.there && (beq a.point.begun b.point.begun && (beq a.point.met b.point.met && beq a.point.last b.point.last))))
     && (eqb a.rest.low b.rest.low && (eqb a.rest.high b.rest.high && eqb a.rest.count b.rest.count))) ≡ true → b ≡ a
-same_stand a b e =
+same_pending a b e =
     let both = and_parts _ _ e in
     let t = and_parts _ _ both.1 in
     let u = and_parts _ _ t.1 in

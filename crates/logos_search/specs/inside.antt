@@ -1,4 +1,4 @@
 pub mod Covers
 pub mod Order
-pub mod Stands
+pub mod PendingPoints
 pub mod Visits

@@ -1,7 +1,7 @@
 //! The search for inputs that together take all steps of a machine.
 
 ghost use Rattle.std.specs.Prelude.{◌≡◌, ◌<◌, ◌∷◌, ◌++◌, [], true, IfOk, OnOk, Contains, Some, length, map, slice_get};
-ghost use Rattle.logos_search.specs.Views.{AreCovering, end_at, stand_goal, Stand as At};
+ghost use Rattle.logos_search.specs.Views.{AreCovering, end_at, pending_goal, PendingPoint as At};
 ghost use Rattle.logos_search.specs.inside.Covers as covers;
 ghost use Rattle.logos_search.specs.inside.Visits as walks;
 
@@ -10,11 +10,11 @@ use crate::point::{Machine, Point};
 use crate::rest::{Rest, push_rest};
 use crate::search::is_goal;
 use crate::steps::{InputStep, add_step, add_steps};
-use crate::visits::{Visits, advance, first_stand, first_visits, meet_all, stand_of, way_to};
+use crate::visits::{Visits, advance, first_pending, first_visits, meet_all, pending_of, way_to};
 use indexmap::IndexSet;
 use std::alloc::{AllocError, Global};
 
-/// All stands that a machine reaches from a point on.
+/// The pending points that a machine reaches from a point on.
 #[derive(Drop)]
 struct Explored {
     alloc: Global,
@@ -30,14 +30,14 @@ struct Cover {
     inputs: Vec<Vec<u8>>,
 }
 
-/// A byte that is read at the stand with a number.
+/// A byte that is read at the pending point with a number.
 #[derive(Clone, Copy)]
-struct StandByte {
+struct PointByte {
     number: usize,
     byte: u8,
 }
 
-/// Returns all stands that a machine reaches from a point on.
+/// Returns all pending points that a machine reaches from a point on.
 ///
 /// # Errors
 ///
@@ -52,9 +52,9 @@ fn explore<M: Machine>(
     ensures mode { IfOk result (λ made. made.utf8 ≡ utf8) }
     ensures start { IfOk result (λ made. made.start ≡ start) }
 {
-    let mut visits = first_visits(alloc, first_stand(start))?;
+    let mut visits = first_visits(alloc, first_pending(start))?;
     let mut number = 0;
-    while number < visits.stands.len() {
+    while number < visits.points.len() {
         meet_all(machine, utf8, &mut visits, number)?;
         number += 1;
     }
@@ -66,8 +66,8 @@ fn explore<M: Machine>(
     })
 }
 
-/// Returns the bytes that lead to a stand and by one more byte from it, with the least ones that
-/// complete a character then.
+/// Returns the bytes that lead to a pending point and by one more byte from it, with the least ones
+/// that complete a character then.
 ///
 /// # Errors
 ///
@@ -75,12 +75,12 @@ fn explore<M: Machine>(
 fn way_by(
     alloc: Global,
     visits: &Visits,
-    reading: StandByte,
+    reading: PointByte,
     rest: Rest,
 ) -> Result<Vec<u8>, AllocError>
     requires there { reading.number < length visits.now.ways.items }
     requires down { walks.GoDown visits.now.ways.items }
-    ensures { IfOk result (λ bytes. covers.IsWayBy visits.now.stands.keys visits.now.ways.items
+    ensures { IfOk result (λ bytes. covers.IsWayBy visits.now.points.keys visits.now.ways.items
         reading.number reading.byte rest bytes.items) }
 {
     let mut bytes = way_to(alloc, visits, reading.number)?;
@@ -110,7 +110,7 @@ fn add_input<M: Machine>(
     Ok(())
 }
 
-/// Covers the step that a byte makes from a stand, if it leads on.
+/// Covers the step that a byte makes from a pending point, if it leads on.
 ///
 /// # Errors
 ///
@@ -119,9 +119,9 @@ fn cover_byte<M: Machine>(
     machine: &M,
     explored: &Explored,
     cover: &mut Cover,
-    reading: StandByte,
+    reading: PointByte,
 ) -> Result<(), AllocError>
-    requires there { reading.number < length explored.now.visits.stands.keys }
+    requires there { reading.number < length explored.now.visits.points.keys }
     requires byte { reading.byte < 256 }
     requires explored { covers.HasExplored (M.leads machine.now) explored.now }
     requires cover { covers.CoversSteps (M.leads machine.now) explored.now cover.old }
@@ -129,11 +129,11 @@ fn cover_byte<M: Machine>(
         covers.CoversSteps (M.leads machine.now) explored.now cover.new) }
     ensures grows { OnOk result (covers.HasStepsOf cover.old cover.new) }
     ensures covered { OnOk result ((at : At) →
-        slice_get explored.now.visits.stands.keys reading.number ≡ Some at →
+        slice_get explored.now.visits.points.keys reading.number ≡ Some at →
         covers.IsCoveredBy (M.leads machine.now) explored.now.utf8 cover.new.steps.keys at
         reading.byte) }
 {
-    let at = stand_of(&explored.visits, reading.number);
+    let at = pending_of(&explored.visits, reading.number);
     let Some(next) = advance(machine, explored.utf8, at, reading.byte) else {
         return Ok(());
     };
@@ -151,7 +151,7 @@ fn cover_byte<M: Machine>(
     Ok(())
 }
 
-/// Covers the end at a stand, if inputs can end there and it is looked for.
+/// Covers the end at a pending point, if inputs can end there and it is looked for.
 ///
 /// # Errors
 ///
@@ -162,18 +162,18 @@ fn cover_end<M: Machine>(
     cover: &mut Cover,
     number: usize,
 ) -> Result<(), AllocError>
-    requires there { number < length explored.now.visits.stands.keys }
+    requires there { number < length explored.now.visits.points.keys }
     requires explored { covers.HasExplored (M.leads machine.now) explored.now }
     requires cover { covers.CoversSteps (M.leads machine.now) explored.now cover.old }
     ensures cover { OnOk result (
         covers.CoversSteps (M.leads machine.now) explored.now cover.new) }
     ensures grows { OnOk result (covers.HasStepsOf cover.old cover.new) }
     ensures covered { OnOk result ((at : At) →
-        slice_get explored.now.visits.stands.keys number ≡ Some at →
-        stand_goal (M.goal machine.now) at ≡ true →
+        slice_get explored.now.visits.points.keys number ≡ Some at →
+        pending_goal (M.goal machine.now) at ≡ true →
         Contains cover.new.steps.keys (end_at at.point)) }
 {
-    let at = stand_of(&explored.visits, number);
+    let at = pending_of(&explored.visits, number);
     if !is_goal(machine, at) {
         return Ok(());
     }
@@ -191,31 +191,31 @@ fn cover_end<M: Machine>(
     Ok(())
 }
 
-/// Covers all steps from the stand with a number.
+/// Covers all steps from the pending point with a number.
 ///
 /// # Errors
 ///
 /// Returns `AllocError` if memory runs out.
-fn cover_stand<M: Machine>(
+fn cover_pending<M: Machine>(
     machine: &M,
     explored: &Explored,
     cover: &mut Cover,
     number: usize,
 ) -> Result<(), AllocError>
-    requires there { number < length explored.now.visits.stands.keys }
+    requires there { number < length explored.now.visits.points.keys }
     requires explored { covers.HasExplored (M.leads machine.now) explored.now }
     requires cover { covers.CoversSteps (M.leads machine.now) explored.now cover.old }
     ensures cover { OnOk result (
         covers.CoversSteps (M.leads machine.now) explored.now cover.new) }
     ensures grows { OnOk result (covers.HasStepsOf cover.old cover.new) }
     ensures covered { OnOk result ((at : At) →
-        slice_get explored.now.visits.stands.keys number ≡ Some at →
+        slice_get explored.now.visits.points.keys number ≡ Some at →
         covers.AreCoveredAt (M.leads machine.now) (M.goal machine.now) explored.now.utf8
         cover.new.steps.keys at) }
 {
     for place in 0..256usize {
         let byte = byte_at(place as u8);
-        cover_byte(machine, explored, cover, StandByte { number, byte })?;
+        cover_byte(machine, explored, cover, PointByte { number, byte })?;
     }
     cover_end(machine, explored, cover, number)?;
     Ok(())
@@ -245,10 +245,10 @@ pub fn covering<M: Machine>(
         steps: IndexSet::new(alloc),
         inputs: Vec::new(alloc),
     };
-    let mut number = explored.visits.stands.len();
+    let mut number = explored.visits.points.len();
     while number > 0 {
         number -= 1;
-        cover_stand(machine, &explored, &mut cover, number)?;
+        cover_pending(machine, &explored, &mut cover, number)?;
     }
     Ok(cover.inputs)
 }

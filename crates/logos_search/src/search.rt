@@ -2,17 +2,17 @@
 
 ghost use Rattle.std.specs.Prelude.{◌≡◌, IfOk, MatchOption};
 ghost use Rattle.logos_search.specs.Shortest.{IsShortest, NoneLeads};
-ghost use Rattle.logos_search.specs.inside.Stands as stands;
+ghost use Rattle.logos_search.specs.inside.PendingPoints as points;
 
 use crate::point::{Machine, Point};
-use crate::visits::{Stand, first_stand, first_visits, meet_all, stand_of, way_to};
+use crate::visits::{PendingPoint, first_pending, first_visits, meet_all, pending_of, way_to};
 use std::alloc::{AllocError, Global};
 
-/// Returns whether an input can end at a stand whose point is looked for.
-pub(crate) fn is_goal<M: Machine>(machine: &M, stand: Stand) -> bool
-    ensures { result ≡ stands.stand_goal (M.goal machine.now) stand }
+/// Returns whether an input can end at a pending point, and its point is looked for.
+pub(crate) fn is_goal<M: Machine>(machine: &M, pending: PendingPoint) -> bool
+    ensures { result ≡ points.pending_goal (M.goal machine.now) pending }
 {
-    machine.is_goal(stand.point) & (stand.rest.count == 0)
+    machine.is_goal(pending.point) & (pending.rest.count == 0)
 }
 
 /// Returns a shortest input that leads a machine from a point to one that is looked for, or `None`
@@ -35,10 +35,10 @@ pub fn shortest<M: Machine>(
         (NoneLeads (M.leads machine.now) (M.goal machine.now) utf8 start)
         (λ bytes. IsShortest (M.leads machine.now) (M.goal machine.now) utf8 start bytes.items)) }
 {
-    let mut visits = first_visits(alloc, first_stand(start))?;
+    let mut visits = first_visits(alloc, first_pending(start))?;
     let mut number = 0;
-    while number < visits.stands.len() {
-        if is_goal(machine, stand_of(&visits, number)) {
+    while number < visits.points.len() {
+        if is_goal(machine, pending_of(&visits, number)) {
             let bytes = way_to(alloc, &visits, number)?;
             return Ok(Some(bytes));
         }

@@ -3,8 +3,8 @@
 ghost use Rattle.std.specs.Prelude.{◌≡◌, IfErr, IfOk, IfSome, option_map};
 ghost use Rattle.logos_show.specs.Views.{IsLexerOf, IsNextChoice, IsNoMisuse, IsTaken, chosen_first, first_near, taken};
 
-use crate::reading::{refused, text_of};
-use crate::running::{Task, part_of};
+use crate::reading::refused;
+use crate::running::Task;
 use logos_codegen::error::Memory;
 use logos_host::Failure;
 use logos_report::{Page, Part, Source};
@@ -79,8 +79,8 @@ fn first_text(
     source: &Source<'_>,
     enums: (FoundEnum, FoundEnum),
 ) -> Result<String, Memory> {
-    let one = path_at(alloc, part_of(source, enums.0), text_of(source, enums.0))?;
-    let other = path_at(alloc, part_of(source, enums.1), text_of(source, enums.1))?;
+    let one = path_of(alloc, source.text(), enums.0)?;
+    let other = path_of(alloc, source.text(), enums.1)?;
     let mut page = Page::new(alloc, false);
     page.push("note: several enums in ");
     page.push_shown(source.path());
@@ -153,8 +153,8 @@ fn several_text(
     source: &Source<'_>,
     enums: (FoundEnum, FoundEnum),
 ) -> Result<String, Memory> {
-    let one = path_at(alloc, part_of(source, enums.0), text_of(source, enums.0))?;
-    let other = path_at(alloc, part_of(source, enums.1), text_of(source, enums.1))?;
+    let one = path_of(alloc, source.text(), enums.0)?;
+    let other = path_of(alloc, source.text(), enums.1)?;
     let mut page = Page::new(alloc, false);
     page.push("error: several enums ");
     push_name(&mut page, task.order.name);
@@ -231,7 +231,7 @@ fn choice_with<'n>(
     let Some(name) = choice.name else {
         return near_choice(alloc, choice, source, one);
     };
-    let path = path_at(alloc, part_of(source, one), text_of(source, one))?;
+    let path = path_of(alloc, source.text(), one)?;
     if path.as_str() == name {
         return Ok(Choice {
             exact: Some(one),
@@ -263,8 +263,8 @@ fn near_choice<'n>(
     if choice.second.is_some() {
         return Ok(choice);
     }
-    let path = path_at(alloc, part_of(source, one), text_of(source, one))?;
-    let other = path_at(alloc, part_of(source, first), text_of(source, first))?;
+    let path = path_of(alloc, source.text(), one)?;
+    let other = path_of(alloc, source.text(), first)?;
     if path.as_str() == other.as_str() {
         return Ok(choice);
     }
@@ -277,13 +277,13 @@ fn near_choice<'n>(
 /// Returns whether an enum has the name, if one is given: whether its path ends with it.
 pub(crate) fn has_name(
     alloc: Global,
-    part: Part<'_, '_>,
-    text: &str,
+    source: &Source<'_>,
+    found: FoundEnum,
     name: Option<&str>,
 ) -> Result<bool, Memory> {
     match name {
         Some(name) => {
-            let path = path_at(alloc, part, text)?;
+            let path = path_of(alloc, source.text(), found)?;
             Ok((path.as_str() == name) | ends_with_name(path.as_str(), name))
         }
         None => Ok(true),
@@ -295,18 +295,5 @@ fn ends_with_name(path: &str, name: &str) -> bool {
     match path.strip_suffix(name) {
         Some(front) => front.ends_with("::"),
         None => false,
-    }
-}
-
-/// Returns the path of an enum with this text in its file.
-fn path_at(alloc: Global, part: Part<'_, '_>, text: &str) -> Result<String, Memory> {
-    path_of(alloc, front_of(part.source.text(), part.offset), text)
-}
-
-/// Returns the text in front of an offset.
-fn front_of(text: &str, offset: usize) -> &str {
-    match text.get(..offset) {
-        Some(front) => front,
-        None => "",
     }
 }

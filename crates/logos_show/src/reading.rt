@@ -12,7 +12,7 @@ use logos_codegen::token::Span;
 use logos_host::{ComparableFiles, Failure, Files, MessageFormat, read_text, write_through};
 use logos_messages::push_messages;
 use logos_options::{PROGRAM, commit_line};
-use logos_report::{Page, Part, Source, Warning, count_errors, push_faults, push_summary};
+use logos_report::{Page, Part, Source, count_errors, push_faults, push_summary};
 use logos_rust_file::{FoundEnum, enums_in};
 use std::alloc::{AllocError, Global};
 use std::io::Write;
@@ -60,49 +60,62 @@ pub(crate) fn refused(
 ) -> Failure<'static>
     ensures { IsNoMisuse result }
 {
-    refused_after(part, showing, refusal, Vec::new(alloc))
+    match known_of(alloc, part) {
+        Ok(known) => refused_with(part, showing, refusal, &known),
+        Err(Memory) => Failure::Memory,
+    }
 }
 
-/// Returns the refusal of a part of a file, with these warnings, those of the part, and its faults.
-pub(crate) fn refused_after(
+/// Returns what is known of the enum that begins where a part of a file does, if one does.
+fn known_of(alloc: Global, part: Part<'_, '_>) -> Result<Explained, Memory> {
+    let Explained { clues, warnings } = explain(alloc, enum_at(alloc, part)?)?;
+    let mut warned = Vec::new(alloc);
+    add_warnings(part.offset, warnings, &mut warned)?;
+    Ok(Explained {
+        clues,
+        warnings: warned,
+    })
+}
+
+/// Returns the refusal of a part of a file, with its faults and with what is known of them. The
+/// warnings count from the beginning of the file.
+pub(crate) fn refused_with(
     part: Part<'_, '_>,
     showing: Showing,
     refusal: Refusal,
-    warned: Vec<Warning>,
+    known: &Explained,
 ) -> Failure<'static>
     ensures { IsNoMisuse result }
 {
     let Refusal::Errors(errors) = refusal else {
         return Failure::Memory;
     };
-    match refusal_text(part, showing, &errors, warned) {
+    match refusal_text(part, showing, &errors, known) {
         Ok(text) => Failure::Refused(text),
         Err(Memory) => Failure::Memory,
     }
 }
 
-/// Returns what is written of faults, after these warnings and those of the part.
+/// Returns what is written of faults, after the warnings.
 fn refusal_text(
     part: Part<'_, '_>,
     showing: Showing,
     errors: &Errors,
-    warned: Vec<Warning>,
+    known: &Explained,
 ) -> Result<String, Memory> {
     let alloc = showing.alloc;
-    let mut all = warned;
-    let Explained { clues, warnings } = explain(alloc, enum_at(alloc, part)?)?;
-    add_warnings(part.offset, warnings, &mut all)?;
+    let clues = &known.clues;
     match showing.format {
         MessageFormat::Human => {
             let mut page = Page::new(alloc, showing.is_colored);
-            push_warned(&mut page, part.source, &all);
-            push_faults(&mut page, part, errors, &clues);
-            push_summary(&mut page, count_errors(errors, &clues));
+            push_warned(&mut page, part.source, &known.warnings);
+            push_faults(&mut page, part, errors, clues);
+            push_summary(&mut page, count_errors(errors, clues));
             Ok(page.finish()?)
         }
         MessageFormat::Json => {
-            let mut lines = warning_lines(alloc, part.source, &all)?;
-            push_messages(alloc, &mut lines, part, errors, &clues)?;
+            let mut lines = warning_lines(alloc, part.source, &known.warnings)?;
+            push_messages(alloc, &mut lines, part, errors, clues)?;
             text_of_lines(lines)
         }
     }

@@ -4,10 +4,11 @@ ghost use Rattle.std.specs.Prelude.{IfErr};
 ghost use Rattle.logos_show.specs.Orders.{IsNoMisuse};
 
 use crate::choosing::has_name;
-use crate::reading::{refused, refused_after, text_of};
+use crate::reading::{refused, refused_with, text_of};
 use logos_answers::{push_costs, push_examples, push_rows};
 use logos_causes::{
-    Showing, add_lexer, add_missing, add_passed, add_text, denial_text, has_lexer, warning_text,
+    Explained, Showing, add_lexer, add_missing, add_passed, add_text, add_warnings, denial_text,
+    explain_enum, has_lexer, warning_text,
 };
 use logos_codegen::error::Memory;
 use logos_codegen::generator::Config;
@@ -65,14 +66,13 @@ struct Pages {
     style: PageStyle,
 }
 
-/// An enum of a file: where it begins there, the lines of the file, its own text, and whether it
-/// derives `Logos`.
+/// An enum of a file: where it begins there, the lines of the file, and its own text.
 #[derive(Clone, Copy)]
 pub(crate) struct EnumInFile<'f, 's> {
     pub(crate) part: Part<'f, 's>,
     pub(crate) lines: &'f LineIndex<'s>,
     pub(crate) text: &'s str,
-    pub(crate) derives: bool,
+    pub(crate) found: FoundEnum,
 }
 
 /// Returns what is shown of a file, or of the enums in it that have a name.
@@ -163,7 +163,7 @@ fn enum_in<'f, 's>(
         },
         lines,
         text: text_of(source, found),
-        derives: found.derives,
+        found,
     }
 }
 
@@ -176,7 +176,7 @@ fn push_named(
     ensures { IfErr result IsNoMisuse }
 {
     let alloc = pages.style.showing.alloc;
-    if has_name(alloc, one.part, one.text, name)? {
+    if has_name(alloc, one.part.source, one.found, name)? {
         push_enum(alloc, pages, one)?;
     }
     Ok(())
@@ -190,10 +190,10 @@ fn push_enum(
 ) -> Result<(), Failure<'static>>
     ensures { IfErr result IsNoMisuse }
 {
-    add_text(one.text, one.part.offset, one.derives, &mut pages.warned)?;
-    if one.derives {
-        push_lexer(alloc, pages, one)?;
+    if one.found.derives {
+        return push_lexer(alloc, pages, one);
     }
+    add_text(one.text, one.part.offset, false, &mut pages.warned)?;
     Ok(())
 }
 
@@ -208,13 +208,28 @@ fn push_lexer(
     match generate(alloc, one.text, SHAPE) {
         Ok(made) => push_made(alloc, pages, one, &made),
         Err(refusal) => {
-            let warned = mem::replace(&mut pages.warned, Vec::new(alloc));
-            Err(refused_after(one.part, pages.style.showing, refusal, warned))
+            let known = known_after(alloc, pages, one)?;
+            Err(refused_with(one.part, pages.style.showing, refusal, &known))
         }
     }
 }
 
-/// Appends the leaves of a lexer or its examples, and the warnings of its leaves.
+/// Returns what is known of an enum that is refused, with the warnings so far and all of its own.
+fn known_after(
+    alloc: Global,
+    pages: &mut Pages,
+    one: EnumInFile<'_, '_>,
+) -> Result<Explained, Memory> {
+    let Explained { clues, warnings } = explain_enum(alloc, one.text)?;
+    let mut warned = mem::replace(&mut pages.warned, Vec::new(alloc));
+    add_warnings(one.part.offset, warnings, &mut warned)?;
+    Ok(Explained {
+        clues,
+        warnings: warned,
+    })
+}
+
+/// Appends the leaves of a lexer or its examples, and the warnings of its enum and of its leaves.
 fn push_made(
     alloc: Global,
     pages: &mut Pages,
@@ -224,6 +239,7 @@ fn push_made(
     ensures { IfErr result IsNoMisuse }
 {
     push_form(alloc, pages, one, made)?;
+    add_text(one.text, one.part.offset, true, &mut pages.warned)?;
     add_lexer(
         one.text,
         one.part.offset,

@@ -39,7 +39,7 @@ pub struct Stream<'c, 's, R, C> {
 impl<'c, 's, R, C> Model for Stream<'c, 's, R, C> {
     ghost use Rattle.std.specs.Prelude.{◌≡◌, []};
     ghost use Rattle.logos_stream.specs.Views.{codes, named, StreamValue};
-    ghost use Rattle.logos_type.specs.contracts.type_expr.Part as p;
+    ghost use Rattle.logos_type.specs.contracts.type_expr.TypePart as p;
 
     ghost Value = { StreamValue R C };
 

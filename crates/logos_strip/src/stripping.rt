@@ -8,6 +8,7 @@ use crate::walk::strip_run;
 use logos_enum::read_enum;
 use logos_parser::reading::{misread, unreadable};
 use logos_parser::refusal::Refusal;
+use logos_token::error::Memory;
 use logos_token::token::{TokenStream, tokenize};
 use std::alloc::Global;
 
@@ -51,5 +52,22 @@ pub fn strip_attributes<'s>(alloc: Global, src: &'s str) -> Result<TokenStream<'
     match tokenize(alloc, src) {
         Ok(stream) => strip_tokens(alloc, &stream),
         Err(error) => Err(unreadable(alloc, src, error)),
+    }
+}
+
+/// Returns the same tokens as `strip_attributes`, for a source that is known to spell an enum, as
+/// one from which `generate` has made a lexer. The enum is not read again.
+///
+/// # Errors
+///
+/// Returns `Memory` if memory runs out.
+pub fn strip_enum<'s>(alloc: Global, src: &'s str) -> Result<TokenStream<'s>, Memory>
+    requires { SpellsEnum src.now }
+    ensures { IfOk result (λ left. IsStripped src.now (stream_tokens left)) }
+{
+    match tokenize(alloc, src) {
+        Ok(stream) => strip_run(alloc, Scope::Enum, stream.run()),
+        // The source has tokens, within the limits.
+        Err(_) => Err(Memory),
     }
 }

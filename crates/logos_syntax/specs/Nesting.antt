@@ -1,7 +1,7 @@
 -- How deep groups, brackets and operators nest in a beginning of a text.
 use Rattle.std.specs.Prelude.{ℕ, suc, ◌+◌, ◌<◌, max, Bool, List, [], ◌∷◌, ◌++◌}
 use Rattle.logos_pattern_tokens.specs.declared.token.Flags.{Flags}
-use Rattle.logos_pattern_tokens.specs.declared.bracket.token.Item.{Item as ItemValue}
+use Rattle.logos_pattern_tokens.specs.declared.bracket.token.BracketItem.{BracketItem as ItemValue}
 use Rattle.logos_pattern_tokens.specs.declared.bracket.token.Lead.{Lead}
 use Rattle.logos_hir.specs.declared.sets.operands.SetOperator.{SetOperator}
 use Rattle.logos_pattern_tokens.specs.declared.bracket.token.BracketToken.{BracketToken}

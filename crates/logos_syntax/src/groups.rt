@@ -9,7 +9,7 @@ use crate::translate::{atom_fits, atom_tree, one_of};
 use logos_hir::hir::Hir;
 use logos_hir::simplify;
 use logos_pattern_tokens::error::{Kind, Stop};
-use logos_pattern_tokens::token::{Atom, Change, Flags, Opening, Operator, Token};
+use logos_pattern_tokens::token::{Atom, Change, Flags, GroupOpening, Operator, Token};
 use std::alloc::{AllocError, Global};
 use std::mem;
 
@@ -71,22 +71,22 @@ fn flags_after(change: Change, flags: Flags) -> Flags
 }
 
 /// Returns the flags at the start of a group's inside.
-fn inner_flags(opening: Opening<'_>, flags: Flags) -> Flags
+fn inner_flags(opening: GroupOpening<'_>, flags: Flags) -> Flags
     ensures { result ≡ inner_flags (opening_view opening.entry) flags }
 {
     match opening {
-        Opening::Capture | Opening::Named(_) => flags,
-        Opening::Plain(change) => flags_after(change, flags),
+        GroupOpening::Capture | GroupOpening::Named(_) => flags,
+        GroupOpening::Plain(change) => flags_after(change, flags),
     }
 }
 
 /// Returns whether a group that opens so is a capture.
-fn captures(opening: Opening<'_>) -> bool
+fn captures(opening: GroupOpening<'_>) -> bool
     ensures { result ≡ captures (opening_view opening.entry) }
 {
     match opening {
-        Opening::Capture | Opening::Named(_) => true,
-        Opening::Plain(_) => false,
+        GroupOpening::Capture | GroupOpening::Named(_) => true,
+        GroupOpening::Plain(_) => false,
     }
 }
 
@@ -294,7 +294,7 @@ impl Groups {
     /// # Errors
     ///
     /// Returns `LimitPatternNesting`, and `Memory`.
-    fn open(&mut self, alloc: Global, opening: Opening<'_>, left: usize) -> Result<(), Stop>
+    fn open(&mut self, alloc: Global, opening: GroupOpening<'_>, left: usize) -> Result<(), Stop>
         ensures { Steps (state_view self.old) (opens (opening_view opening.entry)) result
             (state_view self.new) }
     {

@@ -3,7 +3,7 @@
 ghost use Rattle.std.specs.Prelude.{◌≡◌, ◌∷◌, [], List, not, bytes_eq, IfOk};
 ghost use Rattle.logos_syntax.specs.Views.{list_any, Text, token_view, HasNames, Admits};
 
-use logos_pattern_tokens::token::{Opening, Token};
+use logos_pattern_tokens::token::{GroupOpening, Token};
 use std::alloc::{AllocError, Global};
 use std::collections::BTreeSet;
 
@@ -40,7 +40,7 @@ impl GroupNames {
             IfOk result (λ admitted. Admits seen (token_view token.entry) admitted self.new) }
     {
         match token {
-            Token::Open(Opening::Named(name)) => {
+            Token::Open(GroupOpening::Named(name)) => {
                 let added = self.add(alloc, name)?;
                 Ok(added)
             }

@@ -4,8 +4,8 @@ use Rattle.std.specs.Prelude.{◌≡◌, ℕ, ◌+◌, ◌-◌, ◌<◌, ◌≤�
 use Rattle.logos_lexeme.specs.declared.lexeme.Span.{Span}
 use Rattle.logos_lexeme.specs.declared.lexeme.Delimiter.{Delimiter}
 use Rattle.logos_lexeme.specs.declared.lexeme.Delimiter.TheVariants.{Parenthesis, Bracket, Brace}
-use Rattle.logos_lexeme.specs.declared.lexeme.Kind.{Kind}
-use Rattle.logos_lexeme.specs.declared.lexeme.Kind.TheVariants.{Gap, Identifier, Literal, Doc, Punctuation, Opening, Closing}
+use Rattle.logos_lexeme.specs.declared.lexeme.LexemeKind.{LexemeKind}
+use Rattle.logos_lexeme.specs.declared.lexeme.LexemeKind.TheVariants.{Gap, Identifier, Literal, Doc, Punctuation, Opening, Closing}
 use Rattle.logos_lexeme.specs.declared.lexeme.LexicalKind.{LexicalKind}
 use Rattle.logos_lexeme.specs.declared.lexeme.LexicalKind.TheVariants.{Unbalanced}
 use Rattle.logos_token.specs.Tokens.{Token, identifier, punctuation, literal, doc, group, TokenList, none, also, span_of}
@@ -13,7 +13,7 @@ use Rattle.logos_lexeme.specs.Lexemes.{IsNext, IsStuck}
 
 -- A piece of a source.
 pub record Piece : Type 0 where
-  pub kind : Kind
+  pub kind : LexemeKind
   pub span : Span
 
 -- The source has these pieces one after another, from one byte offset to another.
@@ -28,7 +28,7 @@ pub data Lexeme : Type 0 where
   closes : (delimiter : Delimiter) (to : ℕ) → Lexeme
 
 -- The lexeme of a piece of this kind; a gap has none.
-abbrev pub lexeme_of : List ℕ → Kind → Span → List Lexeme
+abbrev pub lexeme_of : List ℕ → LexemeKind → Span → List Lexeme
 lexeme_of bytes Gap span = []
 lexeme_of bytes Identifier span = leaf (identifier (slice_range bytes span.from span.to) span) ∷ []
 lexeme_of bytes Literal span = leaf (literal (slice_range bytes span.from span.to) span) ∷ []

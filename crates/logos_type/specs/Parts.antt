@@ -2,11 +2,11 @@
 use Rattle.std.specs.Prelude.{ℕ, List, [], ◌∷◌, Option, Some, None}
 use Rattle.logos_lexeme.specs.declared.lexeme.Delimiter.{Delimiter}
 use Rattle.logos_lexeme.specs.declared.lexeme.Spacing.{Spacing}
-use Rattle.logos_type.specs.declared.type_expr.Leaf.{Leaf}
-use Rattle.logos_type.specs.declared.type_expr.Leaf.TheVariants.{Word, Mark, Colons, Arrow, Literal, Open, Close, Reference, Lifetime, OtherLifetime, Punct, Doc}
-use Rattle.logos_type.specs.declared.type_expr.Part.{Part}
-use Rattle.logos_type.specs.declared.type_expr.Part.TheOpen.{Part-F}
-use Rattle.logos_type.specs.declared.type_expr.Part.TheFolds.{fold-Part}
+use Rattle.logos_type.specs.declared.type_expr.TypeToken.{TypeToken}
+use Rattle.logos_type.specs.declared.type_expr.TypeToken.TheVariants.{Word, Mark, Colons, Arrow, Literal, Open, Close, Reference, Lifetime, OtherLifetime, Punct, Doc}
+use Rattle.logos_type.specs.declared.type_expr.TypePart.{TypePart}
+use Rattle.logos_type.specs.declared.type_expr.TypePart.TheOpen.{TypePart-F}
+use Rattle.logos_type.specs.declared.type_expr.TypePart.TheFolds.{fold-TypePart}
 
 -- A token that is not a type by itself.
 pub data Sign : Type 0 where
@@ -48,7 +48,7 @@ abbrev pub trees : List Tree → Trees
 trees [] = none
 trees (t ∷ rest) = also t (trees rest)
 
-abbrev pub sign_of : Leaf → Sign
+abbrev pub sign_of : TypeToken → Sign
 sign_of (Word text) = word text.now
 sign_of (Mark character) = mark character
 sign_of Colons = colons
@@ -64,12 +64,12 @@ sign_of (Punct character spacing) = spaced_mark character spacing
 sign_of (Doc text) = comment text.now
 
 -- One part, with each part inside it in its place.
-abbrev pub node_tree : Part-F Tree → Tree
-node_tree (Part-F.Leaf leaf) = sign (sign_of leaf)
-node_tree (Part-F.Name text) = name text.now
-node_tree (Part-F.Whole parts) = whole (trees parts.items)
-node_tree (Part-F.Still parts) = still (trees parts.items)
+abbrev pub node_tree : TypePart-F Tree → Tree
+node_tree (TypePart-F.Leaf leaf) = sign (sign_of leaf)
+node_tree (TypePart-F.Name text) = name text.now
+node_tree (TypePart-F.Whole parts) = whole (trees parts.items)
+node_tree (TypePart-F.Still parts) = still (trees parts.items)
 
 -- The tree that a part holds.
-abbrev pub tree_of : Part → Tree
-tree_of = fold-Part Tree node_tree
+abbrev pub tree_of : TypePart → Tree
+tree_of = fold-TypePart Tree node_tree

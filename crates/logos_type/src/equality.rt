@@ -3,34 +3,34 @@
 ghost use Rattle.std.specs.Prelude.{◌≡◌, ◌↔◌, IsTrue, map};
 ghost use Rattle.logos_type.specs.Views.{sign_of, tree_of, type_tree};
 
-use crate::type_expr::{Leaf, Part, TypeExpr};
+use crate::type_expr::{TypeExpr, TypePart, TypeToken};
 
 /// Returns whether two tokens are the same.
-fn is_same_leaf(leaf: &Leaf<'_>, other: &Leaf<'_>) -> bool
+fn is_same_leaf(leaf: &TypeToken<'_>, other: &TypeToken<'_>) -> bool
     ensures { IsTrue result ↔ (sign_of leaf.now ≡ sign_of other.now) }
 {
     match (leaf, other) {
-        (Leaf::Word(text), Leaf::Word(second)) => text == second,
-        (Leaf::Mark(character), Leaf::Mark(second)) => character == second,
-        (Leaf::Colons, Leaf::Colons) => true,
-        (Leaf::Arrow, Leaf::Arrow) => true,
-        (Leaf::Literal(text), Leaf::Literal(second)) => text == second,
-        (Leaf::Open(delimiter), Leaf::Open(second)) => delimiter == second,
-        (Leaf::Close(delimiter), Leaf::Close(second)) => delimiter == second,
-        (Leaf::Reference(lifetime), Leaf::Reference(second)) => lifetime == second,
-        (Leaf::Lifetime(text), Leaf::Lifetime(second)) => text == second,
-        (Leaf::OtherLifetime(text), Leaf::OtherLifetime(second)) => text == second,
-        (Leaf::Punct(character, spacing), Leaf::Punct(second, other_spacing)) => {
+        (TypeToken::Word(text), TypeToken::Word(second)) => text == second,
+        (TypeToken::Mark(character), TypeToken::Mark(second)) => character == second,
+        (TypeToken::Colons, TypeToken::Colons) => true,
+        (TypeToken::Arrow, TypeToken::Arrow) => true,
+        (TypeToken::Literal(text), TypeToken::Literal(second)) => text == second,
+        (TypeToken::Open(delimiter), TypeToken::Open(second)) => delimiter == second,
+        (TypeToken::Close(delimiter), TypeToken::Close(second)) => delimiter == second,
+        (TypeToken::Reference(lifetime), TypeToken::Reference(second)) => lifetime == second,
+        (TypeToken::Lifetime(text), TypeToken::Lifetime(second)) => text == second,
+        (TypeToken::OtherLifetime(text), TypeToken::OtherLifetime(second)) => text == second,
+        (TypeToken::Punct(character, spacing), TypeToken::Punct(second, other_spacing)) => {
             (character == second) & (spacing == other_spacing)
         }
-        (Leaf::Doc(text), Leaf::Doc(second)) => text == second,
+        (TypeToken::Doc(text), TypeToken::Doc(second)) => text == second,
         _ => false,
     }
 }
 
 /// Returns whether two lists have the same parts in the same order.
 #[cycle(equality)]
-fn are_same_parts(parts: &[Part<'_>], others: &[Part<'_>]) -> bool
+fn are_same_parts(parts: &[TypePart<'_>], others: &[TypePart<'_>]) -> bool
     ensures { IsTrue result ↔ (map tree_of parts.now ≡ map tree_of others.now) }
 {
     if parts.len() != others.len() {
@@ -46,14 +46,14 @@ fn are_same_parts(parts: &[Part<'_>], others: &[Part<'_>]) -> bool
 
 /// Returns whether two parts are the same.
 #[cycle(equality)]
-fn is_same_part(part: &Part<'_>, other: &Part<'_>) -> bool
+fn is_same_part(part: &TypePart<'_>, other: &TypePart<'_>) -> bool
     ensures { IsTrue result ↔ (tree_of part.now ≡ tree_of other.now) }
 {
     match (part, other) {
-        (Part::Leaf(leaf), Part::Leaf(second)) => is_same_leaf(leaf, second),
-        (Part::Name(text), Part::Name(second)) => text == second,
-        (Part::Whole(parts), Part::Whole(others)) => are_same_parts(parts, others),
-        (Part::Still(parts), Part::Still(others)) => are_same_parts(parts, others),
+        (TypePart::Leaf(leaf), TypePart::Leaf(second)) => is_same_leaf(leaf, second),
+        (TypePart::Name(text), TypePart::Name(second)) => text == second,
+        (TypePart::Whole(parts), TypePart::Whole(others)) => are_same_parts(parts, others),
+        (TypePart::Still(parts), TypePart::Still(others)) => are_same_parts(parts, others),
         _ => false,
     }
 }

@@ -11,4 +11,4 @@ mod type_expr;
 pub use equality::is_same_type;
 pub use laws::exceeds_is_deeper;
 pub use print::print_type;
-pub use type_expr::{Leaf, Part, TypeExpr, exceeds};
+pub use type_expr::{TypeExpr, TypePart, TypeToken, exceeds};

@@ -3,7 +3,7 @@
 ghost use Rattle.std.specs.Prelude.{◌≡◌, IfOk, OnOk, fold, string_bytes};
 ghost use Rattle.logos_type.specs.Views.{print_part, printed_of, sign_of, tree_of, lifetime_parts, sign_parts, type_parts, printed_type, type_tree};
 
-use crate::type_expr::{Leaf, Part, TypeExpr};
+use crate::type_expr::{TypeExpr, TypePart, TypeToken};
 use logos_token::error::Memory;
 use logos_token::token::{Printer, closing_text, gap_after, gap_after_doc, opening_text};
 use std::alloc::Global;
@@ -21,7 +21,7 @@ fn add_lifetime(printer: &mut Printer, text: &str) -> Result<(), Memory>
 fn add_reference(printer: &mut Printer, lifetime: Option<&str>) -> Result<(), Memory>
     ensures { OnOk result (printed_of printer.new ≡
         fold print_part (printed_of printer.old)
-        (sign_parts (sign_of (Leaf.Reference lifetime.entry)))) }
+        (sign_parts (sign_of (TypeToken.Reference lifetime.entry)))) }
 {
     printer.add("&", " ")?;
     match lifetime {
@@ -31,35 +31,38 @@ fn add_reference(printer: &mut Printer, lifetime: Option<&str>) -> Result<(), Me
 }
 
 /// Prints a token.
-fn add_leaf(printer: &mut Printer, leaf: Leaf<'_>) -> Result<(), Memory>
+fn add_leaf(printer: &mut Printer, leaf: TypeToken<'_>) -> Result<(), Memory>
     ensures { OnOk result (printed_of printer.new ≡
         fold print_part (printed_of printer.old) (sign_parts (sign_of leaf.entry))) }
 {
     match leaf {
-        Leaf::Word(text) => printer.add(text, " "),
-        Leaf::Mark(character) => printer.add_character(character, " "),
-        Leaf::Colons => printer.add("::", " "),
-        Leaf::Arrow => printer.add("->", " "),
-        Leaf::Literal(text) => printer.add(text, " "),
-        Leaf::Open(delimiter) => printer.add(opening_text(delimiter), " "),
-        Leaf::Close(delimiter) => printer.add(closing_text(delimiter), " "),
-        Leaf::Reference(lifetime) => add_reference(printer, lifetime),
-        Leaf::Lifetime(text) => add_lifetime(printer, text),
-        Leaf::OtherLifetime(text) => add_lifetime(printer, text),
-        Leaf::Punct(character, spacing) => printer.add_character(character, gap_after(spacing)),
-        Leaf::Doc(text) => printer.add(text, gap_after_doc(text)),
+        TypeToken::Word(text) => printer.add(text, " "),
+        TypeToken::Mark(character) => printer.add_character(character, " "),
+        TypeToken::Colons => printer.add("::", " "),
+        TypeToken::Arrow => printer.add("->", " "),
+        TypeToken::Literal(text) => printer.add(text, " "),
+        TypeToken::Open(delimiter) => printer.add(opening_text(delimiter), " "),
+        TypeToken::Close(delimiter) => printer.add(closing_text(delimiter), " "),
+        TypeToken::Reference(lifetime) => add_reference(printer, lifetime),
+        TypeToken::Lifetime(text) => add_lifetime(printer, text),
+        TypeToken::OtherLifetime(text) => add_lifetime(printer, text),
+        TypeToken::Punct(character, spacing) => printer.add_character(
+            character,
+            gap_after(spacing),
+        ),
+        TypeToken::Doc(text) => printer.add(text, gap_after_doc(text)),
     }
 }
 
 /// Prints a part.
-fn add_part(printer: &mut Printer, part: &Part<'_>) -> Result<(), Memory>
+fn add_part(printer: &mut Printer, part: &TypePart<'_>) -> Result<(), Memory>
     ensures { OnOk result (printed_of printer.new ≡
         fold print_part (printed_of printer.old) (type_parts (tree_of part.now))) }
 {
     match part {
-        Part::Leaf(leaf) => add_leaf(printer, *leaf),
-        Part::Name(text) => printer.add(text, " "),
-        Part::Whole(parts) | Part::Still(parts) => {
+        TypePart::Leaf(leaf) => add_leaf(printer, *leaf),
+        TypePart::Name(text) => printer.add(text, " "),
+        TypePart::Whole(parts) | TypePart::Still(parts) => {
             for inner in parts {
                 add_part(printer, inner)?;
             }

@@ -11,7 +11,7 @@ use Rattle.std.specs.List.{list_any, position}
 use Rattle.std.specs.Map.{lookup, keys_of}
 use Rattle.indexmap.specs.IndexSet.{insert_key}
 use Rattle.logos_cycles.specs.Cycles.{targets_of, Leads as Path, one as step, on as steps}
-use Rattle.logos_type.specs.declared.type_expr.Part.{Part}
+use Rattle.logos_type.specs.declared.type_expr.TypePart.{TypePart}
 use Rattle.logos_type.specs.Parts.{name, trees, also, tree_of}
 use Rattle.logos_type_params.specs.declared.substitution.TypeParam.{TypeParam}
 use Rattle.logos_type_params.specs.Substitution.{ParamValue, param_value}
@@ -197,13 +197,13 @@ module _ (params : List ParamValue) where
       either t false e h = inr (rw e at h)
 
 -- the parts of a type, one after another, where what completes the rest completes the whole
-pub reaches_on : (params : List ParamValue) (Whole : List ℕ → Type 0) (items : List Part) (k : ℕ) (p : Part) (old mid : List ℕ) →
+pub reaches_on : (params : List ParamValue) (Whole : List ℕ → Type 0) (items : List TypePart) (k : ℕ) (p : TypePart) (old mid : List ℕ) →
     ((new : List ℕ) → Reaches params (some_names (trees (map tree_of (drop k items)))) old new → Whole new) → k < length items → p ≡ get_or items k p →
     Reaches params (names (tree_of p)) old mid →
     (new : List ℕ) → Reaches params (some_names (trees (map tree_of (drop (k + 1) items)))) mid new → Whole new
 reaches_on params Whole items k p old mid completes h e first new rest =
     let front : trees (map tree_of (drop k items)) ≡ also (tree_of p) (trees (map tree_of (drop (k + 1) items))) =
-    at_drop_more (λ ps. trees (map tree_of ps)) items k p h ∙ ap (λ (q : Part). also (tree_of q) (trees (map tree_of (drop (k + 1) items)))) (sym e) in
+    at_drop_more (λ ps. trees (map tree_of ps)) items k p h ∙ ap (λ (q : TypePart). also (tree_of q) (trees (map tree_of (drop (k + 1) items)))) (sym e) in
     completes new (rw front (reaches_both params (names (tree_of p)) (some_names (trees (map tree_of (drop (k + 1) items)))) old mid new first rest))
 
 -- ---- chains by places

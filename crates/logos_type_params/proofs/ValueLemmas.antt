@@ -3,8 +3,8 @@ use Rattle.std.proofs.Common.{◌≡◌, List, [], ◌∷◌, ◌++◌, Some, No
 use Rattle.logos_token.specs.Tokens.{TokenList, none, also, run_span}
 use Rattle.logos_token.specs.Faults.{Fault}
 use Rattle.logos_type.specs.Parts.{Tree, whole, trees, tree_of, also as also_part}
-use Rattle.logos_type.specs.declared.type_expr.Part.{Part}
-use Rattle.logos_type.specs.declared.type_expr.Part.TheVariants.{Whole}
+use Rattle.logos_type.specs.declared.type_expr.TypePart.{TypePart}
+use Rattle.logos_type.specs.declared.type_expr.TypePart.TheVariants.{Whole}
 use Rattle.logos_type.proofs.PartTrees.{tree-Whole}
 use Rattle.logos_type_reader.specs.TypeExprs.{IsTypeExpr}
 use Rattle.logos_type_params.specs.TypeParams.{Value, Named, type_syntax, with_lifetimes, all_with_lifetimes, own_lifetime, own_lifetimes, not_type_parameter, is_declared, former, given_more, given_faults, ReadsValue, is_type, goes_on, IsSet, undeclared, is_given}
@@ -15,22 +15,22 @@ pub more_left : {old new : List Fault} {tree : Tree} {at : Span} (run rest : Tok
 more_left run none some is e = absurd (some refl)
 more_left run (also token rest) some is e = goes_on is e
 
-all_lifetimes : (parts : List Part) → all_with_lifetimes (trees (map tree_of parts)) ≡ trees (map (λ part. with_lifetimes (tree_of part)) parts)
+all_lifetimes : (parts : List TypePart) → all_with_lifetimes (trees (map tree_of parts)) ≡ trees (map (λ part. with_lifetimes (tree_of part)) parts)
 all_lifetimes [] = refl
 all_lifetimes (part ∷ parts) = ap (also_part (with_lifetimes (tree_of part))) (all_lifetimes parts)
 
 -- a type whose parts have their lifetimes set
-pub whole_with_lifetimes : (part : Part) (parts after : Vec Part Global) → part ≡ Whole parts →
+pub whole_with_lifetimes : (part : TypePart) (parts after : Vec TypePart Global) → part ≡ Whole parts →
     map tree_of after.items ≡ map (λ part. with_lifetimes (tree_of part)) parts.items → tree_of (Whole after) ≡ with_lifetimes (tree_of part)
 whole_with_lifetimes part parts after is each =
-    tree-Whole after ∙ ap (λ (l : List Tree). whole (trees l)) each ∙ sym (ap whole (all_lifetimes parts.items)) ∙ sym (ap with_lifetimes (tree-Whole parts)) ∙ sym (ap (λ (p : Part). with_lifetimes (tree_of p)) is)
+    tree-Whole after ∙ ap (λ (l : List Tree). whole (trees l)) each ∙ sym (ap whole (all_lifetimes parts.items)) ∙ sym (ap with_lifetimes (tree-Whole parts)) ∙ sym (ap (λ (p : TypePart). with_lifetimes (tree_of p)) is)
 
-all_own : (parts : List Part) → own_lifetimes (trees (map tree_of parts)) ≡ trees (map (λ part. own_lifetime (tree_of part)) parts)
+all_own : (parts : List TypePart) → own_lifetimes (trees (map tree_of parts)) ≡ trees (map (λ part. own_lifetime (tree_of part)) parts)
 all_own [] = refl
 all_own (part ∷ parts) = ap (also_part (own_lifetime (tree_of part))) (all_own parts)
 
 -- a type whose tokens have their lifetimes set
-pub whole_with_own : (parts : List Part) (after : Vec Part Global) → map tree_of after.items ≡ map (λ part. own_lifetime (tree_of part)) parts → tree_of (Whole after) ≡ whole (own_lifetimes (trees (map tree_of parts)))
+pub whole_with_own : (parts : List TypePart) (after : Vec TypePart Global) → map tree_of after.items ≡ map (λ part. own_lifetime (tree_of part)) parts → tree_of (Whole after) ≡ whole (own_lifetimes (trees (map tree_of parts)))
 whole_with_own parts after each = tree-Whole after ∙ ap (λ (l : List Tree). whole (trees l)) each ∙ sym (ap whole (all_own parts))
 
 -- what is read without a fault lists nothing

@@ -5,40 +5,43 @@ ghost use Rattle.logos_type_params.specs.Views.{whole, trees, tree_of, type_tree
 
 use crate::substitution::set_lifetime;
 use logos_token::error::Memory;
-use logos_type::{Part, TypeExpr};
+use logos_type::{TypeExpr, TypePart};
 use std::alloc::{AllocError, Global};
 
 /// Copies a part with the lifetimes of references, and of the angle arguments of paths that are
 /// types, set to `'s`, at any depth.
-pub(crate) fn set_lifetimes<'s>(alloc: Global, part: &Part<'s>) -> Result<Part<'s>, AllocError>
+pub(crate) fn set_lifetimes<'s>(
+    alloc: Global,
+    part: &TypePart<'s>,
+) -> Result<TypePart<'s>, AllocError>
     ensures { IfOk result (λ after. tree_of after ≡ with_lifetimes (tree_of part.now)) }
 {
     match part {
-        Part::Leaf(leaf) => Ok(Part::Leaf(set_lifetime(*leaf))),
-        Part::Name(text) => Ok(Part::Name(text)),
-        Part::Whole(parts) => {
+        TypePart::Leaf(leaf) => Ok(TypePart::Leaf(set_lifetime(*leaf))),
+        TypePart::Name(text) => Ok(TypePart::Name(text)),
+        TypePart::Whole(parts) => {
             let mut after = Vec::new(alloc);
             for inner in parts {
                 after.push(set_lifetimes(alloc, inner)?)?;
             }
-            Ok(Part::Whole(after))
+            Ok(TypePart::Whole(after))
         }
-        Part::Still(_) => part.clone(),
+        TypePart::Still(_) => part.clone(),
     }
 }
 
 /// Copies a part, with its lifetime set if it is a token that has one. A type stays as it is.
-fn set_own<'s>(part: &Part<'s>) -> Result<Part<'s>, AllocError>
+fn set_own<'s>(part: &TypePart<'s>) -> Result<TypePart<'s>, AllocError>
     ensures { IfOk result (λ after. tree_of after ≡ own_lifetime (tree_of part.now)) }
 {
     match part {
-        Part::Leaf(leaf) => Ok(Part::Leaf(set_lifetime(*leaf))),
+        TypePart::Leaf(leaf) => Ok(TypePart::Leaf(set_lifetime(*leaf))),
         _ => part.clone(),
     }
 }
 
 /// Copies the parts of a type in this way.
-fn set_each<'s>(alloc: Global, parts: &[Part<'s>]) -> Result<Part<'s>, AllocError>
+fn set_each<'s>(alloc: Global, parts: &[TypePart<'s>]) -> Result<TypePart<'s>, AllocError>
     ensures { IfOk result (λ after. tree_of after ≡
         with_lifetime (whole (trees (map tree_of parts.now)))) }
 {
@@ -46,7 +49,7 @@ fn set_each<'s>(alloc: Global, parts: &[Part<'s>]) -> Result<Part<'s>, AllocErro
     for part in parts {
         after.push(set_own(part)?)?;
     }
-    Ok(Part::Whole(after))
+    Ok(TypePart::Whole(after))
 }
 
 /// Returns the type with its lifetimes and those of all types inside it set to `'s`: the lifetime
@@ -78,7 +81,7 @@ pub fn replace_lifetime<'s>(alloc: Global, type_expr: &TypeExpr<'s>) -> Result<T
     ensures { IfOk result (λ after. type_tree after ≡ with_lifetime (type_tree type_expr.now)) }
 {
     let part = match &type_expr.part {
-        Part::Whole(parts) => set_each(alloc, parts)?,
+        TypePart::Whole(parts) => set_each(alloc, parts)?,
         part => set_own(part)?,
     };
     Ok(TypeExpr { part })

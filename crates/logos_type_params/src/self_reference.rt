@@ -8,7 +8,7 @@ ghost use Rattle.logos_type_params.specs.SelfReference.{param_value};
 use crate::substitution::TypeParam;
 use indexmap::IndexMap;
 use logos_cycles::on_cycles;
-use logos_type::Part;
+use logos_type::TypePart;
 use std::alloc::{AllocError, Global};
 
 /// The types given to the parameters, and which of them lead back to their own names.
@@ -40,16 +40,16 @@ fn reach_name<'s>(
 /// Adds the indices of the types given to the names that a type has among its parts.
 fn reach<'s>(
     types: &IndexMap<&'s str, TypeParam<'s>>,
-    part: &Part<'s>,
+    part: &TypePart<'s>,
     reached: &mut Vec<usize>,
 ) -> Result<(), AllocError>
     ensures { OnOk result (Reaches (map param_value types.now.entries)
         (names (tree_of part.now)) reached.old.items reached.new.items) }
 {
     match part {
-        Part::Leaf(_) | Part::Still(_) => Ok(()),
-        Part::Name(text) => reach_name(types, text, reached),
-        Part::Whole(parts) => {
+        TypePart::Leaf(_) | TypePart::Still(_) => Ok(()),
+        TypePart::Name(text) => reach_name(types, text, reached),
+        TypePart::Whole(parts) => {
             for part in parts {
                 reach(types, part, reached)?;
             }

@@ -6,7 +6,7 @@ ghost use Rattle.logos_type_params.specs.inside.Given.{given_of};
 
 use indexmap::{IndexMap, IndexSet};
 use logos_token::token::Span;
-use logos_type::{Leaf, Part, exceeds};
+use logos_type::{TypePart, TypeToken, exceeds};
 use logos_type_reader::TypeFault;
 use std::alloc::Global;
 
@@ -15,7 +15,7 @@ use std::alloc::Global;
 pub struct TypeParam<'s> {
     /// The span of the name to which it is given.
     pub at: Span,
-    pub part: Part<'s>,
+    pub part: TypePart<'s>,
     /// The span of the type.
     pub span: Span,
 }
@@ -32,27 +32,27 @@ pub struct Replacing<'p, 's> {
 enum GivenType<'p, 's> {
     Nothing,
     Name(&'s str),
-    Parts(&'p [Part<'s>]),
+    Parts(&'p [TypePart<'s>]),
 }
 
 /// Returns the token with the lifetime `'s` in place of one that is set.
-pub(crate) fn set_lifetime(leaf: Leaf<'_>) -> Leaf<'_>
+pub(crate) fn set_lifetime(leaf: TypeToken<'_>) -> TypeToken<'_>
     ensures { sign_of result ≡ set_sign (sign_of leaf.entry) }
 {
     match leaf {
-        Leaf::Reference(_) => Leaf::Reference(Some("s")),
-        Leaf::Lifetime(_) => Leaf::Lifetime("s"),
+        TypeToken::Reference(_) => TypeToken::Reference(Some("s")),
+        TypeToken::Lifetime(_) => TypeToken::Lifetime("s"),
         other => other,
     }
 }
 
 /// Returns what replaces a parameter with this type.
-fn given_by<'p, 's>(part: &'p Part<'s>) -> GivenType<'p, 's>
+fn given_by<'p, 's>(part: &'p TypePart<'s>) -> GivenType<'p, 's>
     ensures { given_of result ≡ given_type (tree_of part.now) }
 {
     match part {
-        Part::Name(text) => GivenType::Name(text),
-        Part::Whole(parts) => GivenType::Parts(parts),
+        TypePart::Name(text) => GivenType::Name(text),
+        TypePart::Whole(parts) => GivenType::Parts(parts),
         _ => GivenType::Nothing,
     }
 }
@@ -88,23 +88,23 @@ pub fn type_after<'s>(
     alloc: Global,
     levels: u32,
     params: Replacing<'_, 's>,
-    part: &Part<'s>,
-) -> Result<Part<'s>, TypeFault>
+    part: &TypePart<'s>,
+) -> Result<TypePart<'s>, TypeFault>
     ensures ok { IfOk result (λ after.
         After (params_of params.entry) levels (tree_of part.now) (tree_of after)) }
     ensures err { IfErr result
         (IfDeep (Passes (params_of params.entry) levels (tree_of part.now))) }
 {
     match part {
-        Part::Leaf(leaf) => Ok(Part::Leaf(set_lifetime(*leaf))),
-        Part::Name(text) => name_after(alloc, levels, params, text),
-        Part::Whole(parts) => whole_after(alloc, levels, params, parts),
-        Part::Still(_) => still_after(levels, part),
+        TypePart::Leaf(leaf) => Ok(TypePart::Leaf(set_lifetime(*leaf))),
+        TypePart::Name(text) => name_after(alloc, levels, params, text),
+        TypePart::Whole(parts) => whole_after(alloc, levels, params, parts),
+        TypePart::Still(_) => still_after(levels, part),
     }
 }
 
 /// Copies parts that are never replaced.
-fn still_after<'s>(levels: u32, part: &Part<'s>) -> Result<Part<'s>, TypeFault>
+fn still_after<'s>(levels: u32, part: &TypePart<'s>) -> Result<TypePart<'s>, TypeFault>
     ensures ok { IfOk result (λ after. (tree_of after ≡ tree_of part.now)
         × (exceeds levels (tree_of part.now) ≡ false)) }
     ensures err { IfErr result (IfDeep (exceeds levels (tree_of part.now) ≡ true)) }
@@ -121,7 +121,7 @@ fn name_after<'s>(
     levels: u32,
     params: Replacing<'_, 's>,
     text: &'s str,
-) -> Result<Part<'s>, TypeFault>
+) -> Result<TypePart<'s>, TypeFault>
     ensures ok { IfOk result (λ after.
         After (params_of params.entry) levels (name text.now) (tree_of after)) }
     ensures err { IfErr result (IfDeep (Passes (params_of params.entry) levels (name text.now))) }
@@ -130,11 +130,11 @@ fn name_after<'s>(
         return Err(TypeFault::LimitNesting);
     }
     match find(params, text) {
-        GivenType::Nothing => Ok(Part::Name(text)),
-        GivenType::Name(other) => Ok(Part::Name(other)),
+        GivenType::Nothing => Ok(TypePart::Name(text)),
+        GivenType::Name(other) => Ok(TypePart::Name(other)),
         GivenType::Parts(parts) => {
             let after = parts_after(alloc, levels - 1, params, parts)?;
-            Ok(Part::Whole(after))
+            Ok(TypePart::Whole(after))
         }
     }
 }
@@ -144,8 +144,8 @@ fn whole_after<'s>(
     alloc: Global,
     levels: u32,
     params: Replacing<'_, 's>,
-    parts: &[Part<'s>],
-) -> Result<Part<'s>, TypeFault>
+    parts: &[TypePart<'s>],
+) -> Result<TypePart<'s>, TypeFault>
     ensures ok { IfOk result (λ after. After (params_of params.entry) levels
         (whole (trees (map tree_of parts.now))) (tree_of after)) }
     ensures err { IfErr result (IfDeep
@@ -155,7 +155,7 @@ fn whole_after<'s>(
         return Err(TypeFault::LimitNesting);
     }
     let after = parts_after(alloc, levels - 1, params, parts)?;
-    Ok(Part::Whole(after))
+    Ok(TypePart::Whole(after))
 }
 
 #[cycle(after)]
@@ -163,8 +163,8 @@ fn parts_after<'s>(
     alloc: Global,
     levels: u32,
     params: Replacing<'_, 's>,
-    parts: &[Part<'s>],
-) -> Result<Vec<Part<'s>>, TypeFault>
+    parts: &[TypePart<'s>],
+) -> Result<Vec<TypePart<'s>>, TypeFault>
     ensures ok { IfOk result (λ after. AllAfter (params_of params.entry) levels
         (trees (map tree_of parts.now)) (trees (map tree_of after.items))) }
     ensures err { IfErr result (IfDeep

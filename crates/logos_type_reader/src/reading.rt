@@ -7,7 +7,7 @@ ghost use Rattle.logos_token.specs.Views.{tree_of as token_of};
 
 use crate::table::{Place, Spot, StepFault, TypeStep, begin, next_at, read_name};
 use logos_token::token::{Group, Span, TokenTree, Tokens};
-use logos_type::{Leaf, Part, TypeExpr};
+use logos_type::{TypeExpr, TypePart, TypeToken};
 use std::alloc::{AllocError, AllocFailed, Global};
 
 /// The reasons why a run does not begin with a type.
@@ -55,17 +55,17 @@ impl From<StepFault> for TypeFault {
 pub const TYPE_NESTING: u32 = 128;
 
 /// Adds a token.
-fn add_leaf<'s>(leaf: Leaf<'s>, parts: &mut Vec<Part<'s>>) -> Result<(), AllocError>
+fn add_leaf<'s>(leaf: TypeToken<'s>, parts: &mut Vec<TypePart<'s>>) -> Result<(), AllocError>
     ensures { OnOk result (map tree_of parts.new.items ≡
         map tree_of parts.old.items ++ sign (sign_of leaf.entry) ∷ []) }
 {
-    parts.push(Part::Leaf(leaf))?;
+    parts.push(TypePart::Leaf(leaf))?;
     Ok(())
 }
 
 /// Adds the tokens of a run without reading types in them; groups add the tokens inside them.
 #[cycle(keeping)]
-fn keep_tokens<'s>(run: Tokens<'_, 's>, parts: &mut Vec<Part<'s>>) -> Result<(), AllocError>
+fn keep_tokens<'s>(run: Tokens<'_, 's>, parts: &mut Vec<TypePart<'s>>) -> Result<(), AllocError>
     ensures { OnOk result (map tree_of parts.new.items ≡
         map tree_of parts.old.items ++ still_run (tokens_of run.entry)) }
 {
@@ -79,32 +79,32 @@ fn keep_tokens<'s>(run: Tokens<'_, 's>, parts: &mut Vec<Part<'s>>) -> Result<(),
 
 /// Adds one token in this way.
 #[cycle(keeping)]
-fn keep_token<'s>(tree: TokenTree<'_, 's>, parts: &mut Vec<Part<'s>>) -> Result<(), AllocError>
+fn keep_token<'s>(tree: TokenTree<'_, 's>, parts: &mut Vec<TypePart<'s>>) -> Result<(), AllocError>
     ensures { OnOk result (map tree_of parts.new.items ≡
         map tree_of parts.old.items ++ still_token (token_of tree.entry)) }
 {
     match tree {
-        TokenTree::Ident(ident) => add_leaf(Leaf::Word(ident.text), parts),
+        TokenTree::Ident(ident) => add_leaf(TypeToken::Word(ident.text), parts),
         TokenTree::Punct(punct) => {
             let character = punct.character;
-            add_leaf(Leaf::Punct(character, punct.spacing), parts)
+            add_leaf(TypeToken::Punct(character, punct.spacing), parts)
         }
-        TokenTree::Literal(literal) => add_leaf(Leaf::Literal(literal.text), parts),
-        TokenTree::Doc(doc) => add_leaf(Leaf::Doc(doc.text), parts),
+        TokenTree::Literal(literal) => add_leaf(TypeToken::Literal(literal.text), parts),
+        TokenTree::Doc(doc) => add_leaf(TypeToken::Doc(doc.text), parts),
         TokenTree::Group(group) => keep_group(group, parts),
     }
 }
 
 /// Adds a group in this way: its delimiters, and the tokens between them.
 #[cycle(keeping)]
-fn keep_group<'s>(group: Group<'_, 's>, parts: &mut Vec<Part<'s>>) -> Result<(), AllocError>
+fn keep_group<'s>(group: Group<'_, 's>, parts: &mut Vec<TypePart<'s>>) -> Result<(), AllocError>
     ensures { OnOk result (map tree_of parts.new.items ≡ map tree_of parts.old.items ++
         (sign (opening group.entry.delimiter) ∷ (still_run (inside_of group.entry) ++
         sign (closing group.entry.delimiter) ∷ []))) }
 {
-    add_leaf(Leaf::Open(group.delimiter), parts)?;
+    add_leaf(TypeToken::Open(group.delimiter), parts)?;
     keep_tokens(group.run(), parts)?;
-    add_leaf(Leaf::Close(group.delimiter), parts)
+    add_leaf(TypeToken::Close(group.delimiter), parts)
 }
 
 /// Returns the tokens after all groups that are open at `spot`.
@@ -129,7 +129,7 @@ fn after_type<'t, 's>(spot: Spot<'t, 's>, place: Place, run: Tokens<'t, 's>) -> 
 }
 
 /// Returns a list with one part.
-fn begun_parts<'s>(alloc: Global, part: Part<'s>) -> Result<Vec<Part<'s>>, AllocError>
+fn begun_parts<'s>(alloc: Global, part: TypePart<'s>) -> Result<Vec<TypePart<'s>>, AllocError>
     ensures { IfOk result (λ parts. map tree_of parts.items ≡ tree_of part.entry ∷ []) }
 {
     let mut parts = Vec::new(alloc);
@@ -141,9 +141,9 @@ fn begun_parts<'s>(alloc: Global, part: Part<'s>) -> Result<Vec<Part<'s>>, Alloc
 /// that is not supported.
 fn move_past<'t, 's>(
     bars: bool,
-    part: Part<'s>,
+    part: TypePart<'s>,
     next: Spot<'t, 's>,
-    parts: &mut Vec<Part<'s>>,
+    parts: &mut Vec<TypePart<'s>>,
 ) -> Result<Option<(bool, Spot<'t, 's>)>, TypeFault>
     ensures { (levels : ℕ) (spot : SpotOfRuns) →
         IsMove levels bars spot (tree_of part.entry ∷ []) (spot_of next.entry) →
@@ -158,7 +158,7 @@ fn move_past_run<'t, 's>(
     alloc: Global,
     run: Tokens<'t, 's>,
     next: Spot<'t, 's>,
-    parts: &mut Vec<Part<'s>>,
+    parts: &mut Vec<TypePart<'s>>,
 ) -> Result<Option<(bool, Spot<'t, 's>)>, TypeFault>
     ensures { (levels : ℕ) (spot : SpotOfRuns) →
         IsMove levels false spot (still (trees (still_run (tokens_of run.entry))) ∷ [])
@@ -167,7 +167,7 @@ fn move_past_run<'t, 's>(
 {
     let mut inner = Vec::new(alloc);
     match keep_tokens(run, &mut inner) {
-        Ok(()) => move_past(false, Part::Still(inner), next, parts),
+        Ok(()) => move_past(false, TypePart::Still(inner), next, parts),
         Err(_) => Err(TypeFault::Memory),
     }
 }
@@ -175,9 +175,9 @@ fn move_past_run<'t, 's>(
 /// Adds a part that is never replaced, made of the one part `part`, and goes on at the spot `next`.
 fn move_past_still<'t, 's>(
     alloc: Global,
-    part: Part<'s>,
+    part: TypePart<'s>,
     next: Spot<'t, 's>,
-    parts: &mut Vec<Part<'s>>,
+    parts: &mut Vec<TypePart<'s>>,
 ) -> Result<Option<(bool, Spot<'t, 's>)>, TypeFault>
     ensures { (levels : ℕ) (spot : SpotOfRuns) →
         IsMove levels false spot (still (also (tree_of part.entry) none) ∷ [])
@@ -185,7 +185,7 @@ fn move_past_still<'t, 's>(
         GivesMove levels spot (map tree_of parts.old.items) (map tree_of parts.new.items) result }
 {
     match begun_parts(alloc, part) {
-        Ok(inner) => move_past(false, Part::Still(inner), next, parts),
+        Ok(inner) => move_past(false, TypePart::Still(inner), next, parts),
         Err(_) => Err(TypeFault::Memory),
     }
 }
@@ -198,7 +198,7 @@ fn move_past_type<'t, 's>(
     plus: bool,
     place: Place,
     spot: Spot<'t, 's>,
-    parts: &mut Vec<Part<'s>>,
+    parts: &mut Vec<TypePart<'s>>,
 ) -> Result<Option<(bool, Spot<'t, 's>)>, TypeFault>
     requires { next_of (spot_of spot) ≡ asks plus place }
     ensures { GivesMove levels (spot_of spot.entry) (map tree_of parts.old.items)
@@ -217,7 +217,7 @@ fn move_past_still_type<'t, 's>(
     levels: u32,
     place: Place,
     spot: Spot<'t, 's>,
-    parts: &mut Vec<Part<'s>>,
+    parts: &mut Vec<TypePart<'s>>,
 ) -> Result<Option<(bool, Spot<'t, 's>)>, TypeFault>
     requires { next_of (spot_of spot) ≡ keeps_type place }
     ensures { GivesMove levels (spot_of spot.entry) (map tree_of parts.old.items)
@@ -235,10 +235,10 @@ fn move_past_still_type<'t, 's>(
 fn move_past_nest<'t, 's>(
     alloc: Global,
     levels: u32,
-    opening: (Leaf<'s>, Spot<'t, 's>),
+    opening: (TypeToken<'s>, Spot<'t, 's>),
     place: Place,
     spot: Spot<'t, 's>,
-    parts: &mut Vec<Part<'s>>,
+    parts: &mut Vec<TypePart<'s>>,
 ) -> Result<Option<(bool, Spot<'t, 's>)>, TypeFault>
     requires { next_of (spot_of spot) ≡ nests (sign_of opening.0) (spot_of opening.1) place }
     ensures { GivesMove levels (spot_of spot.entry) (map tree_of parts.old.items)
@@ -259,7 +259,7 @@ fn make_step<'t, 's>(
     levels: u32,
     step: TypeStep<'t, 's>,
     spot: Spot<'t, 's>,
-    parts: &mut Vec<Part<'s>>,
+    parts: &mut Vec<TypePart<'s>>,
 ) -> Result<Option<(bool, Spot<'t, 's>)>, TypeFault>
     requires { IsStep (Ok step) (next_of (spot_of spot)) }
     ensures { GivesMove levels (spot_of spot.entry) (map tree_of parts.old.items)
@@ -267,8 +267,8 @@ fn make_step<'t, 's>(
 {
     match step {
         TypeStep::End => Ok(None),
-        TypeStep::Take(leaf, next) => move_past(false, Part::Leaf(leaf), next, parts),
-        TypeStep::Bar(leaf, next) => move_past(true, Part::Leaf(leaf), next, parts),
+        TypeStep::Take(leaf, next) => move_past(false, TypePart::Leaf(leaf), next, parts),
+        TypeStep::Bar(leaf, next) => move_past(true, TypePart::Leaf(leaf), next, parts),
         TypeStep::Ask(plus, place) => move_past_type(alloc, levels, plus, place, spot, parts),
         TypeStep::KeepType(place) => move_past_still_type(alloc, levels, place, spot, parts),
         TypeStep::Keep(run, next) => move_past_run(alloc, run, next, parts),
@@ -285,7 +285,7 @@ fn move_on<'t, 's>(
     alloc: Global,
     levels: u32,
     spot: Spot<'t, 's>,
-    parts: &mut Vec<Part<'s>>,
+    parts: &mut Vec<TypePart<'s>>,
 ) -> Result<Option<(bool, Spot<'t, 's>)>, TypeFault>
     ensures { GivesMove levels (spot_of spot.entry) (map tree_of parts.old.items)
         (map tree_of parts.new.items) result }
@@ -303,7 +303,7 @@ fn parts_at<'t, 's>(
     alloc: Global,
     levels: u32,
     from: Spot<'t, 's>,
-    parts: &mut Vec<Part<'s>>,
+    parts: &mut Vec<TypePart<'s>>,
 ) -> Result<(bool, Tokens<'t, 's>), TypeFault>
     ensures { GivesParts levels (spot_of from.entry) (map tree_of parts.old.items)
         (map tree_of parts.new.items) result }
@@ -335,7 +335,7 @@ fn formed_at<'t, 's>(
     levels: u32,
     plus: bool,
     tokens: Tokens<'t, 's>,
-) -> Result<(Part<'s>, Tokens<'t, 's>), TypeFault>
+) -> Result<(TypePart<'s>, Tokens<'t, 's>), TypeFault>
     requires { name_of (tokens_of tokens) ≡ None }
     ensures ok { IfOk result
         (λ read. IsType levels plus (tokens_of tokens.entry) (tree_of read.0) (tokens_of read.1)) }
@@ -359,7 +359,7 @@ fn formed_at<'t, 's>(
             span: span_before(tokens, rest),
         });
     }
-    Ok((Part::Whole(parts), rest))
+    Ok((TypePart::Whole(parts), rest))
 }
 
 /// Returns the type with which the tokens begin, and the tokens after it. At most `levels` types
@@ -370,7 +370,7 @@ pub(crate) fn type_at<'t, 's>(
     levels: u32,
     plus: bool,
     tokens: Tokens<'t, 's>,
-) -> Result<(Part<'s>, Tokens<'t, 's>), TypeFault>
+) -> Result<(TypePart<'s>, Tokens<'t, 's>), TypeFault>
     ensures ok { IfOk result
         (λ read. IsType levels plus (tokens_of tokens.entry) (tree_of read.0) (tokens_of read.1)) }
     ensures err { IfErr result (IfFault (NoType levels plus (tokens_of tokens.entry))) }
@@ -381,7 +381,7 @@ pub(crate) fn type_at<'t, 's>(
     if levels == 0 {
         return Err(TypeFault::LimitNesting);
     }
-    Ok((Part::Name(name), rest))
+    Ok((TypePart::Name(name), rest))
 }
 
 /// Returns the type with which the tokens begin, and the tokens after it.

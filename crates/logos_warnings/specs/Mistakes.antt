@@ -7,8 +7,8 @@ use Rattle.logos_token.specs.Tokens.{TokenList, identifier, punctuation, also}
 use Rattle.logos_enum.specs.AttributeValues.{AttributeValue, SplitAttribute, attribute_in}
 use Rattle.logos_enum.specs.EnumValues.{EnumValue, VariantValue}
 use Rattle.logos_warnings.specs.Helpers.{Intends, is_helper_name}
-use Rattle.logos_warnings.specs.declared.attributes.Site.{Site}
-use Rattle.logos_warnings.specs.declared.attributes.Site.TheVariants.{OnEnum, OnVariant, OnLeaf}
+use Rattle.logos_warnings.specs.declared.attributes.AttributeSite.{AttributeSite}
+use Rattle.logos_warnings.specs.declared.attributes.AttributeSite.TheVariants.{OnEnum, OnVariant, OnLeaf}
 use Rattle.logos_warnings.specs.declared.helper.Helper.{Helper}
 use Rattle.logos_warnings.specs.declared.mistakes.Mistake.{Mistake}
 use Rattle.logos_warnings.specs.declared.mistakes.Mistake.TheVariants.{Misspelled, Qualified, Useless, Conditional, NoPattern, NoDerive}
@@ -106,20 +106,20 @@ span_of (no_pattern span) = span
 span_of (no_derive span) = span
 
 -- Whether an attribute with this name has no effect there: `logos` on a variant.
-abbrev pub is_useless : Site → List ℕ → Bool
+abbrev pub is_useless : AttributeSite → List ℕ → Bool
 is_useless OnEnum name = false
 is_useless OnVariant name = bytes_eq name (codes "logos")
 is_useless OnLeaf name = bytes_eq name (codes "logos")
 
 -- Whether an attribute with this name puts a pattern under a condition: `cfg` on a variant with a
 -- helper attribute.
-abbrev pub is_conditional : Site → List ℕ → Bool
+abbrev pub is_conditional : AttributeSite → List ℕ → Bool
 is_conditional OnEnum name = false
 is_conditional OnVariant name = false
 is_conditional OnLeaf name = bytes_eq name (codes "cfg")
 
 -- What an attribute adds to the mistakes.
-pub data AttributeAdds (site : Site) (attribute : AttributeValue) (before : List MistakeValue) : List MistakeValue → Type 0 where
+pub data AttributeAdds (site : AttributeSite) (attribute : AttributeValue) (before : List MistakeValue) : List MistakeValue → Type 0 where
   unnamed : name_of attribute ≡ None → is_qualified attribute ≡ false → AttributeAdds site attribute before before
   with_path : name_of attribute ≡ None → is_qualified attribute ≡ true → AttributeAdds site attribute before (before ++ qualified attribute.span ∷ [])
   no_effect : {name : List ℕ} → name_of attribute ≡ Some name → IsTrue (is_useless site name) →
@@ -132,7 +132,7 @@ pub data AttributeAdds (site : Site) (attribute : AttributeValue) (before : List
       AttributeAdds site attribute before (before ++ misspelled name intended attribute.span ∷ [])
 
 -- What the attributes of a run add to the mistakes, in order.
-pub data RunAdds (site : Site) : TokenList → List MistakeValue → List MistakeValue → Type 0 where
+pub data RunAdds (site : AttributeSite) : TokenList → List MistakeValue → List MistakeValue → Type 0 where
   no_attribute : {run : TokenList} {before : List MistakeValue} → attribute_in run ≡ None → RunAdds site run before before
   one_attribute : {run : TokenList} {split : SplitAttribute} {before mid after : List MistakeValue} → attribute_in run ≡ Some split →
       AttributeAdds site split.attribute before mid → RunAdds site split.rest mid after → RunAdds site run before after

@@ -10,7 +10,7 @@ use logos_token::util::{after_path_mark, after_word};
 
 /// Where an attribute is.
 #[derive(Clone, Copy)]
-pub(crate) enum Site {
+pub(crate) enum AttributeSite {
     OnEnum,
     /// On a variant without helper attributes.
     OnVariant,

@@ -10,6 +10,6 @@ mod others;
 mod passed;
 
 pub use helper::{Helper, intended_helper};
-pub use messages::enum_warnings;
+pub use messages::{enum_warnings, item_warnings};
 pub use mistakes::{Mistake, mistakes_of};
 pub use passed::passed_over;

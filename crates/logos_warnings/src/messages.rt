@@ -31,8 +31,12 @@ pub fn enum_warnings(alloc: Global, text: &str, derives: bool) -> Result<Vec<War
     }
 }
 
-/// Returns the warnings of an enum.
-fn item_warnings(
+/// Returns the same of an enum that was read.
+///
+/// # Errors
+///
+/// Returns `AllocError` if memory runs out.
+pub fn item_warnings(
     alloc: Global,
     item: &ItemEnum<'_, '_>,
     derives: bool,

@@ -3,7 +3,9 @@
 ghost use Rattle.std.specs.Prelude.{◌≡◌, IfOk, None, OnOk, Some, [], map};
 ghost use Rattle.logos_warnings.specs.Views.{attribute_value, enum_value, variant_value, tokens_of, mistake_value, is_conditional, is_useless, name_of, AreMistakes, AreOfLexer, AttributeAdds, LacksPatterns, RunAdds, VariantAdds, VariantsAdd, NamesAdd, ForgetsDerive};
 
-use crate::attributes::{Site, has_helper, has_helpers, has_patterns, is_qualified, name_of};
+use crate::attributes::{
+    AttributeSite, has_helper, has_helpers, has_patterns, is_qualified, name_of,
+};
 use crate::helper::{Helper, intended_helper};
 use logos_enum::{Attribute, ItemEnum, Variant, split_attribute};
 use logos_token::token::{Span, Tokens};
@@ -128,7 +130,7 @@ fn report_names<'s>(
     ensures { OnOk result (NamesAdd (enum_value item.now)
         (map mistake_value warnings.old.items) (map mistake_value warnings.new.items)) }
 {
-    report_run(Site::OnEnum, item.attributes, warnings)?;
+    report_run(AttributeSite::OnEnum, item.attributes, warnings)?;
     report_variants(item.variants.as_slice(), warnings)
 }
 
@@ -157,16 +159,16 @@ fn report_variant<'s>(
         (map mistake_value warnings.old.items) (map mistake_value warnings.new.items)) }
 {
     if has_helper(run) {
-        report_run(Site::OnLeaf, run, warnings)?;
+        report_run(AttributeSite::OnLeaf, run, warnings)?;
         return Ok(());
     }
-    report_run(Site::OnVariant, run, warnings)?;
+    report_run(AttributeSite::OnVariant, run, warnings)?;
     Ok(())
 }
 
 /// Reports the warnings of the attributes of a run.
 fn report_run<'s>(
-    site: Site,
+    site: AttributeSite,
     run: Tokens<'_, 's>,
     warnings: &mut Vec<Mistake<'s>>,
 ) -> Result<(), AllocError>
@@ -182,30 +184,30 @@ fn report_run<'s>(
 }
 
 /// Returns whether an attribute with this name has no effect where it is.
-fn is_useless(site: Site, name: &str) -> bool
+fn is_useless(site: AttributeSite, name: &str) -> bool
     ensures { result ≡ is_useless site name.now }
 {
     match site {
-        Site::OnEnum => false,
-        Site::OnVariant => name == "logos",
-        Site::OnLeaf => name == "logos",
+        AttributeSite::OnEnum => false,
+        AttributeSite::OnVariant => name == "logos",
+        AttributeSite::OnLeaf => name == "logos",
     }
 }
 
 /// Returns whether an attribute with this name puts a pattern under a condition.
-fn is_conditional(site: Site, name: &str) -> bool
+fn is_conditional(site: AttributeSite, name: &str) -> bool
     ensures { result ≡ is_conditional site name.now }
 {
     match site {
-        Site::OnEnum => false,
-        Site::OnVariant => false,
-        Site::OnLeaf => name == "cfg",
+        AttributeSite::OnEnum => false,
+        AttributeSite::OnVariant => false,
+        AttributeSite::OnLeaf => name == "cfg",
     }
 }
 
 /// Reports the mistake of an attribute, if it has one.
 fn report_attribute<'s>(
-    site: Site,
+    site: AttributeSite,
     attribute: Attribute<'_, 's>,
     warnings: &mut Vec<Mistake<'s>>,
 ) -> Result<(), AllocError>
@@ -220,7 +222,7 @@ fn report_attribute<'s>(
 
 /// Reports the mistake of an attribute whose path is not one identifier, if it has one.
 fn report_unnamed<'s>(
-    site: Site,
+    site: AttributeSite,
     attribute: Attribute<'_, 's>,
     warnings: &mut Vec<Mistake<'s>>,
 ) -> Result<(), AllocError>
@@ -237,7 +239,7 @@ fn report_unnamed<'s>(
 
 /// Reports the mistake of an attribute with this name, if it has one.
 fn report_named<'s>(
-    site: Site,
+    site: AttributeSite,
     attribute: Attribute<'_, 's>,
     name: &'s str,
     warnings: &mut Vec<Mistake<'s>>,

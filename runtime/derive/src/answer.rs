@@ -98,20 +98,31 @@ fn pieces(value: &Json) -> Option<Vec<Piece>> {
     value.get("pieces").items().iter().map(piece).collect()
 }
 
-/// Adds a message of a level that is shown. A note becomes part of the message before it.
+/// Adds a message of a level that is shown. A note becomes part of the message before it, and so
+/// does how many errors are left out.
 fn add_message(messages: &mut Vec<Message>, value: &Json) {
-    if value.get("level").text() != Some("note") {
-        messages.extend(message(value));
-        return;
+    match (value.get("level").text(), messages.last_mut()) {
+        (Some("note"), Some(before)) => add_note(before, value),
+        (Some("failure-note"), Some(before)) => add_rest(before, value),
+        _ => messages.extend(message(value)),
     }
+}
+
+/// Adds the spans of a note to a message.
+fn add_note(before: &mut Message, value: &Json) {
     let spans = value.get("spans").items().iter().filter_map(label);
-    if let Some(before) = messages.last_mut() {
-        let text = value.get("message").text();
-        before.spans.extend(spans.map(|span| Label {
-            primary: false,
-            text: text.map(String::from),
-            ..span
-        }));
+    let text = value.get("message").text();
+    before.spans.extend(spans.map(|span| Label {
+        primary: false,
+        text: text.map(String::from),
+        ..span
+    }));
+}
+
+/// Adds how many errors are left out to a message.
+fn add_rest(before: &mut Message, value: &Json) {
+    if let Some(text) = value.get("rendered").text() {
+        before.lines.push(format!("note: {}", text.trim_end()));
     }
 }
 

@@ -3,12 +3,13 @@ use Rattle.std.specs.Prelude.{◌≡◌, ◌≢◌, ℕ, Bool, List, [], ◌∷�
 use Rattle.logos_lexeme.specs.declared.lexeme.Span.{Span}
 use Rattle.logos_token.specs.declared.error.fault_code.FaultCode.TheVariants.{LimitSize as LimitSizeCode, LimitStates as LimitStatesCode}
 use Rattle.logos_token.specs.Faults.{Fault as SourceFault}
+use Rattle.logos_enum.specs.Values.{Slice}
+use Rattle.logos_definition.specs.Options.{OptionsView}
 use Rattle.logos_pattern.specs.declared.leaf.Leaf.{Leaf}
 use Rattle.logos_graph.specs.View.{GraphValue, rules_of}
 use Rattle.logos_graph.specs.GraphOf.{IsGraphOf}
 use Rattle.logos_automaton.specs.declared.errors.BuildError.{BuildError}
 use Rattle.logos_automaton.specs.declared.errors.BuildError.TheVariants.{LimitSize, LimitStates, Memory}
-use Rattle.logos_parser.specs.Analyses.{AnalysisView}
 use Rattle.logos_codegen.specs.Texts.{fault_at, size_text, states_text}
 use Rattle.logos_codegen.specs.Rules.{named_rule, GraphReports}
 use Rattle.logos_codegen.specs.Source.{IsAccepted, IsWithinSizes}
@@ -37,13 +38,9 @@ IsFaultless leaves utf8 item before graph = ReportsGraph leaves utf8 item before
 abbrev pub AreGraphFaults : List Leaf → Bool → Span → List SourceFault → List SourceFault → Type 0
 AreGraphFaults leaves utf8 item before faults = (faults ≢ []) × ((graph : Option GraphValue) × ReportsGraph leaves utf8 item before faults graph)
 
--- The graph of a source without faults, which has this analysis. The source is accepted with the
--- rules of the graph, and is within the limits of size.
-pub record IsGraphMade (source : List ℕ) (analysis : AnalysisView) (graph : GraphValue) : Type 0 where
+-- The graph of a source without faults, whose enum has this name and these options. The source is
+-- accepted with the rules of the graph, and is within the limits of size.
+pub record IsGraphMade (source : List ℕ) (name : Slice) (options : OptionsView) (graph : GraphValue) : Type 0 where
   pub accepted : IsAccepted source (rules_of graph.leaves) graph.utf8
-  pub of_source : IsGraphOfSource source analysis.name analysis.options graph
+  pub of_source : IsGraphOfSource source name options graph
   pub sizes : IsWithinSizes source (rules_of graph.leaves)
-
--- The leaves and the faults are taken out of an analysis.
-abbrev pub AreTakenOut : AnalysisView → AnalysisView → Type 0
-AreTakenOut old new = new ≡ record old { leaves = []; faults = [] }

@@ -2,19 +2,19 @@
 use Rattle.std.specs.Prelude.{◌≡◌, ◌++◌, ◌∷◌, [], ℕ, List, string_bytes}
 use Rattle.logos_commands.specs.Charts.{Destination, file_at, refused}
 use Rattle.logos_commands.specs.Runs.{Effect, prints, makes_file}
-use Rattle.logos_commands.specs.declared.failure.Failure.{Failure}
-use Rattle.logos_commands.specs.declared.failure.Failure.TheVariants.{NotExported, Memory}
-use Rattle.logos_commands.specs.declared.outcome.Outcome.{Outcome}
-use Rattle.logos_commands.specs.declared.outcome.Outcome.TheVariants.{Text, Chart}
+use Rattle.logos_commands.specs.declared.failure.CommandFailure.{CommandFailure}
+use Rattle.logos_commands.specs.declared.failure.CommandFailure.TheVariants.{NotExported, Memory}
+use Rattle.logos_commands.specs.declared.outcome.CommandOutcome.{CommandOutcome}
+use Rattle.logos_commands.specs.declared.outcome.CommandOutcome.TheVariants.{Text, Chart}
 
 -- Whether this is why a chart does not go where it is to go: its path is refused, or the bytes of
 -- it found no memory.
-abbrev pub FailsAt : Destination → Failure → Type 0
+abbrev pub FailsAt : Destination → CommandFailure → Type 0
 FailsAt (file_at path) failure = failure ≡ Memory
 FailsAt (refused why) failure = failure ≡ NotExported why
 
 -- What an outcome does once it is delivered.
-abbrev pub effect_of : Outcome → Effect
+abbrev pub effect_of : CommandOutcome → Effect
 effect_of (Text text) = prints (string_bytes text)
 effect_of (Chart path text) = makes_file (string_bytes path) (string_bytes text)
 

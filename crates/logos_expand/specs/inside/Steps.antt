@@ -3,6 +3,7 @@ use Rattle.std.specs.Prelude.{◌≡◌, ℕ, Bool, List, [], ◌∷◌, ◌++�
 use Rattle.logos_code.specs.Code.{CodeValue}
 use Rattle.logos_expand.specs.declared.shape.Shape.{Shape}
 use Rattle.logos_expand.specs.declared.expanding.Gathered.{Gathered}
+use Rattle.logos_report.specs.declared.clues.Clues.{Clues}
 use Rattle.logos_report.specs.declared.refused.Refused.{Refused}
 use Rattle.logos_expand.specs.Expanding.{IsGuarded, IsShown, under}
 use Rattle.logos_expand.specs.Gathering.{Gathers}
@@ -28,11 +29,13 @@ abbrev pub AreFaultsOf : Refusal → List Fault → Type 0
 AreFaultsOf (refusals.Errors faults) others = others ≡ faults
 AreFaultsOf refusals.Memory others = ⊥
 
--- One more refusal stands at the end, with the faults of what begins at an offset.
-pub record AddsRefusal (offset : ℕ) (refusal : Refusal) (old new : List Refused) : Type 0 where
+-- One more refusal stands at the end, with the faults of what begins at an offset, and what is
+-- known of them.
+pub record AddsRefusal (offset : ℕ) (refusal : Refusal) (clues : Clues) (old new : List Refused) : Type 0 where
   pub bad : Refused
   pub is_offset : bad.offset ≡ offset
   pub faults : AreFaultsOf refusal bad.errors
+  pub known : bad.clues ≡ clues
   pub are : new ≡ old ++ bad ∷ []
 
 -- These are tokens, and after LF the text of a lexer with this code and with attributes, laid out.

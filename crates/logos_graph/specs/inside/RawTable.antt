@@ -5,7 +5,7 @@ use Rattle.logos_graph.specs.inside.First.{first_of, higher}
 use Rattle.logos_automaton.specs.Munch.{Rule}
 use Rattle.logos_automaton.specs.Automaton.{Automaton, dfa_next}
 use Rattle.logos_reduce.specs.Rows.{target_in}
-use Rattle.logos_reduce.specs.declared.table.Mark.{Mark}
+use Rattle.logos_reduce.specs.declared.table.StateMarks.{StateMarks}
 
 module _ (rules : List Rule) (leaves : ℕ) where
   -- The leaf, if it has a higher priority than the best one before it, or else that one.
@@ -15,13 +15,13 @@ module _ (rules : List Rule) (leaves : ℕ) where
 
   -- The late mark of a state that lists these leaves: one of highest priority, if all of them are
   -- leaves.
-  pub record IsRawMark (listed : List ℕ) (mark : Mark) : Type 0 where
+  pub record IsRawMark (listed : List ℕ) (mark : StateMarks) : Type 0 where
     pub early : mark.early ≡ None
     pub named : IfSome mark.accept (λ leaf. leaf < leaves)
     pub first : All (λ leaf. leaf < leaves) listed → mark.accept ≡ first_of rules listed
 
   -- The mark of the state s.
-  abbrev pub IsMarkOf : Automaton → ℕ → Mark → Type 0
+  abbrev pub IsMarkOf : Automaton → ℕ → StateMarks → Type 0
   IsMarkOf dfa s mark = (listed : List ℕ) × (slice_get dfa.matches s ≡ Some listed) × IsRawMark listed mark
 
 -- The rows have the targets of the first n states.

@@ -8,7 +8,7 @@ use logos_byte_class::byte_class::ByteClass;
 use logos_hir::leaf::LeafId;
 use logos_reduce::lists::predecessors;
 use logos_reduce::rows::{END, Row, WIDTH, target_at};
-use logos_reduce::table::{Mark, Table};
+use logos_reduce::table::{StateMarks, Table};
 use std::alloc::{AllocError, Global};
 use std::ops::RangeInclusive;
 
@@ -141,7 +141,7 @@ fn leaf(number: Option<usize>) -> Option<LeafId>
 }
 
 /// Returns the type of a state with this mark.
-fn type_of_mark(mark: Mark) -> StateType
+fn type_of_mark(mark: StateMarks) -> StateType
     ensures { state_type_of result ≡ type_of mark }
 {
     StateType {

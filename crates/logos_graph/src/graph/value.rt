@@ -37,7 +37,7 @@ impl<'s> Model for Graph<'s> {
     ghost use Rattle.std.specs.Prelude.{[]};
     ghost use Rattle.logos_graph.specs.Words.{codes, named, GraphValue};
     ghost use Rattle.logos_hir.specs.contracts.hir.Hir as e;
-    ghost use Rattle.logos_type.specs.contracts.type_expr.Part as p;
+    ghost use Rattle.logos_type.specs.contracts.type_expr.TypePart as p;
 
     ghost Value = { GraphValue };
 

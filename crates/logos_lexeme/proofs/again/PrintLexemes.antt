@@ -13,8 +13,8 @@ use Rattle.logos_lexeme.specs.LiteralBodies.{IsSound}
 use Rattle.logos_lexeme.specs.Lexemes.{IsNext, IsSuffixed}
 use Rattle.logos_lexeme.specs.declared.lexeme.Spacing.{Spacing}
 use Rattle.logos_lexeme.specs.declared.lexeme.Spacing.TheVariants.{Alone, Joint}
-use Rattle.logos_lexeme.specs.declared.lexeme.Kind.{Kind}
-use Rattle.logos_lexeme.specs.declared.lexeme.Kind.TheVariants.{Gap, Identifier, Literal, Doc, Punctuation, Opening as OpeningKind, Closing}
+use Rattle.logos_lexeme.specs.declared.lexeme.LexemeKind.{LexemeKind}
+use Rattle.logos_lexeme.specs.declared.lexeme.LexemeKind.TheVariants.{Gap, Identifier, Literal, Doc, Punctuation, Opening as OpeningKind, Closing}
 use Rattle.logos_lexeme.specs.declared.lexeme.openings.Content.{Content}
 use Rattle.logos_lexeme.specs.declared.lexeme.openings.Content.TheVariants.{Text, Bytes, C}
 use Rattle.logos_lexeme.specs.declared.lexeme.openings.Opening.{Opening}
@@ -113,7 +113,7 @@ unfolding opening_at
 opens_other bytes at o e f g = rw (e, f) g
 
 -- a lexeme from what opens it
-made : (bytes : List ℕ) (at : ℕ) (kind : Kind) (o : Opening) (end to : ℕ) → opening_at bytes at ≡ o → Ends bytes at o end → IsSound bytes at o end → kind ≡ kind_of o → IsSuffixed bytes kind end to → to ≤ length bytes → IsNext bytes at kind to
+made : (bytes : List ℕ) (at : ℕ) (kind : LexemeKind) (o : Opening) (end to : ℕ) → opening_at bytes at ≡ o → Ends bytes at o end → IsSound bytes at o end → kind ≡ kind_of o → IsSuffixed bytes kind end to → to ≤ length bytes → IsNext bytes at kind to
 made bytes at kind o end to e ends sound is suffixed within = record {
   end = end;
   ends = subst (λ x. Ends bytes at x end) (sym e) ends;
@@ -211,7 +211,7 @@ module _ (a b : List ℕ) (p q k : ℕ) (w : Window a b p q k) (bound : IsCharBo
 
   -- comments
 
-  comment_parts : (s l c : Bool) (m n : Kind) (o : Opening) → cond (not s) None (cond l (Some (Line m)) (cond c (Some (Block n)) None)) ≡ Some o → (s ≡ true) × (((l ≡ true) × (o ≡ Line m)) ⊎ ((l ≡ false) × (c ≡ true) × (o ≡ Block n)))
+  comment_parts : (s l c : Bool) (m n : LexemeKind) (o : Opening) → cond (not s) None (cond l (Some (Line m)) (cond c (Some (Block n)) None)) ≡ Some o → (s ≡ true) × (((l ≡ true) × (o ≡ Line m)) ⊎ ((l ≡ false) × (c ≡ true) × (o ≡ Block n)))
   comment_parts false l c m n o e = absurd (cc)
   comment_parts true true c m n o e = (refl, inl (refl, cc))
   comment_parts true false true m n o e = (refl, inr (refl, refl, cc))
@@ -308,7 +308,7 @@ module _ (a b : List ℕ) (p q k : ℕ) (w : Window a b p q k) (bound : IsCharBo
 
   -- lexemes of one character
 
-  single_cases : (m l f : Bool) (s : Spacing) (d : Option Kind) (kind : Kind) → cond m (Some (Punctuation s)) (cond l (Some (Punctuation Joint)) (cond f (Some Gap) d)) ≡ Some kind →
+  single_cases : (m l f : Bool) (s : Spacing) (d : Option LexemeKind) (kind : LexemeKind) → cond m (Some (Punctuation s)) (cond l (Some (Punctuation Joint)) (cond f (Some Gap) d)) ≡ Some kind →
       ((m ≡ true) × (kind ≡ Punctuation s)) ⊎ (((m ≡ false) × (l ≡ true) × (kind ≡ Punctuation Joint)) ⊎ ((kind ≡ Gap) ⊎ ((m ≡ false) × (l ≡ false) × (d ≡ Some kind))))
   single_cases true l f s d kind e = inl (refl, cc)
   single_cases false true f s d kind e = inr (inl (refl, refl, cc))
@@ -323,14 +323,14 @@ module _ (a b : List ℕ) (p q k : ℕ) (w : Window a b p q k) (bound : IsCharBo
   unfolding delimiter_kind
   delimiter-quote = refl
 
-  no_delimiter : (c d : ℕ) (kind : Kind) → delimiter_kind c ≡ Some kind → delimiter_kind d ≡ None → (c == d) ≡ false
+  no_delimiter : (c d : ℕ) (kind : LexemeKind) → delimiter_kind c ≡ Some kind → delimiter_kind d ≡ None → (c == d) ≡ false
   no_delimiter c d kind e none = elim (cases_Bool (c == d)) [
     | inl t ↦ absurd (let f : Some kind ≡ None = sym e ∙ ap delimiter_kind (eqb-true c d t) ∙ none in cc)
     | inr t ↦ t
   ]
 
   -- joint punctuation stands in front of another byte of the window, and any other fills it
-  abbrev IsPlaced : Kind → Type 0
+  abbrev IsPlaced : LexemeKind → Type 0
   IsPlaced kind = (kind ≡ Punctuation Joint → past a p < p + k) × ((kind ≡ Punctuation Joint → ⊥) → past a p ≡ p + k)
 
   spacing_there : (s : Spacing) → IsPlaced (Punctuation s) → spacing a (past a p) ≡ s → spacing b (past b q) ≡ s
@@ -340,7 +340,7 @@ module _ (a b : List ℕ) (p q k : ℕ) (w : Window a b p q k) (bound : IsCharBo
       let g = placed.1 (λ h. absurd (cc)) in
       alone_blank a b p q k w (past b q) (omega arith)
 
-  single_there : (kind : Kind) → kind ≢ Gap → IsPlaced kind → single_kind a p ≡ Some kind → single_kind b q ≡ Some kind
+  single_there : (kind : LexemeKind) → kind ≢ Gap → IsPlaced kind → single_kind a p ≡ Some kind → single_kind b q ≡ Some kind
   unfolding single_kind
   single_there kind no_gap placed e =
       let c = character a p in
@@ -356,14 +356,14 @@ module _ (a b : List ℕ) (p q k : ℕ) (w : Window a b p q k) (bound : IsCharBo
       elim (single_cases (is_mark c) ((c == 39) && is_start (character a (past a p))) ((c == 0xFEFF) && (p == 0)) (spacing a (past a p)) (delimiter_kind c) kind e) [
         | inl (m, is) ↦
             let there : s' ≡ spacing a (past a p) = spacing_there (spacing a (past a p)) (subst IsPlaced is placed) refl in
-            cond-true (is_mark d) (Some (Punctuation s')) after_l (ap is_mark same ∙ m) ∙ ap (λ s. Some (Punctuation s)) there ∙ ap (λ (x : Kind). Some x) (sym is)
+            cond-true (is_mark d) (Some (Punctuation s')) after_l (ap is_mark same ∙ m) ∙ ap (λ s. Some (Punctuation s)) there ∙ ap (λ (x : LexemeKind). Some x) (sym is)
         | inr r ↦ elim r [
           | inl (m, l, is) ↦
               let parts = and_parts (c == 39) (is_start (character a (past a p))) l in
               let start : is_start (character b (past b q)) ≡ true = ap is_start (same_character a b p q k w (past a p) (past b q) places (omega arith) (placed.0 is) next) ∙ parts.1 in
               let quote : (d == 39) ≡ true = ap (λ x. x == 39) same ∙ parts.0 in
               cond-false (is_mark d) (Some (Punctuation s')) after_l (ap is_mark same ∙ m)
-              ∙ cond-true l' (Some (Punctuation Joint)) (cond f' (Some Gap) (delimiter_kind d)) (and_from (d == 39) (is_start (character b (past b q))) quote start) ∙ ap (λ (x : Kind). Some x) (sym is)
+              ∙ cond-true l' (Some (Punctuation Joint)) (cond f' (Some Gap) (delimiter_kind d)) (and_from (d == 39) (is_start (character b (past b q))) quote start) ∙ ap (λ (x : LexemeKind). Some x) (sym is)
           | inr s ↦ elim s [
             | inl is ↦ absurd (no_gap is)
             | inr (m, l, is) ↦
@@ -376,7 +376,7 @@ module _ (a b : List ℕ) (p q k : ℕ) (w : Window a b p q k) (bound : IsCharBo
         ]
       ]
 
-  delimiter_conds : (s t u v x y : Bool) (c d e f g h : Kind) → c ≢ Literal → d ≢ Literal → e ≢ Literal → f ≢ Literal → g ≢ Literal → h ≢ Literal →
+  delimiter_conds : (s t u v x y : Bool) (c d e f g h : LexemeKind) → c ≢ Literal → d ≢ Literal → e ≢ Literal → f ≢ Literal → g ≢ Literal → h ≢ Literal →
       cond s (Some c) (cond t (Some d) (cond u (Some e) (cond v (Some f) (cond x (Some g) (cond y (Some h) None))))) ≡ Some Literal → ⊥
   delimiter_conds true t u v x y c d e f g h i j k' l m n o = i (cc)
   delimiter_conds false true u v x y c d e f g h i j k' l m n o = j (cc)
@@ -399,7 +399,7 @@ module _ (a b : List ℕ) (p q k : ℕ) (w : Window a b p q k) (bound : IsCharBo
         | inr r ↦ elim r [ inl s ↦ absurd (let f = s.2 in cc) | inr s ↦ elim s [ inl t ↦ absurd (cc) | inr t ↦ no_literal_delimiter c t.2 ] ]
       ]
 
-  pub unsuffixed : (kind : Kind) (end to : ℕ) → kind ≢ Literal → IsSuffixed a kind end to → to ≡ end
+  pub unsuffixed : (kind : LexemeKind) (end to : ℕ) → kind ≢ Literal → IsSuffixed a kind end to → to ≡ end
   unsuffixed Literal end to other r = absurd (other refl)
   unsuffixed Gap end to other r = r
   unsuffixed Identifier end to other r = r
@@ -409,7 +409,7 @@ module _ (a b : List ℕ) (p q k : ℕ) (w : Window a b p q k) (bound : IsCharBo
   unsuffixed (Closing d) end to other r = r
 
   -- an apostrophe that is no literal is joint
-  quote_joint : (kind : Kind) → kind ≢ Gap → single_kind a p ≡ Some kind → get_or a p 0 ≡ 39 → kind ≡ Punctuation Joint
+  quote_joint : (kind : LexemeKind) → kind ≢ Gap → single_kind a p ≡ Some kind → get_or a p 0 ≡ 39 → kind ≡ Punctuation Joint
   unfolding single_kind
   quote_joint kind no_gap e f =
       let c = character a p in
@@ -425,16 +425,16 @@ module _ (a b : List ℕ) (p q k : ℕ) (w : Window a b p q k) (bound : IsCharBo
         ]
       ]
 
-  single_other : (kind : Kind) → is_space (character b q) ≡ false → name_at b q ≡ None → single_kind b q ≡ Some kind → other_opening b q ≡ Single kind
+  single_other : (kind : LexemeKind) → is_space (character b q) ≡ false → name_at b q ≡ None → single_kind b q ≡ Some kind → other_opening b q ≡ Single kind
   unfolding other_opening
   single_other kind s n e = rw (s, n, e) refl
 
-  single_next : (kind : Kind) → literal_at a p ≡ None → comment_opening a p ≡ None → is_space (character a p) ≡ false → is_start (character a p) ≡ false → single_kind a p ≡ Some kind → kind ≢ Gap → IsPlaced kind → IsNext b q kind (past b q)
+  single_next : (kind : LexemeKind) → literal_at a p ≡ None → comment_opening a p ≡ None → is_space (character a p) ≡ false → is_start (character a p) ≡ false → single_kind a p ≡ Some kind → kind ≢ Gap → IsPlaced kind → IsNext b q kind (past b q)
   single_next kind none other space start e no_gap placed =
       let same = same_character a b p q k w p q (omega arith) (omega arith) (omega (arith, w.filled)) bound in
       let places = same_past a b p q k w p q (omega arith) (omega arith) (omega (arith, w.filled)) bound in
       let within = past_within a b p q k w p (omega arith) (omega (arith, w.filled)) bound in
-      let no_literal_kind : kind ≢ Literal = λ f. single_no_literal (e ∙ ap (λ (x : Kind). Some x) f) in
+      let no_literal_kind : kind ≢ Literal = λ f. single_no_literal (e ∙ ap (λ (x : LexemeKind). Some x) f) in
       let quote : get_or a p 0 ≡ 39 → p + 1 < p + k = λ f. let one = past-ascii a p (omega arith) in let l = placed.0 (quote_joint kind no_gap e f) in omega arith in
       made b q kind (Single kind) (past b q) (past b q)
       (opens_other b q (Single kind) (no_literal start quote none) (no_comment a b p q k w p q (omega arith) (omega arith) (omega (arith, w.filled)) other)
@@ -445,10 +445,10 @@ module _ (a b : List ℕ) (p q k : ℕ) (w : Window a b p q k) (bound : IsCharBo
   pub data Others : Opening → Type 0 where
     space_there : is_space (character a p) ≡ true → Others Space
     word_opens : is_space (character a p) ≡ false → Others Word
-    single_opens : (kind : Kind) → is_space (character a p) ≡ false → is_start (character a p) ≡ false → single_kind a p ≡ Some kind → Others (Single kind)
+    single_opens : (kind : LexemeKind) → is_space (character a p) ≡ false → is_start (character a p) ≡ false → single_kind a p ≡ Some kind → Others (Single kind)
     nothing_opens : Others Nothing
 
-  others_by : (s : Bool) (n : Option ℕ) (g : Option Kind) → is_space (character a p) ≡ s → Names a p n → single_kind a p ≡ g → Others (cond s Space (cond (is_some n) Word (unwrap_or (option_map Single g) Nothing)))
+  others_by : (s : Bool) (n : Option ℕ) (g : Option LexemeKind) → is_space (character a p) ≡ s → Names a p n → single_kind a p ≡ g → Others (cond s Space (cond (is_some n) Word (unwrap_or (option_map Single g) Nothing)))
   others_by true n g e f h = space_there e
   others_by false n g e (raw t) h = word_opens e
   others_by false n g e (plain t) h = word_opens e
@@ -460,13 +460,13 @@ module _ (a b : List ℕ) (p q k : ℕ) (w : Window a b p q k) (bound : IsCharBo
   others = others_by (is_space (character a p)) (name_at a p) (single_kind a p) refl (names a p) refl
 
   -- where a lexeme ends in the window
-  abbrev pub IsAt : Kind → ℕ → Type 0
+  abbrev pub IsAt : LexemeKind → ℕ → Type 0
   IsAt kind to = (kind ≡ Punctuation Joint → to < p + k) × ((kind ≡ Punctuation Joint → ⊥) → to ≡ p + k)
 
-  abbrev Result : Kind → ℕ → Type 0
+  abbrev Result : LexemeKind → ℕ → Type 0
   Result kind to = IsNext b q kind (to + q - p)
 
-  here : (kind : Kind) (to : ℕ) → to ≡ p + k → IsNext b q kind (q + k) → Result kind to
+  here : (kind : LexemeKind) (to : ℕ) → to ≡ p + k → IsNext b q kind (q + k) → Result kind to
   here kind to e n = let f : to + q - p ≡ q + k = omega arith in rw f n
 
   other_result : (o : Opening) → Others o → literal_at a p ≡ None → comment_opening a p ≡ None → (end to : ℕ) → Ends a p o end → kind_of o ≢ Gap → IsSuffixed a (kind_of o) end to → IsAt (kind_of o) to → Result (kind_of o) to
@@ -475,7 +475,7 @@ module _ (a b : List ℕ) (p q k : ℕ) (w : Window a b p q k) (bound : IsCharBo
       let is : to ≡ p + k = at.1 (λ e. absurd (cc)) in
       here Identifier to is (word_next other s (subst (IsName a p) (sym suffixed ∙ is) ends))
   other_result o (single_opens kind s t e) none other end to ends no_gap suffixed at =
-      let is : to ≡ past a p = unsuffixed kind end to (λ f. single_no_literal (e ∙ ap (λ (x : Kind). Some x) f)) suffixed ∙ ends in
+      let is : to ≡ past a p = unsuffixed kind end to (λ f. single_no_literal (e ∙ ap (λ (x : LexemeKind). Some x) f)) suffixed ∙ ends in
       let places = same_past a b p q k w p q (omega arith) (omega arith) (omega (arith, w.filled)) bound in
       let n : to + q - p ≡ past b q = omega arith in
       rw n (single_next kind none other s t e no_gap (λ f. omega (arith, at.0 f), λ f. omega (arith, at.1 f)))
@@ -492,7 +492,7 @@ module _ (a b : List ℕ) (p q k : ℕ) (w : Window a b p q k) (bound : IsCharBo
         ],
       )
 
-  line_result : (kind : Kind) (to end : ℕ) → literal_at a p ≡ None → get_or a p 0 ≡ 47 → get_or a (p + 1) 0 ≡ 47 → line_kind a (p + 2) ≡ kind → kind ≢ Gap → Ends a p (Line kind) end → IsSuffixed a kind end to → IsAt kind to → LineEnds → Result kind to
+  line_result : (kind : LexemeKind) (to end : ℕ) → literal_at a p ≡ None → get_or a p 0 ≡ 47 → get_or a (p + 1) 0 ≡ 47 → line_kind a (p + 2) ≡ kind → kind ≢ Gap → Ends a p (Line kind) end → IsSuffixed a kind end to → IsAt kind to → LineEnds → Result kind to
   line_result kind to end none e f is no_gap ends suffixed at last = elim (line_kind_cases (p + 2)) [
     | inr g ↦ absurd (no_gap (sym is ∙ g))
     | inl g ↦
@@ -502,7 +502,7 @@ module _ (a b : List ℕ) (p q k : ℕ) (w : Window a b p q k) (bound : IsCharBo
         here kind to there (subst (λ x. IsNext b q x (q + k)) (sym doc) (line_next none e f g (subst (IsFirst (IsLineEnd a) (p + 2)) (sym same ∙ there) ends) last))
   ]
 
-  block_result : (kind : Kind) (to end : ℕ) → literal_at a p ≡ None → get_or a p 0 ≡ 47 → get_or a (p + 1) 0 ≡ 42 → block_kind a (p + 2) ≡ kind → kind ≢ Gap → Ends a p (Block kind) end → IsSuffixed a kind end to → IsAt kind to → Result kind to
+  block_result : (kind : LexemeKind) (to end : ℕ) → literal_at a p ≡ None → get_or a p 0 ≡ 47 → get_or a (p + 1) 0 ≡ 42 → block_kind a (p + 2) ≡ kind → kind ≢ Gap → Ends a p (Block kind) end → IsSuffixed a kind end to → IsAt kind to → Result kind to
   block_result kind to end none e f is no_gap ends suffixed at = elim (block_kind_cases (p + 2)) [
     | inr g ↦ absurd (no_gap (sym is ∙ g))
     | inl g ↦
@@ -542,7 +542,7 @@ module _ (a b : List ℕ) (p q k : ℕ) (w : Window a b p q k) (bound : IsCharBo
       ]
 
   -- a lexeme that ends in the window stands in the second text
-  pub next_same : (follows_apostrophe b q ≡ true → follows_apostrophe a p ≡ true) → (kind : Kind) (to : ℕ) → IsNext a p kind to → kind ≢ Gap → IsAt kind to → (get_or a (p + 1) 0 ≡ 47 → kind ≡ Doc → LineEnds) → IsNext b q kind (to + q - p)
+  pub next_same : (follows_apostrophe b q ≡ true → follows_apostrophe a p ≡ true) → (kind : LexemeKind) (to : ℕ) → IsNext a p kind to → kind ≢ Gap → IsAt kind to → (get_or a (p + 1) 0 ≡ 47 → kind ≡ Doc → LineEnds) → IsNext b q kind (to + q - p)
   next_same before kind to n no_gap at last =
       let o = opening_at a p in
       let e = n.is_kind in

@@ -9,8 +9,8 @@ use Rattle.logos_lexeme.specs.LexemeRuns.{Steps, here, step, Run, Passes}
 use Rattle.logos_lexeme.specs.LexemeOpenings.{name_at, comment_opening, line_kind, block_kind, spacing}
 use Rattle.logos_lexeme.specs.LexemeEnds.{IsName, IsSuffix}
 use Rattle.logos_lexeme.specs.declared.lexeme.Spacing.TheVariants.{Alone, Joint}
-use Rattle.logos_lexeme.specs.declared.lexeme.Kind.{Kind}
-use Rattle.logos_lexeme.specs.declared.lexeme.Kind.TheVariants.{Gap, Doc}
+use Rattle.logos_lexeme.specs.declared.lexeme.LexemeKind.{LexemeKind}
+use Rattle.logos_lexeme.specs.declared.lexeme.LexemeKind.TheVariants.{Gap, Doc}
 use Rattle.logos_lexeme.specs.declared.lexeme.openings.Opening.{Opening}
 use Rattle.logos_lexeme.specs.declared.lexeme.openings.Opening.TheVariants.{Line, Block}
 use Rattle.logos_lexeme.proofs.CharacterLaws.{past-boundary, past-ascii, past-moves, inside_from_byte, character-ascii}
@@ -220,10 +220,10 @@ module _ (a b : List ℕ) (p q k : ℕ) (w : Window a b p q k) where
 
   -- no comment where there was none
 
-  abbrev comment_tests : Bool → Bool → Bool → Kind → Kind → Option Opening
+  abbrev comment_tests : Bool → Bool → Bool → LexemeKind → LexemeKind → Option Opening
   comment_tests s l c m n = cond (not s) None (cond l (Some (Line m)) (cond c (Some (Block n)) None))
 
-  no_tests : (s l c : Bool) (m n : Kind) → comment_tests s l c m n ≡ None → (s ≡ false) ⊎ ((l ≡ false) × (c ≡ false))
+  no_tests : (s l c : Bool) (m n : LexemeKind) → comment_tests s l c m n ≡ None → (s ≡ false) ⊎ ((l ≡ false) × (c ≡ false))
   no_tests false l c m n e = inl refl
   no_tests true true c m n e = absurd (cc)
   no_tests true false true m n e = absurd (cc)

@@ -4,7 +4,7 @@ ghost use Rattle.std.specs.Prelude.{◌≡◌, ◌+◌, ◌<◌, ◌≤◌, min,
 ghost use Rattle.logos_lexeme.specs.Views.{is_ascii_digit, IsCharBoundary, hashes, raw_opening, string_opening, character_opening, bytes_opening, literal_opening, line_kind, block_kind, comment_opening, name_at, spacing, delimiter_kind, single_kind, other_opening, follows_apostrophe, is_lifetime_name, literal_at, opening_at, kind_of};
 
 use crate::lexeme::characters::{byte_at, char_at, is_mark, is_space, is_start, past};
-use crate::lexeme::{Delimiter, Kind, Spacing};
+use crate::lexeme::{Delimiter, LexemeKind, Spacing};
 
 /// What a literal can hold.
 #[derive(Clone, Copy)]
@@ -23,9 +23,9 @@ pub enum Opening {
     /// White space.
     Space,
     /// A line comment.
-    Line(Kind),
+    Line(LexemeKind),
     /// A block comment.
-    Block(Kind),
+    Block(LexemeKind),
     /// An identifier.
     Word,
     /// A number.
@@ -39,7 +39,7 @@ pub enum Opening {
     /// A character between apostrophes.
     Character,
     /// A lexeme of one character.
-    Single(Kind),
+    Single(LexemeKind),
     /// Nothing opens.
     Nothing,
 }
@@ -141,31 +141,31 @@ fn literal_opening(source: &str, at: usize) -> Option<Opening>
 
 /// Returns whether a line comment is documentation, by what follows its `//`.
 #[tactic(auto, unfolding(crate::specs::LexemeOpenings::line_kind))]
-fn line_kind(source: &str, at: usize) -> Kind
+fn line_kind(source: &str, at: usize) -> LexemeKind
     requires { at ≤ length source.now + 2 }
     ensures { result ≡ line_kind source.now at }
 {
     let first = byte_at(source, at);
     let second = byte_at(source, at + 1);
     if (first == b'!') | ((first == b'/') & (second != b'/')) {
-        Kind::Doc
+        LexemeKind::Doc
     } else {
-        Kind::Gap
+        LexemeKind::Gap
     }
 }
 
 /// Returns whether a block comment is documentation, by what follows its `/*`.
 #[tactic(auto, unfolding(crate::specs::LexemeOpenings::block_kind))]
-fn block_kind(source: &str, at: usize) -> Kind
+fn block_kind(source: &str, at: usize) -> LexemeKind
     requires { at ≤ length source.now + 2 }
     ensures { result ≡ block_kind source.now at }
 {
     let first = byte_at(source, at);
     let second = byte_at(source, at + 1);
     if (first == b'!') | ((first == b'*') & !((second == b'*') | (second == b'/'))) {
-        Kind::Doc
+        LexemeKind::Doc
     } else {
-        Kind::Gap
+        LexemeKind::Gap
     }
 }
 
@@ -224,33 +224,33 @@ fn spacing(source: &str, at: usize) -> Spacing
 
 /// Returns what kind of delimiter a character is, if it is one.
 #[tactic(auto, unfolding(crate::specs::LexemeOpenings::delimiter_kind))]
-fn delimiter_kind(c: char) -> Option<Kind>
+fn delimiter_kind(c: char) -> Option<LexemeKind>
     ensures { result ≡ delimiter_kind c }
 {
     if c == '(' {
-        return Some(Kind::Opening(Delimiter::Parenthesis));
+        return Some(LexemeKind::Opening(Delimiter::Parenthesis));
     }
     if c == ')' {
-        return Some(Kind::Closing(Delimiter::Parenthesis));
+        return Some(LexemeKind::Closing(Delimiter::Parenthesis));
     }
     if c == '[' {
-        return Some(Kind::Opening(Delimiter::Bracket));
+        return Some(LexemeKind::Opening(Delimiter::Bracket));
     }
     if c == ']' {
-        return Some(Kind::Closing(Delimiter::Bracket));
+        return Some(LexemeKind::Closing(Delimiter::Bracket));
     }
     if c == '{' {
-        return Some(Kind::Opening(Delimiter::Brace));
+        return Some(LexemeKind::Opening(Delimiter::Brace));
     }
     if c == '}' {
-        return Some(Kind::Closing(Delimiter::Brace));
+        return Some(LexemeKind::Closing(Delimiter::Brace));
     }
     None
 }
 
 /// Returns the kind of the lexeme of one character that stands here, if one does.
 #[tactic(auto, unfolding(crate::specs::LexemeOpenings::single_kind))]
-fn single_kind(source: &str, at: usize) -> Option<Kind>
+fn single_kind(source: &str, at: usize) -> Option<LexemeKind>
     requires inside { at < length source.now }
     requires boundary { IsCharBoundary source.now at }
     ensures { result ≡ single_kind source.now at }
@@ -258,13 +258,13 @@ fn single_kind(source: &str, at: usize) -> Option<Kind>
     let c = char_at(source, at);
     let after = past(source, at);
     if is_mark(c) {
-        return Some(Kind::Punctuation(spacing(source, after)));
+        return Some(LexemeKind::Punctuation(spacing(source, after)));
     }
     if c == '\'' && is_start(char_at(source, after)) {
-        return Some(Kind::Punctuation(Spacing::Joint));
+        return Some(LexemeKind::Punctuation(Spacing::Joint));
     }
     if c == '\u{FEFF}' && at == 0 {
-        return Some(Kind::Gap);
+        return Some(LexemeKind::Gap);
     }
     delimiter_kind(c)
 }
@@ -343,17 +343,17 @@ pub fn opening_at(source: &str, at: usize) -> Opening
 }
 
 /// Returns the kind of the lexeme or gap that opens so.
-pub(crate) fn kind_of(opens: Opening) -> Kind
+pub(crate) fn kind_of(opens: Opening) -> LexemeKind
     ensures { result ≡ kind_of opens }
 {
     match opens {
-        Opening::Space | Opening::Nothing => Kind::Gap,
+        Opening::Space | Opening::Nothing => LexemeKind::Gap,
         Opening::Line(kind) | Opening::Block(kind) | Opening::Single(kind) => kind,
-        Opening::Word => Kind::Identifier,
+        Opening::Word => LexemeKind::Identifier,
         Opening::Number
         | Opening::Quotes(_)
         | Opening::Raw(_, _)
         | Opening::Apostrophes(_)
-        | Opening::Character => Kind::Literal,
+        | Opening::Character => LexemeKind::Literal,
     }
 }

@@ -1,6 +1,6 @@
 -- A bracket as it is written, from the left.
 use Rattle.std.specs.Prelude.{Bool}
-use Rattle.logos_pattern_tokens.specs.declared.bracket.token.Item.{Item}
+use Rattle.logos_pattern_tokens.specs.declared.bracket.token.BracketItem.{BracketItem}
 use Rattle.logos_pattern_tokens.specs.declared.bracket.token.Lead.{Lead}
 use Rattle.logos_hir.specs.declared.sets.operands.SetOperator.{SetOperator}
 
@@ -17,5 +17,5 @@ mutual
   -- One operand.
   pub data Members : Type 0 where
     nobody : Members
-    member : Members → Item → Members
+    member : Members → BracketItem → Members
     nested : Members → Bracket → Members

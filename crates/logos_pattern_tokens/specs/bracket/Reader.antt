@@ -4,8 +4,8 @@ use Rattle.logos_pattern_tokens.specs.declared.token.Atom.{Atom}
 use Rattle.logos_pattern_tokens.specs.declared.token.Atom.TheVariants as atoms
 use Rattle.logos_pattern_tokens.specs.declared.bracket.token.Symbol.{Symbol}
 use Rattle.logos_pattern_tokens.specs.declared.bracket.token.Symbol.TheVariants.{Character, Byte}
-use Rattle.logos_pattern_tokens.specs.declared.bracket.token.Item.{Item}
-use Rattle.logos_pattern_tokens.specs.declared.bracket.token.Item.TheVariants as items
+use Rattle.logos_pattern_tokens.specs.declared.bracket.token.BracketItem.{BracketItem}
+use Rattle.logos_pattern_tokens.specs.declared.bracket.token.BracketItem.TheVariants as items
 use Rattle.logos_hir.specs.declared.sets.operands.SetOperator.{SetOperator}
 use Rattle.logos_hir.specs.declared.sets.operands.SetOperator.TheVariants.{Intersection, Difference, SymmetricDifference}
 use Rattle.logos_pattern_tokens.specs.declared.bracket.token.Lead.{Lead}
@@ -40,7 +40,7 @@ unfoldable pub range_at : Symbol → Text → Option (BracketToken × Text)
 range_at a rest = if begins_range rest then last_at (drop 1 rest) >>= range_token a else Some (tokens.Item (items.One a), rest)
 
 -- A class, which cannot begin a range.
-unfoldable pub lone_at : Item → Text → Option (BracketToken × Text)
+unfoldable pub lone_at : BracketItem → Text → Option (BracketToken × Text)
 lone_at item rest = if begins_range rest then None else Some (tokens.Item item, rest)
 
 unfoldable pub escape_item : Atom → Text → Option (BracketToken × Text)

@@ -6,7 +6,7 @@ use Rattle.logos_hir.specs.declared.property.PerlKind.{PerlKind}
 use Rattle.logos_pattern_tokens.specs.declared.token.Atom.TheVariants as atoms
 use Rattle.logos_pattern_tokens.specs.declared.bracket.token.Symbol.{Symbol}
 use Rattle.logos_pattern_tokens.specs.declared.bracket.token.Symbol.TheVariants.{Character, Byte}
-use Rattle.logos_pattern_tokens.specs.declared.bracket.token.Item.TheVariants as items
+use Rattle.logos_pattern_tokens.specs.declared.bracket.token.BracketItem.TheVariants as items
 use Rattle.logos_hir.specs.declared.sets.operands.SetOperator.{SetOperator}
 use Rattle.logos_hir.specs.declared.sets.operands.SetOperator.TheVariants.{Intersection, Difference, SymmetricDifference}
 use Rattle.logos_pattern_tokens.specs.declared.bracket.token.Lead.{Lead}

@@ -4,7 +4,7 @@
 ghost use Rattle.std.specs.Prelude.{◌≡◌, ◌+◌, ◌≤◌, Option, Some, MatchOption, option_map};
 ghost use Rattle.logos_pattern_tokens.specs.Views.{Gives, code_of, begins_operator, begins_range, symbol_of, last_at, range_token, range_at, lone_at, escape_item, item_at, dashes_from, lead_at, open_at, class_end, name_end, colon_at, class_at, inner_at, operator_of, bracket_token_at};
 
-use crate::bracket::token::{BracketToken, Item, Lead, Symbol};
+use crate::bracket::token::{BracketItem, BracketToken, Lead, Symbol};
 use crate::counts::cut_at;
 use crate::error::{Fault, Kind};
 use crate::escapes::escape_at;
@@ -101,7 +101,7 @@ fn range_token<'t>(
     if code_of(first) > code_of(last) {
         return Err(Fault::Syntax(Kind::ClassRange));
     }
-    Ok((BracketToken::Item(Item::Range(first, last)), rest))
+    Ok((BracketToken::Item(BracketItem::Range(first, last)), rest))
 }
 
 /// Reads what comes after the character `first`: returns the range that it begins, if it does, or
@@ -115,7 +115,7 @@ fn range_at(alloc: Global, first: Symbol, rest: &[char]) -> Result<(BracketToken
     ensures { Gives (λ x. (x.0, x.1.now)) result (range_at first rest.now) }
 {
     if !begins_range(rest) {
-        return Ok((BracketToken::Item(Item::One(first)), rest));
+        return Ok((BracketToken::Item(BracketItem::One(first)), rest));
     }
     let (last, after) = last_at(alloc, &rest[1..])?;
     range_token(first, last, after)
@@ -127,7 +127,7 @@ fn range_at(alloc: Global, first: Symbol, rest: &[char]) -> Result<(BracketToken
 ///
 /// Returns `ClassRange` if a range goes on here, since a class cannot be the start of one.
 #[tactic(auto, unfolding(crate::specs::bracket::Reader::lone_at))]
-fn lone_at(item: Item, rest: &[char]) -> Result<(BracketToken, &[char]), Fault>
+fn lone_at(item: BracketItem, rest: &[char]) -> Result<(BracketToken, &[char]), Fault>
     ensures { Gives (λ x. (x.0, x.1.now)) result (lone_at item rest.now) }
 {
     if begins_range(rest) {
@@ -149,8 +149,8 @@ fn escape_item(alloc: Global, atom: Atom, rest: &[char]) -> Result<(BracketToken
     match atom {
         Atom::Character(c) => range_at(alloc, Symbol::Character(c), rest),
         Atom::Byte(b) => range_at(alloc, Symbol::Byte(b), rest),
-        Atom::Perl(kind, negated) => lone_at(Item::Perl(kind, negated), rest),
-        Atom::Property(set, negated) => lone_at(Item::Property(set, negated), rest),
+        Atom::Perl(kind, negated) => lone_at(BracketItem::Perl(kind, negated), rest),
+        Atom::Property(set, negated) => lone_at(BracketItem::Property(set, negated), rest),
         _ => Err(Fault::Syntax(Kind::EscapeUnknown)),
     }
 }
@@ -235,7 +235,7 @@ fn class_end<'t>(
 {
     match text {
         [']', rest @ ..] => match AsciiKind::from_name(name) {
-            Some(kind) => Some((BracketToken::Item(Item::Ascii(kind, negated)), rest)),
+            Some(kind) => Some((BracketToken::Item(BracketItem::Ascii(kind, negated)), rest)),
             None => None,
         },
         _ => None,

@@ -15,7 +15,7 @@ pub enum Symbol {
 
 /// A part of an operand that is not a nested bracket. A `bool` is whether it is negated.
 #[derive(Clone, Copy)]
-pub enum Item {
+pub enum BracketItem {
     One(Symbol),
     /// `a-z`
     Range(Symbol, Symbol),
@@ -39,7 +39,7 @@ pub enum Lead {
 /// A token inside brackets.
 #[derive(Clone, Copy)]
 pub enum BracketToken {
-    Item(Item),
+    Item(BracketItem),
     /// `[` or `[^` (then the `bool` is true), and the literals after it.
     Open(bool, Lead),
     Operator(SetOperator),

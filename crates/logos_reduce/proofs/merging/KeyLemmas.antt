@@ -9,7 +9,7 @@ use Rattle.logos_reduce.specs.inside.Merge.{tagged, key_of, AreKeyNumbers}
 use Rattle.logos_reduce.specs.Merge.{split_at, IsSound, HaveMarks, ArePartedBy}
 use Rattle.logos_reduce.specs.Table.{size, mark}
 use Rattle.logos_reduce.specs.declared.merge.blocks.Split.{Split}
-use Rattle.logos_reduce.specs.declared.table.Mark.{Mark}
+use Rattle.logos_reduce.specs.declared.table.StateMarks.{StateMarks}
 use Rattle.logos_reduce.specs.declared.table.Table.{Table}
 
 -- a mark is known by its key
@@ -19,7 +19,7 @@ same_leaf None (Some b) e q = absurd (omega arith)
 same_leaf (Some a) None e q = absurd (omega arith)
 same_leaf (Some a) (Some b) e q = ap Some q
 
-pub same_mark : (a b : Mark) → key_of a ≡ key_of b → a ≡ b
+pub same_mark : (a b : StateMarks) → key_of a ≡ key_of b → a ≡ b
 same_mark a b e =
     let x = same_leaf a.accept b.accept (cc) (cc) in
     let y = same_leaf a.early b.early (cc) (cc) in

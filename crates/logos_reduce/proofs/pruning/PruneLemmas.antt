@@ -9,7 +9,7 @@ use Rattle.logos_reduce.specs.Prune.{IsOfUse, IsPrunedTable}
 use Rattle.logos_reduce.specs.Order.{IsOrder, IsMet}
 use Rattle.logos_reduce.specs.inside.Order.{Grows}
 use Rattle.logos_reduce.specs.Edges.{Leads, to_mark, onward, to_end}
-use Rattle.logos_reduce.specs.declared.table.Mark.{Mark}
+use Rattle.logos_reduce.specs.declared.table.StateMarks.{StateMarks}
 use Rattle.logos_reduce.specs.declared.table.Table.{Table}
 use Rattle.logos_reduce.proofs.listings.ListLemmas.{has-get, has_in-get}
 use Rattle.logos_reduce.proofs.orders.OrderLemmas.{met_kept, met_place, place_kept}
@@ -142,4 +142,4 @@ pruned_by old new numbers marks useful rows = record {
 
     go : (s k : ℕ) → to old s k ≡ None → (s < size old) ⊎ (size old ≤ s) → to new s k ≡ None
     go s k e (inl l) = rows s k l ∙ ap (met_target numbers) e
-    go s k e (inr l) = let n = ap (λ (v : Vec Mark Global). vec_len v) marks in no_edge new s k (omega arith)
+    go s k e (inr l) = let n = ap (λ (v : Vec StateMarks Global). vec_len v) marks in no_edge new s k (omega arith)

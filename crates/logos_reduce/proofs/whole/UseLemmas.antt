@@ -10,7 +10,7 @@ use Rattle.logos_reduce.specs.Reduction.{IsReductionOf, IsSpareless}
 use Rattle.logos_reduce.specs.Settle.{IsNeededOrSpare}
 use Rattle.logos_reduce.specs.Table.{size, to, mark, type_of, edges}
 use Rattle.logos_reduce.specs.declared.reduction.Reduction.{Reduction}
-use Rattle.logos_reduce.specs.declared.table.Mark.{Mark}
+use Rattle.logos_reduce.specs.declared.table.StateMarks.{StateMarks}
 use Rattle.logos_reduce.specs.declared.table.Table.{Table}
 use Rattle.logos_reduce.proofs.numbering.VisitLemmas.{first_edge}
 use Rattle.logos_reduce.proofs.pruning.KeptLemmas.{kept_edge}
@@ -142,7 +142,7 @@ module _ (raw : Table) (root : ℕ) (reduction : Reduction) (made : IsReductionO
             let T = end.leader_of raw root reduction made t in
             let same : type_of (mark final t) ≡ type_of (mark mid T) = ap (λ (j : ℕ). type_of (mark final j)) (sym p.1) ∙ end.number_type raw root reduction made T p.0 in
             by_need T p.0 p.1 (ap (λ (y : StateType). y.accept) (sym same) ∙ h) (made.settled.late T (end.in_raw raw root reduction made T p.0))
-        go (inr l) = let past : (mark final t).accept ≡ None = ap (λ (m : Mark). m.accept) (unmarked_past final t l) in absurd (cc)
+        go (inr l) = let past : (mark final t).accept ≡ None = ap (λ (m : StateMarks). m.accept) (unmarked_past final t l) in absurd (cc)
 
     pub spareless : IsSpareless final
     spareless = record { of_use = of_use; needed = needed }

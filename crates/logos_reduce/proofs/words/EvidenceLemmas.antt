@@ -13,7 +13,7 @@ use Rattle.logos_reduce.specs.SymbolWords.{state_after, WordDistinguishes}
 use Rattle.logos_reduce.specs.inside.Count.{count_blocks}
 use Rattle.logos_reduce.specs.inside.Evidence.{ArePartedAt}
 use Rattle.logos_reduce.specs.declared.reduction.Reduction.{Reduction}
-use Rattle.logos_reduce.specs.declared.table.Mark.{Mark}
+use Rattle.logos_reduce.specs.declared.table.StateMarks.{StateMarks}
 use Rattle.logos_reduce.specs.declared.table.Table.{Table}
 use Rattle.logos_reduce.proofs.merging.CountLemmas.{blocks_le, blocks_lt, blocks_few, blocks_some}
 use Rattle.logos_reduce.proofs.tables.EdgeLemmas.{edge_within, edge_symbol}
@@ -189,7 +189,7 @@ module _ (r : Reduction) (evidence : GivesEvidence r) where
         after : (u v : ℕ) (o : Option ℕ) → state_after r.table (Some u) bytes ≡ Some v → to r.table v k ≡ o → mark_after r.table u (bytes ++ k ∷ []) false ≡ option_and_then (λ t. mark_with_end r.table t false) o
         after u v o way q = ap (option_and_then (λ t. mark_with_end r.table t false)) (reached_on r.table u v k bytes o way q)
 
-        clash : (m : Mark) (o : Option Mark) → o ≡ None → o ≡ Some m → ⊥
+        clash : (m : StateMarks) (o : Option StateMarks) → o ≡ None → o ≡ Some m → ⊥
         clash m o a b = cc
 
         differ : (o : Option ℕ) → to r.table left k ≡ o → (p : Option ℕ) → to r.table right k ≡ p → (to r.table left k ≡ None) ⊎ (to r.table right k ≡ None) →

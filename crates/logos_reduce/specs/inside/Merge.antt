@@ -3,7 +3,7 @@ use Rattle.std.specs.Prelude.{◌≡◌, ◌≢◌, ◌<◌, ◌≤◌, ◌⊎�
 use Rattle.logos_reduce.specs.Merge.{ArePartedBy, IsWithin, split_at}
 use Rattle.logos_reduce.specs.Table.{size, mark}
 use Rattle.logos_reduce.specs.declared.merge.blocks.Split.{Split}
-use Rattle.logos_reduce.specs.declared.table.Mark.{Mark}
+use Rattle.logos_reduce.specs.declared.table.StateMarks.{StateMarks}
 use Rattle.logos_reduce.specs.declared.table.Table.{Table}
 
 -- The first blocks have the blocks of the second, or parts of them.
@@ -37,7 +37,7 @@ tagged None = (0, 0)
 tagged (Some leaf) = (1, leaf)
 
 -- The key of a mark.
-abbrev pub key_of : Mark → List ℕ
+abbrev pub key_of : StateMarks → List ℕ
 key_of m = (tagged m.accept).0 ∷ (tagged m.accept).1 ∷ (tagged m.early).0 ∷ (tagged m.early).1 ∷ []
 
 -- The blocks of the first n states are the numbers of the keys of their marks.

@@ -3,7 +3,7 @@ use Rattle.std.specs.Prelude.{◌≡◌, ◌<◌, ◌↔◌, ◌⊎◌, ℕ, Boo
 use Rattle.logos_reduce.specs.Rows.{target_by}
 use Rattle.logos_reduce.specs.Settle.{IsCommon, IsNeeded, IsSpare}
 use Rattle.logos_reduce.specs.Table.{mark}
-use Rattle.logos_reduce.specs.declared.table.Mark.{Mark}
+use Rattle.logos_reduce.specs.declared.table.StateMarks.{StateMarks}
 use Rattle.logos_reduce.specs.declared.table.Table.{Table}
 
 -- The leaf that is accepted where a row leads by a symbol.
@@ -38,7 +38,7 @@ pub record AreNeeded (table : Table) (early : List (Option ℕ)) (n : ℕ)
 
 -- The mark of a state, once its early mark and the need of its late mark are known.
 pub record IsMarkedBy (table : Table) (early : List (Option ℕ)) (needed : List Bool) (s : ℕ)
-    (new : Mark) : Type 0 where
+    (new : StateMarks) : Type 0 where
   pub early_mark : new.early ≡ slice_index_or early s None
   pub late_mark : new.accept
       ≡ (if slice_index_or needed s false then (mark table s).accept else None)

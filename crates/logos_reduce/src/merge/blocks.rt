@@ -5,7 +5,7 @@ ghost use Rattle.logos_reduce.specs.Merge.{AreLeaders, IsSound, split_at};
 ghost use Rattle.logos_reduce.specs.inside.Merge as inside;
 ghost use Rattle.logos_reduce.specs.Table.{size};
 
-use crate::table::{Mark, Table};
+use crate::table::{StateMarks, Table};
 use indexmap::IndexSet;
 use std::alloc::{AllocError, Global};
 
@@ -30,7 +30,7 @@ pub struct Blocks {
 }
 
 /// Returns the mark as a key.
-fn key_of(mark: Mark) -> [usize; 4]
+fn key_of(mark: StateMarks) -> [usize; 4]
     ensures { result ≡ inside.key_of mark }
 {
     let (accepts, accept) = tagged(mark.accept);

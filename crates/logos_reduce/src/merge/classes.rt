@@ -8,7 +8,7 @@ ghost use Rattle.logos_reduce.specs.inside.Classes as inside;
 use crate::merge::blocks::{leaders_of, tagged};
 use crate::merge::refine::block_of;
 use crate::rows::{Row, Rows, WIDTH, entry_before, target_at};
-use crate::table::{Mark, Table};
+use crate::table::{StateMarks, Table};
 use indexmap::IndexSet;
 use std::alloc::{AllocError, Global};
 
@@ -104,7 +104,11 @@ fn class_rows(
 }
 
 /// Returns the marks of the classes, each of which has the mark of its leader.
-fn class_marks(alloc: Global, table: &Table, leaders: &Vec<usize>) -> Result<Vec<Mark>, AllocError>
+fn class_marks(
+    alloc: Global,
+    table: &Table,
+    leaders: &Vec<usize>,
+) -> Result<Vec<StateMarks>, AllocError>
     requires leaders { (c : ℕ) → c < vec_len leaders.now →
         slice_index leaders.now.items c < size table.now }
     ensures len { IfOk result (λ v. vec_len v ≡ vec_len leaders.now) }

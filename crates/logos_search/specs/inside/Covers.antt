@@ -1,36 +1,36 @@
--- The search for covering inputs: all stands were met, and for some the steps from them are
+-- The search for covering inputs: all pending points were met, and for some the steps from them are
 -- covered.
 use Rattle.std.specs.Prelude.{◌≡◌, ◌⊎◌, ℕ, ◌<◌, Bool, true, List, ◌∷◌, ◌++◌, length, map, Option, Some, Contains, slice_get}
 use Rattle.logos_search.specs.Covering.{Takes, OneTakes, step_to, end_at}
 use Rattle.logos_search.specs.Machines.{IsInput}
 use Rattle.logos_search.specs.Rests.{more, completion}
-use Rattle.logos_search.specs.inside.Stands.{stand_at, stand_next, stand_goal}
+use Rattle.logos_search.specs.inside.PendingPoints.{pending_at, pending_next, pending_goal}
 use Rattle.logos_search.specs.inside.Visits.{IsTree, IsClosed, IsWayTo}
 use Rattle.logos_search.specs.declared.cover.Cover.{Cover}
 use Rattle.logos_search.specs.declared.cover.Explored.{Explored}
 use Rattle.logos_search.specs.declared.point.Point.{Point}
 use Rattle.logos_search.specs.declared.rest.Rest.{Rest}
 use Rattle.logos_search.specs.declared.steps.InputStep.{InputStep}
-use Rattle.logos_search.specs.declared.visits.Stand.{Stand}
+use Rattle.logos_search.specs.declared.visits.PendingPoint.{PendingPoint}
 use Rattle.logos_search.specs.declared.visits.Visit.{Visit}
 
--- These are all stands that inputs lead to from a point.
-pub record IsExplored (next : Point → ℕ → Option Point) (utf8 : Bool) (start : Point) (stands : List Stand) (ways : List Visit) : Type 0 where
-  pub first : slice_get stands 0 ≡ Some (stand_at start (more 0))
-  pub tree : IsTree (stand_next next utf8) stands ways
-  pub closed : IsClosed (stand_next next utf8) stands ways (length stands)
+-- These are all pending points that inputs lead to from a point.
+pub record IsExplored (next : Point → ℕ → Option Point) (utf8 : Bool) (start : Point) (points : List PendingPoint) (ways : List Visit) : Type 0 where
+  pub first : slice_get points 0 ≡ Some (pending_at start (more 0))
+  pub tree : IsTree (pending_next next utf8) points ways
+  pub closed : IsClosed (pending_next next utf8) points ways (length points)
 
--- A search has met these stands.
+-- A search has met these pending points.
 abbrev pub HasExplored : (Point → ℕ → Option Point) → Explored → Type 0
 HasExplored next explored =
-    IsExplored next explored.utf8 explored.start explored.visits.stands.keys explored.visits.ways.items
+    IsExplored next explored.utf8 explored.start explored.visits.points.keys explored.visits.ways.items
 
--- The bytes lead to a stand, and then by one more byte into a character that they complete.
-pub record IsWayBy (stands : List Stand) (ways : List Visit) (number byte : ℕ) (rest : Rest) (bytes : List ℕ) : Type 0 where
+-- The bytes lead to a pending point, and then by one more byte into a character that they complete.
+pub record IsWayBy (points : List PendingPoint) (ways : List Visit) (number byte : ℕ) (rest : Rest) (bytes : List ℕ) : Type 0 where
   pub front : List ℕ
   pub parts : bytes ≡ front ++ byte ∷ completion rest
-  pub way : (next : Stand → ℕ → Option Stand) (to : Stand) → IsTree next stands ways → slice_get stands number ≡ Some to →
-      IsWayTo next stands ways number to front
+  pub way : (next : PendingPoint → ℕ → Option PendingPoint) (to : PendingPoint) → IsTree next points ways → slice_get points number ≡ Some to →
+      IsWayTo next points ways number to front
 
 -- An input was added, with the steps that it takes.
 pub record Adds (next : Point → ℕ → Option Point) (start : Point) (steps : List InputStep) (input : List ℕ) (more : List InputStep) : Type 0 where
@@ -52,11 +52,11 @@ CoversSteps next explored cover =
 abbrev pub HasStepsOf : Cover → Cover → Type 0
 HasStepsOf old new = (step : InputStep) → Contains old.steps.keys step → Contains new.steps.keys step
 
--- The step that a byte makes from a stand is covered, if it leads on.
-abbrev pub IsCoveredBy : (Point → ℕ → Option Point) → Bool → List InputStep → Stand → ℕ → Type 0
-IsCoveredBy next utf8 steps at b = (to : Stand) → stand_next next utf8 at b ≡ Some to → Contains steps (step_to at.point to.point)
+-- The step that a byte makes from a pending point is covered, if it leads on.
+abbrev pub IsCoveredBy : (Point → ℕ → Option Point) → Bool → List InputStep → PendingPoint → ℕ → Type 0
+IsCoveredBy next utf8 steps at b = (to : PendingPoint) → pending_next next utf8 at b ≡ Some to → Contains steps (step_to at.point to.point)
 
--- All steps from a stand are covered, and its end if it is looked for.
-pub record AreCoveredAt (next : Point → ℕ → Option Point) (is_goal : Point → Bool) (utf8 : Bool) (steps : List InputStep) (at : Stand) : Type 0 where
+-- All steps from a pending point are covered, and its end if it is looked for.
+pub record AreCoveredAt (next : Point → ℕ → Option Point) (is_goal : Point → Bool) (utf8 : Bool) (steps : List InputStep) (at : PendingPoint) : Type 0 where
   pub bytes : (b : ℕ) → b < 256 → IsCoveredBy next utf8 steps at b
-  pub end : stand_goal is_goal at ≡ true → Contains steps (end_at at.point)
+  pub end : pending_goal is_goal at ≡ true → Contains steps (end_at at.point)

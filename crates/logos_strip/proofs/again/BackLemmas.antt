@@ -6,8 +6,8 @@ use Rattle.std.specs.Str.{IsCharBoundary}
 use Rattle.logos_lexeme.specs.declared.lexeme.Span.{Span}
 use Rattle.logos_lexeme.specs.declared.lexeme.Spacing.{Spacing}
 use Rattle.logos_lexeme.specs.declared.lexeme.Spacing.TheVariants.{Alone, Joint}
-use Rattle.logos_lexeme.specs.declared.lexeme.Kind.{Kind}
-use Rattle.logos_lexeme.specs.declared.lexeme.Kind.TheVariants.{Gap, Identifier, Literal, Doc, Punctuation, Opening, Closing}
+use Rattle.logos_lexeme.specs.declared.lexeme.LexemeKind.{LexemeKind}
+use Rattle.logos_lexeme.specs.declared.lexeme.LexemeKind.TheVariants.{Gap, Identifier, Literal, Doc, Punctuation, Opening, Closing}
 use Rattle.logos_lexeme.specs.Lexemes.{IsNext}
 use Rattle.logos_token.specs.Tokens.{punctuation, TokenList}
 use Rattle.logos_token.specs.Spelling.{Piece, Pieces, Lexeme, leaf, lexeme_of, seen, lexemes, Spells}
@@ -24,7 +24,7 @@ use Rattle.logos_strip.specs.Stripping.{stripped}
 use Rattle.logos_strip.proofs.again.SiteLemmas.{Site, same, loose, Continues, sites_lexemes, Linked, first_after, remake}
 use Rattle.logos_strip.proofs.again.ThinningLemmas.{is_joint, Thins, ended, drops, keeps, loosens, first_stays, thins-run}
 
-gap_or_not : (kind : Kind) → (kind ≡ Gap) ⊎ (kind ≢ Gap)
+gap_or_not : (kind : LexemeKind) → (kind ≡ Gap) ⊎ (kind ≢ Gap)
 gap_or_not Gap = inl refl
 gap_or_not Identifier = inr (λ e. absurd (cc))
 gap_or_not Literal = inr (λ e. absurd (cc))
@@ -45,7 +45,7 @@ first_text (part ∷ rest) = part.text
 
 module _ (a : List ℕ) (utf8 : IsUtf8 a) (text : HasText a) where
   -- the lexeme of a piece that is no gap
-  lexeme_there : (kind : Kind) (span : Span) → kind ≢ Gap → (l : Lexeme) × (lexeme_of a kind span ≡ l ∷ [])
+  lexeme_there : (kind : LexemeKind) (span : Span) → kind ≢ Gap → (l : Lexeme) × (lexeme_of a kind span ≡ l ∷ [])
   lexeme_there Gap span f = absurd (f refl)
   lexeme_there Identifier span f = (_, refl)
   lexeme_there Literal span f = (_, refl)
@@ -54,19 +54,19 @@ module _ (a : List ℕ) (utf8 : IsUtf8 a) (text : HasText a) where
   lexeme_there (Opening delimiter) span f = (_, refl)
   lexeme_there (Closing delimiter) span f = (_, refl)
 
-  joint_there : (kind : Kind) (span : Span) (l : Lexeme) → kind ≡ Punctuation Joint → lexeme_of a kind span ≡ l ∷ [] → is_joint l ≡ true
+  joint_there : (kind : LexemeKind) (span : Span) (l : Lexeme) → kind ≡ Punctuation Joint → lexeme_of a kind span ≡ l ∷ [] → is_joint l ≡ true
   joint_there kind span l joint e =
       let f : leaf (punctuation (slice_index a span.from) Joint span) ∷ [] ≡ l ∷ [] = sym (ap (λ k. lexeme_of a k span) joint) ∙ e in
       let g : leaf (punctuation (slice_index a span.from) Joint span) ≡ l = cc in
       sym (ap is_joint g)
 
   -- a comma's piece
-  record IsComma (kind : Kind) (spacing : Spacing) (span other : Span) : Type 0 where
+  record IsComma (kind : LexemeKind) (spacing : Spacing) (span other : Span) : Type 0 where
     is_kind : kind ≡ Punctuation spacing
     is_byte : slice_index a span.from ≡ comma
     is_span : span ≡ other
 
-  comma_there : (kind : Kind) (spacing : Spacing) (span other : Span) → lexeme_of a kind span ≡ leaf (punctuation comma spacing other) ∷ [] → IsComma kind spacing span other
+  comma_there : (kind : LexemeKind) (spacing : Spacing) (span other : Span) → lexeme_of a kind span ≡ leaf (punctuation comma spacing other) ∷ [] → IsComma kind spacing span other
   comma_there Gap spacing span other e = absurd (cc)
   comma_there Identifier spacing span other e = absurd (cc)
   comma_there Literal spacing span other e = absurd (cc)

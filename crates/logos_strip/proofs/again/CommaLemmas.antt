@@ -3,7 +3,7 @@ use Rattle.std.proofs.Common.{◌≡◌, ℕ, ◌+◌, ◌⊎◌, inl, inr, fals
 use Rattle.std.proofs.lemmas.Bool.{cases_Bool}
 use Rattle.std.proofs.lemmas.List.{get_or_past}
 use Rattle.logos_lexeme.specs.declared.lexeme.Spacing.TheVariants.{Alone}
-use Rattle.logos_lexeme.specs.declared.lexeme.Kind.TheVariants.{Punctuation}
+use Rattle.logos_lexeme.specs.declared.lexeme.LexemeKind.TheVariants.{Punctuation}
 use Rattle.logos_lexeme.specs.declared.lexeme.openings.Opening.TheVariants.{Single}
 use Rattle.logos_lexeme.specs.LexemeCharacters.{character, past, is_space, is_start, is_mark}
 use Rattle.logos_lexeme.specs.LexemeOpenings.{string_opening, literal_opening, comment_opening, name_at, spacing, single_kind, other_opening, opening_at}

@@ -10,8 +10,8 @@ use Rattle.std.specs.Str.{IsCharBoundary}
 use Rattle.logos_lexeme.specs.declared.lexeme.Span.{Span}
 use Rattle.logos_lexeme.specs.declared.lexeme.Spacing.{Spacing}
 use Rattle.logos_lexeme.specs.declared.lexeme.Spacing.TheVariants.{Alone, Joint}
-use Rattle.logos_lexeme.specs.declared.lexeme.Kind.{Kind}
-use Rattle.logos_lexeme.specs.declared.lexeme.Kind.TheVariants.{Gap, Identifier, Literal, Doc, Punctuation, Opening, Closing}
+use Rattle.logos_lexeme.specs.declared.lexeme.LexemeKind.{LexemeKind}
+use Rattle.logos_lexeme.specs.declared.lexeme.LexemeKind.TheVariants.{Gap, Identifier, Literal, Doc, Punctuation, Opening, Closing}
 use Rattle.logos_lexeme.specs.declared.lexeme.openings.Opening.TheVariants.{Space}
 use Rattle.logos_lexeme.specs.LexemeCharacters.{character, past, is_space}
 use Rattle.logos_lexeme.specs.LexemeRuns.{here}
@@ -80,7 +80,7 @@ module _ (b : List ℕ) (q : ℕ) where
       })
 
 -- a lexeme is the same in texts with the same bytes there
-same_lexeme : (a b : List ℕ) (kind : Kind) (s t : Span) → slice_range b t.from t.to ≡ slice_range a s.from s.to → get_or b t.from 0 ≡ get_or a s.from 0 → map bare_lexeme (lexeme_of b kind t) ≡ map bare_lexeme (lexeme_of a kind s)
+same_lexeme : (a b : List ℕ) (kind : LexemeKind) (s t : Span) → slice_range b t.from t.to ≡ slice_range a s.from s.to → get_or b t.from 0 ≡ get_or a s.from 0 → map bare_lexeme (lexeme_of b kind t) ≡ map bare_lexeme (lexeme_of a kind s)
 same_lexeme a b Gap s t e f = refl
 same_lexeme a b Identifier s t e f = rw e refl
 same_lexeme a b Literal s t e f = rw e refl
@@ -101,7 +101,7 @@ gap_first (part ∷ ps) gap c e = inl (ap (λ g. get_or (g ++ (part.text ++ afte
 
 -- where a lexeme of the source stands that is the same, or a comma that is alone
 pub data Site : Type 0 where
-  same : (kind : Kind) (from to : ℕ) → Site
+  same : (kind : LexemeKind) (from to : ℕ) → Site
   loose : (spacing : Spacing) (from to : ℕ) → Site
 
 abbrev pub site_from : Site → ℕ
@@ -113,7 +113,7 @@ site_to (same kind from to) = to
 site_to (loose spacing from to) = to
 
 -- what it is in the source
-abbrev site_kind : Site → Kind
+abbrev site_kind : Site → LexemeKind
 site_kind (same kind from to) = kind
 site_kind (loose spacing from to) = Punctuation spacing
 
@@ -130,7 +130,7 @@ module _ (a : List ℕ) where
   sites_lexemes [] = []
   sites_lexemes (s ∷ ss) = site_lexemes s ++ sites_lexemes ss
 
-  abbrev pub IsLexeme : Kind → ℕ → ℕ → Type 0
+  abbrev pub IsLexeme : LexemeKind → ℕ → ℕ → Type 0
   IsLexeme kind from to = IsCharBoundary a from × IsNext a from kind to × (kind ≢ Gap)
 
   -- what makes it the site that it is
@@ -169,7 +169,7 @@ module _ (a : List ℕ) (utf8 : IsUtf8 a) (text : HasText a) (docs : HasDocs a) 
       ap (λ j. get_or b j 0) (sym f) ∙ at_reads 0 b (slice_range a p to) q rest e i (omega arith) ∙ get_or-between a p to i 0 (omega arith) ∙ ap (λ j. get_or a j 0) g
 
   -- after a lexeme that a gap follows comes the byte of the gap, or nothing
-  blank_after : (p to q : ℕ) (kind : Kind) (gap : List ℕ) (ps : List Part) (c : ℕ) → IsNext a p kind to → q ≤ length b → drop q b ≡ slice_range a p to ++ after gap ps → gap ≡ c ∷ [] →
+  blank_after : (p to q : ℕ) (kind : LexemeKind) (gap : List ℕ) (ps : List Part) (c : ℕ) → IsNext a p kind to → q ≤ length b → drop q b ≡ slice_range a p to ++ after gap ps → gap ≡ c ∷ [] →
       (get_or b (q + (to - p)) 0 ≡ c) ⊎ (q + (to - p) ≡ length b)
   blank_after p to q kind gap ps c next inside e g =
       let adv = piece-advances a p kind to next in
@@ -179,7 +179,7 @@ module _ (a : List ℕ) (utf8 : IsUtf8 a) (text : HasText a) (docs : HasDocs a) 
       elim (gap_first ps gap c g) [ inl h ↦ inl (first ∙ h) | inr h ↦ inr (omega (arith, ap length h)) ]
 
   -- such a lexeme is a window
-  window_here : (p to q : ℕ) (kind : Kind) (gap : List ℕ) (ps : List Part) → IsNext a p kind to → IsCharBoundary a p → IsSeparator gap → q ≤ length b → drop q b ≡ slice_range a p to ++ after gap ps → Window a b p q (to - p)
+  window_here : (p to q : ℕ) (kind : LexemeKind) (gap : List ℕ) (ps : List Part) → IsNext a p kind to → IsCharBoundary a p → IsSeparator gap → q ≤ length b → drop q b ≡ slice_range a p to ++ after gap ps → Window a b p q (to - p)
   window_here p to q kind gap ps next bound parted inside e =
       let adv = piece-advances a p kind to next in
       let fits = adv.1 in
@@ -203,7 +203,7 @@ module _ (a : List ℕ) (utf8 : IsUtf8 a) (text : HasText a) (docs : HasDocs a) 
       }
 
   -- a lexeme and the window after it are a window
-  window_more : (p to q k : ℕ) (kind : Kind) (rest : List ℕ) → IsNext a p kind to → q ≤ length b → drop q b ≡ slice_range a p to ++ rest → Window a b to (q + (to - p)) k → Window a b p q (to - p + k)
+  window_more : (p to q k : ℕ) (kind : LexemeKind) (rest : List ℕ) → IsNext a p kind to → q ≤ length b → drop q b ≡ slice_range a p to ++ rest → Window a b to (q + (to - p)) k → Window a b p q (to - p + k)
   window_more p to q k kind rest next inside e w =
       let adv = piece-advances a p kind to next in
       let fits = adv.1 in
@@ -238,7 +238,7 @@ module _ (a : List ℕ) (utf8 : IsUtf8 a) (text : HasText a) (docs : HasDocs a) 
   wide (same kind from to) q s = record { size = s.size; window = s.window }
   wide (loose spacing from to) q s = record { size = to - from; window = s }
 
-  show_alone : (kind : Kind) (p to q : ℕ) (ss : List Site) → (kind ≡ Punctuation Joint → ⊥) → IsLexeme a kind p to → q ≤ length b → IsPrinted (same kind p to) q ss → Shown a b p q kind to
+  show_alone : (kind : LexemeKind) (p to q : ℕ) (ss : List Site) → (kind ≡ Punctuation Joint → ⊥) → IsLexeme a kind p to → q ≤ length b → IsPrinted (same kind p to) q ss → Shown a b p q kind to
   show_alone kind p to q ss alone l inside e =
       let ps = parts (sites_lexemes a ss) in
       let ahead = (piece-advances a p kind to l.1).0 in
@@ -255,7 +255,7 @@ module _ (a : List ℕ) (utf8 : IsUtf8 a) (text : HasText a) (docs : HasDocs a) 
             blank_after p to q kind (gap_of a kind p to) ps 10 l.1 inside e gap;
       }
 
-  show_joint : (kind : Kind) (p to q : ℕ) (rest : List ℕ) → kind ≡ Punctuation Joint → IsNext a p kind to → q ≤ length b → drop q b ≡ slice_range a p to ++ rest → Wide to (q + (to - p)) → Shown a b p q kind to
+  show_joint : (kind : LexemeKind) (p to q : ℕ) (rest : List ℕ) → kind ≡ Punctuation Joint → IsNext a p kind to → q ≤ length b → drop q b ≡ slice_range a p to ++ rest → Wide to (q + (to - p)) → Shown a b p q kind to
   show_joint kind p to q rest joint next inside e w =
       let ahead = (piece-advances a p kind to next).0 in
       let filled = w.window.filled in
@@ -296,7 +296,7 @@ module _ (a : List ℕ) (utf8 : IsUtf8 a) (text : HasText a) (docs : HasDocs a) 
     no_space : is_space (character b q) ≡ false
 
   -- one more piece in front
-  one_more : (s : Site) (ss : List Site) (kind : Kind) (q end : ℕ) → IsNext b q kind end → map bare_lexeme (lexeme_of b kind (record { from = q; to = end })) ≡ map bare_lexeme (site_lexemes a s) → Remade end ss → Remade q (s ∷ ss)
+  one_more : (s : Site) (ss : List Site) (kind : LexemeKind) (q end : ℕ) → IsNext b q kind end → map bare_lexeme (lexeme_of b kind (record { from = q; to = end })) ≡ map bare_lexeme (site_lexemes a s) → Remade end ss → Remade q (s ∷ ss)
   one_more s ss kind q end next e r =
       let span : Span = record { from = q; to = end } in
       record {

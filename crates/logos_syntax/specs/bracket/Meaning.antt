@@ -3,8 +3,8 @@ use Rattle.std.specs.Prelude.{◌≡◌, ℕ, ◌+◌, max, Bool, true, false, �
 use Rattle.logos_pattern_tokens.specs.declared.token.Flags.{Flags}
 use Rattle.logos_pattern_tokens.specs.declared.bracket.token.Symbol.{Symbol}
 use Rattle.logos_pattern_tokens.specs.declared.bracket.token.Symbol.TheVariants.{Character, Byte}
-use Rattle.logos_pattern_tokens.specs.declared.bracket.token.Item.{Item}
-use Rattle.logos_pattern_tokens.specs.declared.bracket.token.Item.TheVariants as items
+use Rattle.logos_pattern_tokens.specs.declared.bracket.token.BracketItem.{BracketItem}
+use Rattle.logos_pattern_tokens.specs.declared.bracket.token.BracketItem.TheVariants as items
 use Rattle.logos_pattern_tokens.specs.declared.bracket.token.Lead.{Lead}
 use Rattle.logos_pattern_tokens.specs.declared.bracket.token.Lead.TheVariants.{Dashes, Bracket as LoneBracket}
 use Rattle.logos_pattern_tokens.specs.declared.bracket.token.BracketToken.{BracketToken}
@@ -30,21 +30,21 @@ abbrev pub set_or_complement : Flags → Bool → Set → Set
 set_or_complement flags negated set = if negated then complement (last_of flags) set else set
 
 -- The set of an element, without its negation and as if `i` were off.
-abbrev pub item_test : Flags → Item → Set
+abbrev pub item_test : Flags → BracketItem → Set
 item_test flags (items.One s) = λ c. c == code_of s
 item_test flags (items.Range a b) = in_range (code_of a, code_of b)
 item_test flags (items.Perl kind negated) = perl_set kind flags.unicode
 item_test flags (items.Property set negated) = in_set set
 item_test flags (items.Ascii kind negated) = ascii_set kind
 
-abbrev pub is_negated : Item → Bool
+abbrev pub is_negated : BracketItem → Bool
 is_negated (items.One s) = false
 is_negated (items.Range a b) = false
 is_negated (items.Perl kind negated) = negated
 is_negated (items.Property set negated) = negated
 is_negated (items.Ascii kind negated) = negated
 
-abbrev pub item_set : Flags → Item → Set
+abbrev pub item_set : Flags → BracketItem → Set
 item_set flags item = set_or_complement flags (is_negated item) (case_closure flags (only_chars (item_test flags item)))
 
 -- The literals at the front, which have no other case.
@@ -75,7 +75,7 @@ symbol_fits flags (Character c) = flags.unicode || nat_lt c 128
 symbol_fits flags (Byte b) = true
 
 -- If the pattern matches bytes, an element must be ASCII and not a property.
-abbrev pub item_fits : Flags → Item → Bool
+abbrev pub item_fits : Flags → BracketItem → Bool
 item_fits flags (items.One s) = symbol_fits flags s
 item_fits flags (items.Range a b) = symbol_fits flags a && symbol_fits flags b
 item_fits flags (items.Perl kind negated) = true

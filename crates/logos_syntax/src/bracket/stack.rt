@@ -7,7 +7,7 @@ use crate::bracket::translate::{item_fits, lead_ranges, push_item, push_set, set
 use logos_hir::hir::Range;
 use logos_hir::sets::RangeSet;
 use logos_hir::sets::operands::{OperandRuns, SetOperator, combination};
-use logos_pattern_tokens::bracket::token::{BracketToken, Item, Lead};
+use logos_pattern_tokens::bracket::token::{BracketItem, BracketToken, Lead};
 use logos_pattern_tokens::error::{Kind, Stop};
 use logos_pattern_tokens::token::Flags;
 use std::alloc::{AllocError, Global};
@@ -156,7 +156,7 @@ impl Frames {
         alloc: Global,
         flags: Flags,
         base: usize,
-        item: Item,
+        item: BracketItem,
         left: usize,
     ) -> Result<(), Stop>
         ensures { BracketSteps flags base (frames_view self.old) (BracketToken.Item item) result

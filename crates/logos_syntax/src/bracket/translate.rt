@@ -10,7 +10,7 @@ use logos_hir::property::{ascii_set, perl_set, property_set};
 use logos_hir::sets::RangeSet;
 use logos_hir::sets::operands::SetOperator;
 use logos_pattern_tokens::bracket::reader::code_of;
-use logos_pattern_tokens::bracket::token::{Item, Lead, Symbol};
+use logos_pattern_tokens::bracket::token::{BracketItem, Lead, Symbol};
 use logos_pattern_tokens::token::Flags;
 use std::alloc::{AllocError, Global};
 
@@ -76,30 +76,32 @@ fn symbols_set(alloc: Global, first: Symbol, last: Symbol) -> Result<RangeSet, A
 }
 
 /// Returns the set of an element, without its negation and as if `i` were off.
-fn item_test(alloc: Global, flags: Flags, item: Item) -> Result<RangeSet, AllocError>
+fn item_test(alloc: Global, flags: Flags, item: BracketItem) -> Result<RangeSet, AllocError>
     ensures { IfOk result (λ set. set_of set ≡ only_chars (item_test flags item)) }
 {
     match item {
-        Item::One(s) => number_set(alloc, code_of(s)),
-        Item::Range(a, b) => symbols_set(alloc, a, b),
-        Item::Perl(kind, _) => perl_set(alloc, kind, flags.unicode),
-        Item::Property(set, _) => property_set(alloc, set),
-        Item::Ascii(kind, _) => ascii_set(alloc, kind),
+        BracketItem::One(s) => number_set(alloc, code_of(s)),
+        BracketItem::Range(a, b) => symbols_set(alloc, a, b),
+        BracketItem::Perl(kind, _) => perl_set(alloc, kind, flags.unicode),
+        BracketItem::Property(set, _) => property_set(alloc, set),
+        BracketItem::Ascii(kind, _) => ascii_set(alloc, kind),
     }
 }
 
 /// Returns whether the element is negated.
-fn is_negated(item: Item) -> bool
+fn is_negated(item: BracketItem) -> bool
     ensures { result ≡ is_negated item }
 {
     match item {
-        Item::One(_) | Item::Range(_, _) => false,
-        Item::Perl(_, negated) | Item::Property(_, negated) | Item::Ascii(_, negated) => negated,
+        BracketItem::One(_) | BracketItem::Range(_, _) => false,
+        BracketItem::Perl(_, negated)
+        | BracketItem::Property(_, negated)
+        | BracketItem::Ascii(_, negated) => negated,
     }
 }
 
 /// Returns the set of an element.
-fn item_set(alloc: Global, flags: Flags, item: Item) -> Result<RangeSet, AllocError>
+fn item_set(alloc: Global, flags: Flags, item: BracketItem) -> Result<RangeSet, AllocError>
     ensures { IfOk result (λ set. set_of set ≡ item_set flags item) }
 {
     let test = item_test(alloc, flags, item)?;
@@ -109,15 +111,15 @@ fn item_set(alloc: Global, flags: Flags, item: Item) -> Result<RangeSet, AllocEr
 
 /// Returns the ends of an element whose set is one range that needs no work: a character, a byte or
 /// a range while `i` is off.
-fn plain_ends(flags: Flags, item: Item) -> Option<(u32, u32)>
+fn plain_ends(flags: Flags, item: BracketItem) -> Option<(u32, u32)>
     ensures { IfSome result (λ ends. item_set flags item ≡ members (ends ∷ [])) }
 {
     if flags.ignore_case {
         return None;
     }
     match item {
-        Item::One(s) => Some((code_of(s), code_of(s))),
-        Item::Range(a, b) => Some((code_of(a), code_of(b))),
+        BracketItem::One(s) => Some((code_of(s), code_of(s))),
+        BracketItem::Range(a, b) => Some((code_of(a), code_of(b))),
         _ => None,
     }
 }
@@ -127,7 +129,7 @@ pub(crate) fn push_item(
     alloc: Global,
     ranges: &mut Vec<Range>,
     flags: Flags,
-    item: Item,
+    item: BracketItem,
 ) -> Result<(), AllocError>
     ensures { OnOk result (members (pairs ranges.new.items) ≡
         union (members (pairs ranges.old.items)) (item_set flags item)) }
@@ -180,13 +182,13 @@ fn symbol_fits(flags: Flags, symbol: Symbol) -> bool
 
 /// Returns whether the element is allowed under the flags: if the pattern matches bytes, its
 /// characters must be ASCII, and it must not be a property.
-pub(crate) fn item_fits(flags: Flags, item: Item) -> bool
+pub(crate) fn item_fits(flags: Flags, item: BracketItem) -> bool
     ensures { result ≡ item_fits flags item }
 {
     match item {
-        Item::One(s) => symbol_fits(flags, s),
-        Item::Range(a, b) => symbol_fits(flags, a) && symbol_fits(flags, b),
-        Item::Property(_, _) => flags.unicode,
-        Item::Perl(_, _) | Item::Ascii(_, _) => true,
+        BracketItem::One(s) => symbol_fits(flags, s),
+        BracketItem::Range(a, b) => symbol_fits(flags, a) && symbol_fits(flags, b),
+        BracketItem::Property(_, _) => flags.unicode,
+        BracketItem::Perl(_, _) | BracketItem::Ascii(_, _) => true,
     }
 }

@@ -6,8 +6,8 @@ use Rattle.std.proofs.lemmas.List.Edits.{length-between}
 use Rattle.std.specs.Str.{IsCharBoundary}
 use Rattle.logos_lexeme.specs.declared.lexeme.Span.{Span}
 use Rattle.logos_lexeme.specs.declared.lexeme.Spacing.TheVariants.{Joint}
-use Rattle.logos_lexeme.specs.declared.lexeme.Kind.{Kind}
-use Rattle.logos_lexeme.specs.declared.lexeme.Kind.TheVariants.{Gap, Identifier, Literal, Doc, Punctuation, Opening, Closing}
+use Rattle.logos_lexeme.specs.declared.lexeme.LexemeKind.{LexemeKind}
+use Rattle.logos_lexeme.specs.declared.lexeme.LexemeKind.TheVariants.{Gap, Identifier, Literal, Doc, Punctuation, Opening, Closing}
 use Rattle.logos_lexeme.specs.declared.lexeme.openings.Opening.TheVariants.{Space}
 use Rattle.logos_lexeme.specs.LexemeCharacters.{character, past, is_space}
 use Rattle.logos_lexeme.specs.LexemeRuns.{here}
@@ -73,7 +73,7 @@ module _ (b : List ℕ) (q : ℕ) where
         within = omega arith;
       })
 
-gap_or_not : (kind : Kind) → (kind ≡ Gap) ⊎ (kind ≢ Gap)
+gap_or_not : (kind : LexemeKind) → (kind ≡ Gap) ⊎ (kind ≢ Gap)
 gap_or_not Gap = inl refl
 gap_or_not Identifier = inr (λ e. absurd (cc))
 gap_or_not Literal = inr (λ e. absurd (cc))
@@ -83,7 +83,7 @@ gap_or_not (Opening d) = inr (λ e. absurd (cc))
 gap_or_not (Closing d) = inr (λ e. absurd (cc))
 
 -- a lexeme is the same in texts with the same bytes there
-same_lexeme : (a b : List ℕ) (kind : Kind) (s t : Span) → slice_range b t.from t.to ≡ slice_range a s.from s.to → get_or b t.from 0 ≡ get_or a s.from 0 → map bare_lexeme (lexeme_of b kind t) ≡ map bare_lexeme (lexeme_of a kind s)
+same_lexeme : (a b : List ℕ) (kind : LexemeKind) (s t : Span) → slice_range b t.from t.to ≡ slice_range a s.from s.to → get_or b t.from 0 ≡ get_or a s.from 0 → map bare_lexeme (lexeme_of b kind t) ≡ map bare_lexeme (lexeme_of a kind s)
 same_lexeme a b Gap s t e f = refl
 same_lexeme a b Identifier s t e f = rw e refl
 same_lexeme a b Literal s t e f = rw e refl
@@ -94,7 +94,7 @@ same_lexeme a b (Closing d) s t e f = refl
 
 -- no lexeme begins with white space
 abbrev pub HasNoSpace : List ℕ → Type 0
-HasNoSpace a = (kind : Kind) (from to : ℕ) → IsCharBoundary a from → IsNext a from kind to → kind ≢ Gap → is_space (character a from) ≡ false
+HasNoSpace a = (kind : LexemeKind) (from to : ℕ) → IsCharBoundary a from → IsNext a from kind to → kind ≢ Gap → is_space (character a from) ≡ false
 
 -- the pieces of the printed text from a place on
 record Remade (a b : List ℕ) (q : ℕ) (pieces : List Piece) : Type 0 where
@@ -112,7 +112,7 @@ abbrev IsAfter : List ℕ → List ℕ → ℕ → ℕ → List Piece → Type 0
 IsAfter a b p q pieces = follows_apostrophe b q ≡ true → (follows_apostrophe a p ≡ true) × Follows pieces
 
 module _ (a : List ℕ) (utf8 : IsUtf8 a) (text : HasText a) (docs : HasDocs a) (spaces : HasNoSpace a) (b : List ℕ) where
-  lexeme_step : (kind : Kind) (p to q end : ℕ) (rest : List Piece) → kind ≢ Gap → IsNext a p kind to → Pieces a to rest end → (kind ≡ Punctuation Joint → Follows rest) → Joined rest → IsCharBoundary a p → q ≤ length b → (follows_apostrophe b q ≡ true → follows_apostrophe a p ≡ true) →
+  lexeme_step : (kind : LexemeKind) (p to q end : ℕ) (rest : List Piece) → kind ≢ Gap → IsNext a p kind to → Pieces a to rest end → (kind ≡ Punctuation Joint → Follows rest) → Joined rest → IsCharBoundary a p → q ≤ length b → (follows_apostrophe b q ≡ true → follows_apostrophe a p ≡ true) →
       drop q b ≡ slice_range a p to ++ after (gap_of a kind p to) (parts (seen a rest)) → Remade a b (q + (to - p)) rest → Begins a b q ((record { kind = kind; span = record { from = p; to = to } }) ∷ rest)
   lexeme_step kind p to q end rest no_gap next filled follow joined bound inside before e r =
       let s = shown a utf8 text docs b rest kind p to q end next filled follow joined bound inside e in

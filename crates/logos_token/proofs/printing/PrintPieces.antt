@@ -6,8 +6,8 @@ use Rattle.std.proofs.lemmas.List.Prefix.{at_reads, front_rest}
 use Rattle.std.specs.Str.{IsCharBoundary}
 use Rattle.logos_lexeme.specs.declared.lexeme.Span.{Span}
 use Rattle.logos_lexeme.specs.declared.lexeme.Spacing.TheVariants.{Alone, Joint}
-use Rattle.logos_lexeme.specs.declared.lexeme.Kind.{Kind}
-use Rattle.logos_lexeme.specs.declared.lexeme.Kind.TheVariants.{Gap, Identifier, Literal, Doc, Punctuation, Opening, Closing}
+use Rattle.logos_lexeme.specs.declared.lexeme.LexemeKind.{LexemeKind}
+use Rattle.logos_lexeme.specs.declared.lexeme.LexemeKind.TheVariants.{Gap, Identifier, Literal, Doc, Punctuation, Opening, Closing}
 use Rattle.logos_lexeme.specs.Lexemes.{IsNext}
 use Rattle.logos_token.specs.Spelling.{Piece, Pieces, lexeme_of, seen}
 use Rattle.logos_token.specs.Printing.{Part, gap_after, is_line_comment}
@@ -16,7 +16,7 @@ use Rattle.logos_lexeme.proofs.again.PrintWindows.{Window}
 use Rattle.logos_token.proofs.printing.PrintParts.{parts, parts-append, after}
 
 -- what is printed behind a lexeme of this kind
-abbrev pub gap_of : List ℕ → Kind → ℕ → ℕ → List ℕ
+abbrev pub gap_of : List ℕ → LexemeKind → ℕ → ℕ → List ℕ
 gap_of bytes (Punctuation spacing) from to = gap_after spacing
 gap_of bytes Doc from to = cond (is_line_comment (slice_range bytes from to)) (10 ∷ []) (32 ∷ [])
 gap_of bytes _ from to = 32 ∷ []
@@ -25,7 +25,7 @@ gap_of bytes _ from to = 32 ∷ []
 abbrev pub IsSeparator : List ℕ → Type 0
 IsSeparator gap = (gap ≡ 32 ∷ []) ⊎ (gap ≡ 10 ∷ [])
 
-pub joint_or_not : (kind : Kind) → (kind ≡ Punctuation Joint) ⊎ (kind ≡ Punctuation Joint → ⊥)
+pub joint_or_not : (kind : LexemeKind) → (kind ≡ Punctuation Joint) ⊎ (kind ≡ Punctuation Joint → ⊥)
 joint_or_not (Punctuation Joint) = inl refl
 joint_or_not (Punctuation Alone) = inr (λ e. absurd (cc))
 joint_or_not Gap = inr (λ e. absurd (cc))
@@ -39,7 +39,7 @@ separator_if : (t : Bool) → IsSeparator (cond t (10 ∷ []) (32 ∷ []))
 separator_if true = inr refl
 separator_if false = inl refl
 
-pub separates : (bytes : List ℕ) (kind : Kind) (from to : ℕ) → (kind ≡ Punctuation Joint → ⊥) → IsSeparator (gap_of bytes kind from to)
+pub separates : (bytes : List ℕ) (kind : LexemeKind) (from to : ℕ) → (kind ≡ Punctuation Joint → ⊥) → IsSeparator (gap_of bytes kind from to)
 separates bytes (Punctuation Joint) from to other = absurd (other refl)
 separates bytes (Punctuation Alone) from to other = inl refl
 separates bytes Gap from to other = inl refl
@@ -50,7 +50,7 @@ separates bytes (Opening d) from to other = inl refl
 separates bytes (Closing d) from to other = inl refl
 
 -- where nothing parts a lexeme from the next one, it is joint
-pub joint_from : (bytes : List ℕ) (kind : Kind) (from to : ℕ) → gap_of bytes kind from to ≡ [] → kind ≡ Punctuation Joint
+pub joint_from : (bytes : List ℕ) (kind : LexemeKind) (from to : ℕ) → gap_of bytes kind from to ≡ [] → kind ≡ Punctuation Joint
 joint_from bytes kind from to none = elim (joint_or_not kind) [
   | inl j ↦ j
   | inr j ↦ absurd (elim (separates bytes kind from to j) [ inl e ↦ let f : [] ≡ 32 ∷ [] = sym none ∙ e in cc | inr e ↦ let f : [] ≡ 10 ∷ [] = sym none ∙ e in cc ])
@@ -78,7 +78,7 @@ gap_first [] gap c e = inr refl
 gap_first (part ∷ ps) gap c e = inl (ap (λ g. get_or (g ++ (part.text ++ after part.gap ps)) 0 0) e)
 
 -- a lexeme, and a window of it
-pub record Shown (a b : List ℕ) (p q : ℕ) (kind : Kind) (to : ℕ) : Type 0 where
+pub record Shown (a b : List ℕ) (p q : ℕ) (kind : LexemeKind) (to : ℕ) : Type 0 where
   pub size : ℕ
   pub window : Window a b p q size
   pub at : (kind ≡ Punctuation Joint → to < p + size) × ((kind ≡ Punctuation Joint → ⊥) → to ≡ p + size)
@@ -90,7 +90,7 @@ Follows (piece ∷ rest) = piece.kind ≢ Gap
 
 -- what is printed of a lexeme
 abbrev pub HasText : List ℕ → Type 0
-HasText a = (kind : Kind) (from to : ℕ) → IsCharBoundary a from → IsNext a from kind to → kind ≢ Gap → parts (lexeme_of a kind (record { from = from; to = to })) ≡ (record { text = slice_range a from to; gap = gap_of a kind from to }) ∷ []
+HasText a = (kind : LexemeKind) (from to : ℕ) → IsCharBoundary a from → IsNext a from kind to → kind ≢ Gap → parts (lexeme_of a kind (record { from = from; to = to })) ≡ (record { text = slice_range a from to; gap = gap_of a kind from to }) ∷ []
 
 -- behind joint punctuation another lexeme begins
 abbrev pub HasJoints : List ℕ → Type 0
@@ -106,7 +106,7 @@ abbrev pub HasDocs : List ℕ → Type 0
 HasDocs a = (from to : ℕ) → IsCharBoundary a from → IsNext a from Doc to → from + 2 ≤ to
 
 module _ (a : List ℕ) (utf8 : IsUtf8 a) (text : HasText a) (docs : HasDocs a) (b : List ℕ) where
-  abbrev IsPrinted : ℕ → ℕ → ℕ → Kind → List Piece → Type 0
+  abbrev IsPrinted : ℕ → ℕ → ℕ → LexemeKind → List Piece → Type 0
   IsPrinted q p to kind rest = drop q b ≡ slice_range a p to ++ after (gap_of a kind p to) (parts (seen a rest))
 
   pub slice_same : (p to q : ℕ) (rest : List ℕ) → p ≤ to → to ≤ length a → drop q b ≡ slice_range a p to ++ rest → (x y : ℕ) → x + q ≡ y + p → p ≤ x → x < to → get_or b y 0 ≡ get_or a x 0
@@ -117,7 +117,7 @@ module _ (a : List ℕ) (utf8 : IsUtf8 a) (text : HasText a) (docs : HasDocs a) 
       let g : p + i ≡ x = omega arith in
       ap (λ j. get_or b j 0) (sym f) ∙ at_reads 0 b (slice_range a p to) q rest e i (omega arith) ∙ get_or-between a p to i 0 (omega arith) ∙ ap (λ j. get_or a j 0) g
 
-  alone_shown : (rest : List Piece) (kind : Kind) (p to q : ℕ) → (kind ≡ Punctuation Joint → ⊥) → IsNext a p kind to → IsCharBoundary a p → q ≤ length b → IsPrinted q p to kind rest → Shown a b p q kind to
+  alone_shown : (rest : List Piece) (kind : LexemeKind) (p to q : ℕ) → (kind ≡ Punctuation Joint → ⊥) → IsNext a p kind to → IsCharBoundary a p → q ≤ length b → IsPrinted q p to kind rest → Shown a b p q kind to
   alone_shown rest kind p to q alone next bound inside e =
       let adv = piece-advances a p kind to next in
       let fits = adv.1 in
@@ -154,7 +154,7 @@ module _ (a : List ℕ) (utf8 : IsUtf8 a) (text : HasText a) (docs : HasDocs a) 
             blank 10 gap;
       }
 
-  more_shown : (kind : Kind) (p to q : ℕ) (rest : List ℕ) → kind ≡ Punctuation Joint → IsNext a p kind to → q ≤ length b → drop q b ≡ slice_range a p to ++ rest → {other : Kind} {end : ℕ} → Shown a b to (q + (to - p)) other end → Shown a b p q kind to
+  more_shown : (kind : LexemeKind) (p to q : ℕ) (rest : List ℕ) → kind ≡ Punctuation Joint → IsNext a p kind to → q ≤ length b → drop q b ≡ slice_range a p to ++ rest → {other : LexemeKind} {end : ℕ} → Shown a b to (q + (to - p)) other end → Shown a b p q kind to
   more_shown kind p to q rest joint next inside e s =
       let adv = piece-advances a p kind to next in
       let fits = adv.1 in
@@ -183,7 +183,7 @@ module _ (a : List ℕ) (utf8 : IsUtf8 a) (text : HasText a) (docs : HasDocs a) 
         line = λ f g. absurd (let h : Doc ≡ Punctuation Joint = sym g ∙ joint in cc);
       }
 
-  pub shown : (rest : List Piece) (kind : Kind) (p to q end : ℕ) → IsNext a p kind to → Pieces a to rest end → (kind ≡ Punctuation Joint → Follows rest) → Joined rest → IsCharBoundary a p → q ≤ length b → IsPrinted q p to kind rest → Shown a b p q kind to
+  pub shown : (rest : List Piece) (kind : LexemeKind) (p to q end : ℕ) → IsNext a p kind to → Pieces a to rest end → (kind ≡ Punctuation Joint → Follows rest) → Joined rest → IsCharBoundary a p → q ≤ length b → IsPrinted q p to kind rest → Shown a b p q kind to
   shown [] kind p to q end next filled follow joined bound inside e = elim (joint_or_not kind) [
     | inl j ↦ absurd (follow j)
     | inr j ↦ alone_shown [] kind p to q j next bound inside e

@@ -5,8 +5,8 @@ use Rattle.std.proofs.lemmas.Str.{IsCharBoundary-start}
 use Rattle.std.specs.Str.{IsCharBoundary}
 use Rattle.logos_lexeme.specs.declared.lexeme.Span.{Span}
 use Rattle.logos_lexeme.specs.declared.lexeme.Spacing.TheVariants.{Alone, Joint}
-use Rattle.logos_lexeme.specs.declared.lexeme.Kind.{Kind}
-use Rattle.logos_lexeme.specs.declared.lexeme.Kind.TheVariants.{Gap, Identifier, Literal, Doc, Punctuation, Opening, Closing}
+use Rattle.logos_lexeme.specs.declared.lexeme.LexemeKind.{LexemeKind}
+use Rattle.logos_lexeme.specs.declared.lexeme.LexemeKind.TheVariants.{Gap, Identifier, Literal, Doc, Punctuation, Opening, Closing}
 use Rattle.logos_lexeme.specs.Lexemes.{IsNext}
 use Rattle.logos_token.specs.Tokens.{Token, identifier, punctuation, literal, doc, group, TokenList, none, also, append}
 use Rattle.logos_token.specs.Spelling.{Piece, Pieces, Lexeme, leaf, opens, closes, lexeme_of, seen, lexemes, Spells}
@@ -99,7 +99,7 @@ lies run tokens (within front delimiter span inside back e r) =
 
 module _ (a : List ℕ) where
   -- a piece has one lexeme or none
-  at_most_one : (kind : Kind) (span : Span) → (lexeme_of a kind span ≡ []) ⊎ ((l : Lexeme) × (lexeme_of a kind span ≡ l ∷ []))
+  at_most_one : (kind : LexemeKind) (span : Span) → (lexeme_of a kind span ≡ []) ⊎ ((l : Lexeme) × (lexeme_of a kind span ≡ l ∷ []))
   at_most_one Gap span = inl refl
   at_most_one Identifier span = inr (_, refl)
   at_most_one Literal span = inr (_, refl)

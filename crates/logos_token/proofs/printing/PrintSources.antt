@@ -12,8 +12,8 @@ use Rattle.logos_token.specs.Printing.{Part, opening_text, closing_text}
 use Rattle.logos_lexeme.specs.declared.lexeme.Spacing.{Spacing}
 use Rattle.logos_lexeme.specs.declared.lexeme.Spacing.TheVariants.{Alone, Joint}
 use Rattle.logos_lexeme.specs.declared.lexeme.Delimiter.{Delimiter}
-use Rattle.logos_lexeme.specs.declared.lexeme.Kind.{Kind}
-use Rattle.logos_lexeme.specs.declared.lexeme.Kind.TheVariants.{Gap, Identifier, Literal, Doc, Punctuation, Opening as OpeningKind, Closing}
+use Rattle.logos_lexeme.specs.declared.lexeme.LexemeKind.{LexemeKind}
+use Rattle.logos_lexeme.specs.declared.lexeme.LexemeKind.TheVariants.{Gap, Identifier, Literal, Doc, Punctuation, Opening as OpeningKind, Closing}
 use Rattle.logos_lexeme.specs.declared.lexeme.openings.Opening.{Opening}
 use Rattle.logos_lexeme.proofs.CharacterLaws.{character-ascii, character-end, past-ascii, inside_from_byte}
 use Rattle.logos_token.proofs.reading.PieceLemmas.{piece-advances, piece-boundary}
@@ -27,27 +27,27 @@ use Rattle.logos_token.proofs.printing.PrintDelimiters.{IsDelimiter, opening, cl
 use Rattle.logos_token.proofs.printing.PrintAgain.{HasNoSpace}
 
 -- how a lexeme stands at a place
-data Form (a : List ℕ) (p : ℕ) (kind : Kind) (to : ℕ) : Type 0 where
+data Form (a : List ℕ) (p : ℕ) (kind : LexemeKind) (to : ℕ) : Type 0 where
   literal_form : kind ≡ Literal → Form a p kind to
   doc_form : kind ≡ Doc → p + 2 ≤ to → Form a p kind to
   word_form : kind ≡ Identifier → Form a p kind to
   single_form : single_kind a p ≡ Some kind → to ≡ past a p → Form a p kind to
 
-record Stands (a : List ℕ) (p : ℕ) (kind : Kind) (to : ℕ) : Type 0 where
+record Stands (a : List ℕ) (p : ℕ) (kind : LexemeKind) (to : ℕ) : Type 0 where
   form : Form a p kind to
   spaceless : is_space (character a p) ≡ false
 
-single_which : (m l f : Bool) (s : Spacing) (d : Option Kind) (kind : Kind) → cond m (Some (Punctuation s)) (cond l (Some (Punctuation Joint)) (cond f (Some Gap) d)) ≡ Some kind →
+single_which : (m l f : Bool) (s : Spacing) (d : Option LexemeKind) (kind : LexemeKind) → cond m (Some (Punctuation s)) (cond l (Some (Punctuation Joint)) (cond f (Some Gap) d)) ≡ Some kind →
     ((m ≡ true) × (kind ≡ Punctuation s)) ⊎ (((l ≡ true) × (kind ≡ Punctuation Joint)) ⊎ (((f ≡ true) × (kind ≡ Gap)) ⊎ (d ≡ Some kind)))
 single_which true l f s d kind e = inl (refl, cc)
 single_which false true f s d kind e = inr (inl (refl, cc))
 single_which false false true s d kind e = inr (inr (inl (refl, cc)))
 single_which false false false s d kind e = inr (inr (inr e))
 
-abbrev Which : List ℕ → ℕ → Kind → Type 0
+abbrev Which : List ℕ → ℕ → LexemeKind → Type 0
 Which a p kind = ((is_mark (character a p) ≡ true) × (kind ≡ Punctuation (spacing a (past a p)))) ⊎ (((((character a p == 39) && is_start (character a (past a p))) ≡ true) × (kind ≡ Punctuation Joint)) ⊎ (((((character a p == 0xFEFF) && (p == 0)) ≡ true) × (kind ≡ Gap)) ⊎ (delimiter_kind (character a p) ≡ Some kind)))
 
-which : (a : List ℕ) (p : ℕ) (kind : Kind) → single_kind a p ≡ Some kind → Which a p kind
+which : (a : List ℕ) (p : ℕ) (kind : LexemeKind) → single_kind a p ≡ Some kind → Which a p kind
 unfolding single_kind
 which a p kind e = single_which (is_mark (character a p)) ((character a p == 39) && is_start (character a (past a p))) ((character a p == 0xFEFF) && (p == 0)) (spacing a (past a p)) (delimiter_kind (character a p)) kind e
 
@@ -74,12 +74,12 @@ module _ (a : List ℕ) (utf8 : IsUtf8 a) (p to : ℕ) (bound : IsCharBoundary a
   other_form o (space_there e) end ends no_gap suffixed = absurd (no_gap refl)
   other_form o (word_opens e) end ends no_gap suffixed = record { form = word_form refl; spaceless = e }
   other_form o (single_opens kind e f g) end ends no_gap suffixed = record {
-    form = single_form g (unsuffixed a (take to a) p p (to - p) here bound kind end to (λ h. single_no_literal a (take to a) p p (to - p) here bound (g ∙ ap (λ (x : Kind). Some x) h)) suffixed ∙ ends);
+    form = single_form g (unsuffixed a (take to a) p p (to - p) here bound kind end to (λ h. single_no_literal a (take to a) p p (to - p) here bound (g ∙ ap (λ (x : LexemeKind). Some x) h)) suffixed ∙ ends);
     spaceless = e;
   }
   other_form o nothing_opens end ends no_gap suffixed = absurd ends
 
-  doc_long : (kind : Kind) → kind ≡ Doc → (end : ℕ) → IsSuffixed a kind end to → to ≡ end
+  doc_long : (kind : LexemeKind) → kind ≡ Doc → (end : ℕ) → IsSuffixed a kind end to → to ≡ end
   doc_long kind doc end suffixed = unsuffixed a (take to a) p p (to - p) here bound kind end to (λ h. absurd (let i : Doc ≡ Literal = sym doc ∙ h in cc)) suffixed
 
   form_of : (o : Opening) → Opens a p o → (end : ℕ) → Ends a p o end → kind_of o ≢ Gap → IsSuffixed a (kind_of o) end to → Stands a p (kind_of o) to
@@ -104,7 +104,7 @@ module _ (a : List ℕ) (utf8 : IsUtf8 a) (p to : ℕ) (bound : IsCharBoundary a
             record { form = doc_form doc (omega (arith, doc_long (kind_of o) doc end suffixed)); spaceless = ascii_spaceless (omega arith) (omega arith) }
       ]
 
-  stands : (kind : Kind) → IsNext a p kind to → kind ≢ Gap → Stands a p kind to
+  stands : (kind : LexemeKind) → IsNext a p kind to → kind ≢ Gap → Stands a p kind to
   stands kind n no_gap =
       let e = n.is_kind in
       subst (λ x. Stands a p x to) (sym e) (form_of (opening_at a p) (opens_at a p) n.end n.ends (λ f. no_gap (e ∙ f)) (subst (λ x. IsSuffixed a x n.end to) e n.suffixed))
@@ -124,7 +124,7 @@ module _ (a : List ℕ) (utf8 : IsUtf8 a) (p to : ℕ) (bound : IsCharBoundary a
     ]
   ]
     where
-      no_gap_delimiter : (c : ℕ) (kind : Kind) → IsDelimiter c kind → kind ≡ Gap → ⊥
+      no_gap_delimiter : (c : ℕ) (kind : LexemeKind) → IsDelimiter c kind → kind ≡ Gap → ⊥
       no_gap_delimiter c kind (opening d e f) g = absurd (cc)
       no_gap_delimiter c kind (closing d e f) g = absurd (cc)
   other_gap o nothing_opens end ends gap spaceless positive = ends
@@ -140,7 +140,7 @@ module _ (a : List ℕ) (utf8 : IsUtf8 a) (p to : ℕ) (bound : IsCharBoundary a
 -- the four facts
 
 module _ (a : List ℕ) (utf8 : IsUtf8 a) where
-  stands_at : (kind : Kind) (p to : ℕ) → IsCharBoundary a p → IsNext a p kind to → kind ≢ Gap → Stands a p kind to
+  stands_at : (kind : LexemeKind) (p to : ℕ) → IsCharBoundary a p → IsNext a p kind to → kind ≢ Gap → Stands a p kind to
   stands_at kind p to bound n no_gap = let adv = piece-advances a p kind to n in stands a utf8 p to bound adv.0 adv.1 (piece-boundary a p kind to utf8 bound n) kind n no_gap
 
   pub has_no_space : HasNoSpace a
@@ -155,7 +155,7 @@ module _ (a : List ℕ) (utf8 : IsUtf8 a) where
     | inr r ↦ elim r [ inl s ↦ absurd (let h = s.1 in cc) | inr s ↦ elim s [ inl t ↦ absurd (let h = t.1 in cc) | inr t ↦ absurd (no_doc (character a p) Doc (is_delimiter (character a p) Doc t) refl) ] ]
   ]
     where
-      no_doc : (c : ℕ) (kind : Kind) → IsDelimiter c kind → kind ≡ Doc → ⊥
+      no_doc : (c : ℕ) (kind : LexemeKind) → IsDelimiter c kind → kind ≡ Doc → ⊥
       no_doc c kind (opening d e f) g = absurd (cc)
       no_doc c kind (closing d e f) g = absurd (cc)
 
@@ -163,11 +163,11 @@ module _ (a : List ℕ) (utf8 : IsUtf8 a) where
   has_docs p to bound n = docs_by p to (stands_at Doc p to bound n (λ e. absurd (cc))).form
 
   -- a lexeme of one ASCII character
-  delimiter_small : (c : ℕ) (kind : Kind) → IsDelimiter c kind → c < 128
+  delimiter_small : (c : ℕ) (kind : LexemeKind) → IsDelimiter c kind → c < 128
   delimiter_small c kind (opening d e f) = f
   delimiter_small c kind (closing d e f) = f
 
-  single_small : (p : ℕ) (kind : Kind) → kind ≢ Gap → single_kind a p ≡ Some kind → character a p < 128
+  single_small : (p : ℕ) (kind : LexemeKind) → kind ≢ Gap → single_kind a p ≡ Some kind → character a p < 128
   single_small p kind no_gap e = elim (which a p kind e) [
     | inl r ↦ (mark_visible (character a p) r.0).1
     | inr r ↦ elim r [
@@ -176,7 +176,7 @@ module _ (a : List ℕ) (utf8 : IsUtf8 a) where
     ]
   ]
 
-  one_byte : (p to : ℕ) (kind : Kind) → IsCharBoundary a p → p < length a → kind ≢ Gap → single_kind a p ≡ Some kind → to ≡ past a p → (get_or a p 0 ≡ character a p) × (slice_range a p to ≡ character a p ∷ [])
+  one_byte : (p to : ℕ) (kind : LexemeKind) → IsCharBoundary a p → p < length a → kind ≢ Gap → single_kind a p ≡ Some kind → to ≡ past a p → (get_or a p 0 ≡ character a p) × (slice_range a p to ≡ character a p ∷ [])
   one_byte p to kind bound inside no_gap e f =
       let small = single_small p kind no_gap e in
       let byte = byte_of a p utf8 bound inside small in
@@ -195,11 +195,11 @@ module _ (a : List ℕ) (utf8 : IsUtf8 a) where
       let small = single_small p (Punctuation s) (λ g. absurd (cc)) e in
       ap encode_utf8 one.0 ∙ encode_ascii (character a p) small ∙ sym one.1
 
-  opening_by : (c : ℕ) (kind : Kind) → IsDelimiter c kind → (d : Delimiter) → kind ≡ OpeningKind d → opening_text d ≡ c ∷ []
+  opening_by : (c : ℕ) (kind : LexemeKind) → IsDelimiter c kind → (d : Delimiter) → kind ≡ OpeningKind d → opening_text d ≡ c ∷ []
   opening_by c kind (opening d e f) d' g = let h : d' ≡ d = cc in ap opening_text h ∙ e
   opening_by c kind (closing d e f) d' g = absurd (cc)
 
-  closing_by : (c : ℕ) (kind : Kind) → IsDelimiter c kind → (d : Delimiter) → kind ≡ Closing d → closing_text d ≡ c ∷ []
+  closing_by : (c : ℕ) (kind : LexemeKind) → IsDelimiter c kind → (d : Delimiter) → kind ≡ Closing d → closing_text d ≡ c ∷ []
   closing_by c kind (opening d e f) d' g = absurd (cc)
   closing_by c kind (closing d e f) d' g = let h : d' ≡ d = cc in ap closing_text h ∙ e
 
@@ -305,7 +305,7 @@ module _ (a : List ℕ) (utf8 : IsUtf8 a) where
     ]
   ]
     where
-      no_mark : (c : ℕ) (kind : Kind) → IsDelimiter c kind → kind ≡ Punctuation Joint → IsCharacterHere to
+      no_mark : (c : ℕ) (kind : LexemeKind) → IsDelimiter c kind → kind ≡ Punctuation Joint → IsCharacterHere to
       no_mark c kind (opening d e f) g = absurd (cc)
       no_mark c kind (closing d e f) g = absurd (cc)
 

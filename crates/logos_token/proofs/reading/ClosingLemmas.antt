@@ -4,7 +4,7 @@ use Rattle.std.proofs.lemmas.List.{append-nil, same_from_push, set_at, length_pu
 use Rattle.logos_lexeme.specs.declared.lexeme.Span.{Span}
 use Rattle.logos_lexeme.specs.declared.lexeme.Delimiter.{Delimiter}
 use Rattle.logos_lexeme.specs.declared.lexeme.Delimiter.TheVariants.{Parenthesis, Bracket, Brace}
-use Rattle.logos_lexeme.specs.declared.lexeme.Kind.TheVariants.{Opening, Closing}
+use Rattle.logos_lexeme.specs.declared.lexeme.LexemeKind.TheVariants.{Opening, Closing}
 use Rattle.logos_lexeme.specs.declared.lexeme.LexicalKind.TheVariants.{Unbalanced}
 use Rattle.logos_token.specs.declared.token.reader.OpenGroup.{OpenGroup}
 use Rattle.logos_token.specs.Tokens.{Token, group, none, also, append}

@@ -4,8 +4,8 @@ use Rattle.std.proofs.lemmas.List.{append-nil}
 use Rattle.logos_lexeme.specs.declared.lexeme.Span.{Span}
 use Rattle.logos_lexeme.specs.declared.lexeme.Spacing.{Spacing}
 use Rattle.logos_lexeme.specs.declared.lexeme.Delimiter.{Delimiter}
-use Rattle.logos_lexeme.specs.declared.lexeme.Kind.{Kind}
-use Rattle.logos_lexeme.specs.declared.lexeme.Kind.TheVariants.{Gap, Identifier, Literal, Doc, Punctuation, Opening, Closing}
+use Rattle.logos_lexeme.specs.declared.lexeme.LexemeKind.{LexemeKind}
+use Rattle.logos_lexeme.specs.declared.lexeme.LexemeKind.TheVariants.{Gap, Identifier, Literal, Doc, Punctuation, Opening, Closing}
 use Rattle.logos_token.specs.Tokens.{Token, identifier, punctuation, literal, doc, group, TokenList, none, also, span_of}
 use Rattle.logos_token.specs.Spelling.{Piece, Pieces, Lexeme, leaf, opens, closes, lexeme_of, seen, lexemes, Spells, TokenStands, RunStands}
 use Rattle.logos_token.proofs.reading.PieceLemmas.{piece-advances}
@@ -13,7 +13,7 @@ use Rattle.logos_token.proofs.reading.NestingLemmas.{run-lexemes}
 
 -- the piece of the next lexeme
 record NextLexeme (bytes : List ℕ) (from : ℕ) (lexeme : Lexeme) (more : List Lexeme) (to : ℕ) : Type 0 where
-  kind : Kind
+  kind : LexemeKind
   span : Span
   begins : from ≤ span.from
   begun : span.from < span.to
@@ -23,7 +23,7 @@ record NextLexeme (bytes : List ℕ) (from : ℕ) (lexeme : Lexeme) (more : List
   behind : seen bytes rest ≡ more
 
 -- a gap has no lexeme, another piece has one
-one-lexeme : (bytes : List ℕ) (kind : Kind) (span : Span) → (lexeme_of bytes kind span ≡ []) ⊎ ((l : Lexeme) × (lexeme_of bytes kind span ≡ l ∷ []))
+one-lexeme : (bytes : List ℕ) (kind : LexemeKind) (span : Span) → (lexeme_of bytes kind span ≡ []) ⊎ ((l : Lexeme) × (lexeme_of bytes kind span ≡ l ∷ []))
 one-lexeme bytes Gap span = inl refl
 one-lexeme bytes Identifier span = inr (leaf (identifier (slice_range bytes span.from span.to) span), refl)
 one-lexeme bytes Literal span = inr (leaf (literal (slice_range bytes span.from span.to) span), refl)
@@ -65,7 +65,7 @@ next-lexeme bytes (piece ∷ pieces) from lexeme more to filled is =
           }
     ]
 
-identifier-is : (bytes : List ℕ) (kind : Kind) (s : Span) (text : List ℕ) (span : Span) → lexeme_of bytes kind s ≡ leaf (identifier text span) ∷ [] → (s ≡ span) × (text ≡ slice_range bytes s.from s.to)
+identifier-is : (bytes : List ℕ) (kind : LexemeKind) (s : Span) (text : List ℕ) (span : Span) → lexeme_of bytes kind s ≡ leaf (identifier text span) ∷ [] → (s ≡ span) × (text ≡ slice_range bytes s.from s.to)
 identifier-is bytes Gap s text span e = absurd cc
 identifier-is bytes Identifier s text span e = (cc, cc)
 identifier-is bytes Literal s text span e = absurd cc
@@ -74,7 +74,7 @@ identifier-is bytes (Punctuation spacing) s text span e = absurd cc
 identifier-is bytes (Opening delimiter) s text span e = absurd cc
 identifier-is bytes (Closing delimiter) s text span e = absurd cc
 
-literal-is : (bytes : List ℕ) (kind : Kind) (s : Span) (text : List ℕ) (span : Span) → lexeme_of bytes kind s ≡ leaf (literal text span) ∷ [] → (s ≡ span) × (text ≡ slice_range bytes s.from s.to)
+literal-is : (bytes : List ℕ) (kind : LexemeKind) (s : Span) (text : List ℕ) (span : Span) → lexeme_of bytes kind s ≡ leaf (literal text span) ∷ [] → (s ≡ span) × (text ≡ slice_range bytes s.from s.to)
 literal-is bytes Gap s text span e = absurd cc
 literal-is bytes Identifier s text span e = absurd cc
 literal-is bytes Literal s text span e = (cc, cc)
@@ -83,7 +83,7 @@ literal-is bytes (Punctuation spacing) s text span e = absurd cc
 literal-is bytes (Opening delimiter) s text span e = absurd cc
 literal-is bytes (Closing delimiter) s text span e = absurd cc
 
-doc-is : (bytes : List ℕ) (kind : Kind) (s : Span) (text : List ℕ) (span : Span) → lexeme_of bytes kind s ≡ leaf (doc text span) ∷ [] → (s ≡ span) × (text ≡ slice_range bytes s.from s.to)
+doc-is : (bytes : List ℕ) (kind : LexemeKind) (s : Span) (text : List ℕ) (span : Span) → lexeme_of bytes kind s ≡ leaf (doc text span) ∷ [] → (s ≡ span) × (text ≡ slice_range bytes s.from s.to)
 doc-is bytes Gap s text span e = absurd cc
 doc-is bytes Identifier s text span e = absurd cc
 doc-is bytes Literal s text span e = absurd cc
@@ -92,7 +92,7 @@ doc-is bytes (Punctuation spacing) s text span e = absurd cc
 doc-is bytes (Opening delimiter) s text span e = absurd cc
 doc-is bytes (Closing delimiter) s text span e = absurd cc
 
-punctuation-is : (bytes : List ℕ) (kind : Kind) (s : Span) (character : ℕ) (spacing : Spacing) (span : Span) → lexeme_of bytes kind s ≡ leaf (punctuation character spacing span) ∷ [] → (s ≡ span) × (character ≡ slice_index bytes s.from)
+punctuation-is : (bytes : List ℕ) (kind : LexemeKind) (s : Span) (character : ℕ) (spacing : Spacing) (span : Span) → lexeme_of bytes kind s ≡ leaf (punctuation character spacing span) ∷ [] → (s ≡ span) × (character ≡ slice_index bytes s.from)
 punctuation-is bytes Gap s character spacing span e = absurd cc
 punctuation-is bytes Identifier s character spacing span e = absurd cc
 punctuation-is bytes Literal s character spacing span e = absurd cc
@@ -101,7 +101,7 @@ punctuation-is bytes (Punctuation other) s character spacing span e = (cc, cc)
 punctuation-is bytes (Opening delimiter) s character spacing span e = absurd cc
 punctuation-is bytes (Closing delimiter) s character spacing span e = absurd cc
 
-opening-is : (bytes : List ℕ) (kind : Kind) (s : Span) (delimiter : Delimiter) (from : ℕ) → lexeme_of bytes kind s ≡ opens delimiter from ∷ [] → s.from ≡ from
+opening-is : (bytes : List ℕ) (kind : LexemeKind) (s : Span) (delimiter : Delimiter) (from : ℕ) → lexeme_of bytes kind s ≡ opens delimiter from ∷ [] → s.from ≡ from
 opening-is bytes Gap s delimiter from e = absurd cc
 opening-is bytes Identifier s delimiter from e = absurd cc
 opening-is bytes Literal s delimiter from e = absurd cc
@@ -110,7 +110,7 @@ opening-is bytes (Punctuation spacing) s delimiter from e = absurd cc
 opening-is bytes (Opening other) s delimiter from e = cc
 opening-is bytes (Closing other) s delimiter from e = absurd cc
 
-closing-is : (bytes : List ℕ) (kind : Kind) (s : Span) (delimiter : Delimiter) (to : ℕ) → lexeme_of bytes kind s ≡ closes delimiter to ∷ [] → s.to ≡ to
+closing-is : (bytes : List ℕ) (kind : LexemeKind) (s : Span) (delimiter : Delimiter) (to : ℕ) → lexeme_of bytes kind s ≡ closes delimiter to ∷ [] → s.to ≡ to
 closing-is bytes Gap s delimiter to e = absurd cc
 closing-is bytes Identifier s delimiter to e = absurd cc
 closing-is bytes Literal s delimiter to e = absurd cc

@@ -3,26 +3,26 @@ use Rattle.std.proofs.Common.{◌≡◌, ℕ, ◌<◌, ◌≤◌, List, [], ◌�
 use Rattle.std.proofs.lemmas.List.{append-nil}
 use Rattle.std.specs.Str.{IsCharBoundary}
 use Rattle.logos_lexeme.specs.declared.lexeme.Span.{Span}
-use Rattle.logos_lexeme.specs.declared.lexeme.Kind.{Kind}
+use Rattle.logos_lexeme.specs.declared.lexeme.LexemeKind.{LexemeKind}
 use Rattle.logos_lexeme.specs.declared.lexeme.LexicalKind.{LexicalKind}
 use Rattle.logos_lexeme.specs.Lexemes.{IsNext, IsStuck}
 use Rattle.logos_token.specs.Spelling.{Piece, Pieces, lexeme_of, seen}
 use Rattle.logos_lexeme.proofs.LexemeLaws.{next_advances, next_boundary, next_one, stuck_excludes}
 
 -- the laws of pieces, with their arguments
-pub piece-advances : (bytes : List ℕ) (from : ℕ) (kind : Kind) (to : ℕ) → IsNext bytes from kind to → (from < to) × (to ≤ length bytes)
+pub piece-advances : (bytes : List ℕ) (from : ℕ) (kind : LexemeKind) (to : ℕ) → IsNext bytes from kind to → (from < to) × (to ≤ length bytes)
 piece-advances bytes from kind to n = next_advances n
 
-pub piece-boundary : (bytes : List ℕ) (from : ℕ) (kind : Kind) (to : ℕ) → IsUtf8 bytes → IsCharBoundary bytes from → IsNext bytes from kind to → IsCharBoundary bytes to
+pub piece-boundary : (bytes : List ℕ) (from : ℕ) (kind : LexemeKind) (to : ℕ) → IsUtf8 bytes → IsCharBoundary bytes from → IsNext bytes from kind to → IsCharBoundary bytes to
 piece-boundary bytes from kind to utf8 boundary n = next_boundary utf8 boundary n
 
-pub piece-one : (bytes : List ℕ) (from : ℕ) (kind kind' : Kind) (to to' : ℕ) → IsNext bytes from kind to → IsNext bytes from kind' to' → (kind ≡ kind') × (to ≡ to')
+pub piece-one : (bytes : List ℕ) (from : ℕ) (kind kind' : LexemeKind) (to to' : ℕ) → IsNext bytes from kind to → IsNext bytes from kind' to' → (kind ≡ kind') × (to ≡ to')
 piece-one bytes from kind kind' to to' n n' = next_one n n'
 
-pub no-piece : (bytes : List ℕ) (from : ℕ) (why : LexicalKind) (span : Span) (kind : Kind) (to : ℕ) → IsStuck bytes from why span → IsNext bytes from kind to → ⊥
+pub no-piece : (bytes : List ℕ) (from : ℕ) (why : LexicalKind) (span : Span) (kind : LexemeKind) (to : ℕ) → IsStuck bytes from why span → IsNext bytes from kind to → ⊥
 no-piece bytes from why span kind to s n = stuck_excludes s n
 
-pub Pieces-push : (bytes : List ℕ) (start : ℕ) (pieces : List Piece) (from : ℕ) (kind : Kind) (span : Span) → Pieces bytes start pieces from → span.from ≡ from → IsNext bytes from kind span.to →
+pub Pieces-push : (bytes : List ℕ) (start : ℕ) (pieces : List Piece) (from : ℕ) (kind : LexemeKind) (span : Span) → Pieces bytes start pieces from → span.from ≡ from → IsNext bytes from kind span.to →
     Pieces bytes start (pieces ++ (record { kind = kind; span = span }) ∷ []) span.to
 Pieces-push bytes start [] from kind span e begins n = (begins ∙ sym e, rw e n, refl)
 Pieces-push bytes start (piece ∷ rest) from kind span s begins n = (s.0, s.1, Pieces-push bytes piece.span.to rest from kind span s.2 begins n)
@@ -40,7 +40,7 @@ pub record IsFrontOf (bytes : List ℕ) (front : List Piece) (at : ℕ) (whole :
 
 same-piece : (a b : Piece) → a.kind ≡ b.kind → a.span.from ≡ b.span.from → a.span.to ≡ b.span.to → a ≡ b
 same-piece a b kind from to =
-    let P : Kind → ℕ → ℕ → Piece = λ k f t. record { kind = k; span = record { from = f; to = t } } in
+    let P : LexemeKind → ℕ → ℕ → Piece = λ k f t. record { kind = k; span = record { from = f; to = t } } in
     ap (λ k. P k a.span.from a.span.to) kind ∙ ap (λ f. P b.kind f a.span.to) from ∙ ap (λ t. P b.kind b.span.from t) to
 
 pub pieces-front : (bytes : List ℕ) (start : ℕ) (front : List Piece) (at : ℕ) (whole : List Piece) → Pieces bytes start front at → Pieces bytes start whole (length bytes) → IsFrontOf bytes front at whole

@@ -3,8 +3,8 @@ use Rattle.std.proofs.Common.{◌≡◌, ℕ, ◌+◌, ◌<◌, ◌≤◌, max, 
 use Rattle.std.proofs.lemmas.List.{append-nil, length_push}
 use Rattle.logos_lexeme.specs.declared.lexeme.Span.{Span}
 use Rattle.logos_lexeme.specs.declared.lexeme.Delimiter.{Delimiter}
-use Rattle.logos_lexeme.specs.declared.lexeme.Kind.{Kind}
-use Rattle.logos_lexeme.specs.declared.lexeme.Kind.TheVariants.{Gap, Opening, Closing}
+use Rattle.logos_lexeme.specs.declared.lexeme.LexemeKind.{LexemeKind}
+use Rattle.logos_lexeme.specs.declared.lexeme.LexemeKind.TheVariants.{Gap, Opening, Closing}
 use Rattle.logos_lexeme.specs.declared.lexeme.LexicalKind.TheVariants.{Unbalanced}
 use Rattle.logos_token.specs.declared.token.reader.OpenGroup.{OpenGroup}
 use Rattle.logos_token.specs.Tokens.{Token, TokenList, none, also, append, depth_of}
@@ -64,7 +64,7 @@ module _ (bytes : List ℕ) (to : ℕ) (entries : List EntryValue) (begun : List
       omega arith
 
 -- one piece more
-module _ (bytes : List ℕ) (kind : Kind) (span : Span) (entries : List EntryValue) (begun : List OpenGroup) (r : IsRead bytes span.from entries begun) (next : IsNext bytes span.from kind span.to) where
+module _ (bytes : List ℕ) (kind : LexemeKind) (span : Span) (entries : List EntryValue) (begun : List OpenGroup) (r : IsRead bytes span.from entries begun) (next : IsNext bytes span.from kind span.to) where
   pub read-more : (frames : List Frame) (current : TokenList) → AreOpenings bytes frames → frame_lexemes frames current ≡ frame_lexemes r.frames r.current ++ lexeme_of bytes kind span →
       most_open (length (marks r.frames)) (lexeme_of bytes kind span) ≤ 128 → IsRead bytes span.to (frame_entries frames current) (frame_places frames)
   read-more frames current openings nested shallow =
@@ -90,7 +90,7 @@ read-gap bytes span entries begun r next =
     rw (r.held, r.places) at more
 
 -- a token without others inside
-pub read-leaf : (bytes : List ℕ) (kind : Kind) (span : Span) (entries : List EntryValue) (begun : List OpenGroup) (token : Token) (value : EntryValue) → IsRead bytes span.from entries begun → IsNext bytes span.from kind span.to →
+pub read-leaf : (bytes : List ℕ) (kind : LexemeKind) (span : Span) (entries : List EntryValue) (begun : List OpenGroup) (token : Token) (value : EntryValue) → IsRead bytes span.from entries begun → IsNext bytes span.from kind span.to →
     lexeme_of bytes kind span ≡ leaf token ∷ [] → token_lexemes token ≡ leaf token ∷ [] → flat_token token ≡ value ∷ [] → IsRead bytes span.to (entries ++ value ∷ []) begun
 read-leaf bytes kind span entries begun token value r next is lexeme entry =
     let new : TokenList = also token none in

@@ -3,8 +3,8 @@ use Rattle.std.proofs.Common.{◌+◌, ◌-◌, ◌<◌, ◌≤◌, ℕ, List, [
 use Rattle.std.proofs.lemmas.Str.{IsCharBoundary-start}
 use Rattle.logos_lexeme.specs.declared.lexeme.Span.{Span}
 use Rattle.logos_lexeme.specs.declared.lexeme.Delimiter.{Delimiter}
-use Rattle.logos_lexeme.specs.declared.lexeme.Kind.{Kind}
-use Rattle.logos_lexeme.specs.declared.lexeme.Kind.TheVariants.{Gap, Identifier, Literal, Doc, Punctuation, Opening, Closing}
+use Rattle.logos_lexeme.specs.declared.lexeme.LexemeKind.{LexemeKind}
+use Rattle.logos_lexeme.specs.declared.lexeme.LexemeKind.TheVariants.{Gap, Identifier, Literal, Doc, Punctuation, Opening, Closing}
 use Rattle.logos_token.specs.Tokens.{Token, TokenList, identifier, punctuation, literal, doc, group, none, also, append, span_of, end_of, run_span}
 use Rattle.logos_token.specs.PrintedAgain.{IsRunOf, here, within}
 use Rattle.logos_token.specs.Spans.{IsSpanOf}
@@ -48,7 +48,7 @@ cut_back text [] back c = c
 cut_back text (lexeme ∷ rest) back c = cut_back text rest back c.1
 
 -- the lexeme of a piece is cut where the piece is
-piece_cut : (text : List ℕ) (kind : Kind) (span : Span) (rest : List Lexeme) → IsCut text span → LexemesCut text rest → LexemesCut text (lexeme_of text kind span ++ rest)
+piece_cut : (text : List ℕ) (kind : LexemeKind) (span : Span) (rest : List Lexeme) → IsCut text span → LexemesCut text rest → LexemesCut text (lexeme_of text kind span ++ rest)
 piece_cut text Gap span rest c r = r
 piece_cut text Identifier span rest c r = (c, r)
 piece_cut text Literal span rest c r = (c, r)

@@ -3,8 +3,8 @@ use Rattle.std.proofs.Common.{◌≡◌, ℕ, ◌+◌, ◌<◌, max, Bool, true,
 use Rattle.std.proofs.lemmas.List.{append-nil}
 use Rattle.logos_lexeme.specs.declared.lexeme.Span.{Span}
 use Rattle.logos_lexeme.specs.declared.lexeme.Delimiter.{Delimiter}
-use Rattle.logos_lexeme.specs.declared.lexeme.Kind.{Kind}
-use Rattle.logos_lexeme.specs.declared.lexeme.Kind.TheVariants.{Opening, Closing}
+use Rattle.logos_lexeme.specs.declared.lexeme.LexemeKind.{LexemeKind}
+use Rattle.logos_lexeme.specs.declared.lexeme.LexemeKind.TheVariants.{Opening, Closing}
 use Rattle.logos_lexeme.specs.declared.lexeme.LexicalKind.{LexicalKind}
 use Rattle.logos_lexeme.specs.Lexemes.{IsNext, IsStuck}
 use Rattle.logos_token.specs.Tokens.{TokenList, depth_of}
@@ -43,12 +43,12 @@ not-broken bytes at kind span [] inside stuck filled = omega arith
 not-broken bytes at kind span (piece ∷ rest) inside stuck filled = no-piece bytes at kind span piece.kind piece.span.to stuck filled.1
 
 -- a piece that stands where others begin is the first of these
-begins-with : (bytes : List ℕ) (from : ℕ) (kind : Kind) (to : ℕ) (rest : List Piece) → IsNext bytes from kind to → Pieces bytes from rest (length bytes) →
+begins-with : (bytes : List ℕ) (from : ℕ) (kind : LexemeKind) (to : ℕ) (rest : List Piece) → IsNext bytes from kind to → Pieces bytes from rest (length bytes) →
     (behind : List Lexeme) × (seen bytes rest ≡ lexeme_of bytes kind (record { from = from; to = to }) ++ behind)
 begins-with bytes from kind to [] next filled = absurd (let a = piece-advances bytes from kind to next in omega (arith, a.0, a.1))
 begins-with bytes from kind to (piece ∷ rest) next filled =
     let one = piece-one bytes from piece.kind kind piece.span.to to filled.1 next in
-    let L : Kind → ℕ → ℕ → List Lexeme = λ k f t. lexeme_of bytes k (record { from = f; to = t }) ++ seen bytes rest in
+    let L : LexemeKind → ℕ → ℕ → List Lexeme = λ k f t. lexeme_of bytes k (record { from = f; to = t }) ++ seen bytes rest in
     (seen bytes rest, ap (λ k. L k piece.span.from piece.span.to) one.0 ∙ ap (λ f. L kind f piece.span.to) filled.0 ∙ ap (L kind from) one.1)
 
 pub unreadable-excludes : (bytes : List ℕ) (kind : LexicalKind) (span : Span) (tokens : TokenList) → IsUnreadable bytes kind span → Spells bytes tokens → ⊥

@@ -2,8 +2,8 @@
 use Rattle.std.specs.Prelude.{◌≡◌, ℕ, ◌≤◌, List, [], ◌∷◌, ◌++◌, map, length, Result, IfOk, IfErr, OnOk}
 use Rattle.logos_lexeme.specs.declared.lexeme.Span.{Span}
 use Rattle.logos_lexeme.specs.declared.lexeme.Delimiter.{Delimiter}
-use Rattle.logos_lexeme.specs.declared.lexeme.Kind.{Kind}
-use Rattle.logos_lexeme.specs.declared.lexeme.Kind.TheVariants.{Opening}
+use Rattle.logos_lexeme.specs.declared.lexeme.LexemeKind.{LexemeKind}
+use Rattle.logos_lexeme.specs.declared.lexeme.LexemeKind.TheVariants.{Opening}
 use Rattle.logos_token.specs.declared.token.entry.Entry.{Entry}
 use Rattle.logos_token.specs.declared.token.reader.TokenError.{TokenError}
 use Rattle.logos_token.specs.declared.token.views.TokenStream.{TokenStream}
@@ -54,12 +54,12 @@ pub record IsRead (bytes : List ℕ) (to : ℕ) (entries : List EntryValue) (beg
   pub places : frame_places frames ≡ begun
 
 -- Unless there is an error, a next piece of this kind is read too.
-abbrev pub ReadsOn : Kind → Span → (entries : List Entry) (open_groups : List OpenGroup) (next_entries : List Entry) (next_open : List OpenGroup) → Result (Unit {0}) TokenError → Type 0
+abbrev pub ReadsOn : LexemeKind → Span → (entries : List Entry) (open_groups : List OpenGroup) (next_entries : List Entry) (next_open : List OpenGroup) → Result (Unit {0}) TokenError → Type 0
 ReadsOn kind span entries open_groups next_entries next_open result =
     (bytes : List ℕ) → IsNext bytes span.from kind span.to → IsRead bytes span.from (map value_of entries) open_groups → OnOk result (IsRead bytes span.to (map value_of next_entries) next_open)
 
 -- An error says why the source is refused.
-abbrev pub RefusesAt : Kind → Span → List Entry → List OpenGroup → Result (Unit {0}) TokenError → Type 0
+abbrev pub RefusesAt : LexemeKind → Span → List Entry → List OpenGroup → Result (Unit {0}) TokenError → Type 0
 RefusesAt kind span entries open_groups result =
     (bytes : List ℕ) → IsNext bytes span.from kind span.to → IsRead bytes span.from (map value_of entries) open_groups → IfErr result (IsRefusal bytes)
 

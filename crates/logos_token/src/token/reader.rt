@@ -6,7 +6,7 @@ ghost use Rattle.logos_token.specs.ViewWords.{source_limit, delimiter_limit, IsC
 use crate::token::entry::Entry;
 use crate::token::views::TokenStream;
 use crate::token::{Delimiter, Doc, Ident, Literal, Punct, Span};
-use logos_lexeme::lexeme::{Kind, LexicalKind, lexeme_at};
+use logos_lexeme::lexeme::{LexemeKind, LexicalKind, lexeme_at};
 use std::alloc::{AllocError, AllocFailed, Global};
 
 /// The greatest length of a source, in bytes.
@@ -68,9 +68,9 @@ fn begin_group(
     delimiter: Delimiter,
     span: Span,
 ) -> Result<(), TokenError>
-    ensures ok { ReadsOn (Kind.Opening delimiter) span
+    ensures ok { ReadsOn (LexemeKind.Opening delimiter) span
         entries.old.items open_groups.old.items entries.new.items open_groups.new.items result }
-    ensures err { RefusesAt (Kind.Opening delimiter) span
+    ensures err { RefusesAt (LexemeKind.Opening delimiter) span
         entries.old.items open_groups.old.items result }
 {
     if open_groups.len() >= MAX_NESTING {
@@ -98,9 +98,9 @@ fn end_group(
 ) -> Result<(), TokenError>
     requires { (bytes : List ℕ) ×
         IsRead bytes span.from (map value_of entries.old.items) open_groups.old.items }
-    ensures ok { ReadsOn (Kind.Closing delimiter) span
+    ensures ok { ReadsOn (LexemeKind.Closing delimiter) span
         entries.old.items open_groups.old.items entries.new.items open_groups.new.items result }
-    ensures err { RefusesAt (Kind.Closing delimiter) span
+    ensures err { RefusesAt (LexemeKind.Closing delimiter) span
         entries.old.items open_groups.old.items result }
 {
     let unbalanced = TokenError::Lexical {
@@ -139,7 +139,7 @@ fn add<'s>(
     entries: &mut Vec<Entry<'s>>,
     open_groups: &mut Vec<OpenGroup>,
     source: &'s str,
-    kind: Kind,
+    kind: LexemeKind,
     span: Span,
 ) -> Result<(), TokenError>
     requires from_boundary { IsCharBoundary source.now span.from }
@@ -152,22 +152,22 @@ fn add<'s>(
     ensures err { IfErr result (IsRefusal source.now) }
 {
     match kind {
-        Kind::Gap => Ok(()),
-        Kind::Opening(delimiter) => begin_group(entries, open_groups, delimiter, span),
-        Kind::Closing(delimiter) => end_group(entries, open_groups, delimiter, span),
-        Kind::Identifier => {
+        LexemeKind::Gap => Ok(()),
+        LexemeKind::Opening(delimiter) => begin_group(entries, open_groups, delimiter, span),
+        LexemeKind::Closing(delimiter) => end_group(entries, open_groups, delimiter, span),
+        LexemeKind::Identifier => {
             let text = &source[span.from..span.to];
             push(entries, Entry::Ident(Ident { text, span }))
         }
-        Kind::Literal => {
+        LexemeKind::Literal => {
             let text = &source[span.from..span.to];
             push(entries, Entry::Literal(Literal { text, span }))
         }
-        Kind::Doc => {
+        LexemeKind::Doc => {
             let text = &source[span.from..span.to];
             push(entries, Entry::Doc(Doc { text, span }))
         }
-        Kind::Punctuation(spacing) => {
+        LexemeKind::Punctuation(spacing) => {
             let character = char::from(source.as_bytes()[span.from]);
             push(
                 entries,

@@ -10,7 +10,7 @@ use crate::substitution::TypeParam;
 use indexmap::{IndexMap, IndexSet};
 use logos_token::error::{Errors, FaultCode, Memory};
 use logos_token::token::Ident;
-use logos_type::{Part, TypeExpr};
+use logos_type::{TypeExpr, TypePart};
 use std::alloc::Global;
 
 /// The generic arguments that follow the enum's name, in angle brackets.
@@ -129,7 +129,7 @@ impl<'s> TypeParams<'s> {
             type_at (value_of self.now).types (type_tree path.now)) }
     {
         match &path.part {
-            Part::Name(text) => copy_given(&self.types, text),
+            TypePart::Name(text) => copy_given(&self.types, text),
             _ => Ok(None),
         }
     }

@@ -9,24 +9,24 @@ use crate::table::place::{
 };
 use crate::table::tokens::{first_span, first_text};
 use logos_token::token::{Delimiter, Group, TokenTree, Tokens};
-use logos_type::Leaf;
+use logos_type::TypeToken;
 
 /// Returns the token that a lead takes from the front of a run.
-fn lead_leaf<'s>(lead: Prefix, run: Tokens<'_, 's>) -> Leaf<'s>
+fn lead_leaf<'s>(lead: Prefix, run: Tokens<'_, 's>) -> TypeToken<'s>
     ensures { sign_of result ≡ lead_sign lead (tokens_of run.entry) }
 {
     match lead {
-        Prefix::Word => Leaf::Word(first_text(run)),
-        Prefix::Mark(mark) => Leaf::Mark(mark),
-        Prefix::Literal => Leaf::Literal(first_text(run)),
-        Prefix::Colons => Leaf::Colons,
-        Prefix::Arrow => Leaf::Arrow,
-        Prefix::Dots => Leaf::Mark('.'),
-        Prefix::Reference => Leaf::Reference(None),
-        Prefix::ReferenceLifetime => Leaf::Reference(Some(first_text(run.rest().rest()))),
-        Prefix::Lifetime => Leaf::Lifetime(first_text(run.rest())),
-        Prefix::OtherLifetime => Leaf::OtherLifetime(first_text(run.rest())),
-        Prefix::Group(delimiter) => Leaf::Open(delimiter),
+        Prefix::Word => TypeToken::Word(first_text(run)),
+        Prefix::Mark(mark) => TypeToken::Mark(mark),
+        Prefix::Literal => TypeToken::Literal(first_text(run)),
+        Prefix::Colons => TypeToken::Colons,
+        Prefix::Arrow => TypeToken::Arrow,
+        Prefix::Dots => TypeToken::Mark('.'),
+        Prefix::Reference => TypeToken::Reference(None),
+        Prefix::ReferenceLifetime => TypeToken::Reference(Some(first_text(run.rest().rest()))),
+        Prefix::Lifetime => TypeToken::Lifetime(first_text(run.rest())),
+        Prefix::OtherLifetime => TypeToken::OtherLifetime(first_text(run.rest())),
+        Prefix::Group(delimiter) => TypeToken::Open(delimiter),
     }
 }
 
@@ -61,7 +61,7 @@ fn open<'t, 's>(
         run: group.run(),
         outside: Some(rest),
     };
-    Ok(TypeStep::Take(Leaf::Open(group.delimiter), inner))
+    Ok(TypeStep::Take(TypeToken::Open(group.delimiter), inner))
 }
 
 /// Returns the step that opens the group which comes first.
@@ -91,7 +91,7 @@ fn close<'t, 's>(delimiter: Delimiter, place: Place, outside: Outside<'t, 's>) -
         run,
         outside: None,
     };
-    TypeStep::Take(Leaf::Close(delimiter), after)
+    TypeStep::Take(TypeToken::Close(delimiter), after)
 }
 
 /// Returns the step that takes all tokens of the run without reading types in them, and goes on at
@@ -166,7 +166,7 @@ fn open_type<'t, 's>(place: Place, run: Tokens<'t, 's>) -> Result<Beginning<'t, 
     };
     Ok(Beginning {
         barred: false,
-        leaf: Leaf::Open(group.delimiter),
+        leaf: TypeToken::Open(group.delimiter),
         spot: inner,
     })
 }

@@ -1,7 +1,7 @@
 //! The spots inside a type, and the steps that can come next there.
 
 use logos_token::token::{Delimiter, Spacing, Span, Tokens};
-use logos_type::Leaf;
+use logos_type::TypeToken;
 
 /// The kinds of paths.
 #[derive(Clone, Copy)]
@@ -151,9 +151,9 @@ pub(crate) enum TypeStep<'t, 's> {
     /// Ends what was begun.
     End,
     /// Takes this token.
-    Take(Leaf<'s>, Spot<'t, 's>),
+    Take(TypeToken<'s>, Spot<'t, 's>),
     /// Takes this token, which only types that are not supported have.
-    Bar(Leaf<'s>, Spot<'t, 's>),
+    Bar(TypeToken<'s>, Spot<'t, 's>),
     /// Reads a type and goes on at this spot. `+` can join bounds if the flag holds.
     Ask(bool, Place),
     /// Reads a type that is never replaced and goes on at this spot.
@@ -162,7 +162,7 @@ pub(crate) enum TypeStep<'t, 's> {
     Keep(Tokens<'t, 's>, Spot<'t, 's>),
     /// Takes this token, with which a path or bounds begin, reads these from the spot on, and goes
     /// on at this spot.
-    Nest(Leaf<'s>, Spot<'t, 's>, Place),
+    Nest(TypeToken<'s>, Spot<'t, 's>, Place),
 }
 
 /// The first token of a run.
@@ -238,7 +238,7 @@ pub(crate) enum TableEntry {
 #[derive(Clone, Copy)]
 pub(crate) struct Beginning<'t, 's> {
     pub barred: bool,
-    pub leaf: Leaf<'s>,
+    pub leaf: TypeToken<'s>,
     pub spot: Spot<'t, 's>,
 }
 

@@ -1,7 +1,7 @@
 use Rattle.std.proofs.Common.{Bool, ap, ◌∙◌, string_bytes, subst}
 use Rattle.logos_report.specs.Faults.{faults_texts}
 use Rattle.logos_report.specs.Pages.{PageValue, Shows}
-use Rattle.logos_report.specs.Turns.{sizes_of}
+use Rattle.logos_report.specs.Sets.{sizes_of}
 use Rattle.logos_report.proofs.PageLemmas.{grown, shows_then}
 use Rattle.logos_expand.proofs.ShownLemmas.{finished, first_shown}
 use Rattle.logos_cli.proofs.implementation.report_text.Goals as goal

@@ -1,30 +1,54 @@
-use Rattle.std.proofs.Common.{[], refl, sym, subst}
+use Rattle.std.proofs.Common.{◌∙◌, Result, Ok, Err, IfOk, IfErr, sym, subst}
+use Rattle.logos_enum.specs.Values.{ident_slice}
+use Rattle.logos_definition.specs.Options.{OptionsView, utf8_mode}
 use Rattle.logos_definition.specs.ParserViews.{parser_view}
-use Rattle.logos_parser.specs.Analyses.{AnalysisView, HasItsType}
 use Rattle.logos_parser.specs.AnalysisViews.{analysis_view}
-use Rattle.logos_codegen.specs.inside.Steps.{IsGraphMade}
+use Rattle.logos_parser.specs.Refusals.{Refuses}
+use Rattle.logos_codegen.specs.Source.{IsRefused}
+use Rattle.logos_codegen.specs.inside.Heads.{HeadHasItsType, IsHeadOf}
+use Rattle.logos_codegen.specs.inside.Steps.{AreGraphFaults, IsFaultless, IsGraphMade}
 use Rattle.logos_codegen.proofs.RefusalLemmas.{ends_refuses}
 use Rattle.logos_codegen.proofs.GraphLemmas.{graph_refuses, graph_made}
 use Rattle.logos_codegen.proofs.generation.accept.Goals as goal
 
+-- what holds of a result by two facts about it
+together : {T E : Type 0} (P Q R : T → Type 0) (result : Result T E) → ((x : T) → P x → Q x → R x) → IfOk result P → IfOk result Q → IfOk result R
+together P Q R (Ok x) by p q = by x p q
+together P Q R (Err e) by p q = tt
+
+-- the same of an error
+by_error : {T E : Type 0} (P Q : E → Type 0) (result : Result T E) → ((e : E) → P e → Q e) → IfErr result P → IfErr result Q
+by_error P Q (Ok x) by p = tt
+by_error P Q (Err e) by p = by e p
+
 pub returns-in-Err-clause-err : goal.returns-in-Err-clause-err
 returns-in-Err-clause-err c = ends_refuses c.args.src.now c.in-Err.refusal c.in-Err.ensures.err
 
-pub returns-in-Ok-graph_of_analysis-clause-ok : goal.returns-in-Ok-graph_of_analysis-clause-ok
-returns-in-Ok-graph_of_analysis-clause-ok c =
+pub returns-in-Ok-clause-ok : goal.returns-in-Ok-clause-ok
+returns-in-Ok-clause-ok c =
     let read = c.in-Ok.ensures.ok in
     let analysis = c.in-Ok.analysis in
-    subst (λ (v : AnalysisView). IsGraphMade c.args.src.now v c.in-Ok-graph_of_analysis.graph) (sym c.in-Ok-graph_of_analysis.ensures.taken)
+    let made = c.accept_analysis in
+    together (λ x. IsFaultless analysis.leaves.items (utf8_mode (parser_view analysis.parser)) analysis.span analysis.parser.errors x.0) (λ x. IsHeadOf (analysis_view analysis) x.1)
+    (λ x. IsGraphMade c.args.src.now (ident_slice x.1.name) (parser_view x.1.options) x.0) made.result
+    (λ x found head. subst (λ (o : OptionsView). IsGraphMade c.args.src.now (ident_slice x.1.name) o x.0) (sym head.same_options)
     (graph_made c.args.src.now read.enum analysis.span analysis.leaves.items (parser_view analysis.parser) analysis.parser.errors read.says read.enum_says
-    (record (analysis_view analysis) { leaves = []; faults = [] }) c.in-Ok-graph_of_analysis.graph c.in-Ok.ensures.short c.in-Ok.ensures.shallow read.is_name refl c.in-Ok-graph_of_analysis.ensures.ok)
+    (ident_slice x.1.name) x.0 c.in-Ok.ensures.short c.in-Ok.ensures.shallow (read.is_name ∙ sym head.same_name) found))
+    made.ensures.ok made.ensures.head
 
-pub returns-in-Ok-graph_of_analysis-clause-typed : goal.returns-in-Ok-graph_of_analysis-clause-typed
-returns-in-Ok-graph_of_analysis-clause-typed c =
-    subst (λ (v : AnalysisView). HasItsType v) (sym c.in-Ok-graph_of_analysis.ensures.taken) c.in-Ok.ensures.ok.is_type
-
-pub returns-clause-err : goal.returns-clause-err
-returns-clause-err c =
+pub returns-in-Ok-clause-typed : goal.returns-in-Ok-clause-typed
+returns-in-Ok-clause-typed c =
     let read = c.in-Ok.ensures.ok in
     let analysis = c.in-Ok.analysis in
-    graph_refuses c.args.src.now read.enum analysis.span analysis.leaves.items (parser_view analysis.parser) analysis.parser.errors read.says read.enum_says
-    c.in-Ok.ensures.short c.in-Ok.ensures.shallow c.in-Err-graph_of_analysis.refusal c.in-Err-graph_of_analysis.ensures.err
+    let made = c.accept_analysis in
+    together (λ x. IsHeadOf (analysis_view analysis) x.1) (λ x. IsHeadOf (analysis_view analysis) x.1) (λ x. HeadHasItsType x.1) made.result
+    (λ x head same. rw (head.same_name, head.same_type, head.same_options) read.is_type) made.ensures.head made.ensures.head
+
+pub returns-in-Ok-clause-err : goal.returns-in-Ok-clause-err
+returns-in-Ok-clause-err c =
+    let read = c.in-Ok.ensures.ok in
+    let analysis = c.in-Ok.analysis in
+    let made = c.accept_analysis in
+    by_error (Refuses (AreGraphFaults analysis.leaves.items (utf8_mode (parser_view analysis.parser)) analysis.span analysis.parser.errors)) (Refuses (IsRefused c.args.src.now)) made.result
+    (graph_refuses c.args.src.now read.enum analysis.span analysis.leaves.items (parser_view analysis.parser) analysis.parser.errors read.says read.enum_says
+    c.in-Ok.ensures.short c.in-Ok.ensures.shallow) made.ensures.err

@@ -1,6 +1,8 @@
-use Rattle.std.proofs.Common.{string_bytes}
-use Rattle.logos_expand.proofs.GatherLemmas.{expansion_all}
+use Rattle.logos_expand.proofs.GatherLemmas.{expansion_made, spells_enum}
 use Rattle.logos_expand.proofs.expanding.expanded.Goals as goal
 
-pub returns-in-Ok-add_lexer_of-clause-done : goal.returns-in-Ok-add_lexer_of-clause-done
-returns-in-Ok-add_lexer_of-clause-done c = expansion_all string_bytes c.expansion_by.result _ _ _ _ _ _ (rw c.config_of.ensures at c.in-Ok.ensures.given) c.expansion_by.ensures.done
+pub expansion_by-requires : goal.expansion_by-requires
+expansion_by-requires c = spells_enum c.args.source.now _ _ c.in-Ok.ensures.accepted c.in-Ok.ensures.within
+
+pub returns-in-Ok-expansion_by-clause-done : goal.returns-in-Ok-expansion_by-clause-done
+returns-in-Ok-expansion_by-clause-done c = expansion_made _ _ _ _ _ _ _ (rw c.config_of.ensures at c.in-Ok.ensures.given) c.in-Ok-expansion_by.ensures

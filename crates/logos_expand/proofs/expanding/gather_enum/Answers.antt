@@ -9,4 +9,4 @@ pub returns-in_ok-push-in-Ok : goal.returns-in_ok-push-in-Ok
 returns-in_ok-push-in-Ok c = gives_one _ _ _ _ _ _ _ (search rules) (search rules) refl c.in-Ok.ensures.done c.in_ok-push-in-Ok.ensures.items refl
 
 pub returns-in_ok-clues-in-Err : goal.returns-in_ok-clues-in-Err
-returns-in_ok-clues-in-Err c = refuses_then c.push_refusal.result c.args.site.shape c.args.text.now c.args.one c.in-Err.refusal _ _ _ c.in-Err.ensures.refused c.push_refusal.ensures refl (search rules) (search rules)
+returns-in_ok-clues-in-Err c = refuses_then c.push_refusal.result c.args.site.shape c.args.text.now c.args.one c.in-Err.refusal c.in_ok-clues.clues _ _ _ c.in-Err.ensures.refused c.in_ok-clues.ensures c.push_refusal.ensures refl (search rules) (search rules)

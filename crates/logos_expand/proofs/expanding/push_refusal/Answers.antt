@@ -6,5 +6,6 @@ returns-in_ok-push-in-Errors c = record {
   bad = record { offset = c.args.offset; errors = c.in-Errors.errors; clues = c.args.clues };
   is_offset = refl;
   faults = rw c.in-Errors.is refl;
+  known = refl;
   are = c.in_ok-push-in-Errors.ensures.items;
 }

@@ -9,7 +9,7 @@ use Rattle.logos_automaton.specs.Automaton.{Automaton}
 use Rattle.logos_graph.specs.View.{rules_of}
 use Rattle.logos_graph.proofs.raw_table.raw_table.Goals as goal
 use Rattle.logos_reduce.specs.Table.{size, mark, mark_in}
-use Rattle.logos_reduce.specs.declared.table.Mark.{Mark}
+use Rattle.logos_reduce.specs.declared.table.StateMarks.{StateMarks}
 use Rattle.logos_reduce.specs.Rows.{AreWide}
 use Rattle.logos_reduce.specs.RowsView.{rows_of}
 use Rattle.logos_reduce.specs.declared.rows.Rows.{Rows}
@@ -32,16 +32,16 @@ new-requires-clause-closed c =
     λ s k t l e. let w = closed s k t (omega (arith, l, n)) e in omega (arith, w, n)
 
 -- what is known of the parts, of a table that has them
-module _ (leaves : List Leaf) (dfa : Automaton) (marks : Vec Mark Global) (rows : Rows) (table : Table) (same_marks : table.marks ≡ marks) (same_rows : table.rows ≡ rows) where
+module _ (leaves : List Leaf) (dfa : Automaton) (marks : Vec StateMarks Global) (rows : Rows) (table : Table) (same_marks : table.marks ≡ marks) (same_rows : table.rows ≡ rows) where
   states : vec_len marks ≡ length dfa.matches → size table ≡ length dfa.matches
-  states e = ap (λ (v : Vec Mark Global). vec_len v) same_marks ∙ e
+  states e = ap (λ (v : Vec StateMarks Global). vec_len v) same_marks ∙ e
 
   its_rows : AreRawRows dfa (rows_of rows) (length dfa.matches) → AreRawRows dfa (rows_of table.rows) (length dfa.matches)
   its_rows = subst (λ (r : Rows). AreRawRows dfa (rows_of r) (length dfa.matches)) (sym same_rows)
 
   its_marks : ((s : ℕ) → s < length dfa.matches → IsMarkOf (rules_of leaves) (length leaves) dfa s (mark_in marks.items s)) →
       (s : ℕ) → s < length dfa.matches → IsMarkOf (rules_of leaves) (length leaves) dfa s (mark table s)
-  its_marks h s l = subst (λ (v : Vec Mark Global). IsMarkOf (rules_of leaves) (length leaves) dfa s (mark_in v.items s)) (sym same_marks) (h s l)
+  its_marks h s l = subst (λ (v : Vec StateMarks Global). IsMarkOf (rules_of leaves) (length leaves) dfa s (mark_in v.items s)) (sym same_marks) (h s l)
 
 pub returns-clause-raw : goal.returns-clause-raw
 returns-clause-raw c =
@@ -81,4 +81,4 @@ returns-clause-named c = λ s l.
     (k.2.named, subst (λ (o : Option ℕ). IfSome o (λ leaf. leaf < length leaves)) (sym k.2.early) tt)
 
 pub returns-clause-size : goal.returns-clause-size
-returns-clause-size c = ap (λ (v : Vec Mark Global). vec_len v) c.new.ensures.marks ∙ c.in_ok-marks.ensures.len
+returns-clause-size c = ap (λ (v : Vec StateMarks Global). vec_len v) c.new.ensures.marks ∙ c.in_ok-marks.ensures.len

@@ -1,4 +1,4 @@
-use Rattle.logos_messages.proofs.LineLemmas.{gains_then}
+use Rattle.logos_json.proofs.LineLemmas.{gains_then}
 use Rattle.logos_messages.proofs.answer.push_version_object.Goals as goal
 
 pub returns : goal.returns

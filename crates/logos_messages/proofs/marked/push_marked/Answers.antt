@@ -1,4 +1,4 @@
-use Rattle.logos_messages.proofs.LineLemmas.{gains_then}
+use Rattle.logos_json.proofs.LineLemmas.{gains_then}
 use Rattle.logos_messages.proofs.marked.push_marked.Goals as goal
 
 pub returns : goal.returns

@@ -1,14 +1,14 @@
-use Rattle.std.proofs.Common.{subst}
-use Rattle.logos_token.specs.FaultView.{fault_of}
-use Rattle.logos_messages.specs.Messages.{IsMessage}
-use Rattle.logos_messages.proofs.MessageLemmas.{all_lines, next_lines}
+use Rattle.std.proofs.Common.{◌∙◌, [], ap, subst}
+use Rattle.std.proofs.lemmas.List.{append-nil}
+use Rattle.logos_messages.specs.Messages.{PutsAfter}
+use Rattle.logos_messages.proofs.MessageLemmas.{messages_written}
 use Rattle.logos_messages.proofs.messages.message_lines.Goals as goal
 
-pub loop-fault-preserved : goal.loop-fault-preserved
-loop-fault-preserved c =
-    let m = c.in_ok-lines.ensures in
-    let one = subst (λ x. IsMessage c.args.part.source.now c.args.part.offset (fault_of x) m.0) c.fault-item.is m.2 in
-    next_lines c.args.part.source.now c.args.part.offset c.args.faults.now c.loop-fault.fault-index c.fault-item.result c.loop-fault.lines.items m.0 c.in_ok-lines.lines.items c.loop-fault-test.true m.1 one c.loop-fault.invariant
-
 pub returns : goal.returns
-returns c = all_lines c.args.part.source.now c.args.part.offset c.args.faults.now c.loop-fault.fault-index c.loop-fault.lines.items c.loop-fault-test.false c.loop-fault.invariant
+returns c =
+    let source = c.args.part.source.now in
+    let begin = c.args.part.offset in
+    let faults = c.args.errors.now in
+    let pushed = rw c.list.ensures at c.in_ok-push_all.ensures in
+    let all = subst (λ list. PutsAfter source begin list [] faults c.new-lines.result c.in_ok-push_all.new.lines) (append-nil faults) pushed in
+    messages_written source begin faults _ _ c.in_ok-bytes.bytes.items (ap (λ v. v.before) c.new-lines.ensures ∙ c.new.ensures.items) (ap (λ v. v.tokens) c.new-lines.ensures) all c.in_ok-bytes.ensures.bytes

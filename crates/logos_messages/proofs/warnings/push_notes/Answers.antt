@@ -1,4 +1,5 @@
-use Rattle.logos_messages.proofs.LineLemmas.{gains_then, notes_then}
+use Rattle.logos_json.proofs.LineLemmas.{gains_then}
+use Rattle.logos_messages.proofs.LineLemmas.{notes_then}
 use Rattle.logos_messages.proofs.warnings.push_notes.Goals as goal
 
 pub returns : goal.returns

@@ -1,7 +1,7 @@
 use Rattle.std.proofs.Common.{◌∙◌, [], ◌∷◌, ◌++◌, List, ap, not, map}
 use Rattle.logos_type.specs.Parts.{Tree, whole, trees}
 use Rattle.logos_type.specs.TypeTrees.{type_tree}
-use Rattle.logos_type.specs.declared.type_expr.Leaf.TheVariants.{Word, Mark}
+use Rattle.logos_type.specs.declared.type_expr.TypeToken.TheVariants.{Word, Mark}
 use Rattle.logos_type.proofs.PartTrees.{tree-Leaf, tree-Whole}
 use Rattle.logos_parser.specs.EnumTypes.{less, greater, arguments, lifetime_argument}
 use Rattle.logos_parser.proofs.enum_type.bracketed.Goals as goal

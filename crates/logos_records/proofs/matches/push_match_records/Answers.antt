@@ -1,6 +1,4 @@
-use Rattle.std.proofs.Common.{◌∙◌, inl, inr, refl, sym, subst}
-use Rattle.logos_evidence.specs.Matching.{IsWinner}
-use Rattle.logos_records.proofs.MatchLemmas.{matches_put}
+use Rattle.std.proofs.Common.{◌∙◌, inl, refl, sym}
 use Rattle.logos_records.proofs.matches.push_match_records.Goals as goal
 
 pub returns-in_default : goal.returns-in_default

@@ -1,5 +1,5 @@
 use Rattle.std.proofs.Common.{Vec, Global, vec_len, slice_index, ap, arith}
-use Rattle.logos_reduce.specs.declared.table.Mark.{Mark}
+use Rattle.logos_reduce.specs.declared.table.StateMarks.{StateMarks}
 use Rattle.logos_reduce.proofs.numbering.VisitLemmas.{in_order}
 use Rattle.logos_reduce.proofs.whole.EndLemmas.{least, evidence}
 use Rattle.logos_reduce.proofs.whole.UseLemmas.{spareless}
@@ -7,7 +7,7 @@ use Rattle.logos_reduce.proofs.reduction.reduce.Goals as goal
 
 pub number-requires-clause-root_in : goal.number-requires-clause-root_in
 number-requires-clause-root_in c =
-    let e = ap (λ (v : Vec Mark Global). vec_len v) c.in_ok-pruned.ensures.marks in
+    let e = ap (λ (v : Vec StateMarks Global). vec_len v) c.in_ok-pruned.ensures.marks in
     omega (arith, e, c.in_ok-settled.ensures.states, c.requires)
 
 pub returns-clause-made : goal.returns-clause-made

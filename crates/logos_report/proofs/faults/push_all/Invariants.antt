@@ -3,7 +3,7 @@ use Rattle.logos_token.specs.FaultView.{faults_of}
 use Rattle.logos_report.specs.Faults.{texts_after}
 use Rattle.logos_report.specs.Pages.{PageValue, Shows}
 use Rattle.logos_report.specs.Parts.{all_faults, listed_faults}
-use Rattle.logos_report.specs.Turns.{turn_value}
+use Rattle.logos_report.specs.Sets.{next_value}
 use Rattle.logos_report.proofs.faults.push_all.Given as goal
 
 -- with the faults that are left the page shows all of them
@@ -16,6 +16,6 @@ invariant-loop-fault l =
       numbered : l.number ≡ l.fault-index;
       colored : l.page.is_colored ≡ l.initial.page.is_colored;
       rest : (new : PageValue) →
-          Shows (texts (earlier ++ faults_of (take l.fault-index faults)) (turn_value l.turn) (faults_of (drop l.fault-index faults))) l.page new →
-          Shows (texts earlier (turn_value l.first) (faults_of faults)) l.initial.page new;
+          Shows (texts (earlier ++ faults_of (take l.fault-index faults)) (next_value l.next) (faults_of (drop l.fault-index faults))) l.page new →
+          Shows (texts earlier (next_value l.first) (faults_of faults)) l.initial.page new;
     }

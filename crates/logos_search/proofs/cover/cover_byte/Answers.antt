@@ -3,9 +3,9 @@ use Rattle.std.specs.Prelude.{Contains}
 use Rattle.std.proofs.lemmas.Option.{same_Some}
 use Rattle.logos_search.specs.Covering.{step_to}
 use Rattle.logos_search.specs.inside.Covers.{IsCover}
-use Rattle.logos_search.specs.inside.Stands.{stand_next}
+use Rattle.logos_search.specs.inside.PendingPoints.{pending_next}
 use Rattle.logos_search.specs.declared.steps.InputStep.{InputStep}
-use Rattle.logos_search.specs.declared.visits.Stand.{Stand}
+use Rattle.logos_search.specs.declared.visits.PendingPoint.{PendingPoint}
 use Rattle.logos_search.proofs.CoverLemmas.{input_by, cover_more}
 use Rattle.logos_search.proofs.cover.cover_byte.Goals as goal
 
@@ -23,9 +23,9 @@ way_by-requires-clause-down g c = λ number p l.
 
 pub returns-in_default-clause-covered : goal.returns-in_default-clause-covered
 returns-in_default-clause-covered g c = λ at there to leads.
-    let next = stand_next (g.M.Machine.leads c.args.machine.now) c.args.explored.now.utf8 in
-    let same : c.stand_of-at.result ≡ at = same_Some _ _ (sym c.stand_of-at.ensures ∙ there) in
-    let none : next at c.args.reading.byte ≡ None = subst (λ (s : Stand). next s c.args.reading.byte ≡ None) same (sym c.in_default.ensures) in
+    let next = pending_next (g.M.Machine.leads c.args.machine.now) c.args.explored.now.utf8 in
+    let same : c.pending_of-at.result ≡ at = same_Some _ _ (sym c.pending_of-at.ensures ∙ there) in
+    let none : next at c.args.reading.byte ≡ None = subst (λ (s : PendingPoint). next s c.args.reading.byte ≡ None) same (sym c.in_default.ensures) in
     absurd (let clash : None ≡ Some to = sym none ∙ leads in cc)
 
 pub returns-then-not-is_new-clause-cover : goal.returns-then-not-is_new-clause-cover
@@ -35,21 +35,21 @@ returns-then-not-is_new-clause-cover g c =
 
 pub returns-then-not-is_new-clause-covered : goal.returns-then-not-is_new-clause-covered
 returns-then-not-is_new-clause-covered g c = λ at there to leads.
-    let next = stand_next (g.M.Machine.leads c.args.machine.now) c.args.explored.now.utf8 in
-    let same : c.stand_of-at.result ≡ at = same_Some _ _ (sym c.stand_of-at.ensures ∙ there) in
-    let led : next at c.args.reading.byte ≡ Some c.in-Some.next = subst (λ (s : Stand). next s c.args.reading.byte ≡ Some c.in-Some.next) same (sym c.in-Some.ensures) in
+    let next = pending_next (g.M.Machine.leads c.args.machine.now) c.args.explored.now.utf8 in
+    let same : c.pending_of-at.result ≡ at = same_Some _ _ (sym c.pending_of-at.ensures ∙ there) in
+    let led : next at c.args.reading.byte ≡ Some c.in-Some.next = subst (λ (s : PendingPoint). next s c.args.reading.byte ≡ Some c.in-Some.next) same (sym c.in-Some.ensures) in
     let to_is : c.in-Some.next ≡ to = same_Some _ _ (sym led ∙ leads) in
-    subst (λ (t : Stand). Contains c.add_step.new.steps.keys (step_to at.point t.point)) to_is
-    (subst (λ (s : Stand). Contains c.add_step.new.steps.keys (step_to s.point c.in-Some.next.point)) same c.in_ok-is_new.ensures.has)
+    subst (λ (t : PendingPoint). Contains c.add_step.new.steps.keys (step_to at.point t.point)) to_is
+    (subst (λ (s : PendingPoint). Contains c.add_step.new.steps.keys (step_to s.point c.in-Some.next.point)) same c.in_ok-is_new.ensures.has)
 
 pub returns-clause-cover : goal.returns-clause-cover
 returns-clause-cover g c =
     let next = g.M.Machine.leads c.args.machine.now in
     let explored = c.args.explored.now in
-    let at = c.stand_of-at.result in
+    let at = c.pending_of-at.result in
     let to = c.in-Some.next in
-    let is = input_by next (g.M.Machine.goal c.args.machine.now) explored.utf8 explored.start explored.visits.stands.keys explored.visits.ways.items c.requires.explored
-    c.args.reading.number c.args.reading.byte at to c.in_ok-input.input.items c.stand_of-at.ensures (sym c.in-Some.ensures) c.requires.byte c.in_ok-input.ensures in
+    let is = input_by next (g.M.Machine.goal c.args.machine.now) explored.utf8 explored.start explored.visits.points.keys explored.visits.ways.items c.requires.explored
+    c.args.reading.number c.args.reading.byte at to c.in_ok-input.input.items c.pending_of-at.ensures (sym c.in-Some.ensures) c.requires.byte c.in_ok-input.ensures in
     cover_more next explored.utf8 explored.start _ _ _ _ _ c.in_ok-input.input.items (step_to at.point to.point) c.requires.cover c.in_ok-is_new.ensures.only
     c.in_ok-add_input.ensures.adds c.in_ok-add_input.ensures.input is
 
@@ -58,9 +58,9 @@ returns-clause-grows g c = λ step h. c.in_ok-add_input.ensures.adds.grows step 
 
 pub returns-clause-covered : goal.returns-clause-covered
 returns-clause-covered g c = λ at there to leads.
-    let next = stand_next (g.M.Machine.leads c.args.machine.now) c.args.explored.now.utf8 in
-    let same : c.stand_of-at.result ≡ at = same_Some _ _ (sym c.stand_of-at.ensures ∙ there) in
-    let led : next at c.args.reading.byte ≡ Some c.in-Some.next = subst (λ (s : Stand). next s c.args.reading.byte ≡ Some c.in-Some.next) same (sym c.in-Some.ensures) in
+    let next = pending_next (g.M.Machine.leads c.args.machine.now) c.args.explored.now.utf8 in
+    let same : c.pending_of-at.result ≡ at = same_Some _ _ (sym c.pending_of-at.ensures ∙ there) in
+    let led : next at c.args.reading.byte ≡ Some c.in-Some.next = subst (λ (s : PendingPoint). next s c.args.reading.byte ≡ Some c.in-Some.next) same (sym c.in-Some.ensures) in
     let to_is : c.in-Some.next ≡ to = same_Some _ _ (sym led ∙ leads) in
-    subst (λ (t : Stand). Contains c.add_input.new.cover.steps.keys (step_to at.point t.point)) to_is
-    (subst (λ (s : Stand). Contains c.add_input.new.cover.steps.keys (step_to s.point c.in-Some.next.point)) same (c.in_ok-add_input.ensures.adds.grows _ c.in_ok-is_new.ensures.has))
+    subst (λ (t : PendingPoint). Contains c.add_input.new.cover.steps.keys (step_to at.point t.point)) to_is
+    (subst (λ (s : PendingPoint). Contains c.add_input.new.cover.steps.keys (step_to s.point c.in-Some.next.point)) same (c.in_ok-add_input.ensures.adds.grows _ c.in_ok-is_new.ensures.has))

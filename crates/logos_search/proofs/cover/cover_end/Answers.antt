@@ -3,9 +3,9 @@ use Rattle.std.specs.Prelude.{Contains}
 use Rattle.std.proofs.lemmas.Option.{same_Some}
 use Rattle.logos_search.specs.Covering.{end_at}
 use Rattle.logos_search.specs.inside.Covers.{IsCover}
-use Rattle.logos_search.specs.inside.Stands.{stand_next, stand_goal}
+use Rattle.logos_search.specs.inside.PendingPoints.{pending_next, pending_goal}
 use Rattle.logos_search.specs.declared.steps.InputStep.{InputStep}
-use Rattle.logos_search.specs.declared.visits.Stand.{Stand}
+use Rattle.logos_search.specs.declared.visits.PendingPoint.{PendingPoint}
 use Rattle.logos_search.proofs.CoverLemmas.{input_to, cover_more}
 use Rattle.logos_search.proofs.cover.cover_end.Goals as goal
 
@@ -23,9 +23,9 @@ way_to-requires-clause-down g c = λ number p l.
 
 pub returns-then-not-is_goal-clause-covered : goal.returns-then-not-is_goal-clause-covered
 returns-then-not-is_goal-clause-covered g c = λ at there is.
-    let same : c.stand_of-at.result ≡ at = same_Some _ _ (sym c.stand_of-at.ensures ∙ there) in
-    let out : stand_goal (g.M.Machine.goal c.args.machine.now) c.stand_of-at.result ≡ false = sym c.is_goal.ensures ∙ c.if-not-is_goal.true in
-    let clash : true ≡ false = sym is ∙ subst (λ (s : Stand). stand_goal (g.M.Machine.goal c.args.machine.now) s ≡ false) same out in
+    let same : c.pending_of-at.result ≡ at = same_Some _ _ (sym c.pending_of-at.ensures ∙ there) in
+    let out : pending_goal (g.M.Machine.goal c.args.machine.now) c.pending_of-at.result ≡ false = sym c.is_goal.ensures ∙ c.if-not-is_goal.true in
+    let clash : true ≡ false = sym is ∙ subst (λ (s : PendingPoint). pending_goal (g.M.Machine.goal c.args.machine.now) s ≡ false) same out in
     absurd (cc)
 
 pub returns-then-not-is_new-clause-cover : goal.returns-then-not-is_new-clause-cover
@@ -35,18 +35,18 @@ returns-then-not-is_new-clause-cover g c =
 
 pub returns-then-not-is_new-clause-covered : goal.returns-then-not-is_new-clause-covered
 returns-then-not-is_new-clause-covered g c = λ at there is.
-    let same : c.stand_of-at.result ≡ at = same_Some _ _ (sym c.stand_of-at.ensures ∙ there) in
-    subst (λ (s : Stand). Contains c.add_step.new.steps.keys (end_at s.point)) same c.in_ok-is_new.ensures.has
+    let same : c.pending_of-at.result ≡ at = same_Some _ _ (sym c.pending_of-at.ensures ∙ there) in
+    subst (λ (s : PendingPoint). Contains c.add_step.new.steps.keys (end_at s.point)) same c.in_ok-is_new.ensures.has
 
 pub returns-clause-cover : goal.returns-clause-cover
 returns-clause-cover g c =
     let next = g.M.Machine.leads c.args.machine.now in
     let is_goal = g.M.Machine.goal c.args.machine.now in
     let explored = c.args.explored.now in
-    let at = c.stand_of-at.result in
-    let way = c.in_ok-input.ensures (stand_next next explored.utf8) at c.requires.explored.tree c.stand_of-at.ensures in
-    let goal_is : stand_goal is_goal at ≡ true = sym c.is_goal.ensures ∙ c.if-not-is_goal.false in
-    let is = input_to next is_goal explored.utf8 explored.start explored.visits.stands.keys explored.visits.ways.items c.requires.explored
+    let at = c.pending_of-at.result in
+    let way = c.in_ok-input.ensures (pending_next next explored.utf8) at c.requires.explored.tree c.pending_of-at.ensures in
+    let goal_is : pending_goal is_goal at ≡ true = sym c.is_goal.ensures ∙ c.if-not-is_goal.false in
+    let is = input_to next is_goal explored.utf8 explored.start explored.visits.points.keys explored.visits.ways.items c.requires.explored
     c.args.number at c.in_ok-input.input.items way goal_is in
     cover_more next explored.utf8 explored.start _ _ _ _ _ c.in_ok-input.input.items (end_at at.point) c.requires.cover c.in_ok-is_new.ensures.only
     c.in_ok-add_input.ensures.adds c.in_ok-add_input.ensures.input is
@@ -56,5 +56,5 @@ returns-clause-grows g c = λ step h. c.in_ok-add_input.ensures.adds.grows step 
 
 pub returns-clause-covered : goal.returns-clause-covered
 returns-clause-covered g c = λ at there is.
-    let same : c.stand_of-at.result ≡ at = same_Some _ _ (sym c.stand_of-at.ensures ∙ there) in
-    subst (λ (s : Stand). Contains c.add_input.new.cover.steps.keys (end_at s.point)) same (c.in_ok-add_input.ensures.adds.grows _ c.in_ok-is_new.ensures.has)
+    let same : c.pending_of-at.result ≡ at = same_Some _ _ (sym c.pending_of-at.ensures ∙ there) in
+    subst (λ (s : PendingPoint). Contains c.add_input.new.cover.steps.keys (end_at s.point)) same (c.in_ok-add_input.ensures.adds.grows _ c.in_ok-is_new.ensures.has)

@@ -8,7 +8,7 @@ use Rattle.logos_search.proofs.cover.covering.Goals as goal
 pub loop-number-preserved : goal.loop-number-preserved
 loop-number-preserved g c =
     let i = c.loop-number.invariant in
-    let made = c.in_ok-cover_stand.ensures in
+    let made = c.in_ok-cover_pending.ensures in
     record {
       within = let l = i.within in omega (arith, l);
       cover = made.cover;
@@ -16,7 +16,7 @@ loop-number-preserved g c =
           elim (cases_lt j c.loop-number.number) [
             | inl m ↦
                 let same : j ≡ c.loop-number.number - 1 = omega (arith, l, m) in
-                made.covered at (ap (slice_get c.in_ok-explored.explored.visits.stands.keys) (sym same) ∙ there)
+                made.covered at (ap (slice_get c.in_ok-explored.explored.visits.points.keys) (sym same) ∙ there)
             | inr m ↦
                 let old = i.covered j at m there in
                 record { bytes = λ b k to step. made.grows _ (old.bytes b k to step); end = λ is. made.grows _ (old.end is) }
@@ -31,7 +31,7 @@ returns g c =
     let made = c.in_ok-explored.ensures in
     let i = c.loop-number.invariant in
     let inputs = map (λ v. v.items) c.loop-number.cover.inputs.items in
-    let all = covers_all next is_goal explored.utf8 explored.start explored.visits.stands.keys explored.visits.ways.items made.explored
+    let all = covers_all next is_goal explored.utf8 explored.start explored.visits.points.keys explored.visits.ways.items made.explored
     c.loop-number.cover.steps.keys (λ j at there. i.covered j at (omega arith) there) inputs i.cover in
     subst (λ (m : Bool). AreCovering next is_goal m c.args.start inputs) made.mode
     (subst (λ (p : Point). AreCovering next is_goal explored.utf8 p inputs) made.start all)

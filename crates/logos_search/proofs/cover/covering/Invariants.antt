@@ -1,14 +1,14 @@
 use Rattle.std.proofs.Common.{◌≡◌, ℕ, ◌≤◌, Some, length, slice_get}
 use Rattle.logos_search.specs.inside.Covers.{AreCoveredAt, CoversSteps}
-use Rattle.logos_search.specs.declared.visits.Stand.{Stand}
+use Rattle.logos_search.specs.declared.visits.PendingPoint.{PendingPoint}
 use Rattle.logos_search.proofs.cover.covering.Given as goal
 
--- the steps from the stands with higher numbers are covered
+-- the steps from the pending points with higher numbers are covered
 abbrev pub invariant-loop-number : goal.invariant-loop-number
 invariant-loop-number g l = record {
-  within : l.number ≤ length l.explored.visits.stands.keys;
+  within : l.number ≤ length l.explored.visits.points.keys;
   cover : CoversSteps (g.M.Machine.leads l.machine) l.explored l.cover;
-  covered : (i : ℕ) (at : Stand) → l.number ≤ i → slice_get l.explored.visits.stands.keys i ≡ Some at →
+  covered : (i : ℕ) (at : PendingPoint) → l.number ≤ i → slice_get l.explored.visits.points.keys i ≡ Some at →
       AreCoveredAt (g.M.Machine.leads l.machine) (g.M.Machine.goal l.machine) l.explored.utf8 l.cover.steps.keys at;
 }
 

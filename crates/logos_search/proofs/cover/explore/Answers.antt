@@ -1,5 +1,5 @@
 use Rattle.std.proofs.Common.{◌≡◌, ◌+◌, ◌<◌, ℕ, length, subst, arith}
-use Rattle.logos_search.specs.inside.Stands.{stand_next}
+use Rattle.logos_search.specs.inside.PendingPoints.{pending_next}
 use Rattle.logos_search.specs.inside.Visits.{IsClosed}
 use Rattle.logos_search.proofs.ShortestLemmas.{closed_more}
 use Rattle.logos_search.proofs.cover.explore.Goals as goal
@@ -9,7 +9,7 @@ loop-number-preserved g c =
     let next = g.M.Machine.leads c.args.machine.now in
     let i = c.loop-number.invariant in
     let made = c.in_ok-meet_all.ensures in
-    let inside : c.loop-number.number < length c.loop-number.visits.stands.keys = omega arith in
+    let inside : c.loop-number.number < length c.loop-number.visits.points.keys = omega arith in
     record {
       passed = let longer = made.grows.longer in omega (arith, longer, inside);
       first = made.grows.stays 0 _ i.first;
@@ -19,17 +19,17 @@ loop-number-preserved g c =
           let d = made.grows.depths c.loop-number.number inside in
           let r = made.tree.rising c.loop-number.number (c.loop-number.number + 1) (omega arith) l in
           omega (arith, w, d, r);
-      closed = closed_more (stand_next next c.args.utf8) _ _ _ _ c.loop-number.number inside made.grows i.closed made.met;
+      closed = closed_more (pending_next next c.args.utf8) _ _ _ _ c.loop-number.number inside made.grows i.closed made.met;
     }
 
 pub returns-clause-explored : goal.returns-clause-explored
 returns-clause-explored g c =
-    let next = stand_next (g.M.Machine.leads c.args.machine.now) c.args.utf8 in
+    let next = pending_next (g.M.Machine.leads c.args.machine.now) c.args.utf8 in
     let i = c.loop-number.invariant in
     let passed = i.passed in
-    let all : c.loop-number.number ≡ length c.loop-number.visits.stands.keys = omega (arith, passed) in
+    let all : c.loop-number.number ≡ length c.loop-number.visits.points.keys = omega (arith, passed) in
     record {
       first = i.first;
       tree = i.tree;
-      closed = subst (λ (n : ℕ). IsClosed next c.loop-number.visits.stands.keys c.loop-number.visits.ways.items n) all i.closed;
+      closed = subst (λ (n : ℕ). IsClosed next c.loop-number.visits.points.keys c.loop-number.visits.ways.items n) all i.closed;
     }

@@ -1,8 +1,8 @@
 use Rattle.std.proofs.Common.{◌≡◌, ◌+◌, ◌<◌, true, false, length, sym, ◌∙◌, arith}
 use Rattle.logos_search.specs.Rests.{more}
-use Rattle.logos_search.specs.inside.Stands.{stand_at, stand_next, stand_goal}
+use Rattle.logos_search.specs.inside.PendingPoints.{pending_at, pending_next, pending_goal}
 use Rattle.logos_search.proofs.ShortestLemmas.{closed_more, no_goal_more, far, nowhere}
-use Rattle.logos_search.proofs.StandLemmas.{stands_lead, leads_to}
+use Rattle.logos_search.proofs.PendingLemmas.{stands_lead, leads_to}
 use Rattle.logos_search.proofs.search.shortest.Goals as goal
 
 pub way_to-requires-clause-down : goal.way_to-requires-clause-down
@@ -16,14 +16,14 @@ returns-then-is_goal g c =
     let next = g.M.Machine.leads c.args.machine.now in
     let is_goal = g.M.Machine.goal c.args.machine.now in
     let i = c.loop-number.invariant in
-    let way = c.in_ok-bytes.ensures (stand_next next c.args.utf8) c.stand_of.result i.tree c.stand_of.ensures in
-    let there = way.way (stand_at c.args.start (more 0)) i.first in
-    let is : stand_goal is_goal c.stand_of.result ≡ true = sym c.is_goal.ensures ∙ c.if-is_goal.true in
+    let way = c.in_ok-bytes.ensures (pending_next next c.args.utf8) c.pending_of.result i.tree c.pending_of.ensures in
+    let there = way.way (pending_at c.args.start (more 0)) i.first in
+    let is : pending_goal is_goal c.pending_of.result ≡ true = sym c.is_goal.ensures ∙ c.if-is_goal.true in
     record {
-      leads = leads_to next is_goal c.args.utf8 c.args.start _ c.stand_of.result way.are_bytes there is;
+      leads = leads_to next is_goal c.args.utf8 c.args.start _ c.pending_of.result way.are_bytes there is;
       least = λ other leads.
           let s = stands_lead next is_goal c.args.utf8 c.args.start other leads in
-          let d = far (stand_next next c.args.utf8) (stand_goal is_goal) _ _ c.loop-number.number i.tree i.closed i.none other 0 (stand_at c.args.start (more 0)) s.0
+          let d = far (pending_next next c.args.utf8) (pending_goal is_goal) _ _ c.loop-number.number i.tree i.closed i.none other 0 (pending_at c.args.start (more 0)) s.0
           (omega arith) leads.input.0 i.first s.1 s.2 in
           let size = way.size in
           let low = i.tree.low 0 (omega arith) in
@@ -36,8 +36,8 @@ loop-number-preserved g c =
     let is_goal = g.M.Machine.goal c.args.machine.now in
     let i = c.loop-number.invariant in
     let made = c.in_ok-meet_all.ensures in
-    let out : stand_goal is_goal c.stand_of.result ≡ false = sym c.is_goal.ensures ∙ c.if-is_goal.false in
-    let inside : c.loop-number.number < length c.loop-number.visits.stands.keys = omega arith in
+    let out : pending_goal is_goal c.pending_of.result ≡ false = sym c.is_goal.ensures ∙ c.if-is_goal.false in
+    let inside : c.loop-number.number < length c.loop-number.visits.points.keys = omega arith in
     record {
       passed = let longer = made.grows.longer in omega (arith, longer, inside);
       first = made.grows.stays 0 _ i.first;
@@ -47,8 +47,8 @@ loop-number-preserved g c =
           let d = made.grows.depths c.loop-number.number inside in
           let r = made.tree.rising c.loop-number.number (c.loop-number.number + 1) (omega arith) l in
           omega (arith, w, d, r);
-      closed = closed_more (stand_next next c.args.utf8) _ _ _ _ c.loop-number.number inside made.grows i.closed made.met;
-      none = no_goal_more (stand_goal is_goal) _ _ _ _ c.loop-number.number c.stand_of.result c.stand_of.ensures out made.grows i.none;
+      closed = closed_more (pending_next next c.args.utf8) _ _ _ _ c.loop-number.number inside made.grows i.closed made.met;
+      none = no_goal_more (pending_goal is_goal) _ _ _ _ c.loop-number.number c.pending_of.result c.pending_of.ensures out made.grows i.none;
     }
 
 pub returns : goal.returns
@@ -57,5 +57,5 @@ returns g c = λ bytes leads.
     let is_goal = g.M.Machine.goal c.args.machine.now in
     let i = c.loop-number.invariant in
     let s = stands_lead next is_goal c.args.utf8 c.args.start bytes leads in
-    nowhere (stand_next next c.args.utf8) (stand_goal is_goal) _ _ c.loop-number.number i.tree i.closed i.none bytes 0 (stand_at c.args.start (more 0)) s.0
+    nowhere (pending_next next c.args.utf8) (pending_goal is_goal) _ _ c.loop-number.number i.tree i.closed i.none bytes 0 (pending_at c.args.start (more 0)) s.0
     (omega arith) leads.input.0 i.first s.1 s.2

@@ -2,10 +2,10 @@ use Rattle.std.proofs.Common.{◌≡◌, ℕ, ◌+◌, inl, inr, Some, sym, ◌�
 use Rattle.std.proofs.lemmas.Bool.{cases_lt}
 use Rattle.std.proofs.lemmas.List.{get_or_default}
 use Rattle.std.proofs.lemmas.Option.{same_Some}
-use Rattle.logos_search.specs.inside.Stands.{stand_next}
+use Rattle.logos_search.specs.inside.PendingPoints.{pending_next}
 use Rattle.logos_search.specs.inside.Visits.{IsMet, no_visit, visit_at}
 use Rattle.logos_search.specs.inside.Order.{IsByteAt}
-use Rattle.logos_search.specs.declared.visits.Stand.{Stand}
+use Rattle.logos_search.specs.declared.visits.PendingPoint.{PendingPoint}
 use Rattle.logos_search.specs.declared.visits.Visit.{Visit}
 use Rattle.logos_search.proofs.OrderLemmas.{one_byte, placed}
 use Rattle.logos_search.proofs.VisitLemmas.{grows_on, met_on}
@@ -22,19 +22,19 @@ loop-place-preserved g c = record {
         | inr m ↦
             let same : place ≡ c.loop-place.place = omega arith in
             let byte : b ≡ c.byte_at-byte.result = one_byte c.loop-place.place b c.byte_at-byte.result (subst (λ (p : ℕ). IsByteAt p b) same at) c.byte_at-byte.ensures in
-            c.in_ok-meet_next.ensures.met to (subst (λ (x : ℕ). stand_next (g.M.Machine.leads c.args.machine.now) c.args.utf8 c.stand_of-at.result x ≡ Some to) byte e)
+            c.in_ok-meet_next.ensures.met to (subst (λ (x : ℕ). pending_next (g.M.Machine.leads c.args.machine.now) c.args.utf8 c.pending_of-at.result x ≡ Some to) byte e)
       ];
 }
 
 pub returns-clause-met : goal.returns-clause-met
 returns-clause-met g c = λ b from at is_byte to e.
     let p = placed b is_byte in
-    let same : from ≡ c.stand_of-at.result = same_Some _ _ (sym at ∙ c.stand_of-at.ensures) in
-    let step = subst (λ (s : Stand). stand_next (g.M.Machine.leads c.args.machine.now) c.args.utf8 s b ≡ Some to) same e in
+    let same : from ≡ c.pending_of-at.result = same_Some _ _ (sym at ∙ c.pending_of-at.ensures) in
+    let step = subst (λ (s : PendingPoint). pending_next (g.M.Machine.leads c.args.machine.now) c.args.utf8 s b ≡ Some to) same e in
     let small = p.1 in
     let met = c.loop-place.invariant.met p.0 b to (omega (arith, small)) p.2 step in
     let ways = c.args.visits.now.ways.items in
     let inside = c.requires.there in
     let count = c.requires.tree.same in
     let way : c.index.result.now ≡ visit_at ways c.args.number = c.index.ensures ∙ get_or_default ways c.args.number c.index.result.now no_visit (omega (arith, inside, count)) in
-    subst (λ (v : Visit). IsMet c.loop-place.visits.stands.keys c.loop-place.visits.ways.items to (v.depth + 1)) way met
+    subst (λ (v : Visit). IsMet c.loop-place.visits.points.keys c.loop-place.visits.ways.items to (v.depth + 1)) way met

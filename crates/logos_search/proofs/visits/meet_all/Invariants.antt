@@ -1,16 +1,16 @@
 use Rattle.std.proofs.Common.{◌≡◌, ℕ, ◌<◌, Some}
 use Rattle.logos_search.specs.inside.Order.{IsByteAt}
-use Rattle.logos_search.specs.inside.Stands.{stand_next}
+use Rattle.logos_search.specs.inside.PendingPoints.{pending_next}
 use Rattle.logos_search.specs.inside.Visits.{IsTree, IsWithin, Grows, IsMet}
-use Rattle.logos_search.specs.declared.visits.Stand.{Stand}
+use Rattle.logos_search.specs.declared.visits.PendingPoint.{PendingPoint}
 use Rattle.logos_search.proofs.visits.meet_all.Given as goal
 
 -- what the bytes so far lead to was met
 abbrev pub invariant-loop-place : goal.invariant-loop-place
 invariant-loop-place g l = record {
-  tree : IsTree (stand_next (g.M.Machine.leads l.machine) l.utf8) l.visits.stands.keys l.visits.ways.items;
-  within : IsWithin (stand_next (g.M.Machine.leads l.machine) l.utf8) l.visits.stands.keys l.visits.ways.items l.depth;
-  grows : Grows l.initial.visits.stands.keys l.initial.visits.ways.items l.visits.stands.keys l.visits.ways.items;
-  met : (place b : ℕ) (to : Stand) → place < l.place → IsByteAt place b → stand_next (g.M.Machine.leads l.machine) l.utf8 l.at b ≡ Some to →
-      IsMet l.visits.stands.keys l.visits.ways.items to l.depth;
+  tree : IsTree (pending_next (g.M.Machine.leads l.machine) l.utf8) l.visits.points.keys l.visits.ways.items;
+  within : IsWithin (pending_next (g.M.Machine.leads l.machine) l.utf8) l.visits.points.keys l.visits.ways.items l.depth;
+  grows : Grows l.initial.visits.points.keys l.initial.visits.ways.items l.visits.points.keys l.visits.ways.items;
+  met : (place b : ℕ) (to : PendingPoint) → place < l.place → IsByteAt place b → pending_next (g.M.Machine.leads l.machine) l.utf8 l.at b ≡ Some to →
+      IsMet l.visits.points.keys l.visits.ways.items to l.depth;
 }

@@ -9,7 +9,7 @@ use Rattle.logos_search.proofs.visits.way_to.Goals as goal
 
 pub loop-at-preserved : goal.loop-at-preserved
 loop-at-preserved c =
-    let ks = c.args.visits.now.stands.keys in
+    let ks = c.args.visits.now.points.keys in
     let ws = c.args.visits.now.ways.items in
     let at = c.loop-at.at in
     let bytes = c.loop-at.bytes.items in
@@ -46,5 +46,5 @@ returns c = λ next to tree at.
           let none : depth_at c.args.visits.now.ways.items c.loop-at.at ≡ depth_at c.args.visits.now.ways.items 0 = ap (depth_at c.args.visits.now.ways.items) zero in
           omega (arith, n, s, low, none);
       way = λ first there.
-          ap (after next first) turned ∙ i.way next first to tree (subst (λ (n : ℕ). slice_get c.args.visits.now.stands.keys n ≡ Some first) (sym zero) there) at;
+          ap (after next first) turned ∙ i.way next first to tree (subst (λ (n : ℕ). slice_get c.args.visits.now.points.keys n ≡ Some first) (sym zero) there) at;
     }

@@ -1,18 +1,18 @@
 use Rattle.std.proofs.Common.{◌≡◌, ℕ, ◌+◌, ◌<◌, All, Option, Some, length, reverse, slice_get}
 use Rattle.logos_search.specs.Machines.{after}
 use Rattle.logos_search.specs.inside.Visits.{IsTree, depth_at}
-use Rattle.logos_search.specs.declared.visits.Stand.{Stand}
+use Rattle.logos_search.specs.declared.visits.PendingPoint.{PendingPoint}
 use Rattle.logos_search.proofs.visits.way_to.Given as goal
 
--- the bytes so far, last first, lead on from the stand
+-- the bytes so far, last first, lead on from the pending point
 abbrev pub invariant-loop-at : goal.invariant-loop-at
 invariant-loop-at l = record {
   there : l.at < length l.visits.ways.items;
-  are_bytes : (next : Stand → ℕ → Option Stand) → IsTree next l.visits.stands.keys l.visits.ways.items → All (λ b. b < 256) l.bytes.items;
-  size : (next : Stand → ℕ → Option Stand) → IsTree next l.visits.stands.keys l.visits.ways.items →
+  are_bytes : (next : PendingPoint → ℕ → Option PendingPoint) → IsTree next l.visits.points.keys l.visits.ways.items → All (λ b. b < 256) l.bytes.items;
+  size : (next : PendingPoint → ℕ → Option PendingPoint) → IsTree next l.visits.points.keys l.visits.ways.items →
       length l.bytes.items + depth_at l.visits.ways.items l.at ≡ depth_at l.visits.ways.items l.number;
-  way : (next : Stand → ℕ → Option Stand) (from to : Stand) → IsTree next l.visits.stands.keys l.visits.ways.items →
-      slice_get l.visits.stands.keys l.at ≡ Some from → slice_get l.visits.stands.keys l.number ≡ Some to →
+  way : (next : PendingPoint → ℕ → Option PendingPoint) (from to : PendingPoint) → IsTree next l.visits.points.keys l.visits.ways.items →
+      slice_get l.visits.points.keys l.at ≡ Some from → slice_get l.visits.points.keys l.number ≡ Some to →
       after next from (reverse l.bytes.items) ≡ Some to;
 }
 

@@ -1,7 +1,7 @@
 use Rattle.std.proofs.Common.{◌≡◌, ◌<◌, ◌-◌, ◌++◌, [], ◌∷◌, List, map, ap, ◌∙◌, arith, append_assoc}
 use Rattle.std.proofs.lemmas.Result.{err_from_is_err_and}
 use Rattle.logos_token.specs.Views.{tokens_of}
-use Rattle.logos_type.specs.declared.type_expr.Part.{Part}
+use Rattle.logos_type.specs.declared.type_expr.TypePart.{TypePart}
 use Rattle.logos_type.specs.Parts.{Tree, sign, sign_of, tree_of}
 use Rattle.logos_type_reader.specs.Reading.{NoType, NoMove, NoParts, just_name, a_token, a_bar, a_type, a_still_type, still_tokens, a_nest, deep_name, deep, unended, left_out, here}
 use Rattle.logos_type_reader.specs.ReadingViews.{spot_of}
@@ -59,7 +59,7 @@ pub formed_at-returns-clause-ok : goal.formed_at-returns-clause-ok
 formed_at-returns-clause-ok t c =
     let allowed : 0 < c.args.levels = omega (arith, c.if-levels-eq0.false) in
     let g = c.in-Ok-parts_at.ensures in
-    let e = c.in_ok-add_leaf.ensures ∙ ap (λ (ps : List Part). map tree_of ps ++ sign (sign_of c.in-Ok.opening.leaf) ∷ []) c.new-parts.ensures.items in
+    let e = c.in_ok-add_leaf.ensures ∙ ap (λ (ps : List TypePart). map tree_of ps ++ sign (sign_of c.in-Ok.opening.leaf) ∷ []) c.new-parts.ensures.items in
     rw (tree-Whole c.parts_at.new.parts)
     (formed_type c.args.levels c.args.plus (tokens_of c.args.tokens) _ _ _ _ g.0 _ _ allowed c.requires c.in-Ok.ensures g.2 c.if-opening-barred.false (g.1 ∙ ap (λ (x : List Tree). x ++ g.0) e))
 

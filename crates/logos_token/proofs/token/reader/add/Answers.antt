@@ -5,7 +5,7 @@ use Rattle.logos_lexeme.specs.declared.lexeme.Span.{Span}
 use Rattle.logos_token.specs.declared.token.reader.OpenGroup.{OpenGroup}
 use Rattle.logos_token.specs.declared.token.entry.Entry.{Entry}
 use Rattle.logos_token.specs.declared.token.entry.Entry.TheVariants.{Ident, Punct, Literal, Doc}
-use Rattle.logos_lexeme.specs.declared.lexeme.Kind.{Kind}
+use Rattle.logos_lexeme.specs.declared.lexeme.LexemeKind.{LexemeKind}
 use Rattle.logos_token.specs.Tokens.{Token, identifier, punctuation, literal, doc}
 use Rattle.logos_token.specs.Flat.{value_of, flat_token}
 use Rattle.logos_lexeme.specs.Lexemes.{IsNext}
@@ -33,7 +33,7 @@ pub returns-in-Gap-clause-ok : goal.returns-in-Gap-clause-ok
 returns-in-Gap-clause-ok c = read-gap c.args.source.now c.args.span _ _ c.requires.read (rw c.in-Gap.is at c.requires.next)
 
 -- the entries with one more
-module _ (bytes : List ℕ) (kind : Kind) (span : Span) (items : List Entry) (begun : List OpenGroup) (read : IsRead bytes span.from (map value_of items) begun) (next : IsNext bytes span.from kind span.to) where
+module _ (bytes : List ℕ) (kind : LexemeKind) (span : Span) (items : List Entry) (begun : List OpenGroup) (read : IsRead bytes span.from (map value_of items) begun) (next : IsNext bytes span.from kind span.to) where
   pushed : (entry : Entry) (token : Token) → lexeme_of bytes kind span ≡ leaf token ∷ [] → token_lexemes token ≡ leaf token ∷ [] → flat_token token ≡ value_of entry ∷ [] →
       (new : List Entry) → new ≡ items ++ entry ∷ [] → IsRead bytes span.to (map value_of new) begun
   pushed entry token is lexeme flat new new-is =

@@ -1,0 +1,32 @@
+//! The lexemes and the gaps of a text, one after another.
+
+ghost use Rattle.std.specs.Prelude.{◌<◌, IfSome, length};
+
+use logos_lexeme::lexeme::{LexemeKind, lexeme_at};
+
+/// The lexeme or the gap that a text begins with.
+#[derive(Clone, Copy)]
+pub(crate) struct FirstPiece<'t> {
+    pub(crate) kind: LexemeKind,
+    pub(crate) piece: &'t str,
+    /// The text after it.
+    pub(crate) rest: &'t str,
+}
+
+/// Returns the lexeme or the gap that a text begins with, or `None` if the text is empty or does
+/// not begin with one.
+pub(crate) fn first_piece(text: &str) -> Option<FirstPiece<'_>>
+    ensures { IfSome result (λ first. length first.rest.now < length text.now) }
+{
+    if text.is_empty() {
+        return None;
+    }
+    let Ok((kind, to)) = lexeme_at(text, 0) else {
+        return None;
+    };
+    Some(FirstPiece {
+        kind,
+        piece: &text[..to],
+        rest: &text[to..],
+    })
+}

@@ -1,5 +1,0 @@
-use Rattle.logos_messages.proofs.LineLemmas.{gains_then}
-use Rattle.logos_messages.proofs.line.Line.push_text.Goals as goal
-
-pub returns : goal.returns
-returns c = gains_then c.push_name.ensures c.string.ensures

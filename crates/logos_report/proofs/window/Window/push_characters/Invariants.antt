@@ -1,6 +1,0 @@
-use Rattle.std.proofs.Common.{[]}
-use Rattle.logos_report.specs.Pages.{Shows}
-use Rattle.logos_report.proofs.window.Window.push_characters.Given as goal
-
-abbrev pub invariant-loop-character : goal.invariant-loop-character
-invariant-loop-character l = Shows [] l.initial.page l.page
