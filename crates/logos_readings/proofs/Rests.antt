@@ -1,5 +1,5 @@
 -- Rests of a run of tokens.
-use Rattle.std.proofs.Common.{◌≡◌, refl, sym, ap, ◌∙◌}
+use Rattle.std.proofs.Common.{refl, sym, ◌∙◌}
 use Rattle.logos_token.specs.Tokens.{TokenList, none, also, append, IsRestOf}
 use Rattle.logos_spans.proofs.RuleParts.{Rests}
 use Rattle.logos_spans.proofs.TokenParts.{append_append}

@@ -1,11 +1,10 @@
 -- What stays of an enum.
-use Rattle.std.proofs.Common.{◌≡◌, Bool, true, false, if◌then◌else◌, List, [], ◌∷◌, ◌++◌, Option, Some, None, Ok, Err, refl, sym, ap, ◌∙◌, subst, codes}
-use Rattle.std.specs.Str.{bytes_eq}
+use Rattle.std.proofs.Common.{◌≡◌, true, false, List, [], ◌∷◌, ◌++◌, Option, Some, Ok, Err, refl, sym, ap, ◌∙◌, subst}
 use Rattle.logos_lexeme.specs.declared.lexeme.Span.{Span}
 use Rattle.logos_lexeme.specs.declared.lexeme.Delimiter.TheVariants.{Parenthesis, Bracket, Brace}
 use Rattle.logos_token.specs.Tokens.{Token, TokenList, identifier, punctuation, literal, doc, group, none, also, append}
 use Rattle.logos_enum.specs.Attributes.{announced_in}
-use Rattle.logos_enum.specs.Enum.{variants, within, where_in, Body, braced, lacking, end_in, enum_of, item, Reads, reads}
+use Rattle.logos_enum.specs.Enum.{variants, within, Body, braced, lacking, end_in, enum_of, item, Reads, reads}
 use Rattle.logos_enum.specs.EnumValues.{VariantValue, EnumValue}
 use Rattle.logos_enum.specs.Groups.{Opened, brace_in}
 use Rattle.logos_enum.specs.Marks.{is_none}
