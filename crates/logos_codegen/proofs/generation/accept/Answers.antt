@@ -12,14 +12,14 @@ use Rattle.logos_codegen.proofs.GraphLemmas.{graph_refuses, graph_made}
 use Rattle.logos_codegen.proofs.generation.accept.Goals as goal
 
 -- what holds of a result by two facts about it
-together : {T E : Type 0} (P Q R : T → Type 0) (result : Result T E) → ((x : T) → P x → Q x → R x) → IfOk result P → IfOk result Q → IfOk result R
-together P Q R (Ok x) by p q = by x p q
-together P Q R (Err e) by p q = tt
+together : {T E : Type 0} (result : Result T E) (P Q R : T → Type 0) → ((x : T) → P x → Q x → R x) → IfOk result P → IfOk result Q → IfOk result R
+together (Ok x) P Q R by p q = by x p q
+together (Err e) P Q R by p q = tt
 
 -- the same of an error
-by_error : {T E : Type 0} (P Q : E → Type 0) (result : Result T E) → ((e : E) → P e → Q e) → IfErr result P → IfErr result Q
-by_error P Q (Ok x) by p = tt
-by_error P Q (Err e) by p = by e p
+by_error : {T E : Type 0} (result : Result T E) (P Q : E → Type 0) → ((e : E) → P e → Q e) → IfErr result P → IfErr result Q
+by_error (Ok x) P Q by p = tt
+by_error (Err e) P Q by p = by e p
 
 pub returns-in-Err-clause-err : goal.returns-in-Err-clause-err
 returns-in-Err-clause-err c = ends_refuses c.args.src.now c.in-Err.refusal c.in-Err.ensures.err
@@ -29,8 +29,8 @@ returns-in-Ok-clause-ok c =
     let read = c.in-Ok.ensures.ok in
     let analysis = c.in-Ok.analysis in
     let made = c.accept_analysis in
-    together (λ x. IsFaultless analysis.leaves.items (utf8_mode (parser_view analysis.parser)) analysis.span analysis.parser.errors x.0) (λ x. IsHeadOf (analysis_view analysis) x.1)
-    (λ x. IsGraphMade c.args.src.now (ident_slice x.1.name) (parser_view x.1.options) x.0) made.result
+    together made.result (λ x. IsFaultless analysis.leaves.items (utf8_mode (parser_view analysis.parser)) analysis.span analysis.parser.errors x.0) (λ x. IsHeadOf (analysis_view analysis) x.1)
+    (λ x. IsGraphMade c.args.src.now (ident_slice x.1.name) (parser_view x.1.options) x.0)
     (λ x found head. subst (λ (o : OptionsView). IsGraphMade c.args.src.now (ident_slice x.1.name) o x.0) (sym head.same_options)
     (graph_made c.args.src.now read.enum analysis.span analysis.leaves.items (parser_view analysis.parser) analysis.parser.errors read.says read.enum_says
     (ident_slice x.1.name) x.0 c.in-Ok.ensures.short c.in-Ok.ensures.shallow (read.is_name ∙ sym head.same_name) found))
@@ -41,7 +41,7 @@ returns-in-Ok-clause-typed c =
     let read = c.in-Ok.ensures.ok in
     let analysis = c.in-Ok.analysis in
     let made = c.accept_analysis in
-    together (λ x. IsHeadOf (analysis_view analysis) x.1) (λ x. IsHeadOf (analysis_view analysis) x.1) (λ x. HeadHasItsType x.1) made.result
+    together made.result (λ x. IsHeadOf (analysis_view analysis) x.1) (λ x. IsHeadOf (analysis_view analysis) x.1) (λ x. HeadHasItsType x.1)
     (λ x head same. rw (head.same_name, head.same_type, head.same_options) read.is_type) made.ensures.head made.ensures.head
 
 pub returns-in-Ok-clause-err : goal.returns-in-Ok-clause-err
@@ -49,6 +49,6 @@ returns-in-Ok-clause-err c =
     let read = c.in-Ok.ensures.ok in
     let analysis = c.in-Ok.analysis in
     let made = c.accept_analysis in
-    by_error (Refuses (AreGraphFaults analysis.leaves.items (utf8_mode (parser_view analysis.parser)) analysis.span analysis.parser.errors)) (Refuses (IsRefused c.args.src.now)) made.result
+    by_error made.result (Refuses (AreGraphFaults analysis.leaves.items (utf8_mode (parser_view analysis.parser)) analysis.span analysis.parser.errors)) (Refuses (IsRefused c.args.src.now))
     (graph_refuses c.args.src.now read.enum analysis.span analysis.leaves.items (parser_view analysis.parser) analysis.parser.errors read.says read.enum_says
     c.in-Ok.ensures.short c.in-Ok.ensures.shallow) made.ensures.err
