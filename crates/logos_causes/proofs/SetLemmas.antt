@@ -17,16 +17,16 @@ use Rattle.logos_causes.specs.Sets.{HasSets, LeavesHaveSets, read, unread}
 
 -- tokens that are not an enum have no sets
 misread_has : (source : List ℕ) (tokens : TokenList) (error : ReadError) (sizes : List ℕ) → Spells source tokens → depth_of tokens ≤ 128 → Reads tokens (Err error) → error ≢ Memory → sizes ≡ [] → HasSets source sizes
-misread_has source tokens (NotAnEnum span) sizes s shallow reads other none = unread (misread s shallow (record { error = NotAnEnum span; reads = reads; are = refl })) none
-misread_has source tokens (Grammar span) sizes s shallow reads other none = unread (misread s shallow (record { error = Grammar span; reads = reads; are = refl })) none
-misread_has source tokens (TypeUnsupported span) sizes s shallow reads other none = unread (misread s shallow (record { error = TypeUnsupported span; reads = reads; are = refl })) none
-misread_has source tokens (LimitTypeNesting span) sizes s shallow reads other none = unread (misread s shallow (record { error = LimitTypeNesting span; reads = reads; are = refl })) none
-misread_has source tokens Memory sizes s shallow reads other none = absurd (other refl)
+misread_has source tokens (NotAnEnum span) sizes s shallow is_read other none = unread (misread s shallow (record { error = NotAnEnum span; reads = is_read; are = refl })) none
+misread_has source tokens (Grammar span) sizes s shallow is_read other none = unread (misread s shallow (record { error = Grammar span; reads = is_read; are = refl })) none
+misread_has source tokens (TypeUnsupported span) sizes s shallow is_read other none = unread (misread s shallow (record { error = TypeUnsupported span; reads = is_read; are = refl })) none
+misread_has source tokens (LimitTypeNesting span) sizes s shallow is_read other none = unread (misread s shallow (record { error = LimitTypeNesting span; reads = is_read; are = refl })) none
+misread_has source tokens Memory sizes s shallow is_read other none = absurd (other refl)
 
 pub misread_all : {A E : Type 0} (f : A → List ℕ) (result : Result A E) (source : List ℕ) (tokens : TokenList) (error : ReadError) → Spells source tokens → depth_of tokens ≤ 128 → Stands (λ e. Reads tokens (Err e)) error →
     IfOk result (λ known. f known ≡ []) → IfOk result (λ known. error ≢ Memory) → IfOk result (λ known. HasSets source (f known))
 misread_all f (Ok known) source tokens error s shallow stands none other =
-    elim stands [ inl e ↦ absurd (other e) | inr reads ↦ misread_has source tokens error (f known) s shallow reads other none ]
+    elim stands [ inl e ↦ absurd (other e) | inr is_read ↦ misread_has source tokens error (f known) s shallow is_read other none ]
 misread_all f (Err failed) source tokens error s shallow stands none other = tt
 
 -- the sets of the leaves of an analysis are those of its source

@@ -23,7 +23,7 @@ set_sizes faults = flat_map set_size faults
 -- Leaves have sets of ambiguous leaves of these sizes, in order: those among the faults of their
 -- graph, and none where a limit keeps it from being built.
 pub data LeavesHaveSets (leaves : List Leaf) (sizes : List ℕ) : Type 0 where
-  of_graph : {faults : List Fault} → size_of (rules_of leaves) ≤ 2 ^ 20 → AreFaults (rules_of leaves) faults → sizes ≡ set_sizes faults → LeavesHaveSets leaves sizes
+  of_graph : (faults : List Fault) → size_of (rules_of leaves) ≤ 2 ^ 20 → AreFaults (rules_of leaves) faults → sizes ≡ set_sizes faults → LeavesHaveSets leaves sizes
   too_large : 2 ^ 20 < size_of (rules_of leaves) → sizes ≡ [] → LeavesHaveSets leaves sizes
   too_many_states : AllStart (rules_of leaves) → HasMoreKeys (rules_of leaves) 65536 → sizes ≡ [] → LeavesHaveSets leaves sizes
 
