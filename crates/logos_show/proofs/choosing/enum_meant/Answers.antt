@@ -6,7 +6,7 @@ use Rattle.logos_show.proofs.choosing.enum_meant.Goals as goal
 pub loop-one-preserved : goal.loop-one-preserved
 loop-one-preserved c =
     let so = c.loop-one.invariant in
-    let next = c.in_ok-choice_with.ensures in
+    let next = c.in_ok-choice.ensures in
     record {
       same_name = next.same_name ∙ so.same_name;
       exact = among_next c.args.found.now c.loop-one.choice.exact _ c.loop-one.one-index c.one-item.result c.loop-one-test.true c.one-item.is so.exact next.exact;
@@ -23,5 +23,5 @@ returns c =
     subst (λ one. IfSome one (IsTaken c.args.found.now (option_map (λ name. name.now) c.args.name))) (sym c.chosen_of.ensures)
     (is_taken c.args.found.now (option_map (λ name. name.now) c.args.name) c.loop-one.choice.exact c.loop-one.choice.first so.exact so.near
     (λ none.
-        let old = so.unnamed (no_name c.args.name none) in
-        (old.0, first_all c.args.found.now c.loop-one.choice.first c.loop-one.one-index c.loop-one-test.false old.1)))
+    let old = so.unnamed (no_name c.args.name none) in
+    (old.0, first_all c.args.found.now c.loop-one.choice.first c.loop-one.one-index c.loop-one-test.false old.1)))
