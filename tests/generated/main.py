@@ -191,8 +191,8 @@ def made(seed):
 
 def judge(program, calls, seed):
     """What came of a source: its faults' codes, the numbers of comparisons and of streams, the
-    forms of an accepted one, and the difference or None. Where the programs answer as they did in an
-    earlier test, it is what it was then."""
+    forms of an accepted one, and the difference or None. Where the programs answer as they did in
+    an earlier test, it is what it was then."""
     kept = earlier('generated', seed)
     if kept and answers_as_before((program, calls), kept[0]):
         return kept[1]

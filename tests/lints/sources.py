@@ -6,8 +6,8 @@
 Each crate of `crates.txt` has to be as `rt fmt` leaves it. Files of the toolchain stand in the
 folders `src`, `specs` and `proofs` of crates alone, and a list of crates at the top alone: other
 sources have names that end with `.in`. In a quick test a crate that was found to be so is looked at
-again where its files or the toolchain have changed. The last line is `sources: N passed, M failed`: one for each
-crate, and one for the places of files."""
+again where its files or the toolchain have changed. The last line is `sources: N passed, M failed`:
+one for each crate, and one for the places of files."""
 import filecmp
 import hashlib
 import json
