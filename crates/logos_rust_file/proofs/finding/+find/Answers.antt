@@ -19,7 +19,7 @@ add_first-returns-in-End t c = (done (sym c.in-End.ensures), refl)
 pub add_first-returns-in_ok-push-in-Enum : goal.add_first-returns-in_ok-push-in-Enum
 add_first-returns-in_ok-push-in-Enum t c =
     let front = c.before-in-Enum.ensures (enum_rest (tokens_of c.args.tokens) (tokens_of c.in-Enum.rest) c.in-Enum.ensures) in
-    added_enum (tokens_of c.args.tokens) (tokens_of c.in-Enum.rest) _ _ c.describe-in-Enum.result c.in-Enum.ensures (rw front at c.describe-in-Enum.ensures) c.in_ok-push-in-Enum.ensures.items
+    added_enum (tokens_of c.args.tokens) (tokens_of c.in-Enum.rest) _ _ c.describe.result c.in-Enum.ensures (rw front at c.describe.ensures) c.in_ok-push-in-Enum.ensures.items
 
 pub add_first-returns-in_ok-add_all-in-Module : goal.add_first-returns-in_ok-add_all-in-Module
 add_first-returns-in_ok-add_all-in-Module t c =
