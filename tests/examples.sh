@@ -1,6 +1,7 @@
 #!/usr/bin/env bash
 # Runs the examples: `cargo test` in each Cargo package of examples/, of runtime/rust and of
-# runtime/build, without a network.
+# runtime/build, without a network. A quick test runs those of a package again where it, the runtime
+# packages or an answer of `logos_cli` have changed.
 #
 # The program `logos_cli` is the one that the gate has built, or the first argument. Where cargo is
 # missing, that is printed, and nothing is tested. The last line is `examples: N passed, M failed`,
@@ -16,6 +17,7 @@ if [ ! -x "$LOGOS_CLI" ]; then
 fi
 LOGOS_CLI=$(realpath "$LOGOS_CLI")
 export LOGOS_CLI
+. "$root/tests/kept.sh"
 packages=(runtime/rust runtime/build examples/json examples/template examples/highlight examples/ini)
 room=$(mktemp -d)
 trap 'rm -rf "$room"' EXIT
@@ -26,10 +28,16 @@ if ! command -v cargo > /dev/null; then
     echo "examples: there is no cargo here, so ${#packages[@]} packages were not tested"
     exit 0
 fi
+# Tests a package, and writes into a file how many of its tests passed.
+tested() {
+    CARGO_TARGET_DIR="$room/target" cargo test --quiet --offline --manifest-path "$root/$1/Cargo.toml" > "$room/output" 2>&1 || return
+    awk '/^test result: ok\. [0-9]+ passed/ { all += $4 } END { print all + 0 }' "$room/output" > "$2"
+}
+
 for package in "${packages[@]}"; do
-    if CARGO_TARGET_DIR="$room/target" cargo test --quiet --offline --manifest-path "$root/$package/Cargo.toml" > "$room/output" 2>&1; then
-        tests=$(awk '/^test result: ok\. [0-9]+ passed/ { all += $4 } END { print all + 0 }' "$room/output")
-        passed=$((passed + tests))
+    count=$room/examples_${package//\//_}
+    if of_packages "$root/runtime" "$root/$package" "$root/tests/examples.sh" | kept_by_answers "$count" tested "$package" "$count"; then
+        passed=$((passed + $(< "$count")))
     else
         failed=$((failed + 1))
         printf 'examples: %s failed\n' "$package"

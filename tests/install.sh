@@ -7,10 +7,12 @@
 #
 # Then it packs a release in two clones, and installs one of them. Last it builds a program that
 # adds one to the byte 255, whose checks at run time end it: where its sums are those of
-# proved.sums, and where its source has changed since.
+# proved.sums, and where its source has changed since. A quick test builds it again where the tools
+# or the toolchain have changed.
 set -uo pipefail
 
 root=$(cd "$(dirname "${BASH_SOURCE[0]}")/.." && pwd)
+. "$root/tests/kept.sh"
 room=$(mktemp -d)
 trap 'rm -rf "$room"' EXIT
 passed=0
@@ -144,6 +146,28 @@ refuses_changed_clone() {
     ! packs "$room/one" 2> /dev/null
 }
 
+# Builds the probe in both ways, and writes into a file how many of the three tests passed and how
+# many failed.
+probes() {
+    passed=0
+    failed=0
+    make_probe
+    python3 "$probe/tools/proved_sums.py" --write
+    expect 'checks are left out by the sums' builds 'left out'
+    echo '// changed' >> "$probe/crates/probe/src/main.rt"
+    expect 'checks stay where a crate has changed' builds kept
+    expect 'they end the program' is_ended
+    echo "$passed $failed" > "$room/install_probe"
+    [ "$failed" = 0 ]
+}
+
+add_probes() {
+    local good=0 bad=3
+    read -r good bad < "$room/install_probe"
+    passed=$((passed + good))
+    failed=$((failed + bad))
+}
+
 bin=$room/prefix/bin
 built=${1:-$root/out/installed}
 probe=$room/probe
@@ -169,12 +193,8 @@ expect 'the packed programs name their commit' names_commit
 expect 'a packed file that has changed is refused' refuses_changed_release
 expect 'a clone with changes is refused' refuses_changed_clone
 
-make_probe
-python3 "$probe/tools/proved_sums.py" --write
-expect 'checks are left out by the sums' builds 'left out'
-echo '// changed' >> "$probe/crates/probe/src/main.rt"
-expect 'checks stay where a crate has changed' builds kept
-expect 'they end the program' is_ended
+{ of_toolchain; cat "$root"/tools/*.py "$root"/tools/*.sh "$root/HANDLES" "$root/tests/install.sh"; } | kept "$room/install_probe" probes
+add_probes
 
 echo "$passed passed, $failed failed"
 [ "$failed" = 0 ]

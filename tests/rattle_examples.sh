@@ -55,12 +55,13 @@ add_crate() {
         cp "$root/examples/$1/$1.rs" "$root/examples/$1/data"/* "$at/data"
         rm "$at/data/expected"
     fi
-    # What is written of its proofs stands in files whose names end with `.in`: files of the
-    # toolchain may stand in crates alone.
-    if [ -d "$root/examples/$1/proofs" ]; then
-        cp -r "$root/examples/$1/proofs" "$at"
-        find "$at/proofs" -name '*.in' -exec sh -c 'mv "$1" "${1%.in}"' _ {} \;
-    fi
+    # Its definitions and what is written of its proofs stand in files whose names end with `.in`:
+    # files of the toolchain may stand in crates alone.
+    local folder
+    for folder in specs proofs; do
+        [ ! -d "$root/examples/$1/$folder" ] || cp -r "$root/examples/$1/$folder" "$at"
+    done
+    find "$at" -name '*.in' -exec sh -c 'mv "$1" "${1%.in}"' _ {} \;
     echo "$1_example: $libraries" >> "$room/crates.txt"
     (cd "$at" && rt fmt) > /dev/null
 }
@@ -112,6 +113,7 @@ done << 'END'
 config data/config.rs data/good.toml data/bad.toml
 query data/query.rs data/query.sql
 log data/log.rs data/access.log
+errors
 count data/count.rs data/text.txt
 edit data/edit.rs data/text data/edits
 END

@@ -49,15 +49,15 @@ def wants(what, wanted, found):
         raise Failed(f'{what}: wanted {wanted!r}, found {found!r}')
 
 
-def program(*words):
-    """Returns a running program, with pipes."""
-    return subprocess.Popen([PROGRAM, 't.rs', '-', *words], stdin=subprocess.PIPE, stdout=subprocess.PIPE, stderr=subprocess.PIPE)
+def program(enum='Token'):
+    """Returns a running program that lexes by an enum, with pipes."""
+    return subprocess.Popen([PROGRAM, 't.rs', '-', '--enum', enum], stdin=subprocess.PIPE, stdout=subprocess.PIPE, stderr=subprocess.PIPE)
 
 
-def given(data, *words, pieces=None):
+def given(data, enum='Token', pieces=None):
     """Returns the status, the lines before the empty line, and the messages of a program that is
     fed some bytes, perhaps in pieces."""
-    with program(*words) as running:
+    with program(enum) as running:
         if pieces:
             for piece in pieces:
                 os.write(running.stdin.fileno(), piece)
@@ -128,7 +128,7 @@ def characters_in_two_pieces():
 
 def any_bytes():
     """A lexer of bytes takes them all."""
-    wants('bytes', (0, ['1:1  <error>  "\\xFF"', '1:2  Word  "ab"', '1:4  Blank  " "', '1:5  <error>  "\\xC3"'], ''), given(b'\xffab \xc3', '--enum', 'Bytes'))
+    wants('bytes', (0, ['1:1  <error>  "\\xFF"', '1:2  Word  "ab"', '1:4  Blank  " "', '1:5  <error>  "\\xC3"'], ''), given(b'\xffab \xc3', 'Bytes'))
 
 
 def a_token_that_is_too_long():
@@ -150,7 +150,7 @@ def memory_stays():
         'with open("long", "rb") as file, open("/dev/null", "wb") as out:\n' \
         '    done = subprocess.run(sys.argv[1:], stdin=file, stdout=out)\n' \
         'print(done.returncode, resource.getrusage(resource.RUSAGE_CHILDREN).ru_maxrss)\n'
-    found = subprocess.run([sys.executable, '-c', script, PROGRAM, 't.rs', '-'], capture_output=True, timeout=6 * SECONDS, check=True)
+    found = subprocess.run([sys.executable, '-c', script, PROGRAM, 't.rs', '-', '--enum', 'Token'], capture_output=True, timeout=6 * SECONDS, check=True)
     status, kilobytes = map(int, found.stdout.split())
     os.remove('long')
     wants('the status', 0, status)
@@ -172,7 +172,7 @@ def a_reader_that_leaves():
 def inputs_that_cannot_be_read():
     """A folder cannot be read."""
     folder = os.open('.', os.O_RDONLY)
-    done = subprocess.run([PROGRAM, 't.rs', '-'], stdin=folder, capture_output=True, timeout=SECONDS, check=False)
+    done = subprocess.run([PROGRAM, 't.rs', '-', '--enum', 'Token'], stdin=folder, capture_output=True, timeout=SECONDS, check=False)
     os.close(folder)
     wants('a folder', (3, b'', b'error: cannot read /dev/stdin: it is a folder\n'), (done.returncode, done.stdout, done.stderr))
 

@@ -18,6 +18,7 @@ of_pieces="piece_past_move piece_returned"
 wanted="$of_tokens $of_enums $of_pieces"
 
 here=$(cd "$(dirname "${BASH_SOURCE[0]}")" && pwd)
+. "$here/../kept.sh"
 copy=$(mktemp -d)
 trap 'rm -rf "$copy"' EXIT
 shown=0
@@ -32,10 +33,10 @@ fail() {
 found=$(cd "$here" && for edit in *.edit; do echo "${edit%.edit}"; done | sort | xargs)
 [ "$found" = "$(echo $wanted | tr ' ' '\n' | sort | xargs)" ] || fail "other files than those of the list: $found"
 
-# Tries the files of these names in a copy of a crate.
+# Tries the files of these names in a copy of a crate, and writes what they meet into a file.
 try_in() {
-    local crate=$1
-    shift
+    local out=$1 crate=$2
+    shift 2
     rm -rf "$copy/crates"
     tar -C "$here/../.." --exclude=out -cf - crates crates.txt HANDLES | tar -C "$copy" -xf -
     cd "$copy/crates/$crate"
@@ -57,16 +58,23 @@ try_in() {
         [ "$met" = 1 ] || fail "$name meets $error $met times"
         grep -v "^src/$name.rt:[0-9:]* error\[$error\]" "$copy/log" > "$copy/rest" || true
         mv "$copy/rest" "$copy/log"
-        echo "borrows: $name meets $error"
-        shown=$((shown + 1))
+        echo "borrows: $name meets $error" >> "$out"
     done
     if grep -q 'error' "$copy/log"; then
         fail "another error is met"
     fi
 }
 
-try_in logos_token $of_tokens
-try_in logos_enum $of_enums
-try_in logos_attribute $of_pieces
+# The same, unless they were tried in the same crate before.
+try_files() {
+    local out=$copy/borrows_$1
+    { python3 "$here/front_end.py" --inputs "$here/../.." "$1"; cat "$here/run.sh" "$here"/*.edit; } | kept "$out" try_in "$out" "$@" || exit 1
+    cat "$out"
+    shown=$((shown + $(wc -l < "$out")))
+}
+
+try_files logos_token $of_tokens
+try_files logos_enum $of_enums
+try_files logos_attribute $of_pieces
 echo "borrows: none of $shown views that outlive their buffers compiles, and the same code without the fault does"
 echo "$shown passed, 0 failed"

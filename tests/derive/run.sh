@@ -20,6 +20,9 @@
 #   `expected` holds. Its faults end the build, its warnings are shown, and a program that has
 #   changed is asked again.
 #
+# In a quick test each of these runs again where a package, a table, the runtime packages or an
+# answer of the program have changed.
+#
 # The last line is `N passed, M failed`. How many have to pass is stated here.
 set -uo pipefail
 
@@ -31,6 +34,7 @@ features=3
 scripted=5
 root=$(cd "$(dirname "${BASH_SOURCE[0]}")/../.." && pwd)
 here=$root/tests/derive
+. "$root/tests/kept.sh"
 LOGOS_CLI=$(realpath "${1:-${LOGOS_CLI:-$root/crates/logos_cli/out/logos_cli}}")
 export LOGOS_CLI PYTHONDONTWRITEBYTECODE=1
 unset LOGOS_SHAPE
@@ -145,17 +149,39 @@ mkdir "$room/accepted"
 cp -r "$here/Cargo.toml" "$here/accepted" "$room/accepted"
 sed -i "s|\.\./\.\./runtime|$root/runtime|" "$room/accepted/Cargo.toml"
 sed -i "s|\"\.\./.*/runtime/rust\"|\"$root/runtime/rust\"|" "$room"/accepted/accepted/*/Cargo.toml
+table() {
+    python3 "$here/$1.py" "$here/$2" "$room/$2" "$root/runtime/rust" > "$room/output"
+    add "$3"
+}
+
+# Tests something, and writes into a file how many rows passed and failed.
+counted() {
+    local out=$1
+    shift
+    passed=0
+    failed=0
+    "$@"
+    echo "$passed $failed" > "$out"
+    [ "$failed" = 0 ]
+}
+
+# NAME ROWS COMMAND ..: tests something that has so many rows, unless it passed before as it is.
+group() {
+    local out=$room/derive_$1 rows=$2 good=0 bad=1
+    of_packages "$root/runtime" "$here" | kept_by_answers "$out" counted "$out" "${@:3}"
+    read -r good bad < "$out"
+    passed=$((passed + good))
+    failed=$((failed + bad + (good + bad == rows ? 0 : 1)))
+}
+
 for shape in tailcall state_machine tables; do
-    accept "$shape"
+    group "$shape" $((accepted / 3)) accept "$shape"
 done
-[ $((passed + failed)) = $accepted ] || failed=$((failed + 1))
-python3 "$here/check.py" "$here/refused" "$room/refused" "$root/runtime/rust" > "$room/output"
-add "$refused"
-python3 "$here/programs.py" "$here/programs" "$room/programs" "$root/runtime/rust" > "$room/output"
-add "$programs"
-switch
-feature
-script
+group refused "$refused" table check refused "$refused"
+group programs "$programs" table programs programs "$programs"
+group switched "$switched" switch
+group features "$features" feature
+group scripted "$scripted" script
 [ $((accepted + refused + programs + switched + features + scripted)) = $((passed + failed)) ] || echo "derive: not every row was tested"
 echo "$passed passed, $failed failed"
 [ "$failed" = 0 ]

@@ -12,6 +12,7 @@ from random import Random
 HERE = path.dirname(path.realpath(__file__))
 sys.path.insert(0, path.join(path.dirname(HERE), 'generated'))
 from byte_sets import partners, runs_of_categories
+from earlier import earlier, keep
 from inputs import OTHER
 from main import ALL, made
 from matching import TooLarge
@@ -54,19 +55,36 @@ def edits_of(text, inputs, random, is_utf8):
     return lines, refused
 
 
-def judge(program, seed):
-    """Nothing where the program finds the same after each edit, or if the source is refused; else
-    the difference."""
+def asked(seed):
+    """The source, the input, the lines of edits and how many of these are refused; or None where
+    the source is refused."""
+    kept = earlier('edits', seed)
+    if not kept:
+        kept = (made_edits(seed),)
+        keep('edits', seed, kept)
+    return kept[0]
+
+
+def made_edits(seed):
     try:
         source, reading, inputs = made(seed)
     except TooLarge:
-        return None, False
+        return None
     if reading.faults.list:
-        return None, False
+        return None
     random = Random(seed)
     inputs = [text for text in inputs if text]
     text = text_of(inputs, random, reading.utf8)
-    lines, refused = edits_of(text, inputs, random, reading.utf8)
+    return source, text, *edits_of(text, inputs, random, reading.utf8)
+
+
+def judge(program, seed):
+    """Nothing where the program finds the same after each edit, or if the source is refused; else
+    the difference."""
+    asks = asked(seed)
+    if not asks:
+        return None, False
+    source, text, lines, refused = asks
     with tempfile.TemporaryDirectory() as room:
         for name, content in (('source', source.encode()), ('input', text), ('edits', '\n'.join(lines).encode())):
             with open(f'{room}/{name}', 'wb') as out:

@@ -297,8 +297,8 @@ for name in enums variants; do
         met=$((met + 1))
     done
 done
-# In JSON 50 lines are faults of the code, and one says how many more there are.
-[ "$(grep -c '"level":"error"' err)" = 50 ] && [ "$(grep -c '"level":"failure-note"' err)" = 1 ] || fail "variants.rs as json: other lines"
+# In JSON 50 lines are faults of each of two codes, and one says how many more there are.
+[ "$(grep -c '"level":"error"' err)" = 100 ] && [ "$(grep -c '"level":"failure-note"' err)" = 2 ] || fail "variants.rs as json: other lines"
 
 # Standard output is full, closed, read slowly, or read no more.
 status=0

@@ -15,6 +15,7 @@ from itertools import zip_longest
 from random import Random
 from byte_sets import partners, runs_of_categories
 from charts import judge_chart
+from earlier import FOLDER, earlier, keep
 from faults import SHAPES, TEXTS
 from inputs import make_input
 from kept import KEPT
@@ -34,13 +35,36 @@ CHARTS, ACCEPTED = 20, 2
 WRONG = [0, 0.1, 0.25, 0, 0.5]
 
 
+# In a quick test, what was asked for a source: program or calls, the words, the files, the input,
+# and the answer.
+ASKED = []
+
+
 class Difference(Exception):
     """What the program answered in place of what the reader found."""
+
+
+def answer(done):
+    return done.returncode, done.stdout, done.stderr
+
+
+def answers_as_before(programs, asked):
+    """Whether the programs answer all that was asked for a source in the same way again."""
+    with tempfile.TemporaryDirectory() as room:
+        for number, words, files, given, wanted in asked:
+            for name, content in files.items():
+                write(f'{room}/{name}', content)
+            if answer(subprocess.run([programs[number], *words], cwd=room, input=given, capture_output=True, check=False)) != wanted:
+                return False
+    return True
 
 
 def run(program, room, *words):
     """The status, the lines of output and those of complaints."""
     done = subprocess.run([program, *words], cwd=room, capture_output=True, check=False)
+    if FOLDER:
+        files = {name: read(f'{room}/{name}') for name in words if os.path.exists(f'{room}/{name}')}
+        ASKED.append((0, words, files, None, answer(done)))
     return done.returncode, done.stdout.decode().split('\n'), done.stderr.decode().split('\n')
 
 
@@ -62,6 +86,11 @@ def expect(what, wanted, found):
 def ended(lines):
     """Lines as they stand in a text where each has its end."""
     return list(lines) + ['']
+
+
+def read(path):
+    with open(path, 'rb') as file:
+        return file.read()
 
 
 def write(path, content):
@@ -111,6 +140,7 @@ def stream(calls, source, reading, inputs, random):
         valid = valid_up_to(text) if reading.utf8 else len(text)
         wanted += [*reading.items(text[:valid]), f'{"end" if valid == len(text) else "NotUtf8"} {valid}']
     done = subprocess.run([calls, 'streams'], input=b''.join(requests), capture_output=True, check=False)
+    ASKED.append((1, ('streams',), {}, b''.join(requests), answer(done)))
     expect(f'streams of {inputs}', (0, ended(wanted), ['']), (done.returncode, done.stdout.decode().split('\n'), done.stderr.decode().split('\n')))
     return len(inputs)
 
@@ -161,7 +191,12 @@ def made(seed):
 
 def judge(program, calls, seed):
     """What came of a source: its faults' codes, the numbers of comparisons and of streams, the
-    forms of an accepted one, and the difference or None."""
+    forms of an accepted one, and the difference or None. Where the programs answer as they did in
+    an earlier test, it is what it was then."""
+    kept = earlier('generated', seed)
+    if kept and answers_as_before((program, calls), kept[0]):
+        return kept[1]
+    ASKED.clear()
     source, reading, inputs = made(seed)
     forms = [] if reading.faults.list else [form for form in FORMS if MET[form]]
     with tempfile.TemporaryDirectory() as room:
@@ -172,7 +207,9 @@ def judge(program, calls, seed):
                 raise Difference('no input is read as a stream')
         except Difference as difference:
             return [], 0, 0, [], f'seed {seed}: {difference}\n{source}'
-    return [code for code, _, _ in reading.faults.list], compared, streamed, forms, None
+    found = [code for code, _, _ in reading.faults.list], compared, streamed, forms, None
+    keep('generated', seed, (ASKED, found))
+    return found
 
 
 def judge_kept(program):

@@ -37,13 +37,20 @@ program=$(realpath "${1:-$here/../../crates/logos_program/out/logos_program}")
 calls=$(realpath "${2:-$here/../../out/quick/calls}")
 shift $(($# < 2 ? $# : 2))
 export PYTHONDONTWRITEBYTECODE=1
+. "$here/../kept.sh"
 room=$(mktemp -d)
 trap 'rm -rf "$room"' EXIT
+# Writes the rows of a script.
+write_rows() {
+    python3 "$here/$1.py" > "$room/generated_$1"
+}
+
 python3 "$here/main.py" "$program" "$calls" "$@" | tee "$room/sources"
 [ $# = 0 ] || exit 0
 
 for rows in changed automata expressions; do
-    if python3 "$here/$rows.py" | "$calls" > "$room/$rows"; then
+    { python3 --version; cat "$here"/*.py; } | kept "$room/generated_$rows" write_rows "$rows"
+    if "$calls" < "$room/generated_$rows" > "$room/$rows"; then
         echo "generated: the rows of $rows.py are answered as the plain reader has it"
     else
         head -n 20 "$room/$rows" >&2

@@ -75,10 +75,10 @@ deriving() {
 }
 
 # Has rustc compile the expanded files, where all warnings are errors, and a program that lexes by
-# them.
+# them. Clippy is rustc with more warnings, so that where it is there it compiles the files.
 compile() {
     (cd "$room" && rustc --edition 2021 -A warnings --crate-name logos --crate-type rlib --cfg 'feature="std"' -o liblogos.rlib "$root/runtime/rust/src/lib.rs" \
-        && rustc --edition 2021 --extern logos=liblogos.rlib --crate-name expanded --crate-type rlib -o libexpanded.rlib expanded.rs \
+        && "$compiler" --edition 2021 --extern logos=liblogos.rlib --crate-name expanded --crate-type rlib -o libexpanded.rlib expanded.rs \
         && rustc --edition 2021 -A warnings --extern logos=liblogos.rlib --extern expanded=libexpanded.rlib -o lexers main.rs \
         && compile_plainly)
 }
@@ -91,13 +91,6 @@ compile_plainly() {
     rustc --edition 2021 -A warnings --crate-name logos --crate-type rlib --emit metadata -o plain/liblogos.rmeta plain/src/lib.rs \
         && rustc --edition 2021 -A warnings --extern logos=plain/liblogos.rmeta --crate-name expanded --crate-type rlib --emit metadata \
             -o plain/libexpanded.rmeta plain.rs
-}
-
-# Fails unless clippy accepts the expanded files, where all warnings are errors.
-accepted_by_clippy() {
-    (cd "$room" && rustc --edition 2021 -A warnings --crate-name logos --crate-type rlib -o liblogos.rlib "$root/runtime/rust/src/lib.rs" \
-        && clippy-driver --edition 2021 --extern logos=liblogos.rlib --crate-name expanded --crate-type lib --emit metadata -o clippy.rmeta expanded.rs \
-        && date > clippy)
 }
 
 # Prints the arm that lexes by a module: the module, the type of its tokens, and whether it reads
@@ -161,12 +154,12 @@ sed -e "/LEXERS/{
 r $room/arms
 d
 }" "$here/main.rs.in" > "$room/main.rs"
-{ of_runtime "$root"; cat "$room"/*.rs; } | kept "$room/lexers" compile || fail "rustc refuses the expanded files"
-if command -v clippy-driver > /dev/null; then
-    { of_runtime "$root"; clippy-driver --version; cat "$room"/*.rs; } | kept "$room/clippy" accepted_by_clippy || fail "clippy refuses the expanded files"
-else
+compiler=clippy-driver
+if ! command -v clippy-driver > /dev/null; then
     echo "lexers: clippy is missing, so it was not asked"
+    compiler=rustc
 fi
+{ of_runtime "$root"; "$compiler" --version; cat "$room"/*.rs; } | kept "$room/lexers" compile || fail "rustc or clippy refuses the expanded files"
 compared=0
 items=0
 for wanted in "$room"/*.wanted; do

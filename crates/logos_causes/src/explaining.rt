@@ -1,7 +1,7 @@
 //! What is known of a source that is refused, and what warnings a lexer has.
 
-ghost use Rattle.std.specs.Prelude.{◌≡◌, IfOk};
-ghost use Rattle.logos_causes.specs.Words.{HasSets, LeavesHaveSets, set_sizes, sizes_of};
+ghost use Rattle.std.specs.Prelude.{◌≡◌, ◌≢◌, ◌≤◌, [], IfOk};
+ghost use Rattle.logos_causes.specs.Words.{GivesEnum, HasSets, IsRefusal, LeavesHaveSets, Spells, depth_of, enum_value, set_sizes, sizes_of, tokens_of};
 
 use crate::callbacks::{CallbackOwner, add_callback, add_callbacks};
 use crate::hidden::add_hidden;
@@ -13,7 +13,7 @@ use logos_parser::analysis::{Analysis, analyze_enum};
 use logos_pattern::leaf::{Callback, Leaf};
 use logos_report::{Clues, Warning};
 use logos_token::error::Memory;
-use logos_token::token::{Span, TokenError, tokenize};
+use logos_token::token::{Span, TokenError, Tokens, tokenize};
 use logos_warnings::item_warnings;
 use std::alloc::{AllocError, Global};
 
@@ -28,7 +28,9 @@ pub struct Explained {
 
 impl Explained {
     /// Returns what is known of a source that cannot be read: nothing.
-    fn nothing(alloc: Global) -> Explained {
+    fn nothing(alloc: Global) -> Explained
+        ensures { sizes_of result.clues ≡ [] }
+    {
         Explained {
             clues: Clues::none(alloc),
             warnings: Vec::new(alloc),
@@ -64,47 +66,95 @@ pub fn explain_enum(alloc: Global, source: &str) -> Result<Explained, Memory>
 
 /// Returns what is known of a source, with the warnings of `enum_warnings` or without them.
 fn explain_source(alloc: Global, source: &str, warns: bool) -> Result<Explained, Memory>
-    // Each set of ambiguous leaves of the source is known, in order.
     ensures { IfOk result (λ known. HasSets source.now (sizes_of known.clues)) }
 {
-    let stream = match tokenize(alloc, source) {
-        Ok(stream) => stream,
-        Err(TokenError::Memory) => return Err(Memory),
-        Err(_) => return Ok(Explained::nothing(alloc)),
-    };
-    let tokens = stream.run();
-    match read_enum(alloc, tokens) {
-        Ok(item) => explain_item(alloc, source, (&item, tokens.span()), warns),
-        Err(ReadError::Memory) => Err(Memory),
-        Err(_) => Ok(Explained::nothing(alloc)),
+    match tokenize(alloc, source) {
+        Ok(stream) => explain_tokens(alloc, source, stream.run(), warns),
+        Err(error) => explain_unreadable(alloc, source, error),
     }
 }
 
-/// Returns what is known of the enum that a source spells, which is given with its span.
+/// Returns what is known of a source without tokens, for this reason: nothing.
+fn explain_unreadable(
+    alloc: Global,
+    source: &str,
+    error: TokenError,
+) -> Result<Explained, Memory>
+    requires { IsRefusal source.now error }
+    ensures { IfOk result (λ known. HasSets source.now (sizes_of known.clues)) }
+{
+    match error {
+        TokenError::Lexical { .. } => Ok(Explained::nothing(alloc)),
+        TokenError::LimitSource => Ok(Explained::nothing(alloc)),
+        TokenError::LimitTokenNesting { .. } => Ok(Explained::nothing(alloc)),
+        TokenError::Memory => Err(Memory),
+    }
+}
+
+/// Returns what is known of a source with these tokens.
+fn explain_tokens(
+    alloc: Global,
+    source: &str,
+    tokens: Tokens<'_, '_>,
+    warns: bool,
+) -> Result<Explained, Memory>
+    requires spelled { Spells source.now (tokens_of tokens) }
+    requires shallow { depth_of (tokens_of tokens) ≤ 128 }
+    ensures { IfOk result (λ known. HasSets source.now (sizes_of known.clues)) }
+{
+    match read_enum(alloc, tokens) {
+        Ok(item) => explain_item(alloc, source, &item, tokens.span(), warns),
+        Err(error) => explain_misread(alloc, error),
+    }
+}
+
+/// Returns what is known of tokens that are not an enum, for this reason: nothing.
+fn explain_misread(alloc: Global, error: ReadError) -> Result<Explained, Memory>
+    ensures known { IfOk result (λ known. sizes_of known.clues ≡ []) }
+    ensures fault { IfOk result (λ known. error ≢ ReadError.Memory) }
+{
+    match error {
+        ReadError::NotAnEnum { .. } => Ok(Explained::nothing(alloc)),
+        ReadError::Grammar { .. } => Ok(Explained::nothing(alloc)),
+        ReadError::TypeUnsupported { .. } => Ok(Explained::nothing(alloc)),
+        ReadError::LimitTypeNesting { .. } => Ok(Explained::nothing(alloc)),
+        ReadError::Memory => Err(Memory),
+    }
+}
+
+/// Returns what is known of the enum that a source spells, which has this span.
 fn explain_item(
     alloc: Global,
     source: &str,
-    item: (&ItemEnum<'_, '_>, Span),
+    item: &ItemEnum<'_, '_>,
+    span: Span,
     warns: bool,
-) -> Result<Explained, Memory> {
+) -> Result<Explained, Memory>
+    requires { GivesEnum source.now (enum_value item.now) span }
+    ensures { IfOk result (λ known. HasSets source.now (sizes_of known.clues)) }
+{
     let mut warnings = if warns {
-        item_warnings(alloc, item.0, true)?
+        item_warnings(alloc, item, true)?
     } else {
         Vec::new(alloc)
     };
-    let clues = clues_in(alloc, source, item, &mut warnings)?;
+    let clues = clues_in(alloc, source, item, span, &mut warnings)?;
     Ok(Explained { clues, warnings })
 }
 
-/// Returns what is known of the faults of an enum, which is given with its span. Adds the warnings
-/// of its callbacks.
+/// Returns what is known of the faults of the enum that a source spells, which has this span. Adds
+/// the warnings of its callbacks.
 fn clues_in(
     alloc: Global,
     source: &str,
-    item: (&ItemEnum<'_, '_>, Span),
+    item: &ItemEnum<'_, '_>,
+    span: Span,
     warnings: &mut Vec<Warning>,
-) -> Result<Clues, Memory> {
-    let analysis = analyze_enum(alloc, item.0, item.1)?;
+) -> Result<Clues, Memory>
+    requires { GivesEnum source.now (enum_value item.now) span }
+    ensures { IfOk result (λ clues. HasSets source.now (sizes_of clues)) }
+{
+    let analysis = analyze_enum(alloc, item, span)?;
     let error = callback_of(&analysis);
     add_callback(alloc, source, CallbackOwner::ErrorType, error, warnings)?;
     add_callbacks(alloc, source, &analysis.leaves, warnings)?;
@@ -121,7 +171,9 @@ fn callback_of<'a, 's>(analysis: &'a Analysis<'s>) -> Option<&'a Callback<'s>> {
 }
 
 /// Returns the leaves of an analysis.
-fn leaves_of<'s>(analysis: Analysis<'s>) -> Vec<Leaf<'s>> {
+fn leaves_of<'s>(analysis: Analysis<'s>) -> Vec<Leaf<'s>>
+    ensures { result ≡ analysis.entry.leaves }
+{
     analysis.leaves
 }
 

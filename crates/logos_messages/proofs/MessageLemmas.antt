@@ -1,5 +1,7 @@
 -- The lines of faults, one after another, and those of parts of a file.
-use Rattle.std.proofs.Common.{◌≡◌, ◌≤◌, ◌<◌, ◌+◌, ℕ, List, [], ◌∷◌, ◌++◌, length, get_or, drop, take, Option, Some, None, IfSome, option_map, sym, ap, ◌∙◌, refl, subst}
+use Rattle.std.proofs.Common.{◌≡◌, ◌≤◌, ◌<◌, ◌+◌, ℕ, List, [], ◌∷◌, ◌++◌, ◌==◌, length, get_or, drop, take, Bool, true, false, Option, Some, None, IfSome, option_map, sym, ap, ◌∙◌, refl, subst, true≢false, arith}
+use Rattle.std.proofs.lemmas.Bool.{ltb-true, ne_eqb}
+use Rattle.std.specs.Prelude.{nat_lt}
 use Rattle.std.proofs.lemmas.List.{drop_all, drop_more}
 use Rattle.json.specs.Token.{Token}
 use Rattle.logos_json.proofs.LineLemmas.{one_put, put_text, puts_nothing, puts_then}
@@ -8,6 +10,7 @@ use Rattle.logos_lexeme.specs.declared.lexeme.Span.{Span}
 use Rattle.logos_report.proofs.FaultLemmas.{next_front}
 use Rattle.logos_report.proofs.PartLemmas.{front_more}
 use Rattle.logos_report.specs.declared.refused.Refused.{Refused}
+use Rattle.logos_report.specs.Faults.{left_out, seen_of}
 use Rattle.logos_report.specs.Pages.{StandInOrder}
 use Rattle.logos_report.specs.Parts.{all_faults}
 use Rattle.logos_report.specs.Places.{SourceValue}
@@ -15,7 +18,7 @@ use Rattle.logos_token.specs.declared.error.SpannedError.{SpannedError}
 use Rattle.logos_token.specs.Faults.{Fault}
 use Rattle.logos_token.specs.FaultView.{fault_of, faults_of}
 use Rattle.logos_messages.specs.Growing.{GivesMessage}
-use Rattle.logos_messages.specs.Messages.{AreMessages, AreRefusedMessages, LinesAfter, PartLines, PutsAfter, PutsCounted, PutsFrom}
+use Rattle.logos_messages.specs.Messages.{AreMessages, AreRefusedMessages, CountedLines, LinesAfter, LinesFor, PartLines, PutsAfter, PutsCounted, PutsFrom}
 use Rattle.logos_messages.specs.Shown.{IsShown, Shown}
 use Rattle.logos_messages.specs.Tokens.{diagnostic_tokens}
 
@@ -34,6 +37,15 @@ pub none_counted : (source : SourceValue) (begin : ℕ) (all front : List Fault)
     PutsAfter source begin all front (faults_of (drop i faults)) lines lines
 none_counted source begin all front faults i lines l =
     subst (λ list. PutsAfter source begin all front (faults_of list) lines lines) (sym (drop_all i faults l)) ([], refl, puts_nothing lines)
+
+-- more than 50 faults in front have the code
+pub nothing_counted : (source : SourceValue) (begin : ℕ) (all front : List Fault) (fault : Fault) (seen : ℕ) → seen ≡ seen_of fault.code front → 50 ≤ seen → (seen ≡ 50 → ⊥) → CountedLines source begin all front fault []
+nothing_counted source begin all front fault seen same most other = go (nat_lt (seen_of fault.code front) 50) refl (seen_of fault.code front == 50) refl
+  where
+    go : (less : Bool) → nat_lt (seen_of fault.code front) 50 ≡ less → (first : Bool) → (seen_of fault.code front == 50) ≡ first → LinesFor less first source begin fault (left_out fault.code all) []
+    go true less first e = absurd (omega (arith, ltb-true (seen_of fault.code front) 50 less, same, most))
+    go false less true e = absurd (true≢false (sym e ∙ ne_eqb (seen_of fault.code front) 50 (λ k. other (same ∙ k))))
+    go false less false e = refl
 
 -- the lines for the next part, and for those after it
 pub part_then : (source : SourceValue) (parts : List Refused) (number : ℕ) (one : Refused) {old middle : LinesValue} → number < length parts → one ≡ get_or parts number one →

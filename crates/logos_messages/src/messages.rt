@@ -137,7 +137,8 @@ fn push_part(
         Part { source, offset },
         listing,
         first_faults(&one.clues),
-    )
+    )?;
+    Ok(())
 }
 
 /// Appends the lines of the faults of a part, of which these come first.

@@ -1,6 +1,5 @@
 mod PieceTurns
-mod RuleRests
-mod GenericRests
+mod Rests
 mod TypeTokens
 mod StripAttributes
 mod StripItems

@@ -1,11 +1,10 @@
 -- What stays of an enum.
-use Rattle.std.proofs.Common.{◌≡◌, Bool, true, false, if◌then◌else◌, List, [], ◌∷◌, ◌++◌, Option, Some, None, Ok, Err, refl, sym, ap, ◌∙◌, subst, codes}
-use Rattle.std.specs.Str.{bytes_eq}
+use Rattle.std.proofs.Common.{◌≡◌, true, false, List, [], ◌∷◌, ◌++◌, Option, Some, Ok, Err, refl, sym, ap, ◌∙◌, subst}
 use Rattle.logos_lexeme.specs.declared.lexeme.Span.{Span}
 use Rattle.logos_lexeme.specs.declared.lexeme.Delimiter.TheVariants.{Parenthesis, Bracket, Brace}
 use Rattle.logos_token.specs.Tokens.{Token, TokenList, identifier, punctuation, literal, doc, group, none, also, append}
-use Rattle.logos_enum.specs.Attributes.{after_parenthesis, after_visibility, after_keyword, announced_in}
-use Rattle.logos_enum.specs.Enum.{variants, within, from_brace, where_in, Body, braced, lacking, end_in, enum_of, item, Reads, reads}
+use Rattle.logos_enum.specs.Attributes.{announced_in}
+use Rattle.logos_enum.specs.Enum.{variants, within, Body, braced, lacking, end_in, enum_of, item, Reads, reads}
 use Rattle.logos_enum.specs.EnumValues.{VariantValue, EnumValue}
 use Rattle.logos_enum.specs.Groups.{Opened, brace_in}
 use Rattle.logos_enum.specs.Marks.{is_none}
@@ -16,68 +15,15 @@ use Rattle.logos_strip.specs.declared.spots.TokenSpot.TheVariants.{Open, Within}
 use Rattle.logos_strip.specs.Stripping.{left, sorted, stripped}
 use Rattle.logos_readings.specs.Stays.{stay, attributes_stay, derive_without_macro, are_attributes, begins_word}
 use Rattle.logos_readings.specs.StrippedParts.{ItemsStay, VariantStays, EnumStays}
-use Rattle.logos_readings.proofs.RuleRests.{append_append, IsBack, part_self, part_rest, Anything, Gives, gives_if}
-use Rattle.logos_readings.proofs.GenericRests.{name_gives, generics_keep}
+use Rattle.logos_spans.proofs.RuleParts.{Anything, Gives}
+use Rattle.logos_spans.proofs.TokenParts.{append_append}
+use Rattle.logos_spans.proofs.GenericParts.{name_gives, generics_keep}
+use Rattle.logos_spans.proofs.HeadParts.{announced_part, where_gives}
+use Rattle.logos_readings.proofs.Rests.{Back, back_rests, back_self}
 use Rattle.logos_readings.proofs.StripAttributes.{attributes_sound}
 use Rattle.logos_readings.proofs.StripItems.{ListStays, Attributed, attributes_at}
 use Rattle.logos_readings.proofs.StripVariants.{variants_stay}
 use Rattle.logos_readings.proofs.StripSound.{variants_sound}
-
--- ---- What stands before the braces of an enum.
-
-back_if : (tokens : TokenList) (b : Bool) (run other : TokenList) → IsBack run tokens → IsBack other tokens → IsBack (if b then run else other) tokens
-back_if tokens true run other p q = p
-back_if tokens false run other p q = q
-
-parenthesis_back : (tokens run : TokenList) → IsBack run tokens → IsBack (after_parenthesis run) tokens
-parenthesis_back tokens none r = r
-parenthesis_back tokens (also (identifier text span) rest) r = r
-parenthesis_back tokens (also (punctuation c spacing span) rest) r = r
-parenthesis_back tokens (also (literal text span) rest) r = r
-parenthesis_back tokens (also (doc text span) rest) r = r
-parenthesis_back tokens (also (group Parenthesis span inside) rest) r = part_rest _ rest r
-parenthesis_back tokens (also (group Bracket span inside) rest) r = r
-parenthesis_back tokens (also (group Brace span inside) rest) r = r
-
-visibility_back : (tokens run : TokenList) → IsBack run tokens → IsBack (after_visibility run) tokens
-visibility_back tokens none r = r
-visibility_back tokens (also (identifier text span) rest) r =
-    back_if tokens (bytes_eq text (codes "pub")) (after_parenthesis rest) (also (identifier text span) rest) (parenthesis_back tokens rest (part_rest _ rest r)) r
-visibility_back tokens (also (punctuation c spacing span) rest) r = r
-visibility_back tokens (also (literal text span) rest) r = r
-visibility_back tokens (also (doc text span) rest) r = r
-visibility_back tokens (also (group delimiter span inside) rest) r = r
-
-keyword_back : (tokens run rest : TokenList) → IsBack run tokens → after_keyword run ≡ Some rest → IsBack rest tokens
-keyword_back tokens none rest r e = cc
-keyword_back tokens (also (identifier text span) more) rest r e = go (bytes_eq text (codes "enum")) refl
-  where
-    go : (x : Bool) → bytes_eq text (codes "enum") ≡ x → IsBack rest tokens
-    go true f = let g : ◌≡◌ {A = Option TokenList} (Some more) (Some rest) = rw f at e in let same : more ≡ rest = cc in subst (λ (t : TokenList). IsBack t tokens) same (part_rest _ more r)
-    go false f = let g : ◌≡◌ {A = Option TokenList} None (Some rest) = rw f at e in cc
-keyword_back tokens (also (punctuation c spacing span) more) rest r e = cc
-keyword_back tokens (also (literal text span) more) rest r e = cc
-keyword_back tokens (also (doc text span) more) rest r e = cc
-keyword_back tokens (also (group delimiter span inside) more) rest r e = cc
-
-brace_back : (tokens run : TokenList) → IsBack run tokens → IsBack (from_brace run) tokens
-brace_back tokens none r = r
-brace_back tokens (also (identifier text span) rest) r = brace_back tokens rest (part_rest _ rest r)
-brace_back tokens (also (punctuation c spacing span) rest) r = brace_back tokens rest (part_rest _ rest r)
-brace_back tokens (also (literal text span) rest) r = brace_back tokens rest (part_rest _ rest r)
-brace_back tokens (also (doc text span) rest) r = brace_back tokens rest (part_rest _ rest r)
-brace_back tokens (also (group Parenthesis span inside) rest) r = brace_back tokens rest (part_rest _ rest r)
-brace_back tokens (also (group Bracket span inside) rest) r = brace_back tokens rest (part_rest _ rest r)
-brace_back tokens (also (group Brace span inside) rest) r = r
-
-where_gives : (tokens run : TokenList) → IsBack run tokens → Gives tokens Anything (where_in run)
-where_gives tokens none r = (tt, r)
-where_gives tokens (also (identifier text span) rest) r =
-    gives_if tokens Anything (bytes_eq text (codes "where")) (Ok (tt, from_brace rest)) (Ok (tt, also (identifier text span) rest)) (tt, brace_back tokens rest (part_rest _ rest r)) (tt, r)
-where_gives tokens (also (punctuation c spacing span) rest) r = (tt, r)
-where_gives tokens (also (literal text span) rest) r = (tt, r)
-where_gives tokens (also (doc text span) rest) r = (tt, r)
-where_gives tokens (also (group delimiter span inside) rest) r = (tt, r)
 
 -- ---- The braces.
 
@@ -91,7 +37,7 @@ record Ends (list : List VariantValue) (run : TokenList) : Type 0 where
   stays : sorted Variants Open inside ≡ pieces
   is : run ≡ append head (also (group Brace span inside) none)
 
-ends_back : (list : List VariantValue) (run rest : TokenList) → IsBack rest run → Ends list rest → Ends list run
+ends_back : (list : List VariantValue) (run rest : TokenList) → Back run rest → Ends list rest → Ends list run
 ends_back list run rest b e = record {
   head = append b.front e.head;
   span = e.span;
@@ -214,9 +160,9 @@ enum_with tokens attributes middle value list va vl a w e =
 
 item_ends : (attributes rest : TokenList) (value : EnumValue) → item attributes rest (Ok (value, none)) → (value.attributes ≡ attributes) × Ends value.variants rest
 item_ends attributes rest value (goes {value = name} {rest = r1} nm (goes {value = ps} {rest = r2} ge (goes {value = w} {rest = r3} wh (goes {value = list} {rest = r4} body (goes {value = u} {rest = r5} en g))))) =
-    let one : IsBack r1 rest = (subst (Gives rest Anything) nm (name_gives rest rest (part_self rest))).1 in
-    let two : IsBack r2 rest = (generics_keep rest r1 (Ok (ps, r2)) one ge).1 in
-    let three : IsBack r3 rest = (subst (Gives rest Anything) wh (where_gives rest r2 two)).1 in
+    let one : Back rest r1 = (subst (Gives (Back rest) Anything) nm (name_gives (Back rest) (back_rests rest) rest (back_self rest))).1 in
+    let two : Back rest r2 = (generics_keep (Back rest) (back_rests rest) r1 (Ok (ps, r2)) one ge).1 in
+    let three : Back rest r3 = (subst (Gives (Back rest) Anything) wh (where_gives (Back rest) (back_rests rest) r2 two)).1 in
     let ends : Ends list r3 = body_outcome r3 (Ok (list, r4)) body (end_none r4 r5 u en) in
     let same : enum_of attributes name ps list ≡ value = same-value (enum_of attributes name ps list) value r5 none g in
     subst (λ (v : EnumValue). (v.attributes ≡ attributes) × Ends v.variants rest) same (refl, ends_back list rest r3 three ends)
@@ -225,7 +171,7 @@ pub enum_stays : (tokens : TokenList) (value : EnumValue) → Reads tokens (Ok v
 enum_stays tokens value (reads {attributes = attributes} {rest = rest} front it) =
     let k = item_ends attributes rest value it in
     let middle = front.middle in
-    let from : IsBack rest middle = keyword_back middle (after_visibility middle) rest (visibility_back middle middle (part_self middle)) front.announced in
+    let from : Back middle rest = announced_part (Back middle) (back_rests middle) middle rest (back_self middle) front.announced in
     enum_with tokens attributes middle value value.variants k.0 refl (attributes_at Enum tokens attributes middle tt front.stand) (word_comes middle rest front.announced) (ends_back value.variants middle rest from k.1)
 
 -- ---- The same by the parts.

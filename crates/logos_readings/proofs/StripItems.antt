@@ -24,7 +24,7 @@ use Rattle.logos_strip.specs.Spots.{after_part}
 use Rattle.logos_strip.specs.Stripping.{sorted}
 use Rattle.logos_readings.specs.Stays.{stay, unchanged, attributes_stay, are_attributes, is_plain, are_plain}
 use Rattle.logos_readings.specs.StrippedParts.{ItemsStay, no_item, last_item, one_more, FieldStays}
-use Rattle.logos_readings.proofs.RuleRests.{append_append}
+use Rattle.logos_spans.proofs.TokenParts.{append_append}
 use Rattle.logos_readings.proofs.TypeTokens.{IsPlain, Goes, there, over, Passes, on, written}
 use Rattle.logos_readings.proofs.StripAttributes.{HasAttributes, change_of, attributes_passed, both_true, more_pieces}
 

@@ -13,7 +13,7 @@ use Rattle.logos_strip.specs.Helpers.{is_comma}
 use Rattle.logos_strip.specs.Stripping.{left, sorted}
 use Rattle.logos_readings.specs.Stays.{stay, unchanged, attributes_stay, has_comma, is_number}
 use Rattle.logos_readings.specs.StrippedParts.{ItemsStay, no_item, last_item, one_more, FieldStays, FieldsStay, no_group, a_tuple, with_names, VariantStays}
-use Rattle.logos_readings.proofs.RuleRests.{append_append}
+use Rattle.logos_spans.proofs.TokenParts.{append_append}
 use Rattle.logos_readings.proofs.StripAttributes.{attributes_sound, both_true, more_pieces}
 use Rattle.logos_readings.proofs.StripItems.{plain_sound, IsLate, HasItems, comma_step, no_more}
 use Rattle.logos_readings.proofs.StripVariants.{one_stays, equals_stays}

@@ -19,7 +19,7 @@ use Rattle.logos_strip.specs.Helpers.{is_comma}
 use Rattle.logos_strip.specs.Stripping.{left, sorted}
 use Rattle.logos_readings.specs.Stays.{stay, unchanged, attributes_stay, has_comma, is_number}
 use Rattle.logos_readings.specs.StrippedParts.{FieldStays, FieldsStay, no_group, a_tuple, with_names, VariantStays}
-use Rattle.logos_readings.proofs.RuleRests.{append_append}
+use Rattle.logos_spans.proofs.TokenParts.{append_append}
 use Rattle.logos_readings.proofs.TypeTokens.{one}
 use Rattle.logos_readings.proofs.StripAttributes.{more_pieces}
 use Rattle.logos_readings.proofs.StripItems.{IsLate, ListStays, OneItem, Attributed, attributes_at, fields_stay, listed_stays}

@@ -19,8 +19,8 @@ use Rattle.logos_definition.specs.Definitions.{DefinitionView, plain, priority_r
 use Rattle.logos_definition.specs.Metas.{Meta, after_name, colon, meta_inside, inside_meta, meta_of}
 use Rattle.logos_definition.specs.OptionFaults.{utf8_twice, utf8_value, source_old, unknown_logos}
 use Rattle.logos_definition.specs.Options.{OptionsView, skip_plain, skip_whole, skip_report, mode_set, utf8_report, extras_report, crate_report, path_report, held_path, export_report, subpattern_set, subpattern_report, error_set, error_report, option_report}
-use Rattle.logos_spans.proofs.TokenParts.{part_rest, part_inside}
-use Rattle.logos_spans.proofs.EnumParts.{IfRun}
+use Rattle.logos_spans.proofs.TokenParts.{Part, part_rest, part_inside}
+use Rattle.logos_spans.proofs.HeadParts.{IfRun}
 use Rattle.logos_spans.proofs.PieceParts.{up_to_comma_part, after_comma_part, ValueParts, PieceParts, pieces_parts, CallbackParts, callback_report_parts, callback_set_parts, LiteralParts, IfLiteral, text_report_parts, literal_report_parts}
 
 -- the literal of a definition, and its callback if it has one, stand in these tokens
@@ -99,7 +99,7 @@ definition_parts tokens run r =
 -- the arguments of an attribute are a run of the whole
 abbrev IfMeta : TokenList → Option Meta → Type 0
 IfMeta tokens None = Unit {0}
-IfMeta tokens (Some meta) = IfRun tokens meta.arguments
+IfMeta tokens (Some meta) = IfRun (Part tokens) meta.arguments
 
 meta_if : (tokens : TokenList) (b : Bool) (one other : Option Meta) → IfMeta tokens one → IfMeta tokens other → IfMeta tokens (if b then one else other)
 meta_if tokens true one other p q = p
@@ -122,7 +122,7 @@ inside_parts tokens (also (literal text span) rest) r = tt
 inside_parts tokens (also (doc text span) rest) r = tt
 inside_parts tokens (also (group delimiter span inside) rest) r = tt
 
-meta_parts : (tokens : TokenList) (inside : Option TokenList) → IfRun tokens inside → IfMeta tokens (inside_meta inside)
+meta_parts : (tokens : TokenList) (inside : Option TokenList) → IfRun (Part tokens) inside → IfMeta tokens (inside_meta inside)
 meta_parts tokens None r = tt
 meta_parts tokens (Some run) r = inside_parts tokens run r
 
@@ -130,12 +130,12 @@ meta_report_parts : (tokens : TokenList) (meta : Option Meta) → IfMeta tokens 
 meta_report_parts tokens None m = tt
 meta_report_parts tokens (Some meta) m = go meta.arguments m
   where
-    go : (arguments : Option TokenList) → IfRun tokens arguments → IfDefinition tokens (meta_arguments arguments).value
+    go : (arguments : Option TokenList) → IfRun (Part tokens) arguments → IfDefinition tokens (meta_arguments arguments).value
     go None a = tt
     go (Some run) a = definition_parts tokens run a
 
 -- the definition that an attribute has
-pub attribute_definition : (tokens : TokenList) (attribute : AttributeValue) → IfRun tokens attribute.inside → IfDefinition tokens (meta_report (meta_of attribute)).value
+pub attribute_definition : (tokens : TokenList) (attribute : AttributeValue) → IfRun (Part tokens) attribute.inside → IfDefinition tokens (meta_report (meta_of attribute)).value
 attribute_definition tokens attribute r = meta_report_parts tokens (meta_of attribute) (meta_parts tokens attribute.inside r)
 
 -- ---- Options.
@@ -275,13 +275,13 @@ reads_pieces tokens (one_more s rest) e p = reads_pieces tokens rest e.1 (reads_
 reads_pieces tokens (ends s) e p = reads_piece tokens s e.0 p
 
 reads_meta : (tokens : TokenList) {o : OptionsView} {o' : OptionsView} {old new : List Fault} (meta : Meta) (attribute : AttributeValue) →
-    ReadsMeta o o' old new meta attribute.span → IfRun tokens meta.arguments → SkipParts tokens o → SkipParts tokens o'
+    ReadsMeta o o' old new meta attribute.span → IfRun (Part tokens) meta.arguments → SkipParts tokens o → SkipParts tokens o'
 reads_meta tokens {o} {o'} meta attribute (no_arguments n e f) m p = same_options tokens o o' e p
 reads_meta tokens meta attribute (of_arguments {run = run} a s) m p =
-    let r : IfRun tokens (Some run) = subst (IfRun tokens) a m in reads_pieces tokens s (pieces_parts tokens run r) p
+    let r : IfRun (Part tokens) (Some run) = subst (IfRun (Part tokens)) a m in reads_pieces tokens s (pieces_parts tokens run r) p
 
 pub reads_attribute : (tokens : TokenList) {o : OptionsView} {o' : OptionsView} {old new : List Fault} (attribute : AttributeValue) →
-    ReadsAttribute o o' old new attribute → IfRun tokens attribute.inside → SkipParts tokens o → SkipParts tokens o'
+    ReadsAttribute o o' old new attribute → IfRun (Part tokens) attribute.inside → SkipParts tokens o → SkipParts tokens o'
 reads_attribute tokens {o} {o'} attribute (other_name n e f) r p = same_options tokens o o' e p
 reads_attribute tokens attribute (a_logos {meta = meta} e b s) r p =
     let m : IfMeta tokens (Some meta) = subst (IfMeta tokens) e (meta_parts tokens attribute.inside r) in reads_meta tokens meta attribute s m p

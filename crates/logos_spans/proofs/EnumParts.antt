@@ -1,14 +1,14 @@
 -- The attributes of an enum and of its variants are runs of its tokens.
-use Rattle.std.proofs.Common.{◌≡◌, ◌==◌, Bool, true, false, List, Option, Some, None, Ok, Err, if◌then◌else◌, codes, subst}
-use Rattle.std.specs.Str.{bytes_eq}
+use Rattle.std.proofs.Common.{◌≡◌, ◌==◌, List, Option, Some, None, Ok, Err, subst}
 use Rattle.logos_lexeme.specs.declared.lexeme.Span.{Span}
 use Rattle.logos_lexeme.specs.declared.lexeme.Delimiter.TheVariants.{Parenthesis, Bracket, Brace}
 use Rattle.logos_token.specs.Tokens.{TokenList, identifier, punctuation, literal, doc, group, none, also}
 use Rattle.logos_token.specs.PrintedAgain.{IsRunOf}
 use Rattle.logos_token.proofs.reading.SpanLemmas.{Each}
-use Rattle.logos_enum.specs.Attributes.{after_parenthesis, after_visibility, after_keyword, announced_in}
+use Rattle.logos_enum.specs.Attributes.{Attributes}
+use Rattle.logos_enum.specs.Attributes.Attributes.{stand, broken}
 use Rattle.logos_enum.specs.AttributeValues.{SplitAttribute, bracketed, attribute_in}
-use Rattle.logos_enum.specs.Enum.{Holding, from_comma, value_in, discriminant_in, variant_of, variant, within, from_brace, where_in, Body, end_in, enum_of, item, Reads}
+use Rattle.logos_enum.specs.Enum.{Holding, from_comma, value_in, discriminant_in, variant_of, variant, within, where_in, Body, end_in, enum_of, item, Reads}
 use Rattle.logos_enum.specs.Enum.Reads.{reads}
 use Rattle.logos_enum.specs.Enum.Holding.{in_tuple, with_names, nothing}
 use Rattle.logos_enum.specs.Enum.Body.{braced, lacking}
@@ -17,50 +17,16 @@ use Rattle.logos_enum.specs.Generics.{name_in}
 use Rattle.logos_enum.specs.Groups.{Opened, parenthesis_in, bracket_in, brace_in}
 use Rattle.logos_enum.specs.Marks.{comma, equals, is_none}
 use Rattle.logos_enum.specs.Rules.{Outcome, mismatch}
-use Rattle.logos_spans.proofs.TokenParts.{part_self, part_rest, part_inside}
+use Rattle.logos_spans.proofs.TokenParts.{Part, part_back, part_front, part_inside, part_rest, part_rests, part_self}
 use Rattle.logos_spans.proofs.RuleParts.{Anything, Gives, Keeps, part_if, gives_if, keeps_by, keeps_given, keeps_then, keeps_listed}
-use Rattle.logos_spans.proofs.GenericParts.{attributes_keep, name_gives, generics_keep}
+use Rattle.logos_spans.proofs.GenericParts.{name_gives, generics_keep}
+use Rattle.logos_spans.proofs.HeadParts.{announced_part, where_gives}
 
--- ---- What comes before the name of an enum.
-
-after_parenthesis_part : (tokens run : TokenList) → IsRunOf run tokens → IsRunOf (after_parenthesis run) tokens
-after_parenthesis_part tokens none r = r
-after_parenthesis_part tokens (also (identifier text span) rest) r = r
-after_parenthesis_part tokens (also (punctuation character spacing span) rest) r = r
-after_parenthesis_part tokens (also (literal text span) rest) r = r
-after_parenthesis_part tokens (also (doc text span) rest) r = r
-after_parenthesis_part tokens (also (group Parenthesis span inside) rest) r = part_rest _ rest r
-after_parenthesis_part tokens (also (group Bracket span inside) rest) r = r
-after_parenthesis_part tokens (also (group Brace span inside) rest) r = r
-
-visibility_part : (tokens run : TokenList) → IsRunOf run tokens → IsRunOf (after_visibility run) tokens
-visibility_part tokens none r = r
-visibility_part tokens (also (identifier text span) rest) r =
-    part_if tokens (bytes_eq text (codes "pub")) (after_parenthesis rest) (also (identifier text span) rest) (after_parenthesis_part tokens rest (part_rest _ rest r)) r
-visibility_part tokens (also (punctuation character spacing span) rest) r = r
-visibility_part tokens (also (literal text span) rest) r = r
-visibility_part tokens (also (doc text span) rest) r = r
-visibility_part tokens (also (group delimiter span inside) rest) r = r
-
--- the run, if there is one, is one of the whole
-abbrev pub IfRun : TokenList → Option TokenList → Type 0
-IfRun tokens None = Unit {0}
-IfRun tokens (Some run) = IsRunOf run tokens
-
-if_run_if : (tokens : TokenList) (b : Bool) (one other : Option TokenList) → IfRun tokens one → IfRun tokens other → IfRun tokens (if b then one else other)
-if_run_if tokens true one other p q = p
-if_run_if tokens false one other p q = q
-
-keyword_part : (tokens run : TokenList) → IsRunOf run tokens → IfRun tokens (after_keyword run)
-keyword_part tokens none r = tt
-keyword_part tokens (also (identifier text span) rest) r = if_run_if tokens (bytes_eq text (codes "enum")) (Some rest) None (part_rest _ rest r) tt
-keyword_part tokens (also (punctuation character spacing span) rest) r = tt
-keyword_part tokens (also (literal text span) rest) r = tt
-keyword_part tokens (also (doc text span) rest) r = tt
-keyword_part tokens (also (group delimiter span inside) rest) r = tt
-
-announced_part : (tokens middle rest : TokenList) → IsRunOf middle tokens → announced_in middle ≡ Some rest → IsRunOf rest tokens
-announced_part tokens middle rest r e = subst (IfRun tokens) e (keyword_part tokens (after_visibility middle) (visibility_part tokens middle r))
+-- the attributes are a run of the whole, too
+attributes_keep : (tokens : TokenList) → Keeps (Part tokens) (Part tokens) Attributes
+attributes_keep tokens run outcome r (stand {attributes} {rest} h e) =
+    let p = subst (Part tokens) e r in (part_front attributes rest p, part_back attributes rest p)
+attributes_keep tokens run outcome r (broken h) = tt
 
 -- ---- Groups, variants and the whole.
 
@@ -99,11 +65,11 @@ brace_part tokens (also (group Parenthesis span inside) rest) r = tt
 brace_part tokens (also (group Bracket span inside) rest) r = tt
 brace_part tokens (also (group Brace span inside) rest) r = (part_inside Brace span inside rest r, part_rest _ rest r)
 
-within_gives : {A B : Type 0} (tokens : TokenList) (make : A → B) (rest : TokenList) (outcome : Outcome A) → IsRunOf rest tokens → Gives tokens Anything (within make rest outcome)
+within_gives : {A B : Type 0} (tokens : TokenList) (make : A → B) (rest : TokenList) (outcome : Outcome A) → IsRunOf rest tokens → Gives (Part tokens) Anything (within make rest outcome)
 within_gives tokens make rest (Ok read) r = (tt, r)
 within_gives tokens make rest (Err error) r = tt
 
-holding_keeps : (tokens : TokenList) → Keeps tokens Anything Holding
+holding_keeps : (tokens : TokenList) → Keeps (Part tokens) Anything Holding
 holding_keeps tokens run outcome r (in_tuple opened inner e h) =
     let o : IfOpened tokens (Some opened) = subst (IfOpened tokens) e (parenthesis_part tokens run r) in within_gives tokens _ opened.rest inner o.1
 holding_keeps tokens run outcome r (with_names opened inner n e h) =
@@ -114,25 +80,25 @@ from_comma_part : (tokens run : TokenList) → IsRunOf run tokens → IsRunOf (f
 from_comma_part tokens none r = r
 from_comma_part tokens (also (identifier text span) rest) r = from_comma_part tokens rest (part_rest _ rest r)
 from_comma_part tokens (also (punctuation character spacing span) rest) r =
-    part_if tokens (character == comma) (also (punctuation character spacing span) rest) (from_comma rest) r (from_comma_part tokens rest (part_rest _ rest r))
+    part_if (Part tokens) (character == comma) (also (punctuation character spacing span) rest) (from_comma rest) r (from_comma_part tokens rest (part_rest _ rest r))
 from_comma_part tokens (also (literal text span) rest) r = from_comma_part tokens rest (part_rest _ rest r)
 from_comma_part tokens (also (doc text span) rest) r = from_comma_part tokens rest (part_rest _ rest r)
 from_comma_part tokens (also (group delimiter span inside) rest) r = from_comma_part tokens rest (part_rest _ rest r)
 
-value_gives : (tokens run : TokenList) → IsRunOf run tokens → Gives tokens Anything (value_in run)
+value_gives : (tokens run : TokenList) → IsRunOf run tokens → Gives (Part tokens) Anything (value_in run)
 value_gives tokens none r = tt
 value_gives tokens (also (identifier text span) rest) r = (tt, from_comma_part tokens rest (part_rest _ rest r))
 value_gives tokens (also (punctuation character spacing span) rest) r =
-    gives_if tokens Anything (character == comma) (mismatch (also (punctuation character spacing span) rest)) (Ok (tt, from_comma rest)) tt (tt, from_comma_part tokens rest (part_rest _ rest r))
+    gives_if (Part tokens) Anything (character == comma) (mismatch (also (punctuation character spacing span) rest)) (Ok (tt, from_comma rest)) tt (tt, from_comma_part tokens rest (part_rest _ rest r))
 value_gives tokens (also (literal text span) rest) r = (tt, from_comma_part tokens rest (part_rest _ rest r))
 value_gives tokens (also (doc text span) rest) r = (tt, from_comma_part tokens rest (part_rest _ rest r))
 value_gives tokens (also (group delimiter span inside) rest) r = (tt, from_comma_part tokens rest (part_rest _ rest r))
 
-discriminant_gives : (tokens run : TokenList) → IsRunOf run tokens → Gives tokens Anything (discriminant_in run)
+discriminant_gives : (tokens run : TokenList) → IsRunOf run tokens → Gives (Part tokens) Anything (discriminant_in run)
 discriminant_gives tokens none r = (tt, r)
 discriminant_gives tokens (also (identifier text span) rest) r = (tt, r)
 discriminant_gives tokens (also (punctuation character spacing span) rest) r =
-    gives_if tokens Anything (character == equals) (value_in rest) (Ok (tt, also (punctuation character spacing span) rest)) (value_gives tokens rest (part_rest _ rest r)) (tt, r)
+    gives_if (Part tokens) Anything (character == equals) (value_in rest) (Ok (tt, also (punctuation character spacing span) rest)) (value_gives tokens rest (part_rest _ rest r)) (tt, r)
 discriminant_gives tokens (also (literal text span) rest) r = (tt, r)
 discriminant_gives tokens (also (doc text span) rest) r = (tt, r)
 discriminant_gives tokens (also (group delimiter span inside) rest) r = (tt, r)
@@ -141,45 +107,26 @@ discriminant_gives tokens (also (group delimiter span inside) rest) r = (tt, r)
 abbrev pub VariantParts : TokenList → VariantValue → Type 0
 VariantParts tokens variant = IsRunOf variant.attributes tokens
 
-variant_keeps : (tokens : TokenList) → Keeps tokens (VariantParts tokens) variant
+variant_keeps : (tokens : TokenList) → Keeps (Part tokens) (VariantParts tokens) variant
 variant_keeps tokens =
-    keeps_then tokens (λ (attributes : TokenList). IsRunOf attributes tokens) (VariantParts tokens) _ _ (attributes_keep tokens) (λ attributes p.
-    keeps_then tokens Anything (VariantParts tokens) _ _ (keeps_by tokens Anything name_in (name_gives tokens)) (λ name _.
-    keeps_then tokens Anything (VariantParts tokens) _ _ (holding_keeps tokens) (λ held _.
-    keeps_then tokens Anything (VariantParts tokens) _ _ (keeps_by tokens Anything discriminant_in (discriminant_gives tokens)) (λ _ _.
-    keeps_given tokens (VariantParts tokens) (variant_of attributes name held) p))))
+    keeps_then (Part tokens) (Part tokens) (VariantParts tokens) _ _ (attributes_keep tokens) (λ attributes p.
+    keeps_then (Part tokens) Anything (VariantParts tokens) _ _ (keeps_by (Part tokens) Anything name_in (name_gives (Part tokens) (part_rests tokens))) (λ name _.
+    keeps_then (Part tokens) Anything (VariantParts tokens) _ _ (holding_keeps tokens) (λ held _.
+    keeps_then (Part tokens) Anything (VariantParts tokens) _ _ (keeps_by (Part tokens) Anything discriminant_in (discriminant_gives tokens)) (λ _ _.
+    keeps_given (Part tokens) (VariantParts tokens) (variant_of attributes name held) p))))
 
-body_within : (tokens rest : TokenList) (outcome : Outcome (List VariantValue)) → Gives tokens (Each (VariantParts tokens)) outcome → IsRunOf rest tokens →
-    Gives tokens (Each (VariantParts tokens)) (within (λ (list : List VariantValue). list) rest outcome)
+body_within : (tokens rest : TokenList) (outcome : Outcome (List VariantValue)) → Gives (Part tokens) (Each (VariantParts tokens)) outcome → IsRunOf rest tokens →
+    Gives (Part tokens) (Each (VariantParts tokens)) (within (λ (list : List VariantValue). list) rest outcome)
 body_within tokens rest (Ok read) g r = (g.0, r)
 body_within tokens rest (Err error) g r = tt
 
-body_keeps : (tokens : TokenList) → Keeps tokens (Each (VariantParts tokens)) Body
+body_keeps : (tokens : TokenList) → Keeps (Part tokens) (Each (VariantParts tokens)) Body
 body_keeps tokens run outcome r (braced opened inner e h) =
     let o : IfOpened tokens (Some opened) = subst (IfOpened tokens) e (brace_part tokens run r) in
-    body_within tokens opened.rest inner (keeps_listed tokens (VariantParts tokens) is_none variant (variant_keeps tokens) opened.inside inner o.0 h) o.1
+    body_within tokens opened.rest inner (keeps_listed (Part tokens) (part_rests tokens) (VariantParts tokens) is_none variant (variant_keeps tokens) opened.inside inner o.0 h) o.1
 body_keeps tokens run outcome r (lacking e) = tt
 
-from_brace_part : (tokens run : TokenList) → IsRunOf run tokens → IsRunOf (from_brace run) tokens
-from_brace_part tokens none r = r
-from_brace_part tokens (also (identifier text span) rest) r = from_brace_part tokens rest (part_rest _ rest r)
-from_brace_part tokens (also (punctuation character spacing span) rest) r = from_brace_part tokens rest (part_rest _ rest r)
-from_brace_part tokens (also (literal text span) rest) r = from_brace_part tokens rest (part_rest _ rest r)
-from_brace_part tokens (also (doc text span) rest) r = from_brace_part tokens rest (part_rest _ rest r)
-from_brace_part tokens (also (group Parenthesis span inside) rest) r = from_brace_part tokens rest (part_rest _ rest r)
-from_brace_part tokens (also (group Bracket span inside) rest) r = from_brace_part tokens rest (part_rest _ rest r)
-from_brace_part tokens (also (group Brace span inside) rest) r = r
-
-where_gives : (tokens run : TokenList) → IsRunOf run tokens → Gives tokens Anything (where_in run)
-where_gives tokens none r = (tt, r)
-where_gives tokens (also (identifier text span) rest) r =
-    gives_if tokens Anything (bytes_eq text (codes "where")) (Ok (tt, from_brace rest)) (Ok (tt, also (identifier text span) rest)) (tt, from_brace_part tokens rest (part_rest _ rest r)) (tt, r)
-where_gives tokens (also (punctuation character spacing span) rest) r = (tt, r)
-where_gives tokens (also (literal text span) rest) r = (tt, r)
-where_gives tokens (also (doc text span) rest) r = (tt, r)
-where_gives tokens (also (group delimiter span inside) rest) r = (tt, r)
-
-end_gives : (tokens run : TokenList) → IsRunOf run tokens → Gives tokens Anything (end_in run)
+end_gives : (tokens run : TokenList) → IsRunOf run tokens → Gives (Part tokens) Anything (end_in run)
 end_gives tokens none r = (tt, r)
 end_gives tokens (also token rest) r = tt
 
@@ -187,26 +134,26 @@ end_gives tokens (also token rest) r = tt
 abbrev pub EnumParts : TokenList → EnumValue → Type 0
 EnumParts tokens enum = IsRunOf enum.attributes tokens × Each (VariantParts tokens) enum.variants
 
-item_keeps : (tokens attributes : TokenList) → IsRunOf attributes tokens → Keeps tokens (EnumParts tokens) (item attributes)
+item_keeps : (tokens attributes : TokenList) → IsRunOf attributes tokens → Keeps (Part tokens) (EnumParts tokens) (item attributes)
 item_keeps tokens attributes p =
-    keeps_then tokens Anything (EnumParts tokens) _ _ (keeps_by tokens Anything name_in (name_gives tokens)) (λ name _.
-    keeps_then tokens Anything (EnumParts tokens) _ _ (generics_keep tokens) (λ parameters _.
-    keeps_then tokens Anything (EnumParts tokens) _ _ (keeps_by tokens Anything where_in (where_gives tokens)) (λ _ _.
-    keeps_then tokens (Each (VariantParts tokens)) (EnumParts tokens) _ _ (body_keeps tokens) (λ list v.
-    keeps_then tokens Anything (EnumParts tokens) _ _ (keeps_by tokens Anything end_in (end_gives tokens)) (λ _ _.
-    keeps_given tokens (EnumParts tokens) (enum_of attributes name parameters list) (p, v))))))
+    keeps_then (Part tokens) Anything (EnumParts tokens) _ _ (keeps_by (Part tokens) Anything name_in (name_gives (Part tokens) (part_rests tokens))) (λ name _.
+    keeps_then (Part tokens) Anything (EnumParts tokens) _ _ (generics_keep (Part tokens) (part_rests tokens)) (λ parameters _.
+    keeps_then (Part tokens) Anything (EnumParts tokens) _ _ (keeps_by (Part tokens) Anything where_in (where_gives (Part tokens) (part_rests tokens))) (λ _ _.
+    keeps_then (Part tokens) (Each (VariantParts tokens)) (EnumParts tokens) _ _ (body_keeps tokens) (λ list v.
+    keeps_then (Part tokens) Anything (EnumParts tokens) _ _ (keeps_by (Part tokens) Anything end_in (end_gives tokens)) (λ _ _.
+    keeps_given (Part tokens) (EnumParts tokens) (enum_of attributes name parameters list) (p, v))))))
 
 pub enum_parts : (tokens : TokenList) (enum : EnumValue) → Reads tokens (Ok enum) → EnumParts tokens enum
 enum_parts tokens enum (reads {attributes} {rest} front h) =
     let a = attributes_keep tokens tokens (Ok (attributes, front.middle)) (part_self tokens) front.stand in
-    (item_keeps tokens attributes a.0 rest (Ok (enum, none)) (announced_part tokens front.middle rest a.1 front.announced) h).0
+    (item_keeps tokens attributes a.0 rest (Ok (enum, none)) (announced_part (Part tokens) (part_rests tokens) front.middle rest a.1 front.announced) h).0
 
 -- ---- The attributes of a run.
 
 -- what is inside an attribute, and what follows it, are runs of the whole
 abbrev pub IfSplit : TokenList → Option SplitAttribute → Type 0
 IfSplit tokens None = Unit {0}
-IfSplit tokens (Some split) = IfRun tokens split.attribute.inside × IsRunOf split.rest tokens
+IfSplit tokens (Some split) = IfRun (Part tokens) split.attribute.inside × IsRunOf split.rest tokens
 
 bracketed_part : (tokens : TokenList) (mark : Span) (opened : Option Opened) → IfOpened tokens opened → IfSplit tokens (bracketed mark opened)
 bracketed_part tokens mark None o = tt

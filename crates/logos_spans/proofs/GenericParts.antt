@@ -1,8 +1,8 @@
--- What attributes and generic parameters leave of a run of tokens.
+-- What attributes and generic parameters leave of a run of tokens, for any property of runs that each
+-- rest of one has.
 use Rattle.std.proofs.Common.{◌==◌, false, Ok, codes, subst}
 use Rattle.std.specs.Str.{bytes_eq}
 use Rattle.logos_token.specs.Tokens.{TokenList, identifier, punctuation, literal, doc, group, none, also, rest_of}
-use Rattle.logos_token.specs.PrintedAgain.{IsRunOf}
 use Rattle.logos_token.proofs.reading.SpanLemmas.{Each}
 use Rattle.logos_enum.specs.Attributes.{Attributes}
 use Rattle.logos_enum.specs.Attributes.Attributes.{stand, broken}
@@ -15,121 +15,120 @@ use Rattle.logos_enum.specs.Rules.{mismatch}
 use Rattle.logos_enum.specs.declared.generics.ParameterKind.{ParameterKind}
 use Rattle.logos_enum.specs.declared.generics.ParameterKind.TheVariants.{Lifetime, «Type», Const}
 use Rattle.logos_enum.proofs.ExtentLemmas.{extent_rest}
-use Rattle.logos_spans.proofs.TokenParts.{part_front, part_back, part_rest, part_left}
-use Rattle.logos_spans.proofs.RuleParts.{Anything, Gives, Keeps, gives_if, keeps_by, keeps_given, keeps_then, keeps_listed}
+use Rattle.logos_spans.proofs.RuleParts.{Anything, Gives, Keeps, Rests, back_has, left_has, gives_if, keeps_by, keeps_given, keeps_then, keeps_listed}
 
-pub attributes_keep : (tokens : TokenList) → Keeps tokens (λ (attributes : TokenList). IsRunOf attributes tokens) Attributes
-attributes_keep tokens run outcome r (stand {attributes} {rest} h e) =
-    let p = subst (λ (x : TokenList). IsRunOf x tokens) e r in (part_front attributes rest p, part_back attributes rest p)
-attributes_keep tokens run outcome r (broken h) = tt
+pub attributes_keep : (In : TokenList → Type 0) (rests : Rests In) → Keeps In Anything Attributes
+attributes_keep In rests run outcome r (stand {attributes} {rest} h e) =
+    (tt, back_has In rests attributes rest (subst In e r))
+attributes_keep In rests run outcome r (broken h) = tt
 
 -- ---- Generic parameters.
 
-pub name_gives : (tokens run : TokenList) → IsRunOf run tokens → Gives tokens Anything (name_in run)
-name_gives tokens none r = tt
-name_gives tokens (also (identifier text span) rest) r = (tt, part_rest _ rest r)
-name_gives tokens (also (punctuation character spacing span) rest) r = tt
-name_gives tokens (also (literal text span) rest) r = tt
-name_gives tokens (also (doc text span) rest) r = tt
-name_gives tokens (also (group delimiter span inside) rest) r = tt
+pub name_gives : (In : TokenList → Type 0) (rests : Rests In) (run : TokenList) → In run → Gives In Anything (name_in run)
+name_gives In rests none r = tt
+name_gives In rests (also (identifier text span) rest) r = (tt, rests _ rest r)
+name_gives In rests (also (punctuation character spacing span) rest) r = tt
+name_gives In rests (also (literal text span) rest) r = tt
+name_gives In rests (also (doc text span) rest) r = tt
+name_gives In rests (also (group delimiter span inside) rest) r = tt
 
-head_of_gives : (tokens : TokenList) (kind : ParameterKind) (run : TokenList) → IsRunOf run tokens → Gives tokens Anything (head_of kind run)
-head_of_gives tokens kind none r = tt
-head_of_gives tokens kind (also (identifier text span) rest) r = (tt, part_rest _ rest r)
-head_of_gives tokens kind (also (punctuation character spacing span) rest) r = tt
-head_of_gives tokens kind (also (literal text span) rest) r = tt
-head_of_gives tokens kind (also (doc text span) rest) r = tt
-head_of_gives tokens kind (also (group delimiter span inside) rest) r = tt
+head_of_gives : (In : TokenList → Type 0) (rests : Rests In) (kind : ParameterKind) (run : TokenList) → In run → Gives In Anything (head_of kind run)
+head_of_gives In rests kind none r = tt
+head_of_gives In rests kind (also (identifier text span) rest) r = (tt, rests _ rest r)
+head_of_gives In rests kind (also (punctuation character spacing span) rest) r = tt
+head_of_gives In rests kind (also (literal text span) rest) r = tt
+head_of_gives In rests kind (also (doc text span) rest) r = tt
+head_of_gives In rests kind (also (group delimiter span inside) rest) r = tt
 
-head_gives : (tokens run : TokenList) → IsRunOf run tokens → Gives tokens Anything (head_in run)
-head_gives tokens none r = tt
-head_gives tokens (also (identifier text span) rest) r =
+head_gives : (In : TokenList → Type 0) (rests : Rests In) (run : TokenList) → In run → Gives In Anything (head_in run)
+head_gives In rests none r = tt
+head_gives In rests (also (identifier text span) rest) r =
     let run = also (identifier text span) rest in
-    gives_if tokens Anything (bytes_eq text (codes "const")) (head_of Const rest) (head_of «Type» run) (head_of_gives tokens Const rest (part_rest _ rest r)) (head_of_gives tokens «Type» run r)
-head_gives tokens (also (punctuation character spacing span) rest) r =
-    gives_if tokens Anything (character == quote) (head_of Lifetime rest) (mismatch (also (punctuation character spacing span) rest)) (head_of_gives tokens Lifetime rest (part_rest _ rest r)) tt
-head_gives tokens (also (literal text span) rest) r = tt
-head_gives tokens (also (doc text span) rest) r = tt
-head_gives tokens (also (group delimiter span inside) rest) r = tt
+    gives_if In Anything (bytes_eq text (codes "const")) (head_of Const rest) (head_of «Type» run) (head_of_gives In rests Const rest (rests _ rest r)) (head_of_gives In rests «Type» run r)
+head_gives In rests (also (punctuation character spacing span) rest) r =
+    gives_if In Anything (character == quote) (head_of Lifetime rest) (mismatch (also (punctuation character spacing span) rest)) (head_of_gives In rests Lifetime rest (rests _ rest r)) tt
+head_gives In rests (also (literal text span) rest) r = tt
+head_gives In rests (also (doc text span) rest) r = tt
+head_gives In rests (also (group delimiter span inside) rest) r = tt
 
-extent_part : (tokens : TokenList) (end : _) (run : TokenList) → IsRunOf run tokens → IsRunOf (after_extent end run) tokens
-extent_part tokens end run r = part_left run (after_extent end run) (extent_rest end false 0 run) r
+extent_part : (In : TokenList → Type 0) (rests : Rests In) (end : _) (run : TokenList) → In run → In (after_extent end run)
+extent_part In rests end run r = left_has In rests run (after_extent end run) (extent_rest end false 0 run) r
 
-some_gives : (tokens : TokenList) (end : _) (run : TokenList) → IsRunOf run tokens → Gives tokens Anything (some_in end run)
-some_gives tokens end none r = tt
-some_gives tokens end (also (identifier text span) rest) r = (tt, extent_part tokens end (also (identifier text span) rest) r)
-some_gives tokens end (also (punctuation character spacing span) rest) r =
+some_gives : (In : TokenList → Type 0) (rests : Rests In) (end : _) (run : TokenList) → In run → Gives In Anything (some_in end run)
+some_gives In rests end none r = tt
+some_gives In rests end (also (identifier text span) rest) r = (tt, extent_part In rests end (also (identifier text span) rest) r)
+some_gives In rests end (also (punctuation character spacing span) rest) r =
     let run = also (punctuation character spacing span) rest in
-    gives_if tokens Anything (ends end character) (mismatch run) (Ok (tt, after_extent end run)) tt (tt, extent_part tokens end run r)
-some_gives tokens end (also (literal text span) rest) r = (tt, extent_part tokens end (also (literal text span) rest) r)
-some_gives tokens end (also (doc text span) rest) r = (tt, extent_part tokens end (also (doc text span) rest) r)
-some_gives tokens end (also (group delimiter span inside) rest) r = (tt, extent_part tokens end (also (group delimiter span inside) rest) r)
+    gives_if In Anything (ends end character) (mismatch run) (Ok (tt, after_extent end run)) tt (tt, extent_part In rests end run r)
+some_gives In rests end (also (literal text span) rest) r = (tt, extent_part In rests end (also (literal text span) rest) r)
+some_gives In rests end (also (doc text span) rest) r = (tt, extent_part In rests end (also (doc text span) rest) r)
+some_gives In rests end (also (group delimiter span inside) rest) r = (tt, extent_part In rests end (also (group delimiter span inside) rest) r)
 
-bounds_give : (tokens run : TokenList) → IsRunOf run tokens → Gives tokens Anything (bounds_in run)
-bounds_give tokens none r = (tt, r)
-bounds_give tokens (also (identifier text span) rest) r = (tt, r)
-bounds_give tokens (also (punctuation character spacing span) rest) r =
-    let p = part_rest _ rest r in
-    gives_if tokens Anything (character == colon) _ (Ok (tt, also (punctuation character spacing span) rest)) (tt, search (extent_part, p)) (tt, r)
-bounds_give tokens (also (literal text span) rest) r = (tt, r)
-bounds_give tokens (also (doc text span) rest) r = (tt, r)
-bounds_give tokens (also (group delimiter span inside) rest) r = (tt, r)
+bounds_give : (In : TokenList → Type 0) (rests : Rests In) (run : TokenList) → In run → Gives In Anything (bounds_in run)
+bounds_give In rests none r = (tt, r)
+bounds_give In rests (also (identifier text span) rest) r = (tt, r)
+bounds_give In rests (also (punctuation character spacing span) rest) r =
+    let p = rests _ rest r in
+    gives_if In Anything (character == colon) _ (Ok (tt, also (punctuation character spacing span) rest)) (tt, extent_part In rests _ rest p) (tt, r)
+bounds_give In rests (also (literal text span) rest) r = (tt, r)
+bounds_give In rests (also (doc text span) rest) r = (tt, r)
+bounds_give In rests (also (group delimiter span inside) rest) r = (tt, r)
 
-constant_gives : (tokens run : TokenList) → IsRunOf run tokens → Gives tokens Anything (constant_in run)
-constant_gives tokens none r = tt
-constant_gives tokens (also (identifier text span) rest) r = tt
-constant_gives tokens (also (punctuation character spacing span) rest) r =
-    let p = part_rest _ rest r in
-    gives_if tokens Anything (character == colon) _ (mismatch (also (punctuation character spacing span) rest)) (search (some_gives, p)) tt
-constant_gives tokens (also (literal text span) rest) r = tt
-constant_gives tokens (also (doc text span) rest) r = tt
-constant_gives tokens (also (group delimiter span inside) rest) r = tt
+constant_gives : (In : TokenList → Type 0) (rests : Rests In) (run : TokenList) → In run → Gives In Anything (constant_in run)
+constant_gives In rests none r = tt
+constant_gives In rests (also (identifier text span) rest) r = tt
+constant_gives In rests (also (punctuation character spacing span) rest) r =
+    let p = rests _ rest r in
+    gives_if In Anything (character == colon) _ (mismatch (also (punctuation character spacing span) rest)) (some_gives In rests _ rest p) tt
+constant_gives In rests (also (literal text span) rest) r = tt
+constant_gives In rests (also (doc text span) rest) r = tt
+constant_gives In rests (also (group delimiter span inside) rest) r = tt
 
-default_gives : (tokens run : TokenList) → IsRunOf run tokens → Gives tokens Anything (default_in run)
-default_gives tokens none r = (tt, r)
-default_gives tokens (also (identifier text span) rest) r = (tt, r)
-default_gives tokens (also (punctuation character spacing span) rest) r =
-    let p = part_rest _ rest r in
-    gives_if tokens Anything (character == equals) _ (Ok (tt, also (punctuation character spacing span) rest)) (search (some_gives, p)) (tt, r)
-default_gives tokens (also (literal text span) rest) r = (tt, r)
-default_gives tokens (also (doc text span) rest) r = (tt, r)
-default_gives tokens (also (group delimiter span inside) rest) r = (tt, r)
+default_gives : (In : TokenList → Type 0) (rests : Rests In) (run : TokenList) → In run → Gives In Anything (default_in run)
+default_gives In rests none r = (tt, r)
+default_gives In rests (also (identifier text span) rest) r = (tt, r)
+default_gives In rests (also (punctuation character spacing span) rest) r =
+    let p = rests _ rest r in
+    gives_if In Anything (character == equals) _ (Ok (tt, also (punctuation character spacing span) rest)) (some_gives In rests _ rest p) (tt, r)
+default_gives In rests (also (literal text span) rest) r = (tt, r)
+default_gives In rests (also (doc text span) rest) r = (tt, r)
+default_gives In rests (also (group delimiter span inside) rest) r = (tt, r)
 
-tail_keeps : (tokens : TokenList) (kind : ParameterKind) → Keeps tokens Anything (tail kind)
-tail_keeps tokens Lifetime = keeps_by tokens Anything bounds_in (bounds_give tokens)
-tail_keeps tokens «Type» =
-    keeps_then tokens Anything Anything _ _ (keeps_by tokens Anything bounds_in (bounds_give tokens)) (λ _ _. keeps_by tokens Anything default_in (default_gives tokens))
-tail_keeps tokens Const =
-    keeps_then tokens Anything Anything _ _ (keeps_by tokens Anything constant_in (constant_gives tokens)) (λ _ _. keeps_by tokens Anything default_in (default_gives tokens))
+tail_keeps : (In : TokenList → Type 0) (rests : Rests In) (kind : ParameterKind) → Keeps In Anything (tail kind)
+tail_keeps In rests Lifetime = keeps_by In Anything bounds_in (bounds_give In rests)
+tail_keeps In rests «Type» =
+    keeps_then In Anything Anything _ _ (keeps_by In Anything bounds_in (bounds_give In rests)) (λ _ _. keeps_by In Anything default_in (default_gives In rests))
+tail_keeps In rests Const =
+    keeps_then In Anything Anything _ _ (keeps_by In Anything constant_in (constant_gives In rests)) (λ _ _. keeps_by In Anything default_in (default_gives In rests))
 
-shape_keeps : (tokens : TokenList) → Keeps tokens Anything shape
-shape_keeps tokens =
-    keeps_then tokens (λ (attributes : TokenList). IsRunOf attributes tokens) Anything _ _ (attributes_keep tokens) (λ _ _.
-    keeps_then tokens Anything Anything _ _ (keeps_by tokens Anything head_in (head_gives tokens)) (λ head _.
-    keeps_then tokens Anything Anything _ _ (tail_keeps tokens head.kind) (λ _ _. keeps_given tokens Anything head tt)))
+shape_keeps : (In : TokenList → Type 0) (rests : Rests In) → Keeps In Anything shape
+shape_keeps In rests =
+    keeps_then In Anything Anything _ _ (attributes_keep In rests) (λ _ _.
+    keeps_then In Anything Anything _ _ (keeps_by In Anything head_in (head_gives In rests)) (λ head _.
+    keeps_then In Anything Anything _ _ (tail_keeps In rests head.kind) (λ _ _. keeps_given In Anything head tt)))
 
-parameter_keeps : (tokens : TokenList) → Keeps tokens Anything OneParameter
-parameter_keeps tokens run outcome r (stands {head} {front} {rest} s e) = (tt, (shape_keeps tokens run (Ok (head, rest)) r s).1)
-parameter_keeps tokens run outcome r (shape_broken s) = tt
+parameter_keeps : (In : TokenList → Type 0) (rests : Rests In) → Keeps In Anything OneParameter
+parameter_keeps In rests run outcome r (stands {head} {front} {rest} s e) = (tt, (shape_keeps In rests run (Ok (head, rest)) r s).1)
+parameter_keeps In rests run outcome r (shape_broken s) = tt
 
-closing_gives : (tokens run : TokenList) → IsRunOf run tokens → Gives tokens Anything (closing_in run)
-closing_gives tokens none r = tt
-closing_gives tokens (also (identifier text span) rest) r = tt
-closing_gives tokens (also (punctuation character spacing span) rest) r =
-    gives_if tokens Anything (character == greater) (Ok (tt, rest)) (mismatch (also (punctuation character spacing span) rest)) (tt, part_rest _ rest r) tt
-closing_gives tokens (also (literal text span) rest) r = tt
-closing_gives tokens (also (doc text span) rest) r = tt
-closing_gives tokens (also (group delimiter span inside) rest) r = tt
+closing_gives : (In : TokenList → Type 0) (rests : Rests In) (run : TokenList) → In run → Gives In Anything (closing_in run)
+closing_gives In rests none r = tt
+closing_gives In rests (also (identifier text span) rest) r = tt
+closing_gives In rests (also (punctuation character spacing span) rest) r =
+    gives_if In Anything (character == greater) (Ok (tt, rest)) (mismatch (also (punctuation character spacing span) rest)) (tt, rests _ rest r) tt
+closing_gives In rests (also (literal text span) rest) r = tt
+closing_gives In rests (also (doc text span) rest) r = tt
+closing_gives In rests (also (group delimiter span inside) rest) r = tt
 
-parameters_keep : (tokens : TokenList) → Keeps tokens Anything parameters
-parameters_keep tokens =
-    keeps_then tokens (Each Anything) Anything _ _ (keeps_listed tokens Anything (begins_with greater) OneParameter (parameter_keeps tokens)) (λ list _.
-    keeps_then tokens Anything Anything _ _ (keeps_by tokens Anything closing_in (closing_gives tokens)) (λ _ _. keeps_given tokens Anything list tt))
+parameters_keep : (In : TokenList → Type 0) (rests : Rests In) → Keeps In Anything parameters
+parameters_keep In rests =
+    keeps_then In (Each Anything) Anything _ _ (keeps_listed In rests Anything (begins_with greater) OneParameter (parameter_keeps In rests)) (λ list _.
+    keeps_then In Anything Anything _ _ (keeps_by In Anything closing_in (closing_gives In rests)) (λ _ _. keeps_given In Anything list tt))
 
-rest_of_part : (tokens run : TokenList) → IsRunOf run tokens → IsRunOf (rest_of run) tokens
-rest_of_part tokens none r = r
-rest_of_part tokens (also token rest) r = part_rest token rest r
+rest_of_part : (In : TokenList → Type 0) (rests : Rests In) (run : TokenList) → In run → In (rest_of run)
+rest_of_part In rests none r = r
+rest_of_part In rests (also token rest) r = rests token rest r
 
-pub generics_keep : (tokens : TokenList) → Keeps tokens Anything Generics
-generics_keep tokens run outcome r (listed b p) = parameters_keep tokens (rest_of run) outcome (rest_of_part tokens run r) p
-generics_keep tokens run outcome r (absent b) = (tt, r)
+pub generics_keep : (In : TokenList → Type 0) (rests : Rests In) → Keeps In Anything Generics
+generics_keep In rests run outcome r (listed b p) = parameters_keep In rests (rest_of run) outcome (rest_of_part In rests run r) p
+generics_keep In rests run outcome r (absent b) = (tt, r)

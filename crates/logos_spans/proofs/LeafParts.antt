@@ -32,7 +32,9 @@ use Rattle.logos_leaf.specs.Leaves.{LeafView, bytes_of, folded_report, token_rep
 use Rattle.logos_leaf.specs.Sources.{ReadsParameters, no_parameter, one_parameter, ReadsAttributes, no_attribute, one_attribute, ReadsSource, IsSourceRead}
 use Rattle.logos_leaf.specs.Variants.{TokenGives, no_token, a_token, RegexGives, no_regex, a_regex, AttributeGives, on_error, on_token, on_regex, on_other, AttributesAdd, no_attribute as no_more, one_attribute as one_first, VariantsAdd, no_variant, one_variant, SkipsAdd, no_skip, one_skip}
 use Rattle.logos_spans.specs.LeafSpans.{IsRunSpan, StandsIn, HasSpansOf}
-use Rattle.logos_spans.proofs.EnumParts.{VariantParts, EnumParts, enum_parts, IfRun, split_part}
+use Rattle.logos_spans.proofs.TokenParts.{Part}
+use Rattle.logos_spans.proofs.EnumParts.{VariantParts, EnumParts, enum_parts, split_part}
+use Rattle.logos_spans.proofs.HeadParts.{IfRun}
 use Rattle.logos_spans.proofs.DefinitionParts.{DefinitionParts, IfDefinition, attribute_definition, SkipParts, reads_attribute}
 
 -- the leaf, if there is one, stands in these tokens
@@ -80,20 +82,20 @@ each_added tokens [] (Some leaf) e l = (l, tt)
 each_added tokens (first ∷ rest) leaf e l = (e.0, each_added tokens rest leaf e.1 l)
 
 -- the definition that was read
-definition_read : (tokens : TokenList) (attribute : AttributeValue) (definition : DefinitionView) → IfRun tokens attribute.inside → Some definition ≡ (meta_report (meta_of attribute)).value → DefinitionParts tokens definition
+definition_read : (tokens : TokenList) (attribute : AttributeValue) (definition : DefinitionView) → IfRun (Part tokens) attribute.inside → Some definition ≡ (meta_report (meta_of attribute)).value → DefinitionParts tokens definition
 definition_read tokens attribute definition r e = subst (IfDefinition tokens) (sym e) (attribute_definition tokens attribute r)
 
-token_gives : (tokens : TokenList) {kind : KindValue} {attribute : AttributeValue} {old new : List Fault} {leaf : Option LeafView} → TokenGives kind attribute old new leaf → IfRun tokens attribute.inside → IfLeaf tokens leaf
+token_gives : (tokens : TokenList) {kind : KindValue} {attribute : AttributeValue} {old new : List Fault} {leaf : Option LeafView} → TokenGives kind attribute old new leaf → IfRun (Part tokens) attribute.inside → IfLeaf tokens leaf
 token_gives tokens (no_token t f) r = tt
 token_gives tokens {kind} {attribute} (a_token {definition = definition} t l) r = token_leaf_parts tokens definition (definition_read tokens attribute definition r t.0) kind l
 
 regex_gives : (tokens : TokenList) {names : List Stored} {kind : KindValue} {attribute : AttributeValue} {old new : List Fault} {leaf : Option LeafView} →
-    RegexGives names kind attribute old new leaf → IfRun tokens attribute.inside → IfLeaf tokens leaf
+    RegexGives names kind attribute old new leaf → IfRun (Part tokens) attribute.inside → IfLeaf tokens leaf
 regex_gives tokens (no_regex t f) r = tt
 regex_gives tokens {kind = kind} {attribute = attribute} (a_regex {definition = definition} t l) r = regex_leaf_parts tokens definition (definition_read tokens attribute definition r t.0) kind l
 
 attribute_gives : (tokens : TokenList) {names : List Stored} {kind : KindValue} {attribute : AttributeValue} {old new : List Fault} {leaf : Option LeafView} →
-    AttributeGives names kind attribute old new leaf → IfRun tokens attribute.inside → IfLeaf tokens leaf
+    AttributeGives names kind attribute old new leaf → IfRun (Part tokens) attribute.inside → IfLeaf tokens leaf
 attribute_gives tokens (on_error n f) r = tt
 attribute_gives tokens (on_token n g) r = token_gives tokens g r
 attribute_gives tokens (on_regex n g) r = regex_gives tokens g r

@@ -5,8 +5,9 @@ use Rattle.logos_lexeme.specs.declared.lexeme.Delimiter.{Delimiter}
 use Rattle.logos_token.specs.Tokens.{Token, TokenList, group, none, also, append, IsRestOf}
 use Rattle.logos_token.specs.PrintedAgain.{IsRunOf, here, within}
 use Rattle.logos_token.proofs.reading.NestingLemmas.{append-none}
+use Rattle.logos_spans.proofs.RuleParts.{Rests}
 
-append_append : (front middle back : TokenList) → append (append front middle) back ≡ append front (append middle back)
+pub append_append : (front middle back : TokenList) → append (append front middle) back ≡ append front (append middle back)
 append_append none middle back = refl
 append_append (also token front) middle back = ap (also token) (append_append front middle back)
 
@@ -37,3 +38,10 @@ part_inside delimiter span inside rest (within before other at around back e h) 
 
 pub part_left : (run rest : TokenList) {tokens : TokenList} → IsRestOf run rest → IsRunOf run tokens → IsRunOf rest tokens
 part_left run rest {tokens} r h = part_back r.front rest (rw r.is at h)
+
+-- a run of the whole, and that each rest of one is one
+abbrev pub Part : TokenList → TokenList → Type 0
+Part tokens run = IsRunOf run tokens
+
+pub part_rests : (tokens : TokenList) → Rests (Part tokens)
+part_rests tokens token rest h = part_rest token rest h

@@ -10,5 +10,5 @@ returns c =
     let begin = c.args.part.offset in
     let faults = c.args.errors.now in
     let pushed = rw c.list.ensures at c.in_ok-push_all.ensures in
-    let all = subst (λ list. PutsAfter source begin list [] faults c.new-lines.result c.in_ok-push_all.new.lines) (append-nil faults) pushed in
+    let all = subst (λ list. PutsAfter source begin list [] faults c.new-lines.result c.push_all.new.lines) (append-nil faults) pushed in
     messages_written source begin faults _ _ c.in_ok-bytes.bytes.items (ap (λ v. v.before) c.new-lines.ensures ∙ c.new.ensures.items) (ap (λ v. v.tokens) c.new-lines.ensures) all c.in_ok-bytes.ensures.bytes

@@ -18,7 +18,7 @@ loop-number-preserved c = λ new rest.
     let earlier = all_faults c.args.listing.earlier.now in
     let faults = c.args.listing.faults.now in
     let i = c.loop-number.number in
-    let one = subst (λ x. PutsCounted source c.args.part.offset all (earlier ++ faults_of (take i faults)) (fault_of x) c.loop-number.lines c.in_ok-push_counted.new.lines) c.index-faults-number.is c.in_ok-push_counted.ensures in
+    let one = subst (λ x. PutsCounted source c.args.part.offset all (earlier ++ faults_of (take i faults)) (fault_of x) c.loop-number.lines c.push_counted.new.lines) c.index-faults-number.is c.in_ok-push_counted.ensures in
     c.loop-number.invariant new (next_counted source c.args.part.offset all earlier faults i c.index-faults-number.result c.loop-number-test.true one rest)
 
 pub returns : goal.returns

@@ -5,7 +5,7 @@ use Rattle.logos_messages.proofs.warnings.push_all.Goals as goal
 
 pub loop-warning-preserved : goal.loop-warning-preserved
 loop-warning-preserved c = λ new rest.
-    let one = subst (λ x. PutsWarning c.args.part.source.now c.args.part.offset x c.loop-warning.lines c.in_ok-push_line.new.lines) c.warning-item.is c.in_ok-push_line.ensures in
+    let one = subst (λ x. PutsWarning c.args.part.source.now c.args.part.offset x c.loop-warning.lines c.push_line.new.lines) c.warning-item.is c.in_ok-push_line.ensures in
     c.loop-warning.invariant new (next_warned c.args.part.source.now c.args.part.offset c.args.warnings.now c.loop-warning.warning-index c.warning-item.result c.loop-warning-test.true one rest)
 
 pub returns : goal.returns
