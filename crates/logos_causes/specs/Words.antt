@@ -5,6 +5,7 @@ pub use Rattle.logos_enum.specs.EnumValues.{enum_value}
 pub use Rattle.logos_graph.specs.View.{rule_of}
 pub use Rattle.logos_parser.specs.Endings.{GivesEnum}
 pub use Rattle.logos_report.specs.Sets.{size_of, sizes_of}
+pub use Rattle.logos_token.specs.Limits.{delimiter_limit}
 pub use Rattle.logos_token.specs.Refusals.{IsRefusal}
 pub use Rattle.logos_token.specs.Spelling.{Spells}
 pub use Rattle.logos_token.specs.Tokens.{depth_of}

@@ -1,7 +1,7 @@
 //! What is known of a source that is refused, and what warnings a lexer has.
 
 ghost use Rattle.std.specs.Prelude.{◌≡◌, ◌≢◌, ◌≤◌, [], IfOk};
-ghost use Rattle.logos_causes.specs.Words.{GivesEnum, HasSets, IsRefusal, LeavesHaveSets, Spells, depth_of, enum_value, set_sizes, sizes_of, tokens_of};
+ghost use Rattle.logos_causes.specs.Words.{GivesEnum, HasSets, IsRefusal, LeavesHaveSets, Spells, delimiter_limit, depth_of, enum_value, set_sizes, sizes_of, tokens_of};
 
 use crate::callbacks::{CallbackOwner, add_callback, add_callbacks};
 use crate::hidden::add_hidden;
@@ -75,11 +75,7 @@ fn explain_source(alloc: Global, source: &str, warns: bool) -> Result<Explained,
 }
 
 /// Returns what is known of a source without tokens, for this reason: nothing.
-fn explain_unreadable(
-    alloc: Global,
-    source: &str,
-    error: TokenError,
-) -> Result<Explained, Memory>
+fn explain_unreadable(alloc: Global, source: &str, error: TokenError) -> Result<Explained, Memory>
     requires { IsRefusal source.now error }
     ensures { IfOk result (λ known. HasSets source.now (sizes_of known.clues)) }
 {
@@ -99,7 +95,7 @@ fn explain_tokens(
     warns: bool,
 ) -> Result<Explained, Memory>
     requires spelled { Spells source.now (tokens_of tokens) }
-    requires shallow { depth_of (tokens_of tokens) ≤ 128 }
+    requires shallow { depth_of (tokens_of tokens) ≤ delimiter_limit }
     ensures { IfOk result (λ known. HasSets source.now (sizes_of known.clues)) }
 {
     match read_enum(alloc, tokens) {
