@@ -20,7 +20,7 @@ use Rattle.logos_enum.specs.Rules.{Outcome, mismatch}
 use Rattle.logos_spans.proofs.TokenParts.{Part, part_back, part_front, part_inside, part_rest, part_rests, part_self}
 use Rattle.logos_spans.proofs.RuleParts.{Anything, Gives, Keeps, part_if, gives_if, keeps_by, keeps_given, keeps_then, keeps_listed}
 use Rattle.logos_spans.proofs.GenericParts.{name_gives, generics_keep}
-use Rattle.logos_spans.proofs.HeadParts.{announced_part, where_gives}
+use Rattle.logos_spans.proofs.HeadParts.{IfRun, announced_part, where_gives}
 
 -- the attributes are a run of the whole, too
 attributes_keep : (tokens : TokenList) → Keeps (Part tokens) (Part tokens) Attributes

@@ -69,7 +69,7 @@ bounds_give In rests none r = (tt, r)
 bounds_give In rests (also (identifier text span) rest) r = (tt, r)
 bounds_give In rests (also (punctuation character spacing span) rest) r =
     let p = rests _ rest r in
-    gives_if In Anything (character == colon) _ (Ok (tt, also (punctuation character spacing span) rest)) (tt, extent_part In rests _ rest p) (tt, r)
+    gives_if In Anything (character == colon) _ (Ok (tt, also (punctuation character spacing span) rest)) (tt, search (extent_part In rests, p)) (tt, r)
 bounds_give In rests (also (literal text span) rest) r = (tt, r)
 bounds_give In rests (also (doc text span) rest) r = (tt, r)
 bounds_give In rests (also (group delimiter span inside) rest) r = (tt, r)
@@ -79,7 +79,7 @@ constant_gives In rests none r = tt
 constant_gives In rests (also (identifier text span) rest) r = tt
 constant_gives In rests (also (punctuation character spacing span) rest) r =
     let p = rests _ rest r in
-    gives_if In Anything (character == colon) _ (mismatch (also (punctuation character spacing span) rest)) (some_gives In rests _ rest p) tt
+    gives_if In Anything (character == colon) _ (mismatch (also (punctuation character spacing span) rest)) (search (some_gives, rests, p)) tt
 constant_gives In rests (also (literal text span) rest) r = tt
 constant_gives In rests (also (doc text span) rest) r = tt
 constant_gives In rests (also (group delimiter span inside) rest) r = tt
@@ -89,7 +89,7 @@ default_gives In rests none r = (tt, r)
 default_gives In rests (also (identifier text span) rest) r = (tt, r)
 default_gives In rests (also (punctuation character spacing span) rest) r =
     let p = rests _ rest r in
-    gives_if In Anything (character == equals) _ (Ok (tt, also (punctuation character spacing span) rest)) (some_gives In rests _ rest p) (tt, r)
+    gives_if In Anything (character == equals) _ (Ok (tt, also (punctuation character spacing span) rest)) (search (some_gives, rests, p)) (tt, r)
 default_gives In rests (also (literal text span) rest) r = (tt, r)
 default_gives In rests (also (doc text span) rest) r = (tt, r)
 default_gives In rests (also (group delimiter span inside) rest) r = (tt, r)

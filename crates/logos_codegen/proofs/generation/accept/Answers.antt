@@ -1,10 +1,14 @@
-use Rattle.std.proofs.Common.{◌∙◌, Result, Ok, Err, IfOk, IfErr, sym, subst}
-use Rattle.logos_enum.specs.Values.{ident_slice}
+use Rattle.std.proofs.Common.{◌∙◌, Result, Ok, Err, IfOk, IfErr, sym, ap, subst}
+use Rattle.logos_type_params.specs.Generics.{generics}
+use Rattle.logos_enum.specs.Values.{Slice, ident_slice}
 use Rattle.logos_definition.specs.Options.{OptionsView, utf8_mode}
 use Rattle.logos_definition.specs.ParserViews.{parser_view}
+use Rattle.logos_parser.specs.Analyses.{AnalysisView, HasItsType}
 use Rattle.logos_parser.specs.AnalysisViews.{analysis_view}
+use Rattle.logos_parser.specs.EnumTypes.{enum_type}
 use Rattle.logos_parser.specs.Refusals.{Refuses}
 use Rattle.logos_codegen.specs.Source.{IsRefused}
+use Rattle.logos_codegen.specs.declared.generation.EnumHead.{EnumHead}
 use Rattle.logos_codegen.specs.inside.Heads.{HeadHasItsType, IsHeadOf}
 use Rattle.logos_codegen.specs.inside.Steps.{AreGraphFaults, IsFaultless, IsGraphMade}
 use Rattle.logos_codegen.proofs.RefusalLemmas.{ends_refuses}
@@ -20,6 +24,12 @@ together (Err e) P Q R by p q = tt
 by_error : {T E : Type 0} (result : Result T E) (P Q : E → Type 0) → ((e : E) → P e → Q e) → IfErr result P → IfErr result Q
 by_error (Ok x) P Q by p = tt
 by_error (Err e) P Q by p = by e p
+
+-- the type of an analysis is that of its head
+typed : (analysis : AnalysisView) (head : EnumHead) → IsHeadOf analysis head → HasItsType analysis.name analysis.options analysis.this → HeadHasItsType head
+typed analysis head is e =
+    is.same_type ∙ e ∙ ap (λ (n : Slice). enum_type n.text (generics analysis.options.types)) (sym is.same_name)
+    ∙ ap (λ (o : OptionsView). enum_type (ident_slice head.name).text (generics o.types)) (sym is.same_options)
 
 pub returns-in-Err-clause-err : goal.returns-in-Err-clause-err
 returns-in-Err-clause-err c = ends_refuses c.args.src.now c.in-Err.refusal c.in-Err.ensures.err
@@ -42,7 +52,7 @@ returns-in-Ok-clause-typed c =
     let analysis = c.in-Ok.analysis in
     let made = c.accept_analysis in
     together made.result (λ x. IsHeadOf (analysis_view analysis) x.1) (λ x. IsHeadOf (analysis_view analysis) x.1) (λ x. HeadHasItsType x.1)
-    (λ x head same. rw (head.same_name, head.same_type, head.same_options) read.is_type) made.ensures.head made.ensures.head
+    (λ x head same. typed (analysis_view analysis) x.1 head read.is_type) made.ensures.head made.ensures.head
 
 pub returns-in-Ok-clause-err : goal.returns-in-Ok-clause-err
 returns-in-Ok-clause-err c =
