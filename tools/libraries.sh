@@ -1,0 +1,34 @@
+#!/usr/bin/env bash
+# Builds the libraries that crates of this clone use, lowest first, so that `rt check` in such a
+# crate proves that crate alone.
+#
+#   tools/libraries.sh [CRATE ..]   those below these crates of crates.txt, logos_codegen if none is
+#                                   named, and the crates themselves where they are libraries
+#
+# Each is proved, unless this clone has it, or another clone on this machine in which `rt` built it
+# of the same text. `rt check` does the same where they are missing, but first reads the sources of
+# all of them together, for minutes and without a word.
+set -euo pipefail
+export PYTHONDONTWRITEBYTECODE=1
+
+root=$(cd "$(dirname "${BASH_SOURCE[0]}")/.." && pwd)
+order=$(python3 - "$root/tools" "${@:-logos_codegen}" << 'END'
+import os
+import sys
+
+sys.path.insert(0, sys.argv[1])
+import build
+
+uses = build.libraries()
+order = []
+for crate in sys.argv[2:]:
+    if crate not in uses:
+        build.fail(f"{crate} is no crate of crates.txt")
+    order += [it for it in [*build.in_order(uses, crate), crate] if it not in order]
+print(*(it for it in order if os.path.exists(f"{build.ROOT}/crates/{it}/src/lib.rt")))
+END
+)
+for crate in $order; do
+    echo "$crate"
+    (cd "$root/crates/$crate" && rt lib) || { echo "libraries: $crate is not proved" >&2; exit 1; }
+done
