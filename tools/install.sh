@@ -1,6 +1,6 @@
 #!/usr/bin/env bash
-# Puts the programs `logos_cli`, `logos_show` and `logos` into a folder: `--help` says which words it
-# takes.
+# Puts the programs `logos_cli`, `logos_show` and `logos` into a folder: `--help` says which words
+# it takes.
 #
 # Without --proved they are built without checks at run time where the crates are those of
 # proved.sums, which the gate compares with what it proved, and with checks else. With --proved they
