@@ -81,7 +81,7 @@ check_page() {
     [ "$((ran - ran_before))" = "$3" ] || fail "$1: $((ran - ran_before)) commands ran, where $3 are stated"
 }
 
-check_page docs/GUIDE.md 28 52 alone
+check_page docs/GUIDE.md 29 53 alone
 check_page README.md 1 2 others
 sed -n '/^pub const SOURCE/,/^"#;$/p' crates/logos_codegen/src/expr.rt | sed -e '1s/^[^"]*"//' -e '$d' | cmp -s - docs/guide/expr.rs \
     || fail "another enum than that of the tokenizer"
