@@ -3,7 +3,7 @@ use Rattle.std.proofs.Common.{◌≡◌, ◌==◌, ◌≤◌, ◌<◌, ◌+◌, 
 use Rattle.std.proofs.lemmas.List.{append-nil}
 use Rattle.std.proofs.Math.Seq.{drop-cons}
 use Rattle.std.proofs.Math.ListN.{drop_of_length-le}
-use Rattle.logos_automaton.specs.Munch.{Rule}
+use Rattle.logos_codegen.specs.Words.{Rule}
 use Rattle.logos_code.specs.Code.{CodeValue}
 use Rattle.logos_expand.specs.declared.shape.Shape.{Shape}
 use Rattle.logos_codegen.specs.Given.{IsGiven}
@@ -214,6 +214,12 @@ ok_then (Ok done) f h = f h
 ok_then (Err error) f h = tt
 
 -- an enum with faults was gathered, where there was memory for them
+
+-- what holds stays so where a call fails or not
+pub holds_then : {A E P : Type 0} (result : Result A E) → P → OnOk result P
+holds_then (Ok done) p = p
+holds_then (Err error) p = tt
+
 pub refuses_then : {A E : Type 0} (result : Result A E) (shape : Shape) (text : List ℕ) (one : FoundEnum) (refusal : Refusal) (clues : Clues) (old new : Gathered) (source : List ℕ) → Refuses (IsRefused source) refusal → HasSets source (sizes_of clues) →
     OnOk result (AddsRefusal one.span.from refusal clues old.refused.items new.refused.items) → new.parts.items ≡ old.parts.items → source ≡ text_at text one → one.derives ≡ true → OnOk result (GathersOne shape text one old new)
 refuses_then result shape text one refusal clues old new source h s a p k e = ok_then result (λ b. refuses_one shape text one refusal clues old new source k e h s b p) a
