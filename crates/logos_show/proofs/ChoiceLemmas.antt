@@ -1,5 +1,5 @@
 -- The enum that is chosen among those of a file.
-use Rattle.std.proofs.Common.{◌≡◌, ◌<◌, ◌≤◌, ◌+◌, ℕ, Bool, true, false, List, [], ◌∷◌, Contains, Option, Some, None, IfSome, if◌then◌else◌, length, get_or, drop, option_map, unwrap_or, sym, ap, ◌∙◌, refl, subst}
+use Rattle.std.proofs.Common.{◌≡◌, ◌<◌, ◌≤◌, ◌+◌, ℕ, Bool, true, false, List, [], ◌∷◌, Contains, Option, Some, None, IfSome, if◌then◌else◌, length, get_or, drop, option_map, unwrap_or, inl, inr, sym, ap, ◌∙◌, refl, subst}
 use Rattle.std.proofs.lemmas.List.{at_drop_more, at_drop_all}
 use Rattle.std.specs.Borrow.{Bor}
 use Rattle.logos_rust_file.specs.declared.finding.FoundEnum.{FoundEnum}
