@@ -1,6 +1,6 @@
 -- The enum that is chosen among those of a file.
 use Rattle.std.proofs.Common.{◌≡◌, ◌<◌, ◌≤◌, ◌+◌, ℕ, Bool, true, false, List, [], ◌∷◌, Contains, Option, Some, None, IfSome, if◌then◌else◌, length, get_or, drop, option_map, unwrap_or, inl, inr, sym, ap, ◌∙◌, refl, subst}
-use Rattle.std.proofs.lemmas.List.{at_drop_more, at_drop_all}
+use Rattle.std.proofs.lemmas.List.{at_drop_more, at_drop_all, get_or_default}
 use Rattle.std.specs.Borrow.{Bor}
 use Rattle.logos_rust_file.specs.declared.finding.FoundEnum.{FoundEnum}
 use Rattle.logos_rust_file.specs.Files.{AreEnumsOf}
@@ -26,6 +26,10 @@ among_next found old new i one l e among (inr fresh) = λ x is.
     let same : one ≡ x = ap (λ (o : Option FoundEnum). unwrap_or o one) (sym fresh.0 ∙ is) in
     subst (λ y. Contains found y × (y.derives ≡ true)) same ((i, l, sym e), fresh.1)
 
+-- the same of the enum with this index
+pub among_next_at : (found : List FoundEnum) (old new : Option FoundEnum) (i : ℕ) (d : FoundEnum) → i < length found → AreAmong found old → IsSameOr old (get_or found i d) new → AreAmong found new
+among_next_at found old new i d l among same = among_next found old new i (get_or found i d) l (get_or_default found i d (get_or found i d) l) among same
+
 first_step : (first : Option FoundEnum) (one : FoundEnum) (rest : List FoundEnum) → first_of (if one.derives then first_near first one else first) rest ≡ first_of first (one ∷ rest)
 first_step (Some first) one rest = some_step one.derives
   where
@@ -47,6 +51,11 @@ first_next found old new i one l e is so =
     ∙ ap (λ x. first_of old (x ∷ drop (i + 1) found)) e
     ∙ sym (at_drop_more (first_of old) found i one l)
     ∙ so
+
+-- the same of the enum with this index
+pub first_next_at : (found : List FoundEnum) (old new : Option FoundEnum) (i : ℕ) (d : FoundEnum) → i < length found → new ≡ (if (get_or found i d).derives then first_near old (get_or found i d) else old) →
+    first_of old (drop i found) ≡ first_deriving found → first_of new (drop (i + 1) found) ≡ first_deriving found
+first_next_at found old new i d l is so = first_next found old new i (get_or found i d) l (get_or_default found i d (get_or found i d) l) is so
 
 first_nothing : (first : Option FoundEnum) → first_of first [] ≡ first
 first_nothing (Some first) = refl

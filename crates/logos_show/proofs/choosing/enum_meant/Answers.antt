@@ -1,6 +1,6 @@
 use Rattle.std.proofs.Common.{◌∙◌, IfSome, option_map, subst, sym}
 use Rattle.logos_show.specs.Choices.{IsTaken}
-use Rattle.logos_show.proofs.ChoiceLemmas.{among_next, first_all, first_next, is_taken, no_name}
+use Rattle.logos_show.proofs.ChoiceLemmas.{among_next_at, first_all, first_next_at, is_taken, no_name}
 use Rattle.logos_show.proofs.choosing.enum_meant.Goals as goal
 
 pub loop-one-preserved : goal.loop-one-preserved
@@ -9,12 +9,12 @@ loop-one-preserved c =
     let next = c.in_ok-choice.ensures in
     record {
       same_name = next.same_name ∙ so.same_name;
-      exact = among_next c.args.found.now c.loop-one.choice.exact _ c.loop-one.one-index c.one-item.result c.loop-one-test.true c.one-item.is so.exact next.exact;
-      near = among_next c.args.found.now c.loop-one.choice.first _ c.loop-one.one-index c.one-item.result c.loop-one-test.true c.one-item.is so.near next.near;
+      exact = among_next_at c.args.found.now c.loop-one.choice.exact _ c.loop-one.one-index _ c.loop-one-test.true so.exact next.exact;
+      near = among_next_at c.args.found.now c.loop-one.choice.first _ c.loop-one.one-index _ c.loop-one-test.true so.near next.near;
       unnamed = λ none.
           let old = so.unnamed none in
           let new = next.unnamed (so.same_name ∙ none) old.0 in
-          (new.0, first_next c.args.found.now c.loop-one.choice.first _ c.loop-one.one-index c.one-item.result c.loop-one-test.true c.one-item.is new.1 old.1);
+          (new.0, first_next_at c.args.found.now c.loop-one.choice.first _ c.loop-one.one-index _ c.loop-one-test.true new.1 old.1);
     }
 
 pub returns : goal.returns
