@@ -3,13 +3,13 @@
 ghost use Rattle.std.specs.Prelude.{◌≡◌, [], IfErr, IfOk, OnOk};
 ghost use Rattle.logos_show.specs.Views.{AllStart, Gains, IsBytes, IsGraphOf, rules_of, IsNoMisuse, GraphValue, IsCompared, IsJudged, PrintsInputRecords, PrintsInputs, PrintsMatchRecords, PrintsMatches, place_line};
 
-use crate::reading::print_bytes;
 use logos_answers::{
     Compared, NamedLexer, compare_lexers, finding_of, offset_of, push_agreement, push_callbacks,
     push_difference, push_inputs, push_matches, push_modes,
 };
 use logos_codegen::graph::Graph;
 use logos_host::Failure;
+use logos_items::print_bytes;
 use logos_lines::Position;
 use logos_records::{
     JsonLines, input_records, match_records, push_difference_record, push_modes_record,

@@ -5,7 +5,6 @@
 mod asking;
 mod choosing;
 mod comparing;
-mod items;
 mod reading;
 mod running;
 mod showing;

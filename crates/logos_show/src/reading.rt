@@ -1,7 +1,7 @@
 //! Files and their enums.
 
-ghost use Rattle.std.specs.Prelude.{IfErr, OnOk};
-ghost use Rattle.logos_show.specs.Words.{Appends, IsNoMisuse};
+ghost use Rattle.std.specs.Prelude.{IfErr};
+ghost use Rattle.logos_show.specs.Words.{IsNoMisuse};
 
 use logos_causes::{
     Explained, Showing, add_warnings, explain, push_warned, text_of as text_of_lines, warning_lines,
@@ -9,7 +9,8 @@ use logos_causes::{
 use logos_codegen::Refusal;
 use logos_codegen::error::{Errors, Memory};
 use logos_codegen::token::Span;
-use logos_host::{ComparableFiles, Failure, Files, MessageFormat, read_text, write_through};
+use logos_host::{ComparableFiles, Failure, Files, MessageFormat, read_text};
+use logos_items::print_bytes;
 use logos_messages::push_messages;
 use logos_options::{PROGRAM, commit_line};
 use logos_report::{Page, Part, Source, count_errors, push_faults, push_summary};
@@ -150,15 +151,4 @@ pub(crate) fn print_version<F: ComparableFiles, O: Write>(
     };
     print_bytes(version.as_bytes(), out)?;
     print_bytes(commit_line(&program), out)
-}
-
-/// Prints bytes.
-pub(crate) fn print_bytes<O: Write>(bytes: &[u8], out: &mut O) -> Result<(), Failure<'static>>
-    ensures printed { OnOk result (Appends (O.contents out.old) (O.contents out.new) bytes.now) }
-    ensures failed { IfErr result IsNoMisuse }
-{
-    match write_through(bytes, out) {
-        Ok(()) => Ok(()),
-        Err(error) => Err(Failure::of_output(&error)),
-    }
 }

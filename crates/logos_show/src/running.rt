@@ -9,14 +9,14 @@ use crate::asking::{
 };
 use crate::choosing::{found_in, lexer_in};
 use crate::comparing::compare;
-use crate::items::{write_item_records, write_items};
-use crate::reading::{print_bytes, print_version, read_bytes, refused, text_at, text_of};
+use crate::reading::{print_version, read_bytes, refused, text_at, text_of};
 use crate::showing::{Form, PageStyle, SHAPE, Shown, shown_of};
 use crate::streaming::lex_stream;
 use logos_causes::Showing;
 use logos_codegen::graph::Graph;
 use logos_codegen::{Generated, generate};
 use logos_host::{ComparableFiles, Failure, Files, report};
+use logos_items::{print_bytes, write_item_records, write_items};
 use logos_lines::Position;
 use logos_options::{Program, STANDARD_INPUT, with_nearest};
 use logos_questions::{Question, ShowOrder, ShowRequest, request_of};

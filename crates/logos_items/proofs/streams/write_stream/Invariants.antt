@@ -1,5 +1,5 @@
 use Rattle.std.proofs.Common.{◌≡◌}
-use Rattle.logos_show.proofs.streaming.write_stream.Given as goal
+use Rattle.logos_items.proofs.streams.write_stream.Given as goal
 
 -- the callback stays
 abbrev pub invariant-loop : goal.invariant-loop

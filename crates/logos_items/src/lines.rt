@@ -1,0 +1,105 @@
+//! The lines of items: the ones that are not written yet, what names a leaf in them, and what was
+//! counted.
+
+ghost use Rattle.std.specs.Prelude.{◌≡◌, ◌++◌, OnOk};
+ghost use Rattle.logos_items.specs.Words.{totals_text};
+
+use crate::blocks::BLOCK;
+use logos_answers::{Counts, LINE, Totals, code_name_at};
+use logos_codegen::Generated;
+use logos_codegen::code::{Code, CodeLeaf};
+use logos_report::Page;
+use std::alloc::{AllocError, Global};
+use std::time::{Clock, Duration};
+
+/// What names an error in its line.
+pub(crate) const ERROR: &[u8] = b"  <error>  \"";
+
+/// Where the lines of items go.
+#[derive(Drop)]
+pub(crate) struct Lines {
+    /// The lines that are not written yet.
+    pub(crate) block: Vec<u8>,
+    /// Where a short line is put together.
+    pub(crate) line: [u8; LINE],
+    pub(crate) counts: Counts,
+    /// For each leaf the part of a line between the position and the text: its variant, with what
+    /// stands around it.
+    pub(crate) heads: Vec<Vec<u8>>,
+}
+
+/// Makes lines of no item.
+pub(crate) fn no_lines(alloc: Global, code: &Code<'_>) -> Result<Lines, AllocError> {
+    Ok(Lines {
+        block: Vec::with_capacity(alloc, BLOCK + BLOCK / 16)?,
+        line: [0; LINE],
+        counts: Counts::new(alloc, code.leaves().len())?,
+        heads: heads_of(alloc, code.leaves())?,
+    })
+}
+
+/// Appends what was counted of a whole input. If memory runs out, nothing is added.
+pub(crate) fn push_totals(
+    alloc: Global,
+    made: &Generated<'_>,
+    lines: &mut Lines,
+    totals: Totals,
+) -> Result<(), AllocError>
+    ensures { OnOk result (lines.new.block.items ≡ lines.old.block.items
+        ++ totals_text made.now.name.text.now made.now.code.code_leaves lines.old.counts.by_leaf.items
+        lines.old.counts.errors totals.bytes totals.passed) }
+{
+    let mut page = Page::new(alloc, false);
+    let leaves = made.code.leaves();
+    lines
+        .counts
+        .push_totals(&mut page, made.name.text, leaves, totals);
+    let text = page.finish()?;
+    lines.block.extend_from_slice(text.as_bytes())
+}
+
+/// Returns the heads of the lines of these leaves.
+fn heads_of(alloc: Global, leaves: &[CodeLeaf<'_>]) -> Result<Vec<Vec<u8>>, AllocError> {
+    let mut heads = Vec::new(alloc);
+    for number in 0..leaves.len() {
+        heads.push(head_of(alloc, code_name_at(leaves, number))?)?;
+    }
+    Ok(heads)
+}
+
+/// Returns the head of the lines of a variant. A skip has no lines.
+fn head_of(alloc: Global, name: Option<&str>) -> Result<Vec<u8>, AllocError> {
+    let mut head = Vec::new(alloc);
+    if let Some(name) = name {
+        head.extend_from_slice(b"  ")?;
+        head.extend_from_slice(name.as_bytes())?;
+        head.extend_from_slice(b"  \"")?;
+    }
+    Ok(head)
+}
+
+/// Returns the head of the lines of a leaf.
+#[inline(always)]
+pub(crate) fn head_at(heads: &[Vec<u8>], leaf: usize) -> &[u8] {
+    match heads.get(leaf) {
+        Some(head) => head.as_slice(),
+        None => &[],
+    }
+}
+
+/// Returns the time, if there is a clock.
+pub(crate) fn now<C: Clock>(clock: &C) -> Option<Duration> {
+    match clock.monotonic() {
+        Ok(time) => Some(time),
+        Err(_) => None,
+    }
+}
+
+/// Returns the milliseconds between two times.
+pub(crate) fn milliseconds(start: Option<Duration>, end: Option<Duration>) -> Option<usize> {
+    let passed = end?.checked_sub(start?)?;
+    match usize::try_from(passed.as_millis()) {
+        Ok(milliseconds) => Some(milliseconds),
+        Err(_) => None,
+    }
+}

@@ -1,0 +1,139 @@
+//! The items of an input, an object of JSON each.
+
+ghost use Rattle.std.specs.Prelude.{IfErr};
+ghost use Rattle.logos_items.specs.Words.{IsNoMisuse};
+
+use crate::blocks::{BLOCK, print_bytes, write_if_full};
+use logos_answers::{Counts, code_name_at, note_of};
+use logos_codegen::code::{Code, CodeLeaf};
+use logos_codegen::leaf::LeafId;
+use logos_codegen::machine::{Action, Item, Lexer};
+use logos_host::Failure;
+use logos_lines::Cursor;
+use logos_records::{ItemRecord, JsonLines, push_item_record};
+use std::alloc::{AllocError, Global};
+use std::io::Write;
+use std::mem;
+
+/// Writes an object of JSON for each item of an input. Returns a note about callbacks, which is
+/// empty if no leaf with a callback has an item.
+///
+/// # Errors
+///
+/// Returns `NotUtf8` if the lexer reads text and the input is not UTF-8, `Output` if writing fails,
+/// and `Memory` if memory runs out.
+pub fn write_item_records<O: Write>(
+    alloc: Global,
+    code: &Code<'_>,
+    input: &[u8],
+    out: &mut O,
+) -> Result<String, Failure<'static>>
+    ensures { IfErr result IsNoMisuse }
+{
+    let mut records = Records {
+        alloc,
+        block: Vec::with_capacity(alloc, BLOCK + BLOCK / 16)?,
+        counts: Counts::new(alloc, code.leaves().len())?,
+    };
+    write_all_records(code, input, &mut records, out)?;
+    // The note is made first, so that nothing is printed if memory runs out.
+    let note = note_of(alloc, code.leaves(), &records.counts)?;
+    print_bytes(&records.block, out)?;
+    Ok(note)
+}
+
+/// Where the objects of items go.
+#[derive(Drop)]
+struct Records {
+    alloc: Global,
+    /// The objects that are not written yet.
+    block: Vec<u8>,
+    counts: Counts,
+}
+
+/// Writes an object for each item of an input, by blocks. The last block is left to the caller.
+fn write_all_records<O: Write>(
+    code: &Code<'_>,
+    input: &[u8],
+    records: &mut Records,
+    out: &mut O,
+) -> Result<(), Failure<'static>>
+    ensures { IfErr result IsNoMisuse }
+{
+    let emit = |_leaf: LeafId, _slice: &[u8]| Action::Emit;
+    match Lexer::new_bytes(code, input, emit) {
+        Ok(lexer) => {
+            let mut lexer = lexer;
+            write_records(&mut lexer, code.leaves(), records, out)
+        }
+        Err(error) => Err(Failure::NotUtf8 {
+            valid_up_to: error.valid_up_to,
+        }),
+    }
+}
+
+/// Writes an object for each item that a lexer still gives, by blocks.
+fn write_records<C: Fn(LeafId, &[u8]) -> Action, O: Write>(
+    lexer: &mut Lexer<'_, '_, '_, C>,
+    leaves: &[CodeLeaf<'_>],
+    records: &mut Records,
+    out: &mut O,
+) -> Result<(), Failure<'static>>
+    requires { C.IsAlwaysCallable lexer.old.callback }
+    ensures { IfErr result IsNoMisuse }
+{
+    let mut cursor = Cursor::new(lexer.remainder());
+    while let Some(item) = lexer.next() {
+        add_record(records, leaves, &mut cursor, item)?;
+        write_if_full(&mut records.block, out)?;
+    }
+    Ok(())
+}
+
+/// Adds the object of an item, and counts it.
+fn add_record(
+    records: &mut Records,
+    leaves: &[CodeLeaf<'_>],
+    cursor: &mut Cursor<'_>,
+    item: Item<'_>,
+) -> Result<(), AllocError> {
+    match item {
+        Item::Token { leaf, span, slice } => {
+            cursor.go_to(span.from);
+            records.counts.count_token(leaf.0);
+            let record = ItemRecord {
+                position: cursor.position(),
+                from: span.from,
+                leaf: Some(leaf.0),
+                variant: code_name_at(leaves, leaf.0),
+                bytes: slice,
+            };
+            push_record(records.alloc, &mut records.block, record)
+        }
+        Item::Error { span, slice, .. } => {
+            cursor.go_to(span.from);
+            records.counts.count_error();
+            let record = ItemRecord {
+                position: cursor.position(),
+                from: span.from,
+                leaf: None,
+                variant: None,
+                bytes: slice,
+            };
+            push_record(records.alloc, &mut records.block, record)
+        }
+    }
+}
+
+/// Appends an object to a block. If memory runs out the block is empty.
+fn push_record(
+    alloc: Global,
+    block: &mut Vec<u8>,
+    record: ItemRecord<'_>,
+) -> Result<(), AllocError> {
+    let out = mem::replace(block, Vec::new(alloc));
+    let mut lines = JsonLines::new(alloc, out);
+    push_item_record(&mut lines, record);
+    *block = lines.finish()?;
+    Ok(())
+}

@@ -1,0 +1,200 @@
+//! The items of standard input, a line each, written as they are found.
+
+ghost use Rattle.std.specs.Prelude.{◌<◌, IfErr};
+ghost use Rattle.logos_items.specs.Words.{IsNoMisuse, KeepsCode, unread_length};
+
+use crate::blocks::{print_bytes, write_if_full};
+use crate::lines::{ERROR, Lines, head_at, milliseconds, no_lines, now, push_totals};
+use logos_answers::{Totals, note_of, push_item};
+use logos_codegen::Generated;
+use logos_codegen::leaf::LeafId;
+use logos_codegen::machine::Action;
+use logos_host::{Failure, Reason, write_through};
+use logos_lines::Position;
+use logos_options::STANDARD_INPUT;
+use logos_stream::{Stream, StreamItem, Streamed};
+use std::alloc::{AllocError, Global};
+use std::io::{ErrorKind, Input, Read, Write};
+use std::time::Clock;
+
+/// How many bytes of standard input are in memory at a time. A longer token is an error.
+const MOST: usize = 16_777_216;
+
+/// Writes a line for each item of standard input, and then what was counted. What was found is
+/// written before each read. Returns a note about callbacks, which is empty if no leaf with a
+/// callback has an item.
+///
+/// # Errors
+///
+/// Returns `NotUtf8` if the lexer reads text and the input is not UTF-8, `Refused` if a token is
+/// too long, both after the lines of the items before it; `Read` if reading fails, `Output` if
+/// writing fails, and `Memory` if memory runs out.
+pub fn write_streamed<S: Clock + Input, O: Write>(
+    alloc: Global,
+    made: &Generated<'_>,
+    system: &S,
+    out: &mut O,
+) -> Result<String, Failure<'static>>
+    ensures { IfErr result IsNoMisuse }
+{
+    let mut lines = no_lines(alloc, &made.code)?;
+    let start = now(system);
+    let emit = |_leaf: LeafId, _slice: &[u8]| Action::Emit;
+    let mut stream = Stream::new(alloc, &made.code, system.reader(), MOST, emit)?;
+    let end = write_stream(&mut stream, &mut lines, out)?;
+    if let Some(stop) = end {
+        write_found(&mut lines, out)?;
+        return Err(failure_at(alloc, stop, stream.offset()));
+    }
+    let totals = Totals {
+        bytes: stream.offset(),
+        passed: milliseconds(start, now(system)),
+    };
+    push_totals(alloc, made, &mut lines, totals)?;
+    // The note is made first, so that the rest is not printed if memory runs out.
+    let note = note_of(alloc, made.code.leaves(), &lines.counts)?;
+    print_bytes(&lines.block, out)?;
+    Ok(note)
+}
+
+/// Why a stream is not lexed to its end.
+#[derive(Clone, Copy)]
+enum StreamStop {
+    NotUtf8,
+    TooLong,
+}
+
+/// Returns the failure of a stream that is not lexed from an offset on.
+fn failure_at(alloc: Global, stop: StreamStop, offset: usize) -> Failure<'static>
+    ensures { IsNoMisuse result }
+{
+    match stop {
+        StreamStop::NotUtf8 => Failure::NotUtf8 {
+            valid_up_to: offset,
+        },
+        StreamStop::TooLong => too_long(alloc, offset),
+    }
+}
+
+/// Returns the failure of a token that begins at an offset.
+fn too_long(alloc: Global, offset: usize) -> Failure<'static>
+    ensures { IsNoMisuse result }
+{
+    let made = format!(in alloc;
+        "error: the token at byte {offset} is longer than {MOST} bytes; name a file as the input\n"
+    );
+    match made {
+        Ok(text) => Failure::Refused(text),
+        Err(_) => Failure::Memory,
+    }
+}
+
+/// Writes a line for each item of a stream, by blocks. The last block is left to the caller.
+/// Returns why the stream was not lexed to its end, if it was not.
+fn write_stream<R: Read + Drop, C: Fn(LeafId, &[u8]) -> Action + Copy, O: Write>(
+    stream: &mut Stream<'_, '_, R, C>,
+    lines: &mut Lines,
+    out: &mut O,
+) -> Result<Option<StreamStop>, Failure<'static>>
+    requires { C.IsAlwaysCallable stream.old.callback }
+    ensures { IfErr result IsNoMisuse }
+{
+    let mut position = Position { line: 1, column: 1 };
+    for _ in 0..u64::MAX {
+        let next = stream.next();
+        let start = after(position, stream.skipped());
+        position = after(start, stream.slice());
+        match next {
+            Streamed::Item(item) => {
+                add_item(lines, start, item, stream.slice())?;
+                write_if_full(&mut lines.block, out)?;
+            }
+            Streamed::More => read_more(stream, lines, out)?,
+            Streamed::TooLong => return Ok(Some(StreamStop::TooLong)),
+            Streamed::NotUtf8 => return Ok(Some(StreamStop::NotUtf8)),
+            Streamed::End => break,
+        }
+    }
+    Ok(None)
+}
+
+/// Adds the line of an item, and counts it.
+fn add_item(
+    lines: &mut Lines,
+    position: Position,
+    item: StreamItem,
+    slice: &[u8],
+) -> Result<(), AllocError> {
+    match item {
+        StreamItem::Token { leaf, .. } => {
+            lines.counts.count_token(leaf.0);
+            let head = head_at(&lines.heads, leaf.0);
+            push_item(&mut lines.block, &mut lines.line, position, head, slice)
+        }
+        StreamItem::Error { .. } => {
+            lines.counts.count_error();
+            push_item(&mut lines.block, &mut lines.line, position, ERROR, slice)
+        }
+    }
+}
+
+/// Writes what was found, and reads once.
+fn read_more<R: Read + Drop, C: Fn(LeafId, &[u8]) -> Action + Copy, O: Write>(
+    stream: &mut Stream<'_, '_, R, C>,
+    lines: &mut Lines,
+    out: &mut O,
+) -> Result<(), Failure<'static>>
+    requires { unread_length stream.old.window < stream.old.window.bound }
+    ensures keeps { KeepsCode stream.old stream.new }
+    ensures failed { IfErr result IsNoMisuse }
+{
+    write_found(lines, out)?;
+    match stream.read() {
+        Ok(()) => Ok(()),
+        // The next turn reads again.
+        Err(error) if error.kind() == ErrorKind::Interrupted => Ok(()),
+        Err(error) => Err(Failure::Read(STANDARD_INPUT, Reason::of_kind(error.kind()))),
+    }
+}
+
+/// Writes the lines that are not written yet.
+fn write_found<O: Write>(lines: &mut Lines, out: &mut O) -> Result<(), Failure<'static>>
+    ensures { IfErr result IsNoMisuse }
+{
+    if lines.block.is_empty() {
+        return Ok(());
+    }
+    let written = write_through(&lines.block, out);
+    lines.block.clear();
+    match written {
+        Ok(()) => Ok(()),
+        Err(error) => Err(Failure::of_output(&error)),
+    }
+}
+
+/// Returns the position after some bytes.
+fn after(position: Position, bytes: &[u8]) -> Position {
+    let mut position = position;
+    for byte in bytes {
+        position = after_byte(position, *byte);
+    }
+    position
+}
+
+/// Returns the position after one more byte. Bytes that continue a character have its column.
+#[inline(always)]
+fn after_byte(position: Position, byte: u8) -> Position {
+    if byte == b'\n' {
+        return Position {
+            line: position.line.saturating_add(1),
+            column: 1,
+        };
+    }
+    if (128 <= byte) & (byte < 192) {
+        return position;
+    }
+    Position {
+        line: position.line,
+        column: position.column.saturating_add(1),
+    }
+}
