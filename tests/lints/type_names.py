@@ -21,13 +21,8 @@ TYPE = re.compile(r"^ *(?:pub(?:\([a-z ]+\))? )?(?:struct|enum|trait) ([A-Z]\w*)
 NOT_YET = "different things, of which one has to get another name"
 # Each name that stands in several crates: these, and why it stays.
 STAYS = {
-    "Chunk": ("relex walk", "the glossary has both: items that are stored together, and bytes that are stepped over at once"),
-    "Classes": ("reduce tables", "classes of what has one row: of states, and of symbols"),
     "Config": ("code graph", "the options of a generator and of a graph, both public"),
-    "Counts": ("answers scan", "how many there are of what each crate counts"),
-    "Cursor": ("lines walk", "a point that only moves forward, in a text and in a chunk"),
     "Literal": ("pattern token", "a literal of a source, and one that spells a pattern, both public"),
-    "Rows": ("reduce tables", "a list of rows, of two kinds of tables"),
 }
 
 

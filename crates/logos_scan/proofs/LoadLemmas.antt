@@ -21,7 +21,7 @@ use Rattle.logos_scan.specs.declared.tries.Taken.TheVariants.{Emits as TakenEmit
 use Rattle.logos_scan.specs.declared.run.Loaded.{Loaded}
 use Rattle.logos_scan.proofs.RunLemmas.{Holds, later_at, starts_same, starts_short, tried, ends_as, holds_next}
 use Rattle.logos_scan.proofs.TryLemmas.{stands_begun}
-use Rattle.logos_walk.specs.declared.cursor.Cursor.{Cursor}
+use Rattle.logos_walk.specs.declared.cursor.ChunkCursor.{ChunkCursor}
 use Rattle.logos_walk.specs.Cursor.{HasRoom, IsNext, NoToken, StartsAt, token_bit, end_bit}
 use Rattle.logos_walk.specs.Cursors.{IsMarked, Stands}
 use Rattle.logos_walk.specs.Masks.{MarksFrom}
@@ -135,7 +135,7 @@ repaired_run code rows input old run from stop entries folded c ee eb es ec el l
     }
 
 -- the run with another cursor
-abbrev pub moved : WithChunk → Cursor → WithChunk
+abbrev pub moved : WithChunk → ChunkCursor → WithChunk
 moved run cursor = record { chunk = run.chunk; cursor = cursor; count = run.count; place = run.place; low = run.low }
 
 -- skipped, and then skipped again
@@ -167,7 +167,7 @@ module _ (code : CodeValue) (rows : List ℕ) (folded : AreFolded code rows) (in
         starts = omega (arith, past, begun, near, within);
       }
 
-  module _ (cur : Cursor) (same_base : cur.base ≡ base) (stands : Stands entries cur) where
+  module _ (cur : ChunkCursor) (same_base : cur.base ≡ base) (stands : Stands entries cur) where
     -- where a later try stands, the run with the cursor there stands
     later_run : (from at : ℕ) (r : IsRun code rows input run from) → from ≤ at → at ≤ run.count → NoToken entries from at → StartsAt base entries from run.cursor.start at cur.start →
         IsRun code rows input (moved run cur) at × SkipsTo code input run.cursor.start cur.start
@@ -261,7 +261,7 @@ module _ (code : CodeValue) (rows : List ℕ) (folded : AreFolded code rows) (in
         by_use Asks has is = absurd (let o = has.1 in omega (arith, o, b))
 
     -- the next try stands after it
-    pub found_next : (cur : Cursor) → cur.base ≡ base → cur.start ≡ base + at → Stands entries cur → IsRun code rows input (moved run cur) (at + 1)
+    pub found_next : (cur : ChunkCursor) → cur.base ≡ base → cur.start ≡ base + at → Stands entries cur → IsRun code rows input (moved run cur) (at + 1)
     found_next cur eb es stands =
         let c = r.in_chunk in
         let h = holds_next code rows folded input are base run.count run.place entries c.within run.cursor.start at r.before (holds_at at r) inside ended in

@@ -14,8 +14,8 @@ use Rattle.logos_scan.specs.declared.tries.Taken.{Taken}
 use Rattle.logos_scan.specs.declared.tries.Taken.TheVariants.{Emits, Asks, Fails, Ends}
 use Rattle.logos_walk.specs.Cursor.{HasRoom, token_bit}
 use Rattle.logos_walk.specs.Cursors.{IsMarked, Stands}
-use Rattle.logos_walk.specs.declared.cursor.Cursor.{Cursor}
-use Rattle.logos_walk.specs.declared.masks.Chunk.{Chunk}
+use Rattle.logos_walk.specs.declared.cursor.ChunkCursor.{ChunkCursor}
+use Rattle.logos_walk.specs.declared.masks.ChunkEntries.{ChunkEntries}
 use Rattle.logos_walk.specs.Walk.{IsPlace, Walked}
 
 -- The rows are those of the code.
@@ -24,14 +24,14 @@ IsReading reading = AreFolded reading.code.now reading.rows.now
 
 -- A run with its chunk.
 pub record WithChunk : Type 0 where
-  pub chunk : Chunk
-  pub cursor : Cursor
+  pub chunk : ChunkEntries
+  pub cursor : ChunkCursor
   pub count : ℕ
   pub place : ℕ
   pub low : ℕ
 
 -- The same, put together.
-abbrev pub with_chunk : Chunk → Run → WithChunk
+abbrev pub with_chunk : ChunkEntries → Run → WithChunk
 with_chunk chunk run = record { chunk = chunk; cursor = run.cursor; count = run.count; place = run.place; low = run.low }
 
 -- No flag stands after the bytes of a chunk.

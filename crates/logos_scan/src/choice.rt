@@ -13,7 +13,7 @@ const WORTH: usize = 8_192;
 
 /// How many items there are in a part of an input, and how many of them are errors.
 #[derive(Clone, Copy, Drop)]
-struct Counts {
+struct SampleCounts {
     items: usize,
     errors: usize,
 }
@@ -48,8 +48,8 @@ fn suits_at(code: &Code, input: &[u8], at: usize) -> bool
 }
 
 /// Counts the items of a part of an input.
-fn counted(code: &Code, part: &[u8]) -> Counts {
-    let mut counts = Counts {
+fn counted(code: &Code, part: &[u8]) -> SampleCounts {
+    let mut counts = SampleCounts {
         items: 0,
         errors: 0,
     };
@@ -62,11 +62,11 @@ fn counted(code: &Code, part: &[u8]) -> Counts {
     counts
 }
 
-impl Counts {
+impl SampleCounts {
     /// Returns the counts with one item more.
-    fn and(self, taken: Taken) -> Counts {
+    fn and(self, taken: Taken) -> SampleCounts {
         let is_error = matches!(taken, Taken::Fails(_));
-        Counts {
+        SampleCounts {
             items: self.items.wrapping_add(1),
             errors: self.errors.wrapping_add(usize::from(is_error)),
         }

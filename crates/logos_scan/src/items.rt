@@ -9,7 +9,7 @@ use logos_code::action::Action;
 use logos_fold::folded::Folded;
 use logos_hir::leaf::LeafId;
 use logos_machine::machine::{Item, Lexer};
-use logos_walk::masks::Chunk;
+use logos_walk::masks::ChunkEntries;
 use std::alloc::{AllocError, Global};
 
 /// Returns all items of the input of a lexer that stands at its start, in order: by chunks where
@@ -52,7 +52,7 @@ pub fn items_by_chunks<'i, C: Fn(LeafId, &[u8]) -> Action>(
         (map item_of items.items)) }
 {
     let reading = Reading::new(folded, input);
-    let mut chunk = Chunk::new();
+    let mut chunk = ChunkEntries::new();
     let mut run = Run::new(&reading, &mut chunk);
     let mut items = Vec::new(alloc);
     while let Some(item) = run.next_item(&reading, &mut chunk, callback) {

@@ -12,8 +12,8 @@ use logos_hir::leaf::LeafId;
 use logos_machine::machine::{Item, error, matched_item, token};
 use logos_token::token::Span;
 use logos_walk::blocks::walk_chunk;
-use logos_walk::cursor::Cursor;
-use logos_walk::masks::Chunk;
+use logos_walk::cursor::ChunkCursor;
+use logos_walk::masks::ChunkEntries;
 use logos_walk::repair::{Stretch, repair};
 use logos_walk::walk::{ENDED, PLACE, walk};
 
@@ -51,7 +51,7 @@ pub struct Loaded {
 /// apart, so that the compiler can hold the run in registers.
 #[derive(Clone, Copy, Drop)]
 pub struct Run {
-    pub cursor: Cursor,
+    pub cursor: ChunkCursor,
     /// How many bytes the chunk has.
     pub count: usize,
     /// The row after them.
@@ -90,7 +90,7 @@ fn step_over(reading: &Reading, base: usize, place: usize, entries: &mut [u32; 4
 
 /// Steps over the next bytes of the input, and marks what there is to do.
 #[inline(never)]
-fn load(reading: &Reading, base: usize, place: usize, chunk: &mut Chunk) -> Loaded
+fn load(reading: &Reading, base: usize, place: usize, chunk: &mut ChunkEntries) -> Loaded
     requires reading { IsReading reading.now }
     requires base { base ≤ length reading.now.input.now }
     requires place { IsPlace reading.now.rows.now place }
@@ -106,7 +106,7 @@ fn load(reading: &Reading, base: usize, place: usize, chunk: &mut Chunk) -> Load
 /// Makes the try that stands before an entry again, by itself: it notes the marks that it passes.
 #[cold]
 #[inline(never)]
-fn try_again(reading: &Reading, run: Run, chunk: &mut Chunk) -> (Taken, Run)
+fn try_again(reading: &Reading, run: Run, chunk: &mut ChunkEntries) -> (Taken, Run)
     requires reading { IsReading reading.now }
     requires held { IsHeld reading.now (with_chunk chunk.old run) }
     ensures ready { IsReady reading.now (with_chunk chunk.new result.1) }
@@ -119,7 +119,7 @@ fn try_again(reading: &Reading, run: Run, chunk: &mut Chunk) -> (Taken, Run)
 }
 
 /// Begins a try at a point of the input.
-fn restarted(reading: &Reading, run: Run, chunk: &mut Chunk, to: usize) -> Run
+fn restarted(reading: &Reading, run: Run, chunk: &mut ChunkEntries, to: usize) -> Run
     requires reading { IsReading reading.now }
     requires held { IsHeld reading.now (with_chunk chunk.old run) }
     requires within { to ≤ length reading.now.input.now }
@@ -136,7 +136,7 @@ fn restarted(reading: &Reading, run: Run, chunk: &mut Chunk, to: usize) -> Run
 
 /// Begins a try at an entry of the chunk that is not passed, and steps again over the bytes from
 /// there on until the entries are those that stand.
-fn repaired_from(reading: &Reading, run: Run, chunk: &mut Chunk, from: usize) -> Run
+fn repaired_from(reading: &Reading, run: Run, chunk: &mut ChunkEntries, from: usize) -> Run
     requires reading { IsReading reading.now }
     requires held { IsHeld reading.now (with_chunk chunk.old run) }
     requires left { run.low < from }
@@ -157,7 +157,7 @@ fn repaired_from(reading: &Reading, run: Run, chunk: &mut Chunk, from: usize) ->
     let rest = &reading.input[base..];
     let repaired = repair(reading.rows, rest, root, &mut chunk.entries, stretch);
     chunk.mark(from / 64, (repaired.stop + 63) / 64);
-    let cursor = Cursor::new(chunk, base, base + from, from);
+    let cursor = ChunkCursor::new(chunk, base, base + from, from);
     Run {
         cursor,
         count: run.count,
@@ -168,7 +168,13 @@ fn repaired_from(reading: &Reading, run: Run, chunk: &mut Chunk, from: usize) ->
 
 /// Goes on to the bytes from `base` on, where a try that begins at `start` stands in a row.
 #[inline(always)]
-fn filled(reading: &Reading, chunk: &mut Chunk, base: usize, start: usize, place: usize) -> Run
+fn filled(
+    reading: &Reading,
+    chunk: &mut ChunkEntries,
+    base: usize,
+    start: usize,
+    place: usize,
+) -> Run
     requires reading { IsReading reading.now }
     requires base { base ≤ length reading.now.input.now }
     requires place { IsPlace reading.now.rows.now place }
@@ -180,7 +186,7 @@ fn filled(reading: &Reading, chunk: &mut Chunk, base: usize, start: usize, place
     ensures from { result.cursor.from ≡ 0 }
 {
     let loaded = load(reading, base, place, chunk);
-    let cursor = Cursor::new(chunk, base, start, 0);
+    let cursor = ChunkCursor::new(chunk, base, start, 0);
     Run {
         cursor,
         count: loaded.count,
@@ -192,7 +198,7 @@ fn filled(reading: &Reading, chunk: &mut Chunk, base: usize, start: usize, place
 impl Run {
     /// Begins a run at the start of an input.
     #[inline(always)]
-    pub fn new(reading: &Reading, chunk: &mut Chunk) -> Run
+    pub fn new(reading: &Reading, chunk: &mut ChunkEntries) -> Run
         requires reading { IsReading reading.now }
         ensures ready { IsReady reading.now (with_chunk chunk.new result) }
         ensures start { result.cursor.start ≡ 0 }
@@ -203,7 +209,7 @@ impl Run {
     /// Goes on to the next entry at which there is something to do, and returns its index, or
     /// `None` at the end of the input.
     #[inline(always)]
-    fn next_flag(&mut self, reading: &Reading, chunk: &mut Chunk) -> Option<usize>
+    fn next_flag(&mut self, reading: &Reading, chunk: &mut ChunkEntries) -> Option<usize>
         requires reading { IsReading reading.now }
         requires ready { IsReady reading.now (with_chunk chunk.old self.old) }
         ensures { MatchOption result
@@ -226,7 +232,7 @@ impl Run {
 
     /// Takes what the next try finds, after those that are skipped.
     #[inline(always)]
-    pub fn next(&mut self, reading: &Reading, chunk: &mut Chunk) -> Taken
+    pub fn next(&mut self, reading: &Reading, chunk: &mut ChunkEntries) -> Taken
         requires reading { IsReading reading.now }
         requires ready { IsReady reading.now (with_chunk chunk.old self.old) }
         ensures ready { IsReady reading.now (with_chunk chunk.new self.new) }
@@ -260,7 +266,7 @@ impl Run {
     /// of line, and it is given a copy of the run, so that the compiler can hold this one in
     /// registers.
     #[inline(always)]
-    fn next_again(&mut self, reading: &Reading, chunk: &mut Chunk) -> Taken
+    fn next_again(&mut self, reading: &Reading, chunk: &mut ChunkEntries) -> Taken
         requires reading { IsReading reading.now }
         requires held { IsHeld reading.now (with_chunk chunk.old self.old) }
         ensures ready { IsReady reading.now (with_chunk chunk.new self.new) }
@@ -278,7 +284,7 @@ impl Run {
     pub fn next_item<'i, C: Fn(LeafId, &[u8]) -> Action>(
         &mut self,
         reading: &Reading<'_, '_, '_, 'i>,
-        chunk: &mut Chunk,
+        chunk: &mut ChunkEntries,
         callback: &C,
     ) -> Option<Item<'i>>
         requires callable { C.IsAlwaysCallable callback.now }

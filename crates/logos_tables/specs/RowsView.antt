@@ -1,7 +1,7 @@
 -- The rows of a list, in their order.
 use Rattle.std.specs.Prelude.{ℕ, List}
 use Rattle.logos_tables.specs.Layout.{rows_at}
-use Rattle.logos_tables.specs.declared.rows.Rows.{Rows}
+use Rattle.logos_tables.specs.declared.rows.StepRows.{StepRows}
 
-abbrev pub rows_of : Rows → List (List ℕ)
+abbrev pub rows_of : StepRows → List (List ℕ)
 rows_of rows = rows_at rows.places.items rows.distinct.keys

@@ -9,7 +9,7 @@ use std::alloc::{AllocError, Global};
 
 /// The classes of symbols.
 #[derive(Drop)]
-pub(crate) struct Classes {
+pub(crate) struct SymbolClasses {
     /// The class of each symbol.
     pub(crate) numbers: Vec<usize>,
     /// A symbol of each class.
@@ -21,10 +21,10 @@ pub(crate) struct Classes {
 /// # Errors
 ///
 /// Returns an error if memory runs out.
-pub(crate) fn classes_of(alloc: Global, rows: &[Steps]) -> Result<Classes, AllocError>
+pub(crate) fn classes_of(alloc: Global, rows: &[Steps]) -> Result<SymbolClasses, AllocError>
     ensures { IfOk result (λ classes. AreClasses rows.now classes.numbers.items classes.symbols.items) }
 {
-    let mut classes = Classes {
+    let mut classes = SymbolClasses {
         numbers: Vec::new(alloc),
         symbols: Vec::new(alloc),
     };
@@ -35,7 +35,7 @@ pub(crate) fn classes_of(alloc: Global, rows: &[Steps]) -> Result<Classes, Alloc
 }
 
 /// Adds the class of a symbol.
-fn add_symbol(rows: &[Steps], classes: &mut Classes, symbol: usize) -> Result<(), AllocError>
+fn add_symbol(rows: &[Steps], classes: &mut SymbolClasses, symbol: usize) -> Result<(), AllocError>
     requires { Classify rows.now classes.old.numbers.items classes.old.symbols.items symbol }
     ensures { OnOk result (Classify rows.now classes.new.numbers.items classes.new.symbols.items
         (symbol + 1)) }

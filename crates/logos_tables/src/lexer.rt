@@ -3,12 +3,12 @@
 ghost use Rattle.std.specs.Prelude.{ℕ, List, ◌∷◌, [], IfOk, OnOk, string_bytes};
 ghost use Rattle.logos_tables.specs.Words.{BeginsWith, IsFrontOf, HoldsTables, end_texts, marks_text, skips_text, Appends, AppendsSteps, AppendsTables};
 
-use crate::classes::{Classes, classes_of};
+use crate::classes::{SymbolClasses, classes_of};
 use crate::marks::{marks_of, skips_of};
 use crate::parts::{push_entry_type, push_names, push_sizes, push_steps};
 use crate::printing::{push, push_table};
 use crate::rest::{push_rest, scanned_head};
-use crate::rows::{Rows, rows_of};
+use crate::rows::{StepRows, rows_of};
 use crate::runs::runs_of;
 use logos_code::code::Code;
 use logos_codegen::Generated;
@@ -55,7 +55,12 @@ fn push_code(alloc: Global, text: &mut String, code: &Code<'_>) -> Result<(), Me
 }
 
 /// Appends the tables of steps.
-fn push_rows(alloc: Global, text: &mut String, rows: &Rows, classes: &Classes) -> Result<(), Memory>
+fn push_rows(
+    alloc: Global,
+    text: &mut String,
+    rows: &StepRows,
+    classes: &SymbolClasses,
+) -> Result<(), Memory>
     ensures { OnOk result (AppendsSteps classes.now.numbers.items classes.now.symbols.items
         rows.now.places.items rows.now.distinct.keys (string_bytes text.old)
         (string_bytes text.new)) }

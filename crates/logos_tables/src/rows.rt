@@ -10,7 +10,7 @@ use std::alloc::{AllocError, Global};
 
 /// A list of rows.
 #[derive(Drop)]
-pub(crate) struct Rows {
+pub(crate) struct StepRows {
     /// The number of each row among the distinct ones.
     pub(crate) places: Vec<usize>,
     /// Each row once.
@@ -19,14 +19,14 @@ pub(crate) struct Rows {
     ghost placed: { (i : ℕ) → i < vec_len places → slice_index places.items i < length distinct.keys },
 }
 
-impl Rows {
+impl StepRows {
     ghost use Rattle.logos_tables.specs.Views.{rows_of};
 
     /// Returns no rows.
-    fn new(alloc: Global) -> Rows
+    fn new(alloc: Global) -> StepRows
         ensures { rows_of result ≡ [] }
     {
-        Rows {
+        StepRows {
             places: Vec::new(alloc),
             distinct: IndexSet::new(alloc),
         }
@@ -54,11 +54,11 @@ fn state_count(code: &Code<'_>) -> usize
 /// # Errors
 ///
 /// Returns an error if memory runs out.
-pub(crate) fn rows_of(alloc: Global, code: &Code<'_>) -> Result<Rows, AllocError>
+pub(crate) fn rows_of(alloc: Global, code: &Code<'_>) -> Result<StepRows, AllocError>
     ensures { IfOk result (λ rows. AreRows code.now
         (rows_at rows.places.items rows.distinct.keys)) }
 {
-    let mut rows = Rows::new(alloc);
+    let mut rows = StepRows::new(alloc);
     for state in 0..state_count(code) {
         rows.push(&steps_of(code, state))?;
     }

@@ -7,7 +7,7 @@ use Rattle.std.proofs.lemmas.Grind.{one_shifted}
 use Rattle.std.specs.Int.{bit_at, bit_not, trailing_zeros}
 use Rattle.std.specs.Int.Count.{count_leading_zeros}
 use Rattle.logos_walk.specs.Masks.{MarksFrom}
-use Rattle.logos_walk.specs.declared.cursor.Cursor.{Cursor}
+use Rattle.logos_walk.specs.declared.cursor.ChunkCursor.{ChunkCursor}
 use Rattle.logos_walk.specs.Cursors.{Passes}
 use Rattle.logos_walk.specs.Cursor.{token_bit, end_bit, NoToken, IsNext, IsLastEnd, StartsAt, IsLeft, IsUnder}
 
@@ -230,7 +230,7 @@ pub starts_from : (base other : ℕ) (trace : List ℕ) (from start at now : ℕ
 starts_from base other trace from start at now e s = subst (λ b. StartsAt b trace from start at now) e s
 
 -- a cursor passes no entry, or some and then others
-pub passes_none : (trace : List ℕ) (cursor : Cursor) → Passes trace cursor cursor
+pub passes_none : (trace : List ℕ) (cursor : ChunkCursor) → Passes trace cursor cursor
 passes_none trace cursor = record {
   base = refl;
   order = omega arith;
@@ -238,7 +238,7 @@ passes_none trace cursor = record {
   starts = inl (refl, λ k f h. absurd (omega (arith, f, h)));
 }
 
-pub passes_on : (trace : List ℕ) (old mid new : Cursor) → Passes trace old mid → Passes trace mid new → Passes trace old new
+pub passes_on : (trace : List ℕ) (old mid new : ChunkCursor) → Passes trace old mid → Passes trace mid new → Passes trace old new
 passes_on trace old mid new a b = record {
   base = b.base ∙ a.base;
   order = (let f = a.order in let g = b.order in omega (arith, f, g));

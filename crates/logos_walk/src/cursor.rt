@@ -4,12 +4,12 @@ ghost use Rattle.std.specs.Prelude.{◌≡◌, ℕ, List, ◌<◌, ◌≤◌, �
 ghost use Rattle.logos_walk.specs.Views.{HasRoom, IsNext, IsUnder, NoToken, StartsAt, IsMarked, Passes, Stands};
 
 use crate::blocks::CHUNK;
-use crate::masks::Chunk;
+use crate::masks::ChunkEntries;
 
 /// Where a scan stands in a chunk: before the entry `from`, in a word of flags. Of the word it has
 /// those that are left.
 #[derive(Clone, Copy, Drop)]
-pub struct Cursor {
+pub struct ChunkCursor {
     /// Where the chunk begins in the input.
     pub base: usize,
     /// Where the try begins in the input that stands before the entry.
@@ -21,11 +21,11 @@ pub struct Cursor {
     ends: u64,
 }
 
-impl Cursor {
+impl ChunkCursor {
     /// Returns the cursor before the entry `from` of a chunk, where a try stands that begins at
     /// `start`.
     #[inline(always)]
-    pub fn new(chunk: &Chunk, base: usize, start: usize, from: usize) -> Cursor
+    pub fn new(chunk: &ChunkEntries, base: usize, start: usize, from: usize) -> ChunkCursor
         requires marked { IsMarked chunk.now }
         requires from { from < CHUNK }
         ensures stands { Stands chunk.now.entries result }
@@ -35,7 +35,7 @@ impl Cursor {
     {
         let word = from / 64;
         let left = !((1u64 << (from % 64)) - 1);
-        Cursor {
+        ChunkCursor {
             base,
             start,
             from,
@@ -61,7 +61,7 @@ impl Cursor {
 
     /// Returns the cursor before the next word, where nothing is left to do in this one.
     #[inline(always)]
-    fn moved(self, chunk: &Chunk) -> Cursor
+    fn moved(self, chunk: &ChunkEntries) -> ChunkCursor
         requires marked { IsMarked chunk.now }
         requires room { HasRoom self.base }
         requires stands { Stands chunk.now.entries self }
@@ -72,7 +72,7 @@ impl Cursor {
         ensures word { result.word ≡ self.word + 1 }
     {
         let word = self.word + 1;
-        Cursor {
+        ChunkCursor {
             base: self.base,
             start: self.start_after(self.ends),
             from: 64 * word,
@@ -84,7 +84,7 @@ impl Cursor {
 
     /// Returns the cursor in the next word in which something is left to do, or in the last word.
     #[inline(always)]
-    fn filled(self, chunk: &Chunk) -> Cursor
+    fn filled(self, chunk: &ChunkEntries) -> ChunkCursor
         requires marked { IsMarked chunk.now }
         requires room { HasRoom self.base }
         requires stands { Stands chunk.now.entries self }
@@ -105,7 +105,7 @@ impl Cursor {
     /// Returns the next entry at which there is something to do, and passes it. The try that stands
     /// before the entry begins at `start` then. If there is none, all entries are passed.
     #[inline(always)]
-    pub fn next(&mut self, chunk: &Chunk) -> Option<usize>
+    pub fn next(&mut self, chunk: &ChunkEntries) -> Option<usize>
         requires marked { IsMarked chunk.now }
         requires room { HasRoom self.old.base }
         requires stands { Stands chunk.now.entries self.old }
@@ -129,7 +129,7 @@ impl Cursor {
 
     /// Returns the cursor after the last entry of the chunk.
     #[inline(always)]
-    fn ended(self) -> Cursor
+    fn ended(self) -> ChunkCursor
         requires room { HasRoom self.base }
         requires word { self.word ≡ 63 }
         ensures base { result.base ≡ self.base }
@@ -137,7 +137,7 @@ impl Cursor {
         ensures stands { (trace : List ℕ) → Stands trace self → Stands trace result
             × StartsAt self.base trace self.from self.start CHUNK result.start }
     {
-        Cursor {
+        ChunkCursor {
             base: self.base,
             start: self.start_after(self.ends),
             from: 4096,
@@ -149,7 +149,7 @@ impl Cursor {
 
     /// Returns the cursor after the entry of a bit of its word.
     #[inline(always)]
-    fn after(self, bit: usize) -> Cursor
+    fn after(self, bit: usize) -> ChunkCursor
         requires room { HasRoom self.base }
         requires word { self.word < 64 }
         requires bit { bit < 64 }
@@ -161,7 +161,7 @@ impl Cursor {
     {
         let here = 1u64 << bit;
         let later = !(here - 1) & !here;
-        Cursor {
+        ChunkCursor {
             base: self.base,
             start: self.start_after(self.ends & (here - 1)),
             from: 64 * self.word + bit + 1,

@@ -8,7 +8,7 @@ use std::simd::prelude::*;
 
 /// The entries of a chunk, and their flags, 64 in a word.
 #[derive(Drop)]
-pub struct Chunk {
+pub struct ChunkEntries {
     pub entries: [u32; 4096],
     pub ends: [u64; 64],
     pub tokens: [u64; 64],
@@ -38,10 +38,10 @@ fn tokens_of(trace: &[u32], at: usize) -> u64
         .to_bitmask()
 }
 
-impl Chunk {
+impl ChunkEntries {
     /// Makes a chunk without flags.
-    pub fn new() -> Chunk {
-        Chunk {
+    pub fn new() -> ChunkEntries {
+        ChunkEntries {
             entries: [0; 4096],
             ends: [0; 64],
             tokens: [0; 64],

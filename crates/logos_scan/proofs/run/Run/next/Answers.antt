@@ -1,7 +1,7 @@
 use Rattle.std.proofs.Common.{◌≡◌, ℕ, ◌+◌, min, slice_index, refl, subst, sym, arith}
 use Rattle.logos_scan.specs.Runs.{IsRun, with_chunk}
 use Rattle.logos_scan.proofs.LoadLemmas.{bytes_at, calls_not, found_match, found_next, found_use, is_ended, leaf_is, moved, taken_after}
-use Rattle.logos_walk.specs.declared.cursor.Cursor.{Cursor}
+use Rattle.logos_walk.specs.declared.cursor.ChunkCursor.{ChunkCursor}
 use Rattle.logos_scan.proofs.run.Run.next.Goals as goal
 
 pub returns-in_default-clause-taken : goal.returns-in_default-clause-taken
@@ -26,7 +26,7 @@ returns-then-calls-eq0-clause-ready c =
     let ch = r.in_chunk in
     let inside = f.inside in
     let after = f.after in
-    let cur : Cursor = record { base = n.cursor.base; start = n.cursor.base + at; from = n.cursor.from; word = n.cursor.word; tokens = n.cursor.tokens; ends = n.cursor.ends } in
+    let cur : ChunkCursor = record { base = n.cursor.base; start = n.cursor.base + at; from = n.cursor.from; word = n.cursor.word; tokens = n.cursor.tokens; ends = n.cursor.ends } in
     let point : min n.cursor.from n.count ≡ at + 1 = omega (arith, inside, after) in
     subst (λ (k : ℕ). IsRun code rows input (moved n cur) k) (sym point)
     (found_next code rows c.requires.reading input (bytes_at input c.are_bytes.ensures) n at r inside (is_ended (slice_index n.chunk.entries at) (omega (arith, c.if-ended-eq0.false))) cur refl refl ch.cursor)
@@ -61,7 +61,7 @@ returns-else-calls-eq0-clause-ready c =
     let ch = r.in_chunk in
     let inside = f.inside in
     let after = f.after in
-    let cur : Cursor = record { base = n.cursor.base; start = n.cursor.base + at; from = n.cursor.from; word = n.cursor.word; tokens = n.cursor.tokens; ends = n.cursor.ends } in
+    let cur : ChunkCursor = record { base = n.cursor.base; start = n.cursor.base + at; from = n.cursor.from; word = n.cursor.word; tokens = n.cursor.tokens; ends = n.cursor.ends } in
     let point : min n.cursor.from n.count ≡ at + 1 = omega (arith, inside, after) in
     subst (λ (k : ℕ). IsRun code rows input (moved n cur) k) (sym point)
     (found_next code rows c.requires.reading input (bytes_at input c.are_bytes.ensures) n at r inside (is_ended (slice_index n.chunk.entries at) (omega (arith, c.if-ended-eq0.false))) cur refl refl ch.cursor)

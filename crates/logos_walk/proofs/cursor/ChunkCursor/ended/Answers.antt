@@ -1,7 +1,7 @@
 use Rattle.std.proofs.Common.{◌≡◌, ◌+◌, ◌*◌, subst, arith}
 use Rattle.logos_walk.specs.Cursor.{StartsAt}
 use Rattle.logos_walk.proofs.CursorLemmas.{left_none, under_whole}
-use Rattle.logos_walk.proofs.cursor.Cursor.ended.Goals as goal
+use Rattle.logos_walk.proofs.cursor.ChunkCursor.ended.Goals as goal
 
 pub returns-clause-stands : goal.returns-clause-stands
 returns-clause-stands c trace s =

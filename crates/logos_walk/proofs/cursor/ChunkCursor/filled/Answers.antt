@@ -1,5 +1,5 @@
 use Rattle.logos_walk.proofs.CursorLemmas.{passes_none, passes_on}
-use Rattle.logos_walk.proofs.cursor.Cursor.filled.Goals as goal
+use Rattle.logos_walk.proofs.cursor.ChunkCursor.filled.Goals as goal
 
 pub loop-cursor-init : goal.loop-cursor-init
 loop-cursor-init c = record {

@@ -1,6 +1,6 @@
 use Rattle.std.proofs.Common.{◌≡◌}
 use Rattle.logos_walk.specs.Cursors.{IsMarkedBeside}
-use Rattle.logos_walk.proofs.masks.Chunk.mark.Given as goal
+use Rattle.logos_walk.proofs.masks.ChunkEntries.mark.Given as goal
 
 abbrev pub invariant-loop-word : goal.invariant-loop-word
 invariant-loop-word l = record {

@@ -1,7 +1,7 @@
 use Rattle.std.proofs.Common.{◌≡◌, ◌+◌, ◌*◌, refl, subst, arith}
 use Rattle.logos_walk.specs.Cursor.{NoToken, StartsAt}
 use Rattle.logos_walk.proofs.CursorLemmas.{none_left, under_whole}
-use Rattle.logos_walk.proofs.cursor.Cursor.moved.Goals as goal
+use Rattle.logos_walk.proofs.cursor.ChunkCursor.moved.Goals as goal
 
 pub returns-clause-passes : goal.returns-clause-passes
 returns-clause-passes c =

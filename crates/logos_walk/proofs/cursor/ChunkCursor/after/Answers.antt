@@ -1,6 +1,6 @@
 use Rattle.std.proofs.Common.{◌+◌, ◌*◌, arith}
 use Rattle.logos_walk.proofs.CursorLemmas.{one_bit, high_bits, left_after, under_bit}
-use Rattle.logos_walk.proofs.cursor.Cursor.after.Goals as goal
+use Rattle.logos_walk.proofs.cursor.ChunkCursor.after.Goals as goal
 
 pub returns-clause-stands : goal.returns-clause-stands
 returns-clause-stands c trace s =

@@ -1,7 +1,7 @@
 use Rattle.std.proofs.Common.{◌∙◌, List, ℕ, ap, arith}
 use Rattle.logos_tables.specs.Layout.{rows_at}
 use Rattle.logos_tables.proofs.RowLemmas.{rows_pushed}
-use Rattle.logos_tables.proofs.rows.Rows.push.Goals as goal
+use Rattle.logos_tables.proofs.rows.StepRows.push.Goals as goal
 
 pub returns : goal.returns
 returns c =

@@ -1,6 +1,6 @@
 use Rattle.std.proofs.Common.{◌<◌, ◌/◌, ◌%◌, slice_index, arith}
 use Rattle.logos_walk.proofs.CursorLemmas.{left_at, high_bits}
-use Rattle.logos_walk.proofs.cursor.Cursor.new.Goals as goal
+use Rattle.logos_walk.proofs.cursor.ChunkCursor.new.Goals as goal
 
 pub returns-clause-stands : goal.returns-clause-stands
 returns-clause-stands c =

@@ -1,6 +1,6 @@
 use Rattle.std.proofs.Common.{◌-◌}
 use Rattle.logos_walk.specs.Cursors.{Passes, Stands}
-use Rattle.logos_walk.proofs.cursor.Cursor.filled.Given as goal
+use Rattle.logos_walk.proofs.cursor.ChunkCursor.filled.Given as goal
 
 abbrev pub invariant-loop-cursor : goal.invariant-loop-cursor
 invariant-loop-cursor l = record {

@@ -1,6 +1,6 @@
 use Rattle.std.proofs.Common.{◌≡◌, ◌≤◌, ◌+◌, ◌*◌, arith}
 use Rattle.logos_walk.proofs.CursorLemmas.{none_left, next_lowest, next_later, none_later, starts_join, starts_from}
-use Rattle.logos_walk.proofs.cursor.Cursor.next.Goals as goal
+use Rattle.logos_walk.proofs.cursor.ChunkCursor.next.Goals as goal
 
 pub returns-then-cursor-eq0-clause-next : goal.returns-then-cursor-eq0-clause-next
 returns-then-cursor-eq0-clause-next c =
