@@ -57,7 +57,8 @@ pub struct ExportPath {
 pub struct Parser<'s> {
     pub errors: Errors,
     pub utf8_mode: Option<Utf8Mode>,
-    /// The definitions of `skip`, in source order.
+    /// The definitions of `skip` that are not leaves yet, in source order. Once the leaves of the
+    /// enum are read there is none.
     pub skips: Vec<Definition<'s>>,
     pub extras: MaybeVoid<'s>,
     /// The subpatterns with their names, in source order.
