@@ -8,6 +8,9 @@ use logos_code::code::Code;
 /// How many bytes are looked at from one point of an input on.
 const SAMPLE: usize = 2_048;
 
+/// Among how many bytes from that point on the sample lies.
+const SPREAD: usize = 2 * SAMPLE;
+
 /// How many bytes of input pay for the folded row of one state.
 const WORTH: usize = 8_192;
 
@@ -23,10 +26,11 @@ struct SampleCounts {
 ///
 /// A run loses where matches are long, where nearly each byte is one, where there are many errors,
 /// and where the input is too short for what the folded rows take. Four parts of the input are
-/// looked at, and one of them may be otherwise.
+/// looked at, each from the beginning of a line on where there is one, and one of them may be
+/// otherwise.
 pub fn suits(code: &Code, input: &[u8]) -> bool {
     let quarter = input.len() / 4;
-    if quarter < SAMPLE || input.len() / WORTH < code.parts().states.len() {
+    if quarter < SPREAD || input.len() / WORTH < code.parts().states.len() {
         return false;
     }
     let first = suits_at(code, input, 0);
@@ -38,13 +42,27 @@ pub fn suits(code: &Code, input: &[u8]) -> bool {
 
 /// Returns whether a run by chunks suits the bytes from a point of the input on.
 fn suits_at(code: &Code, input: &[u8], at: usize) -> bool
-    requires { at + SAMPLE ≤ length input.now }
+    requires { at + SPREAD ≤ length input.now }
 {
-    let counts = counted(code, &input[at..at + SAMPLE]);
+    let from = at + line_start(&input[at..at + SAMPLE]);
+    let counts = counted(code, &input[from..from + SAMPLE]);
     let short = counts.items >= SAMPLE / 20;
     let long = counts.items <= SAMPLE / 3;
     let errors = counts.errors <= counts.items / 32;
     short & long & errors
+}
+
+/// Returns where the first line begins that begins in a part of an input, after its first byte, or
+/// 0 if none does. Few tokens go on over a line end.
+fn line_start(part: &[u8]) -> usize
+    ensures { result ≤ length part.now }
+{
+    for at in 0..part.len() {
+        if part[at] == b'\n' {
+            return at + 1;
+        }
+    }
+    0
 }
 
 /// Counts the items of a part of an input.
