@@ -5,7 +5,7 @@ ghost use Rattle.logos_show.specs.Orders.{IsNoMisuse};
 
 use crate::asking::{Agreement, Judgment, Pair, compare_with};
 use crate::choosing::lexer_in;
-use crate::reading::{refused, text_at, text_of};
+use crate::reading::{refused, text_at, text_of, write_note};
 use crate::running::{Host, Task, part_of};
 use crate::showing::SHAPE;
 use logos_answers::NamedLexer;
@@ -32,8 +32,7 @@ pub(crate) fn compare<'w, F: Files, C: Clock, O: Write, E: Write + IsTerminal>(
     let source = Source::new(alloc, path, text.as_str())?;
     let other_source = Source::new(alloc, other, other_text.as_str())?;
     let Judgment { agreement, note } = compare_files(task, &source, &other_source, host.err, out)?;
-    let _ = host.err.write_all(note.as_bytes());
-    let _ = host.err.flush();
+    write_note(host.err, note.as_bytes());
     Ok(agreement)
 }
 

@@ -9,7 +9,7 @@ use crate::asking::{
 };
 use crate::choosing::{found_in, lexer_in};
 use crate::comparing::compare;
-use crate::reading::{print_version, read_bytes, refused, text_at, text_of};
+use crate::reading::{print_version, read_bytes, refused, text_at, text_of, write_note};
 use crate::showing::{Form, PageStyle, SHAPE, Shown, shown_of};
 use crate::streaming::lex_stream;
 use logos_causes::Showing;
@@ -221,8 +221,7 @@ fn show<'w, F: Files, C: Clock, O: Write, E: Write + IsTerminal>(
         records,
         warnings,
     } = shown_of(alloc, &source, style, task.order.name)?;
-    let _ = host.err.write_all(&warnings);
-    let _ = host.err.flush();
+    write_note(host.err, &warnings);
     print_bytes(tables.as_str().as_bytes(), out)?;
     print_bytes(&records, out)
 }
@@ -250,8 +249,7 @@ fn give_inputs<'w, F: Files, C: Clock, O: Write, E: Write + IsTerminal>(
     let text = text_at(path, host.files)?;
     let source = Source::new(alloc, path, text.as_str())?;
     let note = inputs_by_file(task, &source, host.err, out)?;
-    let _ = host.err.write_all(note.as_bytes());
-    let _ = host.err.flush();
+    write_note(host.err, note.as_bytes());
     Ok(())
 }
 
@@ -369,8 +367,7 @@ fn lex_by_lexer<'w, F: Files, C: Clock, O: Write, E: Write + IsTerminal>(
         return match_by_lexer(alloc, &made.graph, point, input.is_json, out);
     }
     let note = items_by_lexer(alloc, made, input, host.clock, out)?;
-    let _ = host.err.write_all(note.as_bytes());
-    let _ = host.err.flush();
+    write_note(host.err, note.as_bytes());
     Ok(())
 }
 

@@ -4,7 +4,7 @@ ghost use Rattle.std.specs.Prelude.{IfErr};
 ghost use Rattle.logos_show.specs.Words.{IsNoMisuse};
 
 use crate::choosing::lexer_in;
-use crate::reading::{refused, text_at, text_of};
+use crate::reading::{refused, text_at, text_of, write_note};
 use crate::running::{Host, Task, part_of};
 use crate::showing::SHAPE;
 use logos_codegen::generate;
@@ -46,8 +46,7 @@ fn print_note<'w, E: Write>(
 {
     match lexed {
         Ok(note) => {
-            let _ = err.write_all(note.as_bytes());
-            let _ = err.flush();
+            write_note(err, note.as_bytes());
             Ok(())
         }
         Err(failure) => Err(failure),
