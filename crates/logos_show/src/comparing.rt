@@ -19,6 +19,7 @@ use std::time::Clock;
 /// Writes whether the lexer of another file is the same, and returns that.
 pub(crate) fn compare<'w, F: Files, C: Clock, O: Write, E: Write + IsTerminal>(
     task: Task<'w>,
+    source: &Source<'_>,
     other: &'w str,
     host: &mut Host<'_, F, C, E>,
     out: &mut O,
@@ -26,12 +27,9 @@ pub(crate) fn compare<'w, F: Files, C: Clock, O: Write, E: Write + IsTerminal>(
     ensures { IfErr result IsNoMisuse }
 {
     let alloc = task.showing.alloc;
-    let path = task.order.file;
-    let text = text_at(path, host.files)?;
     let other_text = text_at(other, host.files)?;
-    let source = Source::new(alloc, path, text.as_str())?;
     let other_source = Source::new(alloc, other, other_text.as_str())?;
-    let Judgment { agreement, note } = compare_files(task, &source, &other_source, host.err, out)?;
+    let Judgment { agreement, note } = compare_files(task, source, &other_source, host.err, out)?;
     write_note(host.err, note.as_bytes());
     Ok(agreement)
 }
