@@ -25,7 +25,7 @@ WORDS = {"docs/GUIDE.md": 4000}
 ALL_WORDS = 40000
 MADE = "crates/README.md"
 # The most functions of the walk.
-WALK = 48
+WALK = 42
 
 
 def pages():

@@ -1,6 +1,6 @@
 //! The command `lex`: a line for each item of an input, written in blocks while the input is lexed.
 
-ghost use Rattle.std.specs.Prelude.{◌≡◌, ◌++◌, ◌+◌, ◌<◌, ◌≤◌, ℕ, List, [], IfErr, OnOk, IsTrue, IsUtf8, vec_len, vec_capacity};
+ghost use Rattle.std.specs.Prelude.{◌≡◌, ◌++◌, ◌+◌, ◌<◌, ◌≤◌, ℕ, List, [], IfErr, IfOk, IfSome, OnOk, IsTrue, IsUtf8, vec_len, vec_capacity};
 ghost use Rattle.logos_commands.specs.Views.{Appends, Keeps, Action as Answer, answers_of, item_of, WritesLines, emits, line_of, AppendsFront, status_of, Output, IsTornBy, PrintsItems, PrintsItemsOf, RefusesInput, RefusesItems};
 
 use crate::failure::CommandFailure;
@@ -11,8 +11,12 @@ use logos_codegen::generate;
 use logos_codegen::generator::Config;
 use logos_codegen::leaf::LeafId;
 use logos_codegen::machine::{Action, Item, Lexer};
+use logos_fold::folded::Folded;
 use logos_host::{Files, write_full, write_through};
-use std::alloc::Global;
+use logos_scan::choice::suits;
+use logos_scan::run::{Reading, Run};
+use logos_walk::masks::ChunkEntries;
+use std::alloc::{AllocError, Global};
 use std::io::Write;
 
 /// The length in bytes from which a block is written.
@@ -96,12 +100,54 @@ fn lex_by_code<O: Write>(
     match Lexer::new_bytes(code, input, emit) {
         Ok(lexer) => {
             let mut lexer = lexer;
-            write_lines(&mut lexer, &mut block, out)
+            match rows_for(alloc, code, input)? {
+                Some(folded) => write_by_chunks(&folded, input, &emit, &mut block, out),
+                None => write_lines(&mut lexer, &mut block, out),
+            }
         }
         Err(error) => Err(CommandFailure::NotUtf8 {
             valid_up_to: error.valid_up_to,
         }),
     }
+}
+
+/// Returns the folded rows of a code where a run by chunks likely takes less time than a lexer.
+fn rows_for<'c, 's>(
+    alloc: Global,
+    code: &'c Code<'s>,
+    input: &[u8],
+) -> Result<Option<Folded<'c, 's>>, AllocError>
+    ensures { IfOk result (λ rows. IfSome rows (λ folded. folded.code ≡ code.now)) }
+{
+    if suits(code, input) {
+        return Folded::new(alloc, code);
+    }
+    Ok(None)
+}
+
+/// Writes a line for each item of an input, found by chunks and collected in a block, and flushes
+/// the writer. Only writing can fail.
+fn write_by_chunks<C: Fn(LeafId, &[u8]) -> Action, O: Write>(
+    folded: &Folded<'_, '_>,
+    input: &[u8],
+    callback: &C,
+    block: &mut Vec<u8>,
+    out: &mut O,
+) -> Result<(), CommandFailure<'static>>
+    requires callable { C.IsAlwaysCallable callback.now }
+    requires room { (vec_len block.old < BLOCK) × (BLOCK + LONGEST ≤ vec_capacity block.old) }
+    ensures lines { OnOk result (WritesLines folded.now.code (answers_of C.Fn callback.now)
+        input.now 0 block.old.items (O.contents out.old) (O.contents out.new)) }
+    ensures failed { IfErr result (λ failure. failure ≡ Output) }
+{
+    let reading = Reading::new(folded, input);
+    let mut chunk = ChunkEntries::new();
+    let mut run = Run::new(&reading, &mut chunk);
+    while let Some(item) = run.next_item(&reading, &mut chunk, callback) {
+        push_line(block, item);
+        write_if_full(block, out)?;
+    }
+    write_rest(block, out)
 }
 
 /// Writes a line for each further item of a lexer, collected in a block, and flushes the writer.

@@ -4,6 +4,7 @@
 #![tactic(auto)]
 
 mod blocks;
+mod inputs;
 mod items;
 mod lines;
 mod records;

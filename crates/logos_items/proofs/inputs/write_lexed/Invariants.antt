@@ -1,5 +1,5 @@
 use Rattle.std.proofs.Common.{◌≡◌, ◌-◌, length}
-use Rattle.logos_items.proofs.records.write_records.Given as goal
+use Rattle.logos_items.proofs.inputs.write_lexed.Given as goal
 
 -- the callback stays
 abbrev pub invariant-loop-item : goal.invariant-loop-item

@@ -1,0 +1,108 @@
+//! All items of an input, written by blocks.
+
+ghost use Rattle.std.specs.Prelude.{IfErr};
+ghost use Rattle.logos_items.specs.Words.{IsNoMisuse};
+
+use crate::blocks::write_if_full;
+use logos_codegen::code::Code;
+use logos_codegen::leaf::LeafId;
+use logos_codegen::machine::{Action, Item, Lexer};
+use logos_fold::folded::Folded;
+use logos_host::Failure;
+use logos_scan::choice::suits;
+use logos_scan::run::{Reading, Run};
+use logos_walk::masks::ChunkEntries;
+use std::alloc::{AllocError, Global};
+use std::io::Write;
+
+/// A block of text, to which items are added in the order of the input.
+pub(crate) trait ItemBlock {
+    /// Adds an item, and counts it.
+    ///
+    /// # Errors
+    ///
+    /// Returns `AllocError` if memory runs out.
+    fn add(&mut self, item: Item<'_>) -> Result<(), AllocError>;
+
+    /// Returns the text that is not written yet.
+    fn text(&mut self) -> &mut Vec<u8>;
+}
+
+/// Writes each item of an input, by blocks. The last block is left to the caller.
+///
+/// # Errors
+///
+/// Returns `NotUtf8` if the lexer reads text and the input is not UTF-8, `Output` if writing fails,
+/// and `Memory` if memory runs out.
+pub(crate) fn write_all<B: ItemBlock, O: Write>(
+    alloc: Global,
+    code: &Code<'_>,
+    input: &[u8],
+    block: &mut B,
+    out: &mut O,
+) -> Result<(), Failure<'static>>
+    ensures { IfErr result IsNoMisuse }
+{
+    let emit = |_leaf: LeafId, _slice: &[u8]| Action::Emit;
+    match Lexer::new_bytes(code, input, emit) {
+        Ok(lexer) => {
+            let mut lexer = lexer;
+            match rows_for(alloc, code, input)? {
+                Some(folded) => write_by_chunks(&folded, input, &emit, block, out),
+                None => write_lexed(&mut lexer, block, out),
+            }
+        }
+        Err(error) => Err(Failure::NotUtf8 {
+            valid_up_to: error.valid_up_to,
+        }),
+    }
+}
+
+/// Returns the folded rows of a code where a run by chunks likely takes less time than a lexer.
+fn rows_for<'c, 's>(
+    alloc: Global,
+    code: &'c Code<'s>,
+    input: &[u8],
+) -> Result<Option<Folded<'c, 's>>, AllocError> {
+    if suits(code, input) {
+        return Folded::new(alloc, code);
+    }
+    Ok(None)
+}
+
+/// Writes each item of an input, found by chunks.
+fn write_by_chunks<C: Fn(LeafId, &[u8]) -> Action, B: ItemBlock, O: Write>(
+    folded: &Folded<'_, '_>,
+    input: &[u8],
+    callback: &C,
+    block: &mut B,
+    out: &mut O,
+) -> Result<(), Failure<'static>>
+    requires { C.IsAlwaysCallable callback.now }
+    ensures { IfErr result IsNoMisuse }
+{
+    let reading = Reading::new(folded, input);
+    let mut chunk = ChunkEntries::new();
+    let mut run = Run::new(&reading, &mut chunk);
+    while let Some(item) = run.next_item(&reading, &mut chunk, callback) {
+        block.add(item)?;
+        write_if_full(block.text(), out)?;
+    }
+    Ok(())
+}
+
+/// Writes each item that a lexer still gives.
+fn write_lexed<C: Fn(LeafId, &[u8]) -> Action, B: ItemBlock, O: Write>(
+    lexer: &mut Lexer<'_, '_, '_, C>,
+    block: &mut B,
+    out: &mut O,
+) -> Result<(), Failure<'static>>
+    requires { C.IsAlwaysCallable lexer.old.callback }
+    ensures { IfErr result IsNoMisuse }
+{
+    while let Some(item) = lexer.next() {
+        block.add(item)?;
+        write_if_full(block.text(), out)?;
+    }
+    Ok(())
+}
