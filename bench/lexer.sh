@@ -1,13 +1,13 @@
 #!/usr/bin/env bash
-# Measures `Lexer` beside scanners of the same rules on the same texts: those that flex and re2c
-# make, and, where rustc is found, what it makes of the Rust text of these rules, over
-# `runtime/rust`: in both shapes of `logos gen`, and as tables. Each text has 32 MiB and is made by
-# bench/lexer/text.py. Prints a table of megabytes a second, the time of `Lexer` by that of the
-# fastest of these but the tables, and the times of the tables and of their `scan` by that of the
-# faster other shape. Where rustc is found a second table follows: `logos lex` beside programs in
-# Rust that print the same lines through a `BufWriter`, on texts of 64 MiB. Of the runs, taken in
-# turns, the fastest of each counts; the first argument says how many, ten without it. Further
-# arguments name the texts that are measured, instead of all.
+# Measures `Lexer` and, as `chunks`, a run by chunks beside scanners of the same rules on the same
+# texts: those that flex and re2c make, and, where rustc is found, what it makes of the Rust text of
+# these rules, over `runtime/rust`: in both shapes of `logos gen`, and as tables. Each text has 32
+# MiB and is made by bench/lexer/text.py. Prints a table of megabytes a second, the times of `Lexer`
+# and of `chunks` by that of the fastest of these but the tables, and the times of the tables and of
+# their `scan` by that of the faster other shape. Where rustc is found a second table follows:
+# `logos lex` beside programs in Rust that print the same lines through a `BufWriter`, on texts of
+# 64 MiB. Of the runs, taken in turns, the fastest of each counts; the first argument says how many,
+# ten without it. Further arguments name the texts that are measured, instead of all.
 #
 # It needs flex, re2c, gcc and python3, as in `apt-get install flex re2c gcc python3`, and uses
 # rustc where it is found. `bench/program.sh` builds the program of `bench/lexer`, and `logos`. The
@@ -54,12 +54,12 @@ lexer=${LEXER:-$copy/crates/lexer_bench/out/lexer_bench}
 logos=${LOGOS:-$copy/crates/logos_program/out/logos_program}
 if [ -z "${LEXER:-}" ] || [ -z "${LOGOS:-}" ]; then
     copy_crates
-    add_crate lexer "logos_code logos_codegen logos_generator logos_machine logos_pattern"
+    add_crate lexer "logos_code logos_codegen logos_fold logos_generator logos_machine logos_pattern logos_scan logos_walk"
     build "$crate" "$bench/lexer/rules/json.rs" "$bench/lexer/rules/json.rs"
     build "$copy/crates/logos_program" gen "$bench/lexer/rules/json.rs"
 fi
 
-scanners=(lexer flex re2c)
+scanners=(lexer chunks flex re2c)
 if command -v rustc > /dev/null; then
     scanners+=(tailcall state_machine)
     rustc --edition 2021 -C opt-level=3 --crate-type rlib --crate-name logos --cfg 'feature="std"' -o "$copy/liblogos.rlib" "$bench/../runtime/rust/src/lib.rs"
@@ -103,12 +103,12 @@ fi
 for ((run = 0; run < runs; run++)); do
     for text in "${texts[@]}"; do
         for scanner in "${scanners[@]}"; do
-            if [ "$scanner" = lexer ]; then
-                command=("$lexer" "$bench/lexer/rules/${rules[$text]}.rs")
-            else
-                command=("$copy/${rules[$text]}.$scanner")
-            fi
-            echo "$text $scanner $("${command[@]}" "$copy/$text.text")"
+            case "$scanner" in
+                lexer) command=("$lexer" "$bench/lexer/rules/${rules[$text]}.rs" "$copy/$text.text") ;;
+                chunks) command=("$lexer" "$bench/lexer/rules/${rules[$text]}.rs" "$copy/$text.text" chunks) ;;
+                *) command=("$copy/${rules[$text]}.$scanner" "$copy/$text.text") ;;
+            esac
+            echo "$text $scanner $("${command[@]}")"
         done
     done
 done > "$copy/runs"
@@ -125,7 +125,7 @@ awk -v size="$size" -v texts="${texts[*]}" -v scanners="${scanners[*]}" '
         line = "|---|---|"
         for (i = 1; i <= count; i++) { head = head " " scanner[i] " |"; line = line "---|" }
         has_tables = scanners ~ /tables/
-        print head " lexer by the fastest other |" (has_tables ? " tables by the faster other shape | scan by it |" : "") "\n" line "---|" (has_tables ? "---|---|" : "")
+        print head " lexer by the fastest other | chunks by it |" (has_tables ? " tables by the faster other shape | scan by it |" : "") "\n" line "---|---|" (has_tables ? "---|---|" : "")
         for (t = 1; t <= many; t++) {
             row = "| " text[t] " | " tokens[text[t]] " |"
             least = 0
@@ -133,20 +133,20 @@ awk -v size="$size" -v texts="${texts[*]}" -v scanners="${scanners[*]}" '
             for (i = 1; i <= count; i++) {
                 seconds = best[text[t], scanner[i]]
                 row = row sprintf(" %.0f |", size / seconds / 1e6)
-                if (scanner[i] !~ /lexer|tables|scan/ && (least == 0 || seconds < least)) { least = seconds }
+                if (scanner[i] !~ /lexer|chunks|tables|scan/ && (least == 0 || seconds < least)) { least = seconds }
                 if (scanner[i] ~ /tailcall|state_machine/ && (shape == 0 || seconds < shape)) { shape = seconds }
                 if (found[text[t], scanner[i]] != found[text[t], "lexer"]) {
                     print text[t] ": " scanner[i] " finds " found[text[t], scanner[i]] > "/dev/stderr"
                     different = 1
                 }
             }
-            row = row sprintf(" %.2f |", best[text[t], "lexer"] / least)
+            row = row sprintf(" %.2f | %.2f |", best[text[t], "lexer"] / least, best[text[t], "chunks"] / least)
             print row (has_tables ? sprintf(" %.2f | %.2f |", best[text[t], "tables"] / shape, best[text[t], "scan"] / shape) : "")
         }
         exit different
     }' "$copy/runs"
 
-if [ "${#lines[@]}" != 0 ] && [ "${#scanners[@]}" = 7 ]; then
+if [ "${#lines[@]}" != 0 ] && [ "${#scanners[@]}" = 8 ]; then
     echo
     echo "| Text | Lines | logos lex | MiB | tailcall | MiB | state_machine | MiB | logos lex by the fastest other |"
     echo "|---|---|---|---|---|---|---|---|---|"

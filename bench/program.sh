@@ -3,7 +3,7 @@
 #
 # The program of bench/NAME is built in a copy of the repository as `rt run` builds it, so the
 # crates below it are proved first, where they are not already. Its sources do not end in .rt in
-# bench/NAME, since the gate refuses such files outside the crates.
+# bench/NAME, since the gate refuses such files outside the crates, nor do its proofs in .antt.
 bench=$(cd "$(dirname "${BASH_SOURCE[0]}")" && pwd)
 copy=$(mktemp -d)
 trap 'rm -rf "$copy"' EXIT
@@ -23,7 +23,7 @@ copy_crates() {
 # NAME LIBRARIES: adds the crate NAME_bench, with the sources of bench/NAME, over these libraries.
 # `crate` is its folder from then on.
 add_crate() {
-    local file name
+    local file folder name
     crate="$copy/crates/${1}_bench"
     echo "${1}_bench: $2" >> "$copy/crates.txt"
     mkdir -p "$crate/src" "$crate/specs" "$crate/proofs"
@@ -31,6 +31,13 @@ add_crate() {
     for file in "$bench/$1"/*.rt.in; do
         name=${file##*/}
         cp "$file" "$crate/src/${name%.in}"
+    done
+    for file in "$bench/$1"/proofs/*/*.antt.in; do
+        [ -e "$file" ] || continue
+        folder="$crate/proofs/$(basename "$(dirname "$file")")"
+        name=${file##*/}
+        mkdir -p "$folder"
+        cp "$file" "$folder/${name%.in}"
     done
 }
 

@@ -5,6 +5,7 @@ use logos_report::Warning;
 use logos_token::error::Memory;
 use logos_token::token::{Delimiter, Group, Span, TokenError, TokenTree, Tokens, tokenize};
 use logos_token::util::begins_with;
+use logos_warnings::fixed_warning;
 use std::alloc::Global;
 
 /// What a callback belongs to.
@@ -50,13 +51,8 @@ fn add(
     help: &'static str,
     warnings: &mut Vec<Warning>,
 ) -> Result<(), Memory> {
-    warnings.push(Warning {
-        message: String::from_str(*warnings.allocator(), message)?,
-        span,
-        note: None,
-        help: Some(help),
-        also: None,
-    })?;
+    let alloc = *warnings.allocator();
+    warnings.push(fixed_warning(alloc, message, span, Some(help))?)?;
     Ok(())
 }
 

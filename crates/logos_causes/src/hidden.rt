@@ -8,6 +8,7 @@ use logos_graph::graph::Graph;
 use logos_inspect::marked_leaves;
 use logos_pattern::leaf::Leaf;
 use logos_report::{Page, Warning};
+use logos_warnings::plain_warning;
 use std::alloc::{AllocError, Global};
 
 /// For how many leaves what hides them is searched.
@@ -51,18 +52,13 @@ fn add_leaf(
 
 /// Returns the warning of a leaf that is never found.
 fn warning_of(alloc: Global, leaf: &Leaf<'_>) -> Result<Warning, AllocError> {
-    Ok(Warning {
-        message: text_with(
-            alloc,
-            "this pattern of `",
-            leaf,
-            "` is never found: where it matches, others match more or have a higher priority",
-        )?,
-        span: leaf.span,
-        note: None,
-        help: None,
-        also: None,
-    })
+    let message = text_with(
+        alloc,
+        "this pattern of `",
+        leaf,
+        "` is never found: where it matches, others match more or have a higher priority",
+    )?;
+    Ok(plain_warning(message, leaf.span, None))
 }
 
 /// Adds to the warning of a leaf which leaf is found in its place, if there is one.

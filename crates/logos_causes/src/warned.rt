@@ -12,7 +12,7 @@ use logos_report::{Page, Part, Source, Warning, push_warnings};
 use logos_rust_file::FoundEnum;
 use logos_token::error::Memory;
 use logos_token::token::Span;
-use logos_warnings::{enum_warnings, passed_over};
+use logos_warnings::{enum_warnings, fixed_warning, passed_over};
 use std::alloc::{AllocError, Global};
 
 /// How what is wrong with a file is shown.
@@ -96,6 +96,8 @@ pub fn add_passed(
     add_warnings(0, warnings, warned)
 }
 
+const MISSING: &str = "no enum in this file derives `Logos`";
+
 /// Adds the warning of a file with these enums of which none derives `Logos`, where it has to be a
 /// line of JSON or is denied. It is about the beginning of the file.
 pub fn add_missing(
@@ -108,13 +110,8 @@ pub fn add_missing(
         return Ok(());
     }
     let mut warnings = Vec::new(showing.alloc);
-    warnings.push(Warning {
-        message: String::from_str(showing.alloc, "no enum in this file derives `Logos`")?,
-        span: Span { from: 0, to: 0 },
-        note: None,
-        help: None,
-        also: None,
-    })?;
+    let start = Span { from: 0, to: 0 };
+    warnings.push(fixed_warning(showing.alloc, MISSING, start, None)?)?;
     add_warnings(0, warnings, warned)
 }
 

@@ -1,6 +1,6 @@
 -- What the words of a command line ask for.
 use Rattle.std.specs.Prelude.{ℕ, ◌&&◌, ◌||◌, ◌==◌, ◌-◌, ◌++◌, List, Bool, true, false, Option, Some, None, if◌then◌else◌, option_map, bytes_eq, codes, is_some, length, map, not, slice_index, string_bytes}
-use Rattle.std.specs.Path.{rsplit_once}
+use Rattle.logos_host.specs.Paths.{file_name}
 use Rattle.logos_host.specs.declared.color.Color.{Color}
 use Rattle.logos_host.specs.declared.color.Color.TheVariants.{Auto}
 use Rattle.logos_host.specs.declared.message_format.MessageFormat.{MessageFormat}
@@ -54,14 +54,6 @@ named_shape (Some name) = shape_named name
 -- A path that ends in `/` is that of a folder.
 abbrev pub is_folder : List ℕ → Bool
 is_folder path = slice_index path (length path - 1) == 47
-
-abbrev pub name_after : List ℕ → Option (List ℕ × List ℕ) → List ℕ
-name_after path None = path
-name_after path (Some parts) = parts.1
-
--- The name of the file at a path: what follows the last `/`.
-abbrev pub file_name : List ℕ → List ℕ
-file_name path = name_after path (rsplit_once 47 path)
 
 -- The same of another file, whose result goes into a folder under the name of that file.
 abbrev pub order_into : OrderValue → List ℕ → List ℕ → OrderValue

@@ -1,12 +1,12 @@
 //! Files whose results go into a folder.
 
 ghost use Rattle.std.specs.Prelude.{◌≡◌, ◌≢◌, ◌⊎◌, ◌≤◌, ◌++◌, ◌∷◌, [], ℕ, All, Contains, IfOk, IsTrue, List, MatchOption, OnOk, drop, false, map, true};
-ghost use Rattle.logos_cli.specs.Views.{Appends, AreCarriedOut, AreDenied, IsApart, IsOwnOutput, Keeps, OrderValue, asks_each, batch_value, batch_file_order, file_name, has_twins, is_among, order_into, order_value, orders_into, orders_of, output_text, texts_of};
+ghost use Rattle.logos_cli.specs.Views.{Appends, AreCarriedOut, AreDenied, IsApart, IsOwnOutput, Keeps, OrderValue, asks_each, batch_value, batch_file_order, has_twins, is_among, order_into, order_value, orders_into, orders_of, output_text, texts_of};
 ghost use Rattle.logos_cli.specs.declared.batch.BatchFile.{BatchFile as BatchFileValue};
 
 use crate::options::{Batch, ExpandOrder};
 use crate::running::{Ending, carry_out, failed};
-use logos_host::{ComparableFiles, Failure};
+use logos_host::{ComparableFiles, Failure, file_name};
 use logos_options::{misuse, paths_of};
 use logos_token::error::Memory;
 use std::alloc::Global;
@@ -110,16 +110,6 @@ fn batch_file_of<'w>(alloc: Global, folder: &str, input: &'w str) -> Result<Batc
     output.push_str(folder)?;
     output.push_str(file_name(input))?;
     Ok(BatchFile { input, output })
-}
-
-/// Returns the name of the file at a path: what follows the last `/`.
-fn file_name(path: &str) -> &str
-    ensures { result.now ≡ file_name path.now }
-{
-    match path.rsplit_once('/') {
-        Some((_, name)) => name,
-        None => path,
-    }
 }
 
 /// Returns the path of a result that leads to a file that is read, if there is one.

@@ -1,4 +1,3 @@
-mod CutLemmas
 mod LexingLemmas
 mod LineLemmas
 mod RefusalLemmas

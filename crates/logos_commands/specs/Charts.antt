@@ -1,7 +1,8 @@
 -- Where the chart of an enum goes, as lists of bytes.
 use Rattle.std.specs.Prelude.{◌++◌, ℕ, List, Option, Some, None, if◌then◌else◌, map, bytes_eq, codes}
 use Rattle.std.specs.Char.{to_ascii_lowercase}
-use Rattle.std.specs.Path.{slash, dot, parent_dir, rsplit_once, extension_of_split, with_separator}
+use Rattle.std.specs.Path.{dot, parent_dir, rsplit_once, extension_of_split, with_separator}
+use Rattle.logos_host.specs.Paths.{file_name}
 use Rattle.logos_commands.specs.declared.failure.ExportRefusal.{ExportRefusal}
 use Rattle.logos_commands.specs.declared.failure.ExportRefusal.TheVariants.{NoPath, Dot, Extension}
 
@@ -9,15 +10,6 @@ use Rattle.logos_commands.specs.declared.failure.ExportRefusal.TheVariants.{NoPa
 pub data Destination : Type 0 where
   file_at : (path : List ℕ) → Destination
   refused : (why : ExportRefusal) → Destination
-
--- What follows the last slash of a path, or all of it: its split at that slash.
-abbrev pub name_of_split : List ℕ → Option (List ℕ × List ℕ) → List ℕ
-name_of_split path None = path
-name_of_split path (Some split) = split.1
-
--- The name at the end of a path.
-abbrev pub file_name : List ℕ → List ℕ
-file_name path = name_of_split path (rsplit_once slash path)
 
 -- What follows the last dot of a name, if that is not its first byte; `..` has no extension.
 abbrev pub extension : List ℕ → Option (List ℕ)

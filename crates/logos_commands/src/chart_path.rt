@@ -1,9 +1,10 @@
 //! The path of the file that the chart of an enum is written to.
 
 ghost use Rattle.std.specs.Prelude.{◌≡◌, IfErr, IfOk, option_copied, string_bytes};
-ghost use Rattle.logos_commands.specs.Views.{with_separator, destination, extension, file_at, file_in, file_name, refusal_by, FailsAt};
+ghost use Rattle.logos_commands.specs.Views.{with_separator, destination, extension, file_at, file_in, refusal_by, FailsAt};
 
 use crate::failure::{CommandFailure, ExportRefusal};
+use logos_host::file_name;
 use std::alloc::{AllocError, Global};
 
 /// Returns the path of the file for the chart of an enum. `path` is the export path of its source:
@@ -39,16 +40,6 @@ fn refused_by(extension: &str) -> ExportRefusal
         ExportRefusal::Dot
     } else {
         ExportRefusal::Extension
-    }
-}
-
-/// Returns the name at the end of a path: what follows its last `/`, or all of it.
-fn file_name(path: &str) -> &str
-    ensures { result.now ≡ file_name path.now }
-{
-    match path.rsplit_once('/') {
-        Some((_, name)) => name,
-        None => path,
     }
 }
 

@@ -16,36 +16,34 @@ use Rattle.logos_derive.specs.declared.piece.SourcePiece.{SourcePiece}
 use Rattle.logos_derive.specs.inside.Comparing.{GoesOn}
 
 module _ (shown text : List ℕ) (pieces : List SourcePiece) (old new : Progress) (kind : LexemeKind) (to : ℕ) (lexeme : List ℕ) where
+  -- a lexeme that is passed
+  go_on : IsUtf8 shown → IsCharBoundary shown old.shown → IsNext shown old.shown kind to → new.shown ≡ to →
+      (IsPutBack shown text (drop new.count pieces) to new.text → IsPutBack shown text (drop old.count pieces) old.shown old.text) → GoesOn shown text pieces old new
+  go_on u b n h completes =
+      let a = next_advances n in
+      record {
+        forward = omega (arith, a.0, h);
+        within = omega (arith, a.1, h);
+        boundary = subst (IsCharBoundary shown) (sym h) (next_boundary u b n);
+        completes = λ back. completes (subst (λ i. IsPutBack shown text (drop new.count pieces) i new.text) h back);
+      }
+
   -- a lexeme that stands in both texts
   pub go_stay : IsUtf8 shown → IsCharBoundary shown old.shown → IsNext shown old.shown kind to → lexeme ≡ slice_range shown old.shown to →
       (new.shown ≡ to) × (new.count ≡ old.count) × StandsAt text old.text lexeme new.text → GoesOn shown text pieces old new
   go_stay u b n e h =
-      let a = next_advances n in
-      record {
-        forward = omega (arith, a.0, h.0);
-        within = omega (arith, a.1, h.0);
-        boundary = subst (IsCharBoundary shown) (sym h.0) (next_boundary u b n);
-        completes = λ back.
-            let one = subst (λ i. IsPutBack shown text (drop i pieces) new.shown new.text) h.1 back in
-            let two = subst (λ i. IsPutBack shown text (drop old.count pieces) i new.text) h.0 one in
-            stays n (subst (λ l. StandsAt text old.text l new.text) e h.2) two;
-      }
+      go_on u b n h.0
+      (λ back. stays n (subst (λ l. StandsAt text old.text l new.text) e h.2) (subst (λ i. IsPutBack shown text (drop i pieces) to new.text) h.1 back))
 
   -- a placeholder
   pub go_fill : (piece : SourcePiece) → IsUtf8 shown → IsCharBoundary shown old.shown → IsNext shown old.shown kind to → lexeme ≡ slice_range shown old.shown to →
       drop old.count pieces ≡ piece ∷ drop (old.count + 1) pieces → (kind ≡ Identifier) × (lexeme ≡ string_bytes piece.name) →
       (new.shown ≡ to) × (new.count ≡ old.count + 1) × StandsAt text old.text (string_bytes piece.text) new.text → GoesOn shown text pieces old new
   go_fill piece u b n e d k h =
-      let a = next_advances n in
-      record {
-        forward = omega (arith, a.0, h.0);
-        within = omega (arith, a.1, h.0);
-        boundary = subst (IsCharBoundary shown) (sym h.0) (next_boundary u b n);
-        completes = λ back.
-            let one = subst (λ i. IsPutBack shown text (drop i pieces) new.shown new.text) h.1 back in
-            let two = subst (λ i. IsPutBack shown text (drop (old.count + 1) pieces) i new.text) h.0 one in
-            subst (λ l. IsPutBack shown text l old.shown old.text) (sym d) (fills (subst (λ x. IsNext shown old.shown x to) k.0 n) (sym e ∙ k.1) h.2 two);
-      }
+      go_on u b n h.0
+      (λ back.
+      let rest = subst (λ i. IsPutBack shown text (drop i pieces) to new.text) h.1 back in
+      subst (λ l. IsPutBack shown text l old.shown old.text) (sym d) (fills (subst (λ x. IsNext shown old.shown x to) k.0 n) (sym e ∙ k.1) h.2 rest))
 
 -- what is left from a piece on
 pub left_from : (pieces : List SourcePiece) (i : ℕ) (piece : Bor SourcePiece) → IsItemAt pieces i (Some piece) → drop i pieces ≡ piece.now ∷ drop (i + 1) pieces

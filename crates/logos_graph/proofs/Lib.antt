@@ -22,3 +22,4 @@ pub mod RawLemmas
 pub mod GraphMade
 pub mod ChartLemmas
 pub mod MarkLaws
+pub mod IterationLemmas

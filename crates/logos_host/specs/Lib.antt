@@ -2,6 +2,7 @@ pub mod Colors
 pub mod Failures
 pub mod Formats
 pub mod Messages
+pub mod Paths
 pub mod Reading
 pub mod Writers
 pub mod Words

@@ -1,6 +1,7 @@
 //! Writing a file of the system whole or not at all: to a new file beside it, which then takes its
 //! name.
 
+use crate::paths::file_name;
 use std::fs::Metadata;
 use std::io::{ErrorKind, Write};
 use std::os::unix::fs::{MetadataExt, PermissionsExt};
@@ -128,7 +129,7 @@ fn remove_leftovers<R: Files + AllocGlobal + Clone + Drop>(rt: &R, path: &str) -
     };
     for entry in fs::read_dir(rt, folder)? {
         if let Ok(entry) = entry {
-            remove_leftover(rt, name_of(path), entry.file_name(), folder)?;
+            remove_leftover(rt, file_name(path), entry.file_name(), folder)?;
         }
     }
     Ok(())
@@ -184,13 +185,5 @@ fn folder_of(path: &str) -> &str {
     match path.rsplit_once('/') {
         Some((folder, _)) => folder,
         None => "",
-    }
-}
-
-/// Returns the name of a file: what follows the last `/` of its path.
-fn name_of(path: &str) -> &str {
-    match path.rsplit_once('/') {
-        Some((_, name)) => name,
-        None => path,
     }
 }

@@ -75,8 +75,8 @@ module _ {C : Type 0} (callback : Callback) (old : LexerValue C) where
       record { from = e.from; to = e.to; over = e.over }
 
 -- a run's try begins in the input
-pub start_within : (code : CodeValue) (rows input : List ℕ) (run : WithChunk) (at : ℕ) → IsRun code rows input run at → run.cursor.start ≤ length input
-start_within code rows input run at r =
+pub start_within : (code : CodeValue) (rows input : List ℕ) (run : WithChunk) (start at : ℕ) → IsRun code rows input run start at → start ≤ length input
+start_within code rows input run start at r =
     let s = r.stands in
     let past = s.past in
     let comes = s.comes in

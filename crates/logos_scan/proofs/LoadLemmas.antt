@@ -19,11 +19,12 @@ use Rattle.logos_scan.specs.Runs.{IsChunk, IsLoaded, IsRun, IsTaken, WithChunk, 
 use Rattle.logos_scan.specs.declared.tries.Taken.{Taken}
 use Rattle.logos_scan.specs.declared.tries.Taken.TheVariants.{Emits as TakenEmits, Asks as TakenAsks, Fails as TakenFails, Ends as TakenEnds}
 use Rattle.logos_scan.specs.declared.run.Loaded.{Loaded}
-use Rattle.logos_scan.proofs.RunLemmas.{Holds, later_at, starts_same, starts_short, tried, ends_as, holds_next}
+use Rattle.logos_scan.proofs.RunLemmas.{Holds, later_at, starts_short, tried, ends_as, holds_next}
 use Rattle.logos_scan.proofs.TryLemmas.{stands_begun}
 use Rattle.logos_walk.specs.declared.cursor.ChunkCursor.{ChunkCursor}
 use Rattle.logos_walk.specs.Cursor.{HasRoom, IsNext, NoToken, StartsAt, token_bit, end_bit}
-use Rattle.logos_walk.specs.Cursors.{IsMarked, Stands}
+use Rattle.logos_walk.specs.Cursors.{IsMarked, Stands, start_of}
+use Rattle.logos_walk.proofs.CursorLemmas.{starts_same}
 use Rattle.logos_walk.specs.Masks.{MarksFrom}
 use Rattle.logos_walk.specs.Walk.{IsPlace, IsSameBeside, Walked, entry_at, place_of}
 
@@ -71,10 +72,10 @@ root_is_place code rows folded =
     omega (arith, folded.count, there)
 
 -- a run from what was loaded
-pub loaded_run : (code : CodeValue) (rows input : List ℕ) (run : WithChunk) (base place : ℕ) (entries : List ℕ) (loaded : Loaded) → IsLoaded rows input base place entries loaded →
+pub loaded_run : (code : CodeValue) (rows input : List ℕ) (run : WithChunk) (start base place : ℕ) (entries : List ℕ) (loaded : Loaded) → IsLoaded rows input base place entries loaded →
     run.chunk.entries ≡ entries → run.cursor.base ≡ base → run.count ≡ loaded.count → run.place ≡ loaded.place → run.low ≡ 0 → IsMarked run.chunk → Stands run.chunk.entries run.cursor → HasRoom base →
-    StandsIn code input run.cursor.start base place → IsRun code rows input run 0
-loaded_run code rows input run base place entries loaded l ee eb ec ep el marked stands room s =
+    StandsIn code input start base place → IsRun code rows input run start 0
+loaded_run code rows input run start base place entries loaded l ee eb ec ep el marked stands room s =
     let within = l.within in
     let few = l.few in
     let zero : base ≡ run.cursor.base + 0 = omega (arith, eb) in
@@ -92,7 +93,7 @@ loaded_run code rows input run base place entries loaded l ee eb ec ep el marked
       };
       near = omega arith;
       before = place;
-      stands = subst (λ (k : ℕ). StandsIn code input run.cursor.start k place) zero s;
+      stands = subst (λ (k : ℕ). StandsIn code input start k place) zero s;
       walked = rw (ee, eb, ec, ep) l.walked;
     }
 
@@ -107,10 +108,10 @@ marks_beside flag from stop words old new w word same le out m i l =
 
 -- a run that was stepped over again from an entry on
 pub repaired_run : (code : CodeValue) (rows input : List ℕ) (old run : WithChunk) (from stop : ℕ) (entries : List ℕ) → AreFolded code rows → IsChunk rows input old →
-    run.chunk.entries ≡ entries → run.cursor.base ≡ old.cursor.base → run.cursor.start ≡ old.cursor.base + from → run.count ≡ old.count → run.low ≡ from → from ≤ old.count → stop ≤ old.count →
+    run.chunk.entries ≡ entries → run.cursor.base ≡ old.cursor.base → run.count ≡ old.count → run.low ≡ from → from ≤ old.count → stop ≤ old.count →
     IsSameBeside from stop old.chunk.entries entries → IsMarked run.chunk → Stands run.chunk.entries run.cursor → IsPlace rows run.place →
-    Walked rows (take (length input - old.cursor.base) (drop old.cursor.base input)) (272 * code.root) entries from old.count run.place → IsRun code rows input run from
-repaired_run code rows input old run from stop entries folded c ee eb es ec el le ls same marked stands stays w =
+    Walked rows (take (length input - old.cursor.base) (drop old.cursor.base input)) (272 * code.root) entries from old.count run.place → IsRun code rows input run (old.cursor.base + from) from
+repaired_run code rows input old run from stop entries folded c ee eb ec el le ls same marked stands stays w =
     let within = c.within in
     let few = c.few in
     let past : old.cursor.base + from ≤ length input = omega (arith, within, le) in
@@ -130,9 +131,14 @@ repaired_run code rows input old run from stop entries folded c ee eb es ec el l
       };
       near = omega (arith, le, ec);
       before = 272 * code.root;
-      stands = rw (es, eb) there;
+      stands = rw eb there;
       walked = rw (ee, eb, ec) there_walked;
     }
+
+-- a run that stands between two calls
+pub ready_run : (code : CodeValue) (rows input : List ℕ) (run : WithChunk) (start at : ℕ) → start_of run.cursor ≡ start → point_of run ≡ at → IsRun code rows input run start at →
+    IsRun code rows input run (start_of run.cursor) (point_of run)
+ready_run code rows input run start at es ea r = subst (λ (k : ℕ). IsRun code rows input run k (point_of run)) (sym es) (subst (λ (k : ℕ). IsRun code rows input run start k) (sym ea) r)
 
 -- the run with another cursor
 abbrev pub moved : WithChunk → ChunkCursor → WithChunk
@@ -151,8 +157,8 @@ module _ (code : CodeValue) (rows : List ℕ) (folded : AreFolded code rows) (in
   entries = run.chunk.entries
 
   -- the try that stands before an entry
-  holds_at : (at : ℕ) (r : IsRun code rows input run at) → Holds code rows folded input are base run.count run.place entries (let c = r.in_chunk in c.within) run.cursor.start at r.before
-  holds_at at r =
+  holds_at : (start at : ℕ) (r : IsRun code rows input run start at) → Holds code rows folded input are base run.count run.place entries (let c = r.in_chunk in c.within) start at r.before
+  holds_at start at r =
       let s = r.stands in
       let past = s.past in
       let comes = s.comes in
@@ -169,12 +175,12 @@ module _ (code : CodeValue) (rows : List ℕ) (folded : AreFolded code rows) (in
 
   module _ (cur : ChunkCursor) (same_base : cur.base ≡ base) (stands : Stands entries cur) where
     -- where a later try stands, the run with the cursor there stands
-    later_run : (from at : ℕ) (r : IsRun code rows input run from) → from ≤ at → at ≤ run.count → NoToken entries from at → StartsAt base entries from run.cursor.start at cur.start →
-        IsRun code rows input (moved run cur) at × SkipsTo code input run.cursor.start cur.start
-    later_run from at r le near none starts =
+    later_run : (start from at now : ℕ) (r : IsRun code rows input run start from) → from ≤ at → at ≤ run.count → NoToken entries from at → StartsAt base entries from start at now →
+        IsRun code rows input (moved run cur) now at × SkipsTo code input start now
+    later_run start from at now r le near none starts =
         let c = r.in_chunk in
-        let l = later_at code rows folded input are base run.count run.place entries c.within from at run.cursor.start r.before le near none (holds_at from r) in
-        let e : l.start ≡ cur.start = starts_same base entries from run.cursor.start at l.start cur.start l.starts_at starts in
+        let l = later_at code rows folded input are base run.count run.place entries c.within from at start r.before le near none (holds_at start from r) in
+        let e : l.start ≡ now = starts_same base entries from start at l.start now l.starts_at starts in
         let h = l.holds in (
           record {
             in_chunk = record {
@@ -193,13 +199,13 @@ module _ (code : CodeValue) (rows : List ℕ) (folded : AreFolded code rows) (in
             stands = rw (same_base, ← e) h.stands;
             walked = rw same_base h.walked;
           },
-          subst (λ (k : ℕ). SkipsTo code input run.cursor.start k) e l.skipped,
+          subst (λ (k : ℕ). SkipsTo code input start k) e l.skipped,
         )
 
     -- an entry at which there is something to do
-    pub flag_found : (at : ℕ) → IsRun code rows input run (point_of run) → IsNext entries run.cursor.from at → StartsAt base entries run.cursor.from run.cursor.start at cur.start →
-        (at < run.count) × IsRun code rows input (moved run cur) at × SkipsTo code input run.cursor.start cur.start
-    flag_found at r next starts =
+    pub flag_found : (start at now : ℕ) → IsRun code rows input run start (point_of run) → IsNext entries run.cursor.from at → StartsAt base entries run.cursor.from start at now →
+        (at < run.count) × IsRun code rows input (moved run cur) now at × SkipsTo code input start now
+    flag_found start at now r next starts =
         let c = r.in_chunk in
         let token = next.token in
         let after = next.after in
@@ -208,24 +214,24 @@ module _ (code : CodeValue) (rows : List ℕ) (folded : AreFolded code rows) (in
           | inr g ↦ absurd (omega (arith, token, ap (λ x. bit_at x 30) (c.rest at g next.within), bit_at-zero 30))
         ] in
         let point : point_of run ≡ run.cursor.from = omega (arith, after, inside) in
-        let r' : IsRun code rows input run run.cursor.from = subst (λ (k : ℕ). IsRun code rows input run k) point r in
-        let l = later_run run.cursor.from at r' after (omega (arith, inside)) next.first starts in
+        let r' : IsRun code rows input run start run.cursor.from = subst (λ (k : ℕ). IsRun code rows input run start k) point r in
+        let l = later_run start run.cursor.from at now r' after (omega (arith, inside)) next.first starts in
         (inside, l.0, l.1)
 
     -- the end of the chunk
-    pub over_found : IsRun code rows input run (point_of run) → NoToken entries run.cursor.from 4096 → StartsAt base entries run.cursor.from run.cursor.start 4096 cur.start →
-        IsRun code rows input (moved run cur) run.count × SkipsTo code input run.cursor.start cur.start
-    over_found r none starts =
+    pub over_found : (start now : ℕ) → IsRun code rows input run start (point_of run) → NoToken entries run.cursor.from 4096 → StartsAt base entries run.cursor.from start 4096 now →
+        IsRun code rows input (moved run cur) now run.count × SkipsTo code input start now
+    over_found start now r none starts =
         let c = r.in_chunk in
         let few = c.few in
         elim (ways run.count run.cursor.from) [
           | inr g ↦
               let point : point_of run ≡ run.cursor.from = omega (arith, g) in
-              later_run run.cursor.from run.count (subst (λ (k : ℕ). IsRun code rows input run k) point r) g (omega arith) (λ k f h. none k f (omega (arith, h, few)))
-              (starts_short code rows folded input are base run.count run.place entries c.within run.cursor.from run.cursor.start cur.start few c.rest starts)
+              later_run start run.cursor.from run.count now (subst (λ (k : ℕ). IsRun code rows input run start k) point r) g (omega arith) (λ k f h. none k f (omega (arith, h, few)))
+              (starts_short code rows folded input are base run.count run.place entries c.within run.cursor.from start now few c.rest starts)
           | inl l ↦
               let point : point_of run ≡ run.count = omega (arith, l) in
-              later_run run.count run.count (subst (λ (k : ℕ). IsRun code rows input run k) point r) (omega arith) (omega arith) (λ k f h. absurd (omega (arith, f, h)))
+              later_run start run.count run.count now (subst (λ (k : ℕ). IsRun code rows input run start k) point r) (omega arith) (omega arith) (λ k f h. absurd (omega (arith, f, h)))
               (elim starts [
                 | inl m ↦ inl (m.0, λ k f h. absurd (omega (arith, f, h)))
                 | inr m ↦
@@ -237,23 +243,23 @@ module _ (code : CodeValue) (rows : List ℕ) (folded : AreFolded code rows) (in
         ]
 
   -- the place after the chunk
-  pub stands_last : IsRun code rows input run run.count → StandsIn code input run.cursor.start (base + run.count) run.place
-  stands_last r =
+  pub stands_last : (start : ℕ) → IsRun code rows input run start run.count → StandsIn code input start (base + run.count) run.place
+  stands_last start r =
       let w = r.walked in
-      subst (λ (p : ℕ). StandsIn code input run.cursor.start (base + run.count) p) (sym (w.none refl)) r.stands
+      subst (λ (p : ℕ). StandsIn code input start (base + run.count) p) (sym (w.none refl)) r.stands
 
   -- what ends before a flagged entry
-  module _ (at : ℕ) (r : IsRun code rows input run at) (inside : at < run.count) (ended : end_bit entries at ≡ 1) where
+  module _ (start at : ℕ) (r : IsRun code rows input run start at) (inside : at < run.count) (ended : end_bit entries at ≡ 1) where
     abbrev entry : ℕ
     entry = slice_index entries at
 
-    pub found_match : ((n : ℕ) × Tried code input run.cursor.start (matched (leaf_of entry) (base + at)) n)
-    found_match = (let c = r.in_chunk in tried code rows folded input are base run.count run.place entries c.within run.cursor.start at r.before (holds_at at r) inside ended).0
+    pub found_match : ((n : ℕ) × Tried code input start (matched (leaf_of entry) (base + at)) n)
+    found_match = (let c = r.in_chunk in tried code rows folded input are base run.count run.place entries c.within start at r.before (holds_at start at r) inside ended).0
 
     pub found_use : token_bit entries at ≡ 1 → bit_at entry 29 ≡ 0 → IsUse code (leaf_of entry) Emits
     found_use t b = (let c = r.in_chunk in
-        let used = ends_as code rows folded input are base run.count run.place entries c.within run.cursor.start at r.before (holds_at at r) inside ended in
-        by_use used.used used.has_use (tried code rows folded input are base run.count run.place entries c.within run.cursor.start at r.before (holds_at at r) inside ended).1)
+        let used = ends_as code rows folded input are base run.count run.place entries c.within start at r.before (holds_at start at r) inside ended in
+        by_use used.used used.has_use (tried code rows folded input are base run.count run.place entries c.within start at r.before (holds_at start at r) inside ended).1)
       where
         by_use : (used : MatchUse) → HasUse entry used → IsUse code (leaf_of entry) used → IsUse code (leaf_of entry) Emits
         by_use Emits has is = is
@@ -261,26 +267,16 @@ module _ (code : CodeValue) (rows : List ℕ) (folded : AreFolded code rows) (in
         by_use Asks has is = absurd (let o = has.1 in omega (arith, o, b))
 
     -- the next try stands after it
-    pub found_next : (cur : ChunkCursor) → cur.base ≡ base → cur.start ≡ base + at → Stands entries cur → IsRun code rows input (moved run cur) (at + 1)
-    found_next cur eb es stands =
+    pub found_next : IsRun code rows input run (base + at) (at + 1)
+    found_next =
         let c = r.in_chunk in
-        let h = holds_next code rows folded input are base run.count run.place entries c.within run.cursor.start at r.before (holds_at at r) inside ended in
+        let h = holds_next code rows folded input are base run.count run.place entries c.within start at r.before (holds_at start at r) inside ended in
         record {
-          in_chunk = record {
-            within = (let w = c.within in omega (arith, w, eb));
-            few = c.few;
-            full = λ g. c.full (omega (arith, g, eb));
-            stays = c.stays;
-            rest = c.rest;
-            marked = c.marked;
-            cursor = stands;
-            room = (let room = c.room in omega (arith, room, eb));
-            whole = (c.whole.0, rw eb c.whole.1);
-          };
+          in_chunk = c;
           near = omega (arith, inside);
           before = place_of entry;
-          stands = rw (eb, es) h.stands;
-          walked = rw eb h.walked;
+          stands = h.stands;
+          walked = h.walked;
         }
 
 -- the bytes of an input

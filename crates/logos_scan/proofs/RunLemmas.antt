@@ -11,33 +11,10 @@ use Rattle.logos_fold.specs.Folds.{AreFolded, IsFolded, EndsAs, HasUse, leaf_of}
 use Rattle.logos_machine.specs.inside.Looks.{Tried}
 use Rattle.logos_scan.specs.Tries.{StandsIn, SkipsTo, skips_none, skips_then}
 use Rattle.logos_scan.proofs.TryLemmas.{stands_begun, stands_goes, tried_ends}
-use Rattle.logos_walk.specs.Cursor.{token_bit, end_bit, NoToken, IsLastEnd, StartsAt}
+use Rattle.logos_walk.specs.Cursor.{token_bit, end_bit, NoToken, StartsAt}
 use Rattle.logos_walk.specs.Walk.{Walked, place_of}
 use Rattle.logos_walk.proofs.CursorLemmas.{ways, starts_join}
 use Rattle.logos_walk.proofs.WalkLemmas.{walked_rest}
-
--- the try that stands before an entry begins at one point
-pub starts_same : (base : ℕ) (trace : List ℕ) (from start at a b : ℕ) → StartsAt base trace from start at a → StartsAt base trace from start at b → a ≡ b
-starts_same base trace from start at a b one other = elim one [
-  | inl m ↦ elim other [
-    | inl n ↦ m.0 ∙ sym n.0
-    | inr n ↦ let l = n.1 in absurd (omega (arith, l.ended, m.1 n.0 l.after l.before))
-  ]
-  | inr m ↦ elim other [
-    | inl n ↦ let l = m.1 in absurd (omega (arith, l.ended, n.1 m.0 l.after l.before))
-    | inr n ↦ m.2 ∙ ap (λ k. base + k) (same m.0 n.0 m.1 n.1) ∙ sym n.2
-  ]
-]
-  where
-    three : (x y : ℕ) → (x < y) ⊎ ((x ≡ y) ⊎ (y < x))
-    three x y = grind arith
-
-    same : (x y : ℕ) → IsLastEnd trace from at x → IsLastEnd trace from at y → x ≡ y
-    same x y p q = elim (three x y) [
-      | inl l ↦ let e = q.ended in let b = q.before in absurd (omega (arith, e, p.none y (omega (arith, l)) b))
-      | inr (inl e) ↦ e
-      | inr (inr g) ↦ let e = p.ended in let b = p.before in absurd (omega (arith, e, q.none x (omega (arith, g)) b))
-    ]
 
 module _ (code : CodeValue) (rows : List ℕ) (folded : AreFolded code rows) (input : List ℕ) (are : (k : ℕ) → get_or input k 0 < 256) (base count last : ℕ) (entries : List ℕ)
     (fits : base + count ≤ length input) where

@@ -4,6 +4,7 @@ use Rattle.logos_code.specs.Items.{Callback, Item}
 use Rattle.logos_machine.specs.LexerValue.{LexerValue, Ends, Gives}
 use Rattle.logos_scan.specs.declared.run.Reading.{Reading}
 use Rattle.logos_scan.specs.declared.run.Run.{Run}
+use Rattle.logos_walk.specs.Cursors.{start_of}
 
 -- The lexer of the code on the input, with this callback, after an item with this span.
 abbrev pub lexer_at : {C : Type 0} → Reading → C → (from to : ℕ) → LexerValue C
@@ -19,9 +20,9 @@ lexer_at reading callback from to = record {
 -- From where a run stood, a lexer gives this item, and the run stands after it.
 abbrev pub GivesItem : {C : Type 0} → Callback → Reading → C → Run → Run → Item → Type 0
 GivesItem answers reading callback old new item =
-    (from : ℕ) × Gives answers (lexer_at reading callback old.cursor.start old.cursor.start) (lexer_at reading callback from new.cursor.start) item
+    (from : ℕ) × Gives answers (lexer_at reading callback (start_of old.cursor) (start_of old.cursor)) (lexer_at reading callback from (start_of new.cursor)) item
 
 -- Or it is over, and the run stands at the end of the input.
 abbrev pub EndsItems : {C : Type 0} → Callback → Reading → C → Run → Run → Type 0
 EndsItems answers reading callback old new =
-    Ends answers (lexer_at reading callback old.cursor.start old.cursor.start) (lexer_at reading callback new.cursor.start new.cursor.start)
+    Ends answers (lexer_at reading callback (start_of old.cursor) (start_of old.cursor)) (lexer_at reading callback (start_of new.cursor) (start_of new.cursor))

@@ -12,8 +12,8 @@ use Rattle.logos_scan.specs.declared.run.Reading.{Reading}
 use Rattle.logos_scan.specs.declared.run.Run.{Run}
 use Rattle.logos_scan.specs.declared.tries.Taken.{Taken}
 use Rattle.logos_scan.specs.declared.tries.Taken.TheVariants.{Emits, Asks, Fails, Ends}
-use Rattle.logos_walk.specs.Cursor.{HasRoom, token_bit}
-use Rattle.logos_walk.specs.Cursors.{IsMarked, Stands}
+use Rattle.logos_walk.specs.Cursor.{HasRoom, end_bit, token_bit}
+use Rattle.logos_walk.specs.Cursors.{IsInWord, IsMarked, Stands, start_at, start_of}
 use Rattle.logos_walk.specs.declared.cursor.ChunkCursor.{ChunkCursor}
 use Rattle.logos_walk.specs.declared.masks.ChunkEntries.{ChunkEntries}
 use Rattle.logos_walk.specs.Walk.{IsPlace, Walked}
@@ -60,12 +60,13 @@ pub record IsChunk (rows input : List ℕ) (run : WithChunk) : Type 0 where
   pub room : HasRoom run.cursor.base
   pub whole : (place : ℕ) × Walked rows (drop run.cursor.base input) place run.chunk.entries run.low run.count run.place
 
--- Its try stands before the byte of entry `at`, from where on the entries are those of a walk.
-pub record IsRun (code : CodeValue) (rows input : List ℕ) (run : WithChunk) (at : ℕ) : Type 0 where
+-- The try that begins at the start stands before the byte of entry `at`, from where on the entries
+-- are those of a walk.
+pub record IsRun (code : CodeValue) (rows input : List ℕ) (run : WithChunk) (start at : ℕ) : Type 0 where
   pub in_chunk : IsChunk rows input run
   pub near : at ≤ run.count
   pub before : ℕ
-  pub stands : StandsIn code input run.cursor.start (run.cursor.base + at) before
+  pub stands : StandsIn code input start (run.cursor.base + at) before
   pub walked : Walked rows (drop run.cursor.base input) before run.chunk.entries at run.count run.place
 
 -- The entry before which a run stands.
@@ -74,29 +75,32 @@ point_of run = min run.cursor.from run.count
 
 -- The run stands between two calls.
 abbrev pub IsReady : Reading → WithChunk → Type 0
-IsReady reading run = IsRun reading.code.now reading.rows.now reading.input.now run (point_of run)
+IsReady reading run = IsRun reading.code.now reading.rows.now reading.input.now run (start_of run.cursor) (point_of run)
 
--- The try of a run stands before an entry that its cursor has passed, or at the end of the chunk.
-pub record IsHeld (reading : Reading) (run : WithChunk) : Type 0 where
+-- The try of a run, which begins at the start, stands before an entry that its cursor has passed,
+-- or at the end of the chunk.
+pub record IsHeld (reading : Reading) (run : WithChunk) (start : ℕ) : Type 0 where
   pub at : ℕ
-  pub stands : IsRun reading.code.now reading.rows.now reading.input.now run at
+  pub stands : IsRun reading.code.now reading.rows.now reading.input.now run start at
   pub passed : ((at < run.count) × (at < run.cursor.from)) ⊎ ((at ≡ run.count) × (run.count ≤ run.cursor.from))
 
 -- A run has come to an entry with the flag that there is something to do, and its cursor is after
 -- it.
 pub record IsFlagged (reading : Reading) (start : ℕ) (run : WithChunk) (at : ℕ) : Type 0 where
-  pub stands : IsRun reading.code.now reading.rows.now reading.input.now run at
+  pub stands : IsRun reading.code.now reading.rows.now reading.input.now run (start_at run.cursor at) at
   pub inside : at < run.count
   pub token : token_bit run.chunk.entries at ≡ 1
   pub after : run.cursor.from ≡ at + 1
-  pub skips : SkipsTo reading.code.now reading.input.now start run.cursor.start
+  pub word : IsInWord run.cursor at
+  pub skips : SkipsTo reading.code.now reading.input.now start (start_at run.cursor at)
+  pub ended : end_bit run.chunk.entries at ≡ 1 → start_of run.cursor ≡ run.cursor.base + at
 
 -- Or to the end of the input.
 pub record IsOver (reading : Reading) (start : ℕ) (run : WithChunk) : Type 0 where
-  pub stands : IsRun reading.code.now reading.rows.now reading.input.now run run.count
+  pub stands : IsRun reading.code.now reading.rows.now reading.input.now run run.cursor.word_start run.count
   pub last : run.cursor.base + run.count ≡ length reading.input.now
   pub after : run.cursor.from ≡ 4096
-  pub skips : SkipsTo reading.code.now reading.input.now start run.cursor.start
+  pub skips : SkipsTo reading.code.now reading.input.now start run.cursor.word_start
 
 -- What is taken: after matches that are skipped, what a try finds, and where the next one begins.
 abbrev pub IsTaken : CodeValue → List ℕ → ℕ → Taken → ℕ → Type 0

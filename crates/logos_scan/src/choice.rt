@@ -1,12 +1,17 @@
 //! Whether a run by chunks takes less time than a lexer.
 
-ghost use Rattle.std.specs.Prelude.{◌≤◌, ◌+◌, length};
+ghost use Rattle.std.specs.Prelude.{◌≡◌, ◌≤◌, ◌+◌, IfOk, IfSome, length};
 
 use crate::tries::{Taken, tried};
 use logos_code::code::Code;
+use logos_fold::folded::Folded;
+use std::alloc::{AllocError, Global};
 
 /// How many bytes are looked at from one point of an input on.
 const SAMPLE: usize = 2_048;
+
+/// Among how many bytes from that point on the sample lies.
+const SPREAD: usize = 2 * SAMPLE;
 
 /// How many bytes of input pay for the folded row of one state.
 const WORTH: usize = 8_192;
@@ -23,10 +28,11 @@ struct SampleCounts {
 ///
 /// A run loses where matches are long, where nearly each byte is one, where there are many errors,
 /// and where the input is too short for what the folded rows take. Four parts of the input are
-/// looked at, and one of them may be otherwise.
+/// looked at, each from the beginning of a line on where there is one, and one of them may be
+/// otherwise.
 pub fn suits(code: &Code, input: &[u8]) -> bool {
     let quarter = input.len() / 4;
-    if quarter < SAMPLE || input.len() / WORTH < code.parts().states.len() {
+    if quarter < SPREAD || input.len() / WORTH < code.parts().states.len() {
         return false;
     }
     let first = suits_at(code, input, 0);
@@ -38,13 +44,46 @@ pub fn suits(code: &Code, input: &[u8]) -> bool {
 
 /// Returns whether a run by chunks suits the bytes from a point of the input on.
 fn suits_at(code: &Code, input: &[u8], at: usize) -> bool
-    requires { at + SAMPLE ≤ length input.now }
+    requires { at + SPREAD ≤ length input.now }
 {
-    let counts = counted(code, &input[at..at + SAMPLE]);
+    let from = at + line_start(&input[at..at + SAMPLE]);
+    let counts = counted(code, &input[from..from + SAMPLE]);
     let short = counts.items >= SAMPLE / 20;
     let long = counts.items <= SAMPLE / 3;
     let errors = counts.errors <= counts.items / 32;
     short & long & errors
+}
+
+/// Returns the folded rows of a code where a run by chunks likely takes less time on the input than
+/// a lexer, and there are not too many states for them.
+///
+/// # Errors
+///
+/// Returns `AllocError` if memory runs out.
+pub fn rows_for<'c, 's>(
+    alloc: Global,
+    code: &'c Code<'s>,
+    input: &[u8],
+) -> Result<Option<Folded<'c, 's>>, AllocError>
+    ensures { IfOk result (λ rows. IfSome rows (λ folded. folded.code ≡ code.now)) }
+{
+    if suits(code, input) {
+        return Folded::new(alloc, code);
+    }
+    Ok(None)
+}
+
+/// Returns where the first line begins that begins in a part of an input, after its first byte, or
+/// 0 if none does. Few tokens go on over a line end.
+fn line_start(part: &[u8]) -> usize
+    ensures { result ≤ length part.now }
+{
+    for at in 0..part.len() {
+        if part[at] == b'\n' {
+            return at + 1;
+        }
+    }
+    0
 }
 
 /// Counts the items of a part of an input.

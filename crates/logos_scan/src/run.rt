@@ -1,7 +1,7 @@
 //! Tries of an input, one after the other, by the entries of a chunk.
 
 ghost use Rattle.std.specs.Prelude.{◌≡◌, ◌+◌, ◌<◌, ◌≤◌, length, MatchOption};
-ghost use Rattle.logos_scan.specs.Views.{IsBytes, IsPlace, StandsIn, answers_of, item_of, EndsItems, GivesItem, IsFlagged, IsHeld, IsLoaded, IsMarked, IsOver, IsReading, IsReady, IsRun, IsTaken, with_chunk};
+ghost use Rattle.logos_scan.specs.Views.{IsBytes, IsPlace, StandsIn, answers_of, item_of, EndsItems, GivesItem, IsChunk, IsFlagged, IsHeld, IsLoaded, IsMarked, IsOver, IsReading, IsReady, IsRun, IsTaken, start_of, with_chunk};
 
 use crate::tries::{Taken, tried};
 use logos_code::action::Action;
@@ -103,17 +103,17 @@ fn load(reading: &Reading, base: usize, place: usize, chunk: &mut ChunkEntries) 
     loaded
 }
 
-/// Makes the try that stands before an entry again, by itself: it notes the marks that it passes.
+/// Makes the try that begins at `start` again, by itself: it notes the marks that it passes.
 #[cold]
 #[inline(never)]
-fn try_again(reading: &Reading, run: Run, chunk: &mut ChunkEntries) -> (Taken, Run)
+fn try_again(reading: &Reading, run: Run, chunk: &mut ChunkEntries, start: usize) -> (Taken, Run)
     requires reading { IsReading reading.now }
-    requires held { IsHeld reading.now (with_chunk chunk.old run) }
+    requires held { IsHeld reading.now (with_chunk chunk.old run) start }
     ensures ready { IsReady reading.now (with_chunk chunk.new result.1) }
-    ensures taken { IsTaken reading.now.code.now reading.now.input.now run.cursor.start
-        result.0 result.1.cursor.start }
+    ensures taken { IsTaken reading.now.code.now reading.now.input.now start
+        result.0 (start_of result.1.cursor) }
 {
-    let (taken, next) = tried(reading.code, reading.input, run.cursor.start);
+    let (taken, next) = tried(reading.code, reading.input, start);
     let after = restarted(reading, run, chunk, next);
     (taken, after)
 }
@@ -121,10 +121,10 @@ fn try_again(reading: &Reading, run: Run, chunk: &mut ChunkEntries) -> (Taken, R
 /// Begins a try at a point of the input.
 fn restarted(reading: &Reading, run: Run, chunk: &mut ChunkEntries, to: usize) -> Run
     requires reading { IsReading reading.now }
-    requires held { IsHeld reading.now (with_chunk chunk.old run) }
+    requires chunk { IsChunk reading.now.rows.now reading.now.input.now (with_chunk chunk.old run) }
     requires within { to ≤ length reading.now.input.now }
     ensures ready { IsReady reading.now (with_chunk chunk.new result) }
-    ensures start { result.cursor.start ≡ to }
+    ensures start { start_of result.cursor ≡ to }
 {
     let base = run.cursor.base;
     if to > base && to - base > run.low && to - base < run.count {
@@ -138,12 +138,12 @@ fn restarted(reading: &Reading, run: Run, chunk: &mut ChunkEntries, to: usize) -
 /// there on until the entries are those that stand.
 fn repaired_from(reading: &Reading, run: Run, chunk: &mut ChunkEntries, from: usize) -> Run
     requires reading { IsReading reading.now }
-    requires held { IsHeld reading.now (with_chunk chunk.old run) }
+    requires chunk { IsChunk reading.now.rows.now reading.now.input.now (with_chunk chunk.old run) }
     requires left { run.low < from }
     requires inside { from < run.count }
     ensures run { IsRun reading.now.code.now reading.now.rows.now reading.now.input.now
-        (with_chunk chunk.new result) from }
-    ensures start { result.cursor.start ≡ run.cursor.base + from }
+        (with_chunk chunk.new result) (run.cursor.base + from) from }
+    ensures start { start_of result.cursor ≡ run.cursor.base + from }
     ensures from { result.cursor.from ≡ from }
 {
     let base = run.cursor.base;
@@ -180,8 +180,8 @@ fn filled(
     requires place { IsPlace reading.now.rows.now place }
     requires stands { StandsIn reading.now.code.now reading.now.input.now start base place }
     ensures run { IsRun reading.now.code.now reading.now.rows.now reading.now.input.now
-        (with_chunk chunk.new result) 0 }
-    ensures start { result.cursor.start ≡ start }
+        (with_chunk chunk.new result) start 0 }
+    ensures start { start_of result.cursor ≡ start }
     ensures base { result.cursor.base ≡ base }
     ensures from { result.cursor.from ≡ 0 }
 {
@@ -201,7 +201,7 @@ impl Run {
     pub fn new(reading: &Reading, chunk: &mut ChunkEntries) -> Run
         requires reading { IsReading reading.now }
         ensures ready { IsReady reading.now (with_chunk chunk.new result) }
-        ensures start { result.cursor.start ≡ 0 }
+        ensures start { start_of result.cursor ≡ 0 }
     {
         filled(reading, chunk, 0, 0, reading.code.root_place())
     }
@@ -213,8 +213,9 @@ impl Run {
         requires reading { IsReading reading.now }
         requires ready { IsReady reading.now (with_chunk chunk.old self.old) }
         ensures { MatchOption result
-            (IsOver reading.now self.old.cursor.start (with_chunk chunk.new self.new))
-            (λ at. IsFlagged reading.now self.old.cursor.start (with_chunk chunk.new self.new) at) }
+            (IsOver reading.now (start_of self.old.cursor) (with_chunk chunk.new self.new))
+            (λ at. IsFlagged reading.now (start_of self.old.cursor) (with_chunk chunk.new self.new)
+            at) }
     {
         are_bytes(reading.input);
         loop {
@@ -225,7 +226,7 @@ impl Run {
             if base >= reading.input.len() {
                 return None;
             }
-            let run = filled(reading, chunk, base, self.cursor.start, self.place);
+            let run = filled(reading, chunk, base, self.cursor.word_start, self.place);
             *self = run;
         }
     }
@@ -236,44 +237,43 @@ impl Run {
         requires reading { IsReading reading.now }
         requires ready { IsReady reading.now (with_chunk chunk.old self.old) }
         ensures ready { IsReady reading.now (with_chunk chunk.new self.new) }
-        ensures taken { IsTaken reading.now.code.now reading.now.input.now self.old.cursor.start
-            result self.new.cursor.start }
+        ensures taken { IsTaken reading.now.code.now reading.now.input.now
+            (start_of self.old.cursor) result (start_of self.new.cursor) }
     {
         are_bytes(reading.input);
         let Some(at) = self.next_flag(reading, chunk) else {
-            return self.next_again(reading, chunk);
+            return self.next_again(reading, chunk, self.cursor.word_start);
         };
         let entry = chunk.entries[at];
         let ended = entry & ENDED;
         if ended == 0 {
-            return self.next_again(reading, chunk);
+            return self.next_again(reading, chunk, self.cursor.start_before(at));
         }
-        let span = Span {
-            from: self.cursor.start,
-            to: self.cursor.base + at,
-        };
-        self.cursor.start = span.to;
         let leaf = LeafId((entry >> 20 & 511) as usize);
+        let to = self.cursor.base + at;
         let calls = entry & CALLS;
+        // Where the match begins is asked for in each branch: a caller that only counts tokens then
+        // never looks for it.
         if calls == 0 {
-            Taken::Emits(leaf, span)
+            let from = self.cursor.start_before(at);
+            Taken::Emits(leaf, Span { from, to })
         } else {
-            Taken::Asks(leaf, span)
+            let from = self.cursor.start_before(at);
+            Taken::Asks(leaf, Span { from, to })
         }
     }
 
-    /// Takes what the try finds that stands before an entry, by itself. Only that try is called out
-    /// of line, and it is given a copy of the run, so that the compiler can hold this one in
-    /// registers.
+    /// Takes what the try finds that begins at `start`, by itself. Only that try is called out of
+    /// line, and it is given a copy of the run, so that the compiler can hold this one in registers.
     #[inline(always)]
-    fn next_again(&mut self, reading: &Reading, chunk: &mut ChunkEntries) -> Taken
+    fn next_again(&mut self, reading: &Reading, chunk: &mut ChunkEntries, start: usize) -> Taken
         requires reading { IsReading reading.now }
-        requires held { IsHeld reading.now (with_chunk chunk.old self.old) }
+        requires held { IsHeld reading.now (with_chunk chunk.old self.old) start }
         ensures ready { IsReady reading.now (with_chunk chunk.new self.new) }
-        ensures taken { IsTaken reading.now.code.now reading.now.input.now self.old.cursor.start
-            result self.new.cursor.start }
+        ensures taken { IsTaken reading.now.code.now reading.now.input.now start
+            result (start_of self.new.cursor) }
     {
-        let (taken, run) = try_again(reading, *self, chunk);
+        let (taken, run) = try_again(reading, *self, chunk, start);
         *self = run;
         taken
     }

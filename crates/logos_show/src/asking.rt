@@ -3,6 +3,7 @@
 ghost use Rattle.std.specs.Prelude.{◌≡◌, [], IfErr, IfOk, OnOk};
 ghost use Rattle.logos_show.specs.Views.{AllStart, Gains, IsBytes, IsGraphOf, rules_of, IsNoMisuse, GraphValue, IsCompared, IsJudged, PrintsInputRecords, PrintsInputs, PrintsMatchRecords, PrintsMatches, place_line};
 
+use crate::reading::refusal_of;
 use logos_answers::{
     Compared, NamedLexer, compare_lexers, finding_of, offset_of, push_agreement, push_callbacks,
     push_difference, push_inputs, push_matches, push_modes,
@@ -120,10 +121,7 @@ fn no_place(alloc: Global, path: &str, place: Position) -> Failure<'static>
     page.push(" in line ");
     page.push_number(place.line);
     page.push("\n");
-    match page.finish() {
-        Ok(text) => Failure::Refused(text),
-        Err(_) => Failure::Memory,
-    }
+    refusal_of(page.finish())
 }
 
 /// Writes at most so many inputs of those that together pass all edges of a graph, as literals of

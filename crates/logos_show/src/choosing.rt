@@ -3,7 +3,7 @@
 ghost use Rattle.std.specs.Prelude.{◌≡◌, IfErr, IfOk, IfSome, option_map};
 ghost use Rattle.logos_show.specs.Views.{IsLexerOf, IsNextChoice, IsNoMisuse, IsTaken, chosen_first, first_near, taken};
 
-use crate::reading::refused;
+use crate::reading::{refusal_of, refused, write_note};
 use crate::running::Task;
 use logos_codegen::error::Memory;
 use logos_host::Failure;
@@ -68,8 +68,7 @@ fn one_of<'w, E: Write>(
         return Err(several(alloc, task, source, enums));
     }
     let note = first_text(alloc, source, enums)?;
-    let _ = err.write_all(note.as_bytes());
-    let _ = err.flush();
+    write_note(err, note.as_bytes());
     Ok(enums.0)
 }
 
@@ -125,10 +124,7 @@ fn no_lexer(alloc: Global, file: &str, name: Option<&str>) -> Failure<'static>
     page.push("in ");
     page.push_shown(file);
     page.push(" derives `Logos`\n");
-    match page.finish() {
-        Ok(text) => Failure::Refused(text),
-        Err(_) => Failure::Memory,
-    }
+    refusal_of(page.finish())
 }
 
 /// Returns the refusal of a name that two enums have, which stand in two modules.
@@ -140,10 +136,7 @@ fn several(
 ) -> Failure<'static>
     ensures { IsNoMisuse result }
 {
-    match several_text(alloc, task, source, enums) {
-        Ok(text) => Failure::Refused(text),
-        Err(Memory) => Failure::Memory,
-    }
+    refusal_of(several_text(alloc, task, source, enums))
 }
 
 /// Returns the message about a name that two enums have.

@@ -5,7 +5,7 @@ ghost use Rattle.logos_show.specs.Orders.{IsNoMisuse};
 
 use crate::asking::{Agreement, Judgment, Pair, compare_with};
 use crate::choosing::lexer_in;
-use crate::reading::{refused, text_at, text_of};
+use crate::reading::{refused, text_at, text_of, write_note};
 use crate::running::{Host, Task, part_of};
 use crate::showing::SHAPE;
 use logos_answers::NamedLexer;
@@ -19,6 +19,7 @@ use std::time::Clock;
 /// Writes whether the lexer of another file is the same, and returns that.
 pub(crate) fn compare<'w, F: Files, C: Clock, O: Write, E: Write + IsTerminal>(
     task: Task<'w>,
+    source: &Source<'_>,
     other: &'w str,
     host: &mut Host<'_, F, C, E>,
     out: &mut O,
@@ -26,14 +27,10 @@ pub(crate) fn compare<'w, F: Files, C: Clock, O: Write, E: Write + IsTerminal>(
     ensures { IfErr result IsNoMisuse }
 {
     let alloc = task.showing.alloc;
-    let path = task.order.file;
-    let text = text_at(path, host.files)?;
     let other_text = text_at(other, host.files)?;
-    let source = Source::new(alloc, path, text.as_str())?;
     let other_source = Source::new(alloc, other, other_text.as_str())?;
-    let Judgment { agreement, note } = compare_files(task, &source, &other_source, host.err, out)?;
-    let _ = host.err.write_all(note.as_bytes());
-    let _ = host.err.flush();
+    let Judgment { agreement, note } = compare_files(task, source, &other_source, host.err, out)?;
+    write_note(host.err, note.as_bytes());
     Ok(agreement)
 }
 

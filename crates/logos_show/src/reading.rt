@@ -91,10 +91,23 @@ pub(crate) fn refused_with(
     let Refusal::Errors(errors) = refusal else {
         return Failure::Memory;
     };
-    match refusal_text(part, showing, &errors, known) {
+    refusal_of(refusal_text(part, showing, &errors, known))
+}
+
+/// Returns the refusal with a text, or that there was no memory for it.
+pub(crate) fn refusal_of<E: Drop>(text: Result<String, E>) -> Failure<'static>
+    ensures { IsNoMisuse result }
+{
+    match text {
         Ok(text) => Failure::Refused(text),
-        Err(Memory) => Failure::Memory,
+        Err(_) => Failure::Memory,
     }
+}
+
+/// Writes a note to standard error. Where that fails, the note is lost.
+pub(crate) fn write_note<E: Write>(err: &mut E, note: &[u8]) {
+    let _ = err.write_all(note);
+    let _ = err.flush();
 }
 
 /// Returns what is written of faults, after the warnings.

@@ -9,7 +9,7 @@ use crate::asking::{
 };
 use crate::choosing::{found_in, lexer_in};
 use crate::comparing::compare;
-use crate::reading::{print_version, read_bytes, refused, text_at, text_of};
+use crate::reading::{print_version, read_bytes, refused, text_at, text_of, write_note};
 use crate::showing::{Form, PageStyle, SHAPE, Shown, shown_of};
 use crate::streaming::lex_stream;
 use logos_causes::Showing;
@@ -184,33 +184,47 @@ fn answer<'w, F: Files, C: Clock + StandardInput, O: Write, E: Write + IsTermina
 ) -> Result<Agreement, Failure<'w>>
     ensures { IfErr result IsNoMisuse }
 {
+    let path = task.order.file;
+    let text = text_at(path, host.files)?;
+    let source = Source::new(alloc, path, text.as_str())?;
+    answer_about(task, &source, host, out)
+}
+
+/// Answers what is asked of the lexers of this file, and returns whether what was to be compared is
+/// the same.
+fn answer_about<'w, F: Files, C: Clock + StandardInput, O: Write, E: Write + IsTerminal>(
+    task: Task<'w>,
+    source: &Source<'_>,
+    host: &mut Host<'_, F, C, E>,
+    out: &mut O,
+) -> Result<Agreement, Failure<'w>>
+    ensures { IfErr result IsNoMisuse }
+{
     let done = match task.order.question {
-        Question::Leaves | Question::Examples => show(alloc, task, host, out),
-        Question::Inputs(_) => give_inputs(alloc, task, host, out),
+        Question::Leaves | Question::Examples => show(task, source, host.err, out),
+        Question::Inputs(_) => give_inputs(task, source, host.err, out),
         Question::Items(STANDARD_INPUT) if !task.order.is_json => lex_stream(
-            alloc, task, host, out,
+            task, source, host, out,
         ),
-        Question::Items(input) => lex(alloc, task, input, None, host, out),
-        Question::Matches(input, place) => lex(alloc, task, input, Some(place), host, out),
-        Question::Comparison(other) => return compare(task, other, host, out),
+        Question::Items(input) => lex(task, source, input, None, host, out),
+        Question::Matches(input, place) => lex(task, source, input, Some(place), host, out),
+        Question::Comparison(other) => return compare(task, source, other, host, out),
     };
     as_same(done)
 }
 
 /// Writes the tables of a file or examples, and its warnings.
-fn show<'w, F: Files, C: Clock, O: Write, E: Write + IsTerminal>(
-    alloc: Global,
+fn show<'w, O: Write, E: Write>(
     task: Task<'w>,
-    host: &mut Host<'_, F, C, E>,
+    source: &Source<'_>,
+    err: &mut E,
     out: &mut O,
 ) -> Result<(), Failure<'w>>
     ensures { IfErr result IsNoMisuse }
 {
-    let path = task.order.file;
-    let text = text_at(path, host.files)?;
-    let source = Source::new(alloc, path, text.as_str())?;
+    let alloc = task.showing.alloc;
     if task.order.name.is_some() {
-        let _ = found_in(alloc, task, &source)?;
+        let _ = found_in(alloc, task, source)?;
     }
     let style = PageStyle {
         showing: task.showing,
@@ -220,9 +234,8 @@ fn show<'w, F: Files, C: Clock, O: Write, E: Write + IsTerminal>(
         tables,
         records,
         warnings,
-    } = shown_of(alloc, &source, style, task.order.name)?;
-    let _ = host.err.write_all(&warnings);
-    let _ = host.err.flush();
+    } = shown_of(alloc, source, style, task.order.name)?;
+    write_note(err, &warnings);
     print_bytes(tables.as_str().as_bytes(), out)?;
     print_bytes(&records, out)
 }
@@ -238,20 +251,16 @@ fn form_of(order: ShowOrder<'_>) -> Form {
 }
 
 /// Writes inputs that together pass all edges of the graph of a lexer, at most so many.
-fn give_inputs<'w, F: Files, C: Clock, O: Write, E: Write + IsTerminal>(
-    alloc: Global,
+fn give_inputs<'w, O: Write, E: Write>(
     task: Task<'w>,
-    host: &mut Host<'_, F, C, E>,
+    source: &Source<'_>,
+    err: &mut E,
     out: &mut O,
 ) -> Result<(), Failure<'w>>
     ensures { IfErr result IsNoMisuse }
 {
-    let path = task.order.file;
-    let text = text_at(path, host.files)?;
-    let source = Source::new(alloc, path, text.as_str())?;
-    let note = inputs_by_file(task, &source, host.err, out)?;
-    let _ = host.err.write_all(note.as_bytes());
-    let _ = host.err.flush();
+    let note = inputs_by_file(task, source, err, out)?;
+    write_note(err, note.as_bytes());
     Ok(())
 }
 
@@ -300,8 +309,8 @@ fn most_of(question: Question<'_>) -> usize {
 
 /// Writes the items of an input, or what matches from a point of it.
 fn lex<'w, F: Files, C: Clock, O: Write, E: Write + IsTerminal>(
-    alloc: Global,
     task: Task<'w>,
+    source: &Source<'_>,
     input: &'w str,
     place: Option<Position>,
     host: &mut Host<'_, F, C, E>,
@@ -309,23 +318,19 @@ fn lex<'w, F: Files, C: Clock, O: Write, E: Write + IsTerminal>(
 ) -> Result<(), Failure<'w>>
     ensures { IfErr result IsNoMisuse }
 {
-    let path = task.order.file;
-    let text = text_at(path, host.files)?;
     let bytes = read_bytes(input, host.files)?;
-    let source = Source::new(alloc, path, text.as_str())?;
     let input = Input {
         path: input,
         bytes: bytes.as_slice(),
         place,
         is_json: task.order.is_json,
     };
-    lex_by_file(alloc, task, &source, input, host, out)
+    lex_by_file(task, source, input, host, out)
 }
 
 /// Writes the items of an input or what matches from a point of it, by the lexer of a file that is
 /// asked for.
 fn lex_by_file<'w, F: Files, C: Clock, O: Write, E: Write + IsTerminal>(
-    alloc: Global,
     task: Task<'w>,
     source: &Source<'_>,
     input: Input<'w, '_>,
@@ -334,6 +339,7 @@ fn lex_by_file<'w, F: Files, C: Clock, O: Write, E: Write + IsTerminal>(
 ) -> Result<(), Failure<'w>>
     ensures { IfErr result IsNoMisuse }
 {
+    let alloc = task.showing.alloc;
     let one = lexer_in(alloc, task, source, host.err)?;
     let part = part_of(source, one);
     match generate(alloc, text_of(source, one), SHAPE) {
@@ -369,8 +375,7 @@ fn lex_by_lexer<'w, F: Files, C: Clock, O: Write, E: Write + IsTerminal>(
         return match_by_lexer(alloc, &made.graph, point, input.is_json, out);
     }
     let note = items_by_lexer(alloc, made, input, host.clock, out)?;
-    let _ = host.err.write_all(note.as_bytes());
-    let _ = host.err.flush();
+    write_note(host.err, note.as_bytes());
     Ok(())
 }
 

@@ -4,7 +4,7 @@ ghost use Rattle.std.specs.Prelude.{IfErr};
 ghost use Rattle.logos_show.specs.Orders.{IsNoMisuse};
 
 use crate::choosing::has_name;
-use crate::reading::{refused, refused_with, text_of};
+use crate::reading::{refusal_of, refused, refused_with, text_of};
 use logos_answers::{push_costs, push_examples, push_rows};
 use logos_causes::{
     Explained, Showing, add_lexer, add_missing, add_passed, add_text, add_warnings, denial_text,
@@ -144,10 +144,7 @@ fn shown_by(source: &Source<'_>, pages: Pages, is_missing: bool) -> Result<Shown
 fn denied(source: &Source<'_>, showing: Showing, warned: &[Warning]) -> Failure<'static>
     ensures { IsNoMisuse result }
 {
-    match denial_text(source, showing, warned) {
-        Ok(text) => Failure::Refused(text),
-        Err(_) => Failure::Memory,
-    }
+    refusal_of(denial_text(source, showing, warned))
 }
 
 /// Returns an enum with its position in a file.

@@ -4,32 +4,29 @@ ghost use Rattle.std.specs.Prelude.{IfErr};
 ghost use Rattle.logos_show.specs.Words.{IsNoMisuse};
 
 use crate::choosing::lexer_in;
-use crate::reading::{refused, text_at, text_of};
+use crate::reading::{refused, text_of, write_note};
 use crate::running::{Host, Task, part_of};
 use crate::showing::SHAPE;
 use logos_codegen::generate;
 use logos_host::{Failure, Files};
 use logos_items::write_streamed;
 use logos_report::Source;
-use std::alloc::Global;
 use std::io::{Input, IsTerminal, Write};
 use std::time::Clock;
 
 /// Writes the items of standard input as they are found.
 pub(crate) fn lex_stream<'w, F: Files, C: Clock + Input, O: Write, E: Write + IsTerminal>(
-    alloc: Global,
     task: Task<'w>,
+    source: &Source<'_>,
     host: &mut Host<'_, F, C, E>,
     out: &mut O,
 ) -> Result<(), Failure<'w>>
     ensures { IfErr result IsNoMisuse }
 {
-    let path = task.order.file;
-    let text = text_at(path, host.files)?;
-    let source = Source::new(alloc, path, text.as_str())?;
-    let one = lexer_in(alloc, task, &source, host.err)?;
-    let part = part_of(&source, one);
-    let lexed = match generate(alloc, text_of(&source, one), SHAPE) {
+    let alloc = task.showing.alloc;
+    let one = lexer_in(alloc, task, source, host.err)?;
+    let part = part_of(source, one);
+    let lexed = match generate(alloc, text_of(source, one), SHAPE) {
         Ok(made) => write_streamed(alloc, &made, host.clock, out),
         Err(refusal) => Err(refused(alloc, part, task.showing, refusal)),
     };
@@ -46,8 +43,7 @@ fn print_note<'w, E: Write>(
 {
     match lexed {
         Ok(note) => {
-            let _ = err.write_all(note.as_bytes());
-            let _ = err.flush();
+            write_note(err, note.as_bytes());
             Ok(())
         }
         Err(failure) => Err(failure),

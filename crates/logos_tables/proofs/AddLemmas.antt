@@ -6,7 +6,8 @@ use Rattle.logos_code.specs.Code.{CodeValue}
 use Rattle.logos_code.specs.CodeView.{state_at}
 use Rattle.logos_text.specs.Fronts.{BeginsWith}
 use Rattle.logos_text.specs.Standing.{Grows}
-use Rattle.logos_tables.specs.Layout.{AreClasses, AreRows, Hold, Tables, by_classes, rows_at}
+use Rattle.logos_reduce.specs.Rows.{rows_at}
+use Rattle.logos_tables.specs.Layout.{AreClasses, AreRows, Hold, Tables, by_classes}
 use Rattle.logos_tables.specs.Steps.{step_number}
 use Rattle.logos_tables.specs.Texts.{HoldsTables, end_texts, joined, marks_text, size_texts, skips_text, step_texts, texts_of}
 use Rattle.logos_tables.specs.inside.Adding.{Appends, AppendsSteps, AppendsTables}

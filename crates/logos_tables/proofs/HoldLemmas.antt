@@ -4,7 +4,8 @@ use Rattle.std.specs.List.{flat_map}
 use Rattle.std.proofs.lemmas.List.{get_or-map, length-map}
 use Rattle.std.proofs.lemmas.Option.{slice_get-get_or}
 use Rattle.std.proofs.lemmas.List.Folds.{flat_map-map}
-use Rattle.logos_tables.specs.Layout.{Classify, Tables, by_classes, rows_at, step_in}
+use Rattle.logos_reduce.specs.Rows.{rows_at}
+use Rattle.logos_tables.specs.Layout.{Classify, Tables, by_classes, step_in}
 
 -- the entry of a row by classes
 class_entry : (symbols row : List ℕ) (number : ℕ) → number < length symbols → slice_index (by_classes symbols row) number ≡ slice_index row (slice_index symbols number)

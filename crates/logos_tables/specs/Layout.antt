@@ -50,14 +50,6 @@ pub record Hold (code : CodeValue) (tables : Tables) : Type 0 where
   pub wide : (i : ℕ) → i < length tables.rows → length (slice_index_or tables.rows i []) ≡ tables.width
   pub runs : spread tables.runs ≡ flat_map (λ row. row) tables.rows
 
--- Rows by their indices among the distinct ones.
-abbrev pub rows_at : List ℕ → List (List ℕ) → List (List ℕ)
-rows_at places distinct = map (λ place. slice_index_or distinct place []) places
-
--- Each row has a step for each symbol.
-abbrev pub AreWide : List (List ℕ) → Type 0
-AreWide rows = (i : ℕ) → i < length rows → length (slice_index_or rows i []) ≡ 257
-
 -- These are the rows of the states of a code, as many as there are.
 pub record AreRows (code : CodeValue) (rows : List (List ℕ)) : Type 0 where
   pub count : length rows ≡ length code.states

@@ -1,6 +1,6 @@
 -- The rows of a list, in their order.
 use Rattle.std.specs.Prelude.{ℕ, List}
-use Rattle.logos_tables.specs.Layout.{rows_at}
+use Rattle.logos_reduce.specs.Rows.{rows_at}
 use Rattle.logos_tables.specs.declared.rows.StepRows.{StepRows}
 
 abbrev pub rows_of : StepRows → List (List ℕ)

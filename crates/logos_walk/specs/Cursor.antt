@@ -1,6 +1,7 @@
 -- What there is to do in a trace, and where a cursor over its flags stands.
-use Rattle.std.specs.Prelude.{◌≡◌, ℕ, ◌+◌, ◌*◌, ◌^◌, ◌<◌, ◌≤◌, ◌⊎◌, List, slice_index}
+use Rattle.std.specs.Prelude.{◌≡◌, ℕ, zero, suc, ◌+◌, ◌-◌, ◌*◌, ◌^◌, ◌<◌, ◌≤◌, ◌⊎◌, List, slice_index}
 use Rattle.std.specs.Int.{bit_at}
+use Rattle.std.specs.Int.Count.{count_leading_zeros}
 
 -- 1 at an entry at which there is something to do, and else 0.
 abbrev pub token_bit : List ℕ → ℕ → ℕ
@@ -55,10 +56,19 @@ pub record IsUnder (trace : List ℕ) (word from at bits : ℕ) : Type 0 where
   pub below : (i : ℕ) → i < 64 → from ≤ 64 * word + i → 64 * word + i < at → bit_at bits i ≡ end_bit trace (64 * word + i)
   pub above : (i : ℕ) → i < 64 → at ≤ 64 * word + i → bit_at bits i ≡ 0
 
--- What is left of the flags of a word, from an entry of the word on.
+-- Where the try begins that stands after ends of a word, by their bits: at the highest of them, or
+-- where it began before.
+abbrev pub start_by : (here start bits : ℕ) → ℕ
+start_by here start zero = start
+start_by here start (suc bits) = here + (63 - count_leading_zeros 64 (suc bits))
+
+-- The flags of a word: of the tokens those that are left from an entry of the word on, of the ends
+-- those from an earlier one on.
 pub record Awaits (trace : List ℕ) (word tokens ends from : ℕ) : Type 0 where
   pub within : word < 64
-  pub near : 64 * word ≤ from
   pub far : from ≤ 64 * word + 64
   pub tokens_left : IsLeft 30 trace word tokens from
-  pub ends_left : IsLeft 31 trace word ends from
+  pub first : ℕ
+  pub near : 64 * word ≤ first
+  pub order : first ≤ from
+  pub ends_left : IsLeft 31 trace word ends first

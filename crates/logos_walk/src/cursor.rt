@@ -1,21 +1,22 @@
 //! What there is to do in a chunk, taken from the flags of its entries.
 
-ghost use Rattle.std.specs.Prelude.{◌≡◌, ℕ, List, ◌<◌, ◌≤◌, ◌+◌, ◌*◌, MatchOption};
-ghost use Rattle.logos_walk.specs.Views.{HasRoom, IsNext, IsUnder, NoToken, StartsAt, IsMarked, Passes, Stands};
+ghost use Rattle.std.specs.Prelude.{◌≡◌, ◌<◌, ◌+◌, ◌*◌, MatchOption};
+ghost use Rattle.logos_walk.specs.Views.{HasRoom, Finds, Finishes, IsInWord, IsMarked, Passes, Stands, start_at, start_by, start_of};
 
 use crate::blocks::CHUNK;
 use crate::masks::ChunkEntries;
 
 /// Where a scan stands in a chunk: before the entry `from`, in a word of flags. Of the word it has
-/// those that are left.
+/// the tokens that are left, and all ends: which of them is the last one before an entry is found
+/// when it is asked for, so that `next` changes nothing but what it passes.
 #[derive(Clone, Copy, Drop)]
 pub struct ChunkCursor {
     /// Where the chunk begins in the input.
     pub base: usize,
-    /// Where the try begins in the input that stands before the entry.
-    pub start: usize,
     /// The first entry that is not passed.
     pub from: usize,
+    /// Where the try begins in the input that stands before the first end of the word.
+    pub word_start: usize,
     word: usize,
     tokens: u64,
     ends: u64,
@@ -30,33 +31,44 @@ impl ChunkCursor {
         requires from { from < CHUNK }
         ensures stands { Stands chunk.now.entries result }
         ensures base { result.base ≡ base }
-        ensures start { result.start ≡ start }
+        ensures start { start_of result ≡ start }
         ensures from { result.from ≡ from }
     {
         let word = from / 64;
         let left = !((1u64 << (from % 64)) - 1);
         ChunkCursor {
             base,
-            start,
             from,
+            word_start: start,
             word,
             tokens: chunk.tokens[word] & left,
             ends: chunk.ends[word] & left,
         }
     }
 
-    /// Returns where the try begins that stands after the ends of the word, by their bits.
+    /// Returns where the try begins that stands after ends of the word, by their bits.
     #[inline(always)]
     fn start_after(self, bits: u64) -> usize
         requires room { HasRoom self.base }
         requires word { self.word < 64 }
-        ensures { (trace : List ℕ) → (at : ℕ) → IsUnder trace self.word self.from at bits
-            → StartsAt self.base trace self.from self.start at result }
+        ensures { result ≡ start_by (self.base + 64 * self.word) self.word_start bits }
     {
         if bits == 0 {
-            return self.start;
+            return self.word_start;
         }
         self.base + 64 * self.word + (63 - bits.leading_zeros() as usize)
+    }
+
+    /// Returns where the try begins that stands before an entry of the word.
+    #[inline(always)]
+    pub fn start_before(self, at: usize) -> usize
+        requires room { HasRoom self.base }
+        requires at { at < CHUNK }
+        requires word { IsInWord self at }
+        ensures { result ≡ start_at self at }
+    {
+        let before = (1u64 << (at % 64)) - 1;
+        self.start_after(self.ends & before)
     }
 
     /// Returns the cursor before the next word, where nothing is left to do in this one.
@@ -74,8 +86,8 @@ impl ChunkCursor {
         let word = self.word + 1;
         ChunkCursor {
             base: self.base,
-            start: self.start_after(self.ends),
             from: 64 * word,
+            word_start: self.start_after(self.ends),
             word,
             tokens: chunk.tokens[word],
             ends: chunk.ends[word],
@@ -102,8 +114,8 @@ impl ChunkCursor {
         cursor
     }
 
-    /// Returns the next entry at which there is something to do, and passes it. The try that stands
-    /// before the entry begins at `start` then. If there is none, all entries are passed.
+    /// Returns the next entry at which there is something to do, and passes it. If there is none,
+    /// all entries are passed, and the try that stands at the end begins at `word_start`.
     #[inline(always)]
     pub fn next(&mut self, chunk: &ChunkEntries) -> Option<usize>
         requires marked { IsMarked chunk.now }
@@ -112,62 +124,31 @@ impl ChunkCursor {
         ensures base { self.new.base ≡ self.old.base }
         ensures stands { Stands chunk.now.entries self.new }
         ensures next { MatchOption result
-            (NoToken chunk.now.entries self.old.from CHUNK × (self.new.from ≡ CHUNK)
-            × StartsAt self.old.base chunk.now.entries self.old.from self.old.start CHUNK self.new.start)
-            (λ at. IsNext chunk.now.entries self.old.from at × (self.new.from ≡ at + 1)
-            × StartsAt self.old.base chunk.now.entries self.old.from self.old.start at self.new.start) }
+            (Finishes chunk.now.entries self.old self.new)
+            (λ at. Finds chunk.now.entries self.old self.new at) }
     {
         let cursor = self.filled(chunk);
         if cursor.tokens == 0 {
-            *self = cursor.ended();
+            *self = ChunkCursor {
+                base: cursor.base,
+                from: 4096,
+                word_start: cursor.start_after(cursor.ends),
+                word: cursor.word,
+                tokens: 0,
+                ends: 0,
+            };
             return None;
         }
         let bit = cursor.tokens.trailing_zeros() as usize;
-        *self = cursor.after(bit);
-        Some(64 * cursor.word + bit)
-    }
-
-    /// Returns the cursor after the last entry of the chunk.
-    #[inline(always)]
-    fn ended(self) -> ChunkCursor
-        requires room { HasRoom self.base }
-        requires word { self.word ≡ 63 }
-        ensures base { result.base ≡ self.base }
-        ensures from { result.from ≡ CHUNK }
-        ensures stands { (trace : List ℕ) → Stands trace self → Stands trace result
-            × StartsAt self.base trace self.from self.start CHUNK result.start }
-    {
-        ChunkCursor {
-            base: self.base,
-            start: self.start_after(self.ends),
-            from: 4096,
-            word: self.word,
-            tokens: 0,
-            ends: 0,
-        }
-    }
-
-    /// Returns the cursor after the entry of a bit of its word.
-    #[inline(always)]
-    fn after(self, bit: usize) -> ChunkCursor
-        requires room { HasRoom self.base }
-        requires word { self.word < 64 }
-        requires bit { bit < 64 }
-        requires left { self.from ≤ 64 * self.word + bit }
-        ensures base { result.base ≡ self.base }
-        ensures from { result.from ≡ 64 * self.word + bit + 1 }
-        ensures stands { (trace : List ℕ) → Stands trace self → Stands trace result
-            × StartsAt self.base trace self.from self.start (64 * self.word + bit) result.start }
-    {
-        let here = 1u64 << bit;
-        let later = !(here - 1) & !here;
-        ChunkCursor {
-            base: self.base,
-            start: self.start_after(self.ends & (here - 1)),
-            from: 64 * self.word + bit + 1,
-            word: self.word,
-            tokens: self.tokens & later,
-            ends: self.ends & later,
-        }
+        let at = 64 * cursor.word + bit;
+        *self = ChunkCursor {
+            base: cursor.base,
+            from: at + 1,
+            word_start: cursor.word_start,
+            word: cursor.word,
+            tokens: cursor.tokens & !(1 << bit),
+            ends: cursor.ends,
+        };
+        Some(at)
     }
 }

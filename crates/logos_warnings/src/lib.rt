@@ -8,8 +8,10 @@ mod messages;
 mod mistakes;
 mod others;
 mod passed;
+mod plain;
 
 pub use helper::{Helper, intended_helper};
 pub use messages::{enum_warnings, item_warnings};
 pub use mistakes::{Mistake, mistakes_of};
 pub use passed::passed_over;
+pub use plain::{fixed_warning, plain_warning};

@@ -5,10 +5,11 @@ ghost use Rattle.logos_warnings.specs.Views.{mistake_value, span_of};
 
 use crate::mistakes::{Mistake, mistakes_of};
 use crate::others::add_others;
+use crate::plain::{fixed_warning, plain_warning};
 use logos_enum::{ItemEnum, ReadError, read_enum};
 use logos_report::Warning;
 use logos_token::error::Memory;
-use logos_token::token::{Span, TokenError, tokenize};
+use logos_token::token::{TokenError, tokenize};
 use std::alloc::{AllocError, Global};
 
 /// Returns the warnings of an enum with this text: those of its own attributes and then those of
@@ -64,20 +65,25 @@ fn warning_of(alloc: Global, name: &str, mistake: Mistake<'_>) -> Result<Warning
         } => {
             let intended = intended.name();
             let message = format!(in alloc; "`{name}` looks like a misspelling of `{intended}`")?;
-            Ok(warning(message, span, None))
+            Ok(plain_warning(message, span, None))
         }
-        Mistake::Qualified { span } => fixed(alloc, PATH, span, Some(PATH_HELP)),
-        Mistake::Useless { span } => fixed(alloc, USELESS, span, Some(USELESS_HELP)),
-        Mistake::Conditional { span } => fixed(alloc, CONDITION, span, Some(CONDITION_HELP)),
+        Mistake::Qualified { span } => fixed_warning(alloc, PATH, span, Some(PATH_HELP)),
+        Mistake::Useless { span } => fixed_warning(alloc, USELESS, span, Some(USELESS_HELP)),
+        Mistake::Conditional { span } => fixed_warning(
+            alloc,
+            CONDITION,
+            span,
+            Some(CONDITION_HELP),
+        ),
         Mistake::NoPattern { span } => {
             let message = format!(in alloc; "no variant of `{name}` has a pattern")?;
-            Ok(warning(message, span, Some(PATTERN_HELP)))
+            Ok(plain_warning(message, span, Some(PATTERN_HELP)))
         }
         Mistake::NoDerive { span } => {
             let message = format!(in alloc;
                 "`{name}` has attributes of a lexer and does not derive `Logos`"
             )?;
-            Ok(warning(message, span, None))
+            Ok(plain_warning(message, span, None))
         }
     }
 }
@@ -96,29 +102,3 @@ const CONDITION: &str =
 const CONDITION_HELP: &str = "put the `cfg` in front of the enum, or derive the lexer in place";
 
 const PATTERN_HELP: &str = "write `#[token(\"..\")]` or `#[regex(\"..\")]` in front of a variant";
-
-/// Returns a warning with a fixed message.
-fn fixed(
-    alloc: Global,
-    message: &str,
-    span: Span,
-    help: Option<&'static str>,
-) -> Result<Warning, AllocError>
-    ensures { IfOk result (λ warning. warning.span ≡ span) }
-{
-    let message = String::from_str(alloc, message)?;
-    Ok(warning(message, span, help))
-}
-
-/// Returns a warning.
-fn warning(message: String, span: Span, help: Option<&'static str>) -> Warning
-    ensures { result.span ≡ span }
-{
-    Warning {
-        message,
-        span,
-        note: None,
-        help,
-        also: None,
-    }
-}

@@ -3,6 +3,7 @@
 
 use crate::attributes::name_of;
 use crate::helper::is_helper_name;
+use crate::plain::fixed_warning;
 use logos_enum::{Attribute, ItemEnum, split_attribute};
 use logos_report::Warning;
 use logos_token::token::{Span, TokenTree, Tokens};
@@ -64,13 +65,8 @@ fn add(
     span: Span,
     warnings: &mut Vec<Warning>,
 ) -> Result<(), AllocError> {
-    warnings.push(Warning {
-        message: String::from_str(*warnings.allocator(), message)?,
-        span,
-        note: None,
-        help: Some(help),
-        also: None,
-    })?;
+    let alloc = *warnings.allocator();
+    warnings.push(fixed_warning(alloc, message, span, Some(help))?)?;
     Ok(())
 }
 

@@ -1,6 +1,7 @@
 //! Entries of `derive` that name the derive macro and are passed over, since the enum is not found
 //! or the entry is not known.
 
+use crate::plain::fixed_warning;
 use logos_report::Warning;
 use logos_token::error::Memory;
 use logos_token::token::{Delimiter, Span, TokenError, TokenTree, Tokens, tokenize};
@@ -41,7 +42,7 @@ fn warnings_of(
     for span in derives {
         left = from_offset(left, span.from);
         if !begins_before(left, span.from) {
-            warnings.push(warning_at(alloc, *span)?)?;
+            warnings.push(fixed_warning(alloc, MESSAGE, *span, Some(HELP))?)?;
         }
     }
     Ok(warnings)
@@ -65,17 +66,6 @@ fn begins_before(found: &[Span], offset: usize) -> bool {
         Some(span) => span.from <= offset,
         None => false,
     }
-}
-
-/// Returns the warning of an entry of `derive`.
-fn warning_at(alloc: Global, span: Span) -> Result<Warning, AllocError> {
-    Ok(Warning {
-        message: String::from_str(alloc, MESSAGE)?,
-        span,
-        note: None,
-        help: Some(HELP),
-        also: None,
-    })
 }
 
 /// Appends the spans of all lists of `derive` in a run that have the derive macro.

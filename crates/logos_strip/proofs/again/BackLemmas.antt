@@ -16,6 +16,7 @@ use Rattle.logos_token.specs.PrintedAgain.{SpellsAgain}
 use Rattle.logos_token.proofs.reading.PieceLemmas.{piece-boundary}
 use Rattle.logos_token.proofs.printing.PrintParts.{parts, after, bare_lexeme, printed-lexemes, rebuilt-whole}
 use Rattle.logos_token.proofs.printing.PrintPieces.{Follows, Joined, HasText}
+use Rattle.logos_token.proofs.printing.PrintAgain.{gap_or_not}
 use Rattle.logos_token.proofs.printing.PrintSources.{has_text, has_joints, has_docs, has_no_space}
 use Rattle.logos_enum.specs.Marks.{comma}
 use Rattle.logos_strip.specs.declared.spots.Scope.TheVariants.{Enum}
@@ -23,15 +24,6 @@ use Rattle.logos_strip.specs.declared.spots.TokenSpot.TheVariants.{Open}
 use Rattle.logos_strip.specs.Stripping.{stripped}
 use Rattle.logos_strip.proofs.again.SiteLemmas.{Site, same, loose, Continues, sites_lexemes, Linked, first_after, remake}
 use Rattle.logos_strip.proofs.again.ThinningLemmas.{is_joint, Thins, ended, drops, keeps, loosens, first_stays, thins-run}
-
-gap_or_not : (kind : LexemeKind) → (kind ≡ Gap) ⊎ (kind ≢ Gap)
-gap_or_not Gap = inl refl
-gap_or_not Identifier = inr (λ e. absurd (cc))
-gap_or_not Literal = inr (λ e. absurd (cc))
-gap_or_not Doc = inr (λ e. absurd (cc))
-gap_or_not (Punctuation s) = inr (λ e. absurd (cc))
-gap_or_not (Opening d) = inr (λ e. absurd (cc))
-gap_or_not (Closing d) = inr (λ e. absurd (cc))
 
 none-left : {stays : Bool} {ls ms : List Lexeme} → Thins stays ls ms → ls ≡ [] → ms ≡ []
 none-left ended e = refl

@@ -1,7 +1,7 @@
 -- The printed text of lexemes of a source, where some are left out, and commas in front of these
 -- are alone.
 use Rattle.std.proofs.Common.{◌≡◌, ◌≢◌, ℕ, ◌+◌, ◌-◌, ◌<◌, ◌≤◌, ◌⊎◌, inl, inr, true, false, cond, List, [], ◌∷◌, ◌++◌, map, length, get_or, drop, slice_range, None, IsUtf8, refl, sym, ◌∙◌, ap, subst, arith, length-drop, get_or-drop}
-use Rattle.std.proofs.lemmas.Bool.{cases_lt, eq-eqb, false≢true}
+use Rattle.std.proofs.lemmas.Bool.{cases_lt, false≢true}
 use Rattle.std.proofs.lemmas.List.{map-append}
 use Rattle.std.proofs.lemmas.List.Edits.{length-between, get_or-between}
 use Rattle.std.proofs.lemmas.List.Prefix.{at_reads}
@@ -11,93 +11,22 @@ use Rattle.logos_lexeme.specs.declared.lexeme.Span.{Span}
 use Rattle.logos_lexeme.specs.declared.lexeme.Spacing.{Spacing}
 use Rattle.logos_lexeme.specs.declared.lexeme.Spacing.TheVariants.{Alone, Joint}
 use Rattle.logos_lexeme.specs.declared.lexeme.LexemeKind.{LexemeKind}
-use Rattle.logos_lexeme.specs.declared.lexeme.LexemeKind.TheVariants.{Gap, Identifier, Literal, Doc, Punctuation, Opening, Closing}
-use Rattle.logos_lexeme.specs.declared.lexeme.openings.Opening.TheVariants.{Space}
-use Rattle.logos_lexeme.specs.LexemeCharacters.{character, past, is_space}
-use Rattle.logos_lexeme.specs.LexemeRuns.{here}
-use Rattle.logos_lexeme.specs.LexemeOpenings.{literal_opening, string_opening, comment_opening, other_opening, follows_apostrophe, opening_at}
+use Rattle.logos_lexeme.specs.declared.lexeme.LexemeKind.TheVariants.{Gap, Doc, Punctuation}
+use Rattle.logos_lexeme.specs.LexemeCharacters.{character, is_space}
+use Rattle.logos_lexeme.specs.LexemeOpenings.{follows_apostrophe}
 use Rattle.logos_lexeme.specs.Lexemes.{IsNext}
-use Rattle.logos_lexeme.proofs.CharacterLaws.{character-ascii, past-ascii, inside_from_byte}
 use Rattle.logos_lexeme.proofs.again.PrintWindows.{Window, same_character, same_slice}
-use Rattle.logos_lexeme.proofs.again.PrintLifetimes.{follows-none, follows-other, follows-same, literal_at-none}
+use Rattle.logos_lexeme.proofs.again.PrintLifetimes.{follows-none, follows-other, follows-same}
 use Rattle.logos_lexeme.proofs.again.PrintLexemes.{next_same}
 use Rattle.logos_token.specs.Tokens.{punctuation}
 use Rattle.logos_token.specs.Spelling.{Piece, Pieces, Lexeme, leaf, lexeme_of, seen}
-use Rattle.logos_token.specs.Printing.{Part, is_line_comment}
+use Rattle.logos_token.specs.Printing.{Part}
 use Rattle.logos_token.proofs.reading.PieceLemmas.{piece-advances, piece-boundary}
 use Rattle.logos_token.proofs.printing.PrintParts.{parts, parts-append, after, bare_lexeme}
-use Rattle.logos_token.proofs.printing.PrintPieces.{gap_of, IsSeparator, joint_or_not, joint_from, separates, whole_length, drop_on, byte_behind, Shown, HasText, HasDocs}
-use Rattle.logos_token.proofs.printing.PrintAgain.{HasNoSpace}
+use Rattle.logos_token.proofs.printing.PrintPieces.{gap_of, IsSeparator, joint_or_not, joint_from, separates, second_slash, whole_length, drop_on, byte_behind, gap_first, slice_same, Shown, HasText, HasDocs}
+use Rattle.logos_token.proofs.printing.PrintAgain.{IsBlankByte, gap_next, same_lexeme, HasNoSpace}
 use Rattle.logos_enum.specs.Marks.{comma}
 use Rattle.logos_strip.proofs.again.CommaLemmas.{comma_space, comma_next}
-
--- a gap of one byte
-
-abbrev IsBlankByte : ℕ → Type 0
-IsBlankByte c = (c ≡ 32) ⊎ (c ≡ 10)
-
-module _ (b : List ℕ) (q : ℕ) where
-  blank_string : IsBlankByte (get_or b q 0) → literal_opening b q ≡ None
-  unfolding literal_opening string_opening
-  blank_string (inl e) = rw e refl
-  blank_string (inr e) = rw e refl
-
-  blank_comment : IsBlankByte (get_or b q 0) → comment_opening b q ≡ None
-  unfolding comment_opening
-  blank_comment (inl e) = rw e refl
-  blank_comment (inr e) = rw e refl
-
-  blank_space : IsBlankByte (get_or b q 0) → is_space (character b q) ≡ true
-  unfolding is_space
-  blank_space (inl e) = rw (character-ascii b q (omega arith), e) refl
-  blank_space (inr e) = rw (character-ascii b q (omega arith), e) refl
-
-  blank_other : IsBlankByte (get_or b q 0) → other_opening b q ≡ Space
-  unfolding other_opening
-  blank_other e = rw (blank_space e) refl
-
-  blank_opens : IsBlankByte (get_or b q 0) → opening_at b q ≡ Space
-  unfolding opening_at
-  blank_opens e = rw (literal_at-none b q (blank_string e), blank_comment e) (blank_other e)
-
-  blank_small : IsBlankByte (get_or b q 0) → (0 < get_or b q 0) × (get_or b q 0 < 128)
-  blank_small (inl e) = (omega arith, omega arith)
-  blank_small (inr e) = (omega arith, omega arith)
-
-  gap_next : IsBlankByte (get_or b q 0) → is_space (character b (q + 1)) ≡ false → IsNext b q Gap (q + 1)
-  gap_next e other =
-      let small = blank_small e in
-      let one : past b q ≡ q + 1 = past-ascii b q small.1 in
-      let inside = inside_from_byte b q small.0 in
-      let opens = blank_opens e in
-      subst (IsNext b q Gap) one (record {
-        end = past b q;
-        ends = rw opens (record { steps = here; stop = λ next s. false≢true (sym other ∙ ap (λ i. is_space (character b i)) (sym one) ∙ s.passes) });
-        sound = rw opens tt;
-        is_kind = rw opens refl;
-        suffixed = refl;
-        within = omega arith;
-      })
-
--- a lexeme is the same in texts with the same bytes there
-same_lexeme : (a b : List ℕ) (kind : LexemeKind) (s t : Span) → slice_range b t.from t.to ≡ slice_range a s.from s.to → get_or b t.from 0 ≡ get_or a s.from 0 → map bare_lexeme (lexeme_of b kind t) ≡ map bare_lexeme (lexeme_of a kind s)
-same_lexeme a b Gap s t e f = refl
-same_lexeme a b Identifier s t e f = rw e refl
-same_lexeme a b Literal s t e f = rw e refl
-same_lexeme a b Doc s t e f = rw e refl
-same_lexeme a b (Punctuation sp) s t e f = rw f refl
-same_lexeme a b (Opening d) s t e f = refl
-same_lexeme a b (Closing d) s t e f = refl
-
-second_slash : (text : List ℕ) → get_or text 1 0 ≡ 47 → is_line_comment text ≡ true
-second_slash [] e = absurd (omega arith)
-second_slash (x ∷ []) e = absurd (omega arith)
-second_slash (x ∷ (y ∷ rest)) e = eq-eqb y 47 e
-
--- what begins with a gap begins with its byte
-gap_first : (ps : List Part) (gap : List ℕ) (c : ℕ) → gap ≡ c ∷ [] → (get_or (after gap ps) 0 0 ≡ c) ⊎ (after gap ps ≡ [])
-gap_first [] gap c e = inr refl
-gap_first (part ∷ ps) gap c e = inl (ap (λ g. get_or (g ++ (part.text ++ after part.gap ps)) 0 0) e)
 
 -- where a lexeme of the source stands that is the same, or a comma that is alone
 pub data Site : Type 0 where
@@ -160,14 +89,6 @@ module _ (a : List ℕ) (utf8 : IsUtf8 a) (text : HasText a) (docs : HasDocs a) 
       drop q b ≡ gap ++ (slice_range a (site_from s) (site_to s) ++ after (site_gap a s) (parts (sites_lexemes a ss)))
   printed_site s ss q gap l e = e ∙ ap (after gap) (parts-append (site_lexemes a s) (sites_lexemes a ss) ∙ ap (λ ps. ps ++ parts (sites_lexemes a ss)) (site_parts s ss l.0 l.1))
 
-  slice_same : (p to q : ℕ) (rest : List ℕ) → p ≤ to → to ≤ length a → drop q b ≡ slice_range a p to ++ rest → (x y : ℕ) → x + q ≡ y + p → p ≤ x → x < to → get_or b y 0 ≡ get_or a x 0
-  slice_same p to q rest le fits e x y spots low high =
-      let i = x - p in
-      let long = length-between a p to fits in
-      let f : q + i ≡ y = omega arith in
-      let g : p + i ≡ x = omega arith in
-      ap (λ j. get_or b j 0) (sym f) ∙ at_reads 0 b (slice_range a p to) q rest e i (omega arith) ∙ get_or-between a p to i 0 (omega arith) ∙ ap (λ j. get_or a j 0) g
-
   -- after a lexeme that a gap follows comes the byte of the gap, or nothing
   blank_after : (p to q : ℕ) (kind : LexemeKind) (gap : List ℕ) (ps : List Part) (c : ℕ) → IsNext a p kind to → q ≤ length b → drop q b ≡ slice_range a p to ++ after gap ps → gap ≡ c ∷ [] →
       (get_or b (q + (to - p)) 0 ≡ c) ⊎ (q + (to - p) ≡ length b)
@@ -195,7 +116,7 @@ module _ (a : List ℕ) (utf8 : IsUtf8 a) (text : HasText a) (docs : HasDocs a) 
         filled = omega arith;
         fits = omega arith;
         holds = omega arith;
-        same = λ x y spots low high. slice_same p to q (after gap ps) (omega arith) fits e x y spots low (omega arith);
+        same = λ x y spots low high. slice_same a utf8 text docs b p to q (after gap ps) (omega arith) fits e x y spots low (omega arith);
         blank = elim parted [
           | inl g ↦ elim (blank 32 g) [ inl h ↦ inl h | inr h ↦ inr (inr h) ]
           | inr g ↦ inr (blank 10 g)
@@ -219,7 +140,7 @@ module _ (a : List ℕ) (utf8 : IsUtf8 a) (text : HasText a) (docs : HasDocs a) 
         fits = omega (arith, w.fits);
         holds = omega (arith, w.holds);
         same = λ x y spots low high. elim (cases_lt x to) [
-          | inl l ↦ slice_same p to q rest (omega arith) fits e x y spots low l
+          | inl l ↦ slice_same a utf8 text docs b p to q rest (omega arith) fits e x y spots low l
           | inr l ↦ w.same x y (omega arith) l (omega arith)
         ];
         blank = rw (← there) w.blank;
@@ -382,7 +303,7 @@ module _ (a : List ℕ) (utf8 : IsUtf8 a) (text : HasText a) (docs : HasDocs a) 
       let adv = piece-advances a p kind to l.0.1 in
       let tail = after (site_gap a (same kind p to)) (parts (sites_lexemes a (t ∷ ts))) in
       let spots : to - 1 + q ≡ q + (to - p) - 1 + p = omega (arith, adv.0) in
-      let byte : get_or b (q + (to - p) - 1) 0 ≡ get_or a (to - 1) 0 = slice_same p to q tail (omega (arith, adv.0)) adv.1 e (to - 1) (q + (to - p) - 1) spots (omega (arith, adv.0)) (omega (arith, adv.0)) in
+      let byte : get_or b (q + (to - p) - 1) 0 ≡ get_or a (to - 1) 0 = slice_same a utf8 text docs b p to q tail (omega (arith, adv.0)) adv.1 e (to - 1) (q + (to - p) - 1) spots (omega (arith, adv.0)) (omega (arith, adv.0)) in
       ap (follows_apostrophe a) (l.1 joint) ∙ follows-same a b to (q + (to - p)) (omega (arith, adv.0)) byte found
 
   pub remake : (ss : List Site) (q : ℕ) (gap : List ℕ) → Linked a ss → (gap ≡ []) ⊎ IsSeparator gap → (gap ≡ [] → IsAfter q ss) → q ≤ length b → drop q b ≡ after gap (parts (sites_lexemes a ss)) → Remade q ss

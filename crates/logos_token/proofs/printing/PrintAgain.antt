@@ -27,7 +27,7 @@ use Rattle.logos_token.proofs.printing.PrintPieces.{gap_of, IsSeparator, joint_o
 
 -- a gap of one byte
 
-abbrev IsBlankByte : ℕ → Type 0
+abbrev pub IsBlankByte : ℕ → Type 0
 IsBlankByte c = (c ≡ 32) ⊎ (c ≡ 10)
 
 module _ (b : List ℕ) (q : ℕ) where
@@ -58,7 +58,7 @@ module _ (b : List ℕ) (q : ℕ) where
   blank_small (inl e) = (omega arith, omega arith)
   blank_small (inr e) = (omega arith, omega arith)
 
-  gap_next : IsBlankByte (get_or b q 0) → is_space (character b (q + 1)) ≡ false → IsNext b q Gap (q + 1)
+  pub gap_next : IsBlankByte (get_or b q 0) → is_space (character b (q + 1)) ≡ false → IsNext b q Gap (q + 1)
   gap_next e other =
       let small = blank_small e in
       let one : past b q ≡ q + 1 = past-ascii b q small.1 in
@@ -73,7 +73,7 @@ module _ (b : List ℕ) (q : ℕ) where
         within = omega arith;
       })
 
-gap_or_not : (kind : LexemeKind) → (kind ≡ Gap) ⊎ (kind ≢ Gap)
+pub gap_or_not : (kind : LexemeKind) → (kind ≡ Gap) ⊎ (kind ≢ Gap)
 gap_or_not Gap = inl refl
 gap_or_not Identifier = inr (λ e. absurd (cc))
 gap_or_not Literal = inr (λ e. absurd (cc))
@@ -83,7 +83,7 @@ gap_or_not (Opening d) = inr (λ e. absurd (cc))
 gap_or_not (Closing d) = inr (λ e. absurd (cc))
 
 -- a lexeme is the same in texts with the same bytes there
-same_lexeme : (a b : List ℕ) (kind : LexemeKind) (s t : Span) → slice_range b t.from t.to ≡ slice_range a s.from s.to → get_or b t.from 0 ≡ get_or a s.from 0 → map bare_lexeme (lexeme_of b kind t) ≡ map bare_lexeme (lexeme_of a kind s)
+pub same_lexeme : (a b : List ℕ) (kind : LexemeKind) (s t : Span) → slice_range b t.from t.to ≡ slice_range a s.from s.to → get_or b t.from 0 ≡ get_or a s.from 0 → map bare_lexeme (lexeme_of b kind t) ≡ map bare_lexeme (lexeme_of a kind s)
 same_lexeme a b Gap s t e f = refl
 same_lexeme a b Identifier s t e f = rw e refl
 same_lexeme a b Literal s t e f = rw e refl

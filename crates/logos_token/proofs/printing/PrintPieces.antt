@@ -56,7 +56,7 @@ joint_from bytes kind from to none = elim (joint_or_not kind) [
   | inr j ↦ absurd (elim (separates bytes kind from to j) [ inl e ↦ let f : [] ≡ 32 ∷ [] = sym none ∙ e in cc | inr e ↦ let f : [] ≡ 10 ∷ [] = sym none ∙ e in cc ])
 ]
 
-second_slash : (text : List ℕ) → get_or text 1 0 ≡ 47 → is_line_comment text ≡ true
+pub second_slash : (text : List ℕ) → get_or text 1 0 ≡ 47 → is_line_comment text ≡ true
 second_slash [] e = absurd (omega arith)
 second_slash (x ∷ []) e = absurd (omega arith)
 second_slash (x ∷ (y ∷ rest)) e = eq-eqb y 47 e
@@ -73,7 +73,7 @@ module _ (b front rest : List ℕ) (q n : ℕ) (long : length front ≡ n) (insi
   byte_behind = let f : q + n + 0 ≡ q + n = omega arith in sym (ap (λ i. get_or b i 0) f) ∙ sym (get_or-drop (q + n) b 0 0) ∙ ap (λ (xs : List ℕ). get_or xs 0 0) drop_on
 
 -- what begins with a gap begins with its byte
-gap_first : (ps : List Part) (gap : List ℕ) (c : ℕ) → gap ≡ c ∷ [] → (get_or (after gap ps) 0 0 ≡ c) ⊎ (after gap ps ≡ [])
+pub gap_first : (ps : List Part) (gap : List ℕ) (c : ℕ) → gap ≡ c ∷ [] → (get_or (after gap ps) 0 0 ≡ c) ⊎ (after gap ps ≡ [])
 gap_first [] gap c e = inr refl
 gap_first (part ∷ ps) gap c e = inl (ap (λ g. get_or (g ++ (part.text ++ after part.gap ps)) 0 0) e)
 

@@ -1,5 +1,5 @@
 use Rattle.std.proofs.Common.{Some, None, arith, rules}
-use Rattle.logos_commands.proofs.CutLemmas.{cut_at_last}
+use Rattle.logos_host.proofs.CutLemmas.{cut_at_last}
 use Rattle.logos_commands.proofs.chart_path.extension_of.Goals as goal
 use Rattle.logos_commands.proofs.chart_path.extension_of.Goals.{in_default-via-in-Some+else-not-is_empty, in_default-via-in_default}
 

@@ -1,28 +1,11 @@
-use Rattle.std.proofs.Common.{◌≡◌, ◌∙◌, ℕ, ◌+◌, ◌<◌, ◌∷◌, ◌++◌, [], Some, ap, subst, length, take, get_or, slice_get, arith, length-append}
-use Rattle.std.specs.List.{range_with_len}
-use Rattle.std.specs.Iterator.{YieldsFirstBy}
+use Rattle.std.proofs.Common.{◌≡◌, ◌∙◌, ℕ, ◌+◌, ◌∷◌, ◌++◌, [], Some, ap, subst, length, take, slice_get, arith, length-append}
 use Rattle.std.proofs.Math.Seq.{take-length}
-use Rattle.std.proofs.lemmas.Iterator.{YieldsList}
-use Rattle.std.proofs.lemmas.Iterator.Consumers.{YieldsList-at, YieldsList-from_first, YieldsList-turn, YieldsList-end}
-use Rattle.std.proofs.lemmas.List.FromFn.{length-range_with_len, get_or-range_with_len}
+use Rattle.std.proofs.lemmas.Iterator.Consumers.{YieldsList-turn, YieldsList-end}
+use Rattle.std.proofs.lemmas.List.FromFn.{length-range_with_len}
 use Rattle.logos_graph.specs.GraphView.{graph_state_of, state_number}
-use Rattle.logos_graph.specs.StatesView.{states_left}
-use Rattle.logos_graph.specs.declared.graph.value.States.{States}
+use Rattle.logos_graph.proofs.IterationLemmas.{number_at, road}
 use Rattle.logos_evidence.proofs.ShownLemmas.{shown_more}
 use Rattle.logos_evidence.proofs.walking.states_of.Goals as goal
-
--- the next state is the one after those before
-number_at : (n i x : ℕ) → (i < length (range_with_len 0 n)) × (x ≡ get_or (range_with_len 0 n) i x) → (x ≡ i) × (i < n)
-number_at n i x h =
-    let lt : i < n = omega (arith, h.0, length-range_with_len 0 n) in
-    (h.1 ∙ get_or-range_with_len 0 n i x lt ∙ from_zero, lt)
-  where
-    from_zero : 0 + i ≡ i
-    from_zero = omega arith
-
--- the iterator gives all states
-road : {s t : States} (n : ℕ) → states_left t ≡ range_with_len 0 n → s ≡ t → YieldsList (YieldsFirstBy state_number states_left) state_number s (range_with_len 0 n)
-road n left same = YieldsList-at same (YieldsList-from_first state_number states_left (range_with_len 0 n) left)
 
 pub get_state-requires : goal.get_state-requires
 get_state-requires c =

@@ -1,6 +1,5 @@
 use Rattle.std.proofs.Common.{refl, arith}
 use Rattle.logos_scan.specs.Runs.{WithChunk}
-use Rattle.logos_scan.specs.Tries.{StandsIn}
 use Rattle.logos_scan.proofs.LoadLemmas.{loaded_run}
 use Rattle.logos_scan.proofs.run.filled.Goals as goal
 
@@ -11,5 +10,4 @@ returns-clause-run c =
     let l = c.load-loaded in
     let cur = c.new-cursor.ensures in
     let run : WithChunk = record { chunk = l.new.chunk; cursor = c.new-cursor.result; count = l.result.count; place = l.result.place; low = 0 } in
-    let stands : StandsIn code input c.new-cursor.result.start c.args.base c.args.place = rw cur.start c.requires.stands in
-    loaded_run code c.args.reading.now.rows.now input run c.args.base c.args.place l.new.chunk.entries l.result l.ensures.loaded refl cur.base refl refl refl l.ensures.marked cur.stands (omega arith) stands
+    loaded_run code c.args.reading.now.rows.now input run c.args.start c.args.base c.args.place l.new.chunk.entries l.result l.ensures.loaded refl cur.base refl refl refl l.ensures.marked cur.stands (omega arith) c.requires.stands

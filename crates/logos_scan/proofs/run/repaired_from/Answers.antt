@@ -9,9 +9,7 @@ repair-repaired-requires-clause-holds c =
     let input = c.args.reading.now.input.now in
     let run = (with_chunk c.args.chunk.now c.args.run) in
     let base = run.cursor.base in
-    let h = c.requires.held in
-    let r = h.stands in
-    let ch = r.in_chunk in
+    let ch = c.requires.chunk in
     let within = ch.within in
     let few = ch.few in
     let inside = c.requires.inside in
@@ -28,9 +26,7 @@ repair-repaired-requires-clause-holds c =
 pub mark-requires-clause-others : goal.mark-requires-clause-others
 mark-requires-clause-others c =
     let run = (with_chunk c.args.chunk.now c.args.run) in
-    let r = c.requires.held.stands in
-    let ch = r.in_chunk in
-    let m = ch.marked in
+    let m = c.requires.chunk.marked in
     let stop = c.repair-repaired.result.stop in
     let e = c.repair-repaired.ensures in
     record {
@@ -44,9 +40,8 @@ returns-clause-run c =
     let rows = c.args.reading.now.rows.now in
     let input = c.args.reading.now.input.now in
     let run = (with_chunk c.args.chunk.now c.args.run) in
-    let r = c.requires.held.stands in
     let rep = c.repair-repaired in
     let e = rep.ensures in
     let cur = c.new-cursor.ensures in
-    repaired_run code rows input run _ c.args.from rep.result.stop rep.new.trace c.requires.reading r.in_chunk c.mark.ensures.entries cur.base cur.start refl refl (omega (arith, c.requires.inside)) e.within
+    repaired_run code rows input run _ c.args.from rep.result.stop rep.new.trace c.requires.reading c.requires.chunk c.mark.ensures.entries cur.base refl refl (omega (arith, c.requires.inside)) e.within
     e.beside c.mark.ensures.marked cur.stands e.stays (subst (λ p. Walked rows (take (length input - run.cursor.base) (drop run.cursor.base input)) p rep.new.trace c.args.from run.count rep.result.place) c.root_place-root.ensures.place e.walked)

@@ -1,14 +1,10 @@
-use Rattle.std.proofs.Common.{◌≡◌, ◌∙◌, ℕ, ◌+◌, ◌<◌, List, ◌∷◌, ◌++◌, [], Some, All, ap, subst, length, get_or, slice_get, arith, length-append}
-use Rattle.std.specs.List.{range_with_len}
-use Rattle.std.proofs.lemmas.Iterator.Consumers.{YieldsList-at, YieldsList-from_first, YieldsList-turn, YieldsList-end}
-use Rattle.std.proofs.lemmas.Iterator.{YieldsList}
-use Rattle.std.specs.Iterator.{YieldsFirstBy}
-use Rattle.std.proofs.lemmas.List.FromFn.{length-range_with_len, get_or-range_with_len}
+use Rattle.std.proofs.Common.{◌≡◌, ◌∙◌, ℕ, ◌+◌, List, ◌∷◌, ◌++◌, [], Some, All, ap, subst, length, slice_get, arith, length-append}
+use Rattle.std.proofs.lemmas.Iterator.Consumers.{YieldsList-turn, YieldsList-end}
+use Rattle.std.proofs.lemmas.List.FromFn.{length-range_with_len}
 use Rattle.std.proofs.lemmas.Option.{get_or_from_slice_get, slice_get_within}
 use Rattle.logos_graph.specs.Graph.{GraphState}
 use Rattle.logos_graph.specs.GraphView.{graph_state_of, state_number}
-use Rattle.logos_graph.specs.declared.graph.value.States.{States}
-use Rattle.logos_graph.specs.StatesView.{states_left}
+use Rattle.logos_graph.proofs.IterationLemmas.{number_at, road}
 use Rattle.logos_code.specs.CodeView.{state_of}
 use Rattle.logos_generator.specs.Nodes.{IsStateOf}
 use Rattle.logos_generator.specs.StateView.{IsCodable}
@@ -16,19 +12,6 @@ use Rattle.logos_generator.specs.Numbering.{numbered, state_uses, with_tables, f
 use Rattle.logos_generator.proofs.NodeLemmas.{states_turn}
 use Rattle.logos_generator.proofs.NumberLemmas.{states_numbered, states_whole, states_tabled, states_all_tabled}
 use Rattle.logos_generator.proofs.generator.states.states_of.Goals as goal
-
--- the next state is the one behind those before
-number_at : (n i x : ℕ) → (i < length (range_with_len 0 n)) × (x ≡ get_or (range_with_len 0 n) i x) → (x ≡ i) × (i < n)
-number_at n i x h =
-    let lt : i < n = omega (arith, h.0, length-range_with_len 0 n) in
-    (h.1 ∙ get_or-range_with_len 0 n i x lt ∙ from_zero, lt)
-  where
-    from_zero : 0 + i ≡ i
-    from_zero = omega arith
-
--- the iterator gives all states
-road : {s t : States} (n : ℕ) → states_left t ≡ range_with_len 0 n → s ≡ t → YieldsList (YieldsFirstBy state_number states_left) state_number s (range_with_len 0 n)
-road n left same = YieldsList-at same (YieldsList-from_first state_number states_left (range_with_len 0 n) left)
 
 -- what holds of all states holds of this one
 codable_at : (graph : List GraphState) (k : ℕ) (state : GraphState) → All IsCodable graph → slice_get graph k ≡ Some state → IsCodable state

@@ -1,7 +1,7 @@
 use Rattle.std.proofs.Common.{◌≡◌, ℕ, min, sym, subst, arith}
-use Rattle.logos_scan.specs.Runs.{IsRun, with_chunk}
+use Rattle.logos_scan.specs.Runs.{with_chunk}
 use Rattle.logos_scan.specs.Tries.{StandsIn}
-use Rattle.logos_scan.proofs.LoadLemmas.{root_is_place}
+use Rattle.logos_scan.proofs.LoadLemmas.{ready_run, root_is_place}
 use Rattle.logos_scan.proofs.TryLemmas.{stands_begun}
 use Rattle.logos_scan.proofs.run.Run.new.Goals as goal
 
@@ -19,4 +19,4 @@ returns-clause-ready c =
     let reading = c.args.reading.now in
     let f = c.filled in
     let zero : min f.result.cursor.from f.result.count ≡ 0 = omega (arith, f.ensures.from) in
-    subst (λ (k : ℕ). IsRun reading.code.now reading.rows.now reading.input.now (with_chunk f.new.chunk f.result) k) (sym zero) f.ensures.run
+    ready_run reading.code.now reading.rows.now reading.input.now (with_chunk f.new.chunk f.result) 0 0 f.ensures.start zero f.ensures.run

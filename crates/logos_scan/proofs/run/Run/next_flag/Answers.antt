@@ -1,13 +1,14 @@
 use Rattle.std.proofs.Common.{◌≡◌, ℕ, min, subst, sym, arith}
-use Rattle.logos_scan.specs.Runs.{IsRun, with_chunk}
+use Rattle.logos_scan.specs.Runs.{with_chunk}
 use Rattle.logos_scan.specs.Tries.{SkipsTo, skips_none}
-use Rattle.logos_scan.proofs.LoadLemmas.{bytes_at, flag_found, moved, over_found, skips_join, stands_last}
+use Rattle.logos_scan.proofs.LoadLemmas.{bytes_at, flag_found, moved, over_found, ready_run, skips_join, stands_last}
+use Rattle.logos_walk.specs.Cursors.{start_at, start_of}
 use Rattle.logos_scan.proofs.run.Run.next_flag.Goals as goal
 
 pub loop-at-init : goal.loop-at-init
 loop-at-init c = record {
   ready = c.requires.ready;
-  skips = skips_none c.args.self.now.cursor.start;
+  skips = skips_none (start_of c.args.self.now.cursor);
 }
 
 pub returns-in-Some : goal.returns-in-Some
@@ -17,13 +18,18 @@ returns-in-Some c =
     let input = c.args.reading.now.input.now in
     let i = c.loop-at.invariant in
     let n = c.in-Some.ensures in
-    let f = flag_found code rows c.requires.reading input (bytes_at input c.are_bytes.ensures) (with_chunk c.loop-at.chunk c.loop-at.self) c.next.new.self n.base n.stands c.in-Some.at i.ready n.next.0 n.next.2 in
+    let found = n.next in
+    let now = start_at c.next.new.self c.in-Some.at in
+    let old = start_of c.loop-at.self.cursor in
+    let f = flag_found code rows c.requires.reading input (bytes_at input c.are_bytes.ensures) (with_chunk c.loop-at.chunk c.loop-at.self) c.next.new.self n.base n.stands old c.in-Some.at now i.ready found.next found.starts in
     record {
       stands = f.1;
       inside = f.0;
-      token = (let t = n.next.0 in t.token);
-      after = n.next.1;
-      skips = skips_join code input c.args.self.now.cursor.start c.loop-at.self.cursor.start c.next.new.self.start i.skips f.2;
+      token = (let t = found.next in t.token);
+      after = found.after;
+      word = found.word;
+      skips = skips_join code input (start_of c.args.self.now.cursor) old now i.skips f.2;
+      ended = found.ended;
     }
 
 pub returns-then-base-reading : goal.returns-then-base-reading
@@ -33,15 +39,16 @@ returns-then-base-reading c =
     let input = c.args.reading.now.input.now in
     let i = c.loop-at.invariant in
     let n = c.in_default.ensures in
-    let o = over_found code rows c.requires.reading input (bytes_at input c.are_bytes.ensures) (with_chunk c.loop-at.chunk c.loop-at.self) c.next.new.self n.base n.stands i.ready n.next.0 n.next.2 in
+    let over = n.next in
+    let o = over_found code rows c.requires.reading input (bytes_at input c.are_bytes.ensures) (with_chunk c.loop-at.chunk c.loop-at.self) c.next.new.self n.base n.stands (start_of c.loop-at.self.cursor) c.next.new.self.word_start i.ready over.none over.starts in
     let r = o.0 in
     let ch = r.in_chunk in
     let within = ch.within in
     record {
       stands = o.0;
       last = omega (arith, c.if-base-reading.true, within);
-      after = n.next.1;
-      skips = skips_join code input c.args.self.now.cursor.start c.loop-at.self.cursor.start c.next.new.self.start i.skips o.1;
+      after = over.after;
+      skips = skips_join code input (start_of c.args.self.now.cursor) (start_of c.loop-at.self.cursor) c.next.new.self.word_start i.skips o.1;
     }
 
 pub filled-run-requires-clause-stands : goal.filled-run-requires-clause-stands
@@ -51,8 +58,9 @@ filled-run-requires-clause-stands c =
     let input = c.args.reading.now.input.now in
     let are = bytes_at input c.are_bytes.ensures in
     let n = c.in_default.ensures in
-    let o = over_found code rows c.requires.reading input are (with_chunk c.loop-at.chunk c.loop-at.self) c.next.new.self n.base n.stands c.loop-at.invariant.ready n.next.0 n.next.2 in
-    stands_last code rows c.requires.reading input are (moved (with_chunk c.loop-at.chunk c.loop-at.self) c.next.new.self) o.0
+    let over = n.next in
+    let o = over_found code rows c.requires.reading input are (with_chunk c.loop-at.chunk c.loop-at.self) c.next.new.self n.base n.stands (start_of c.loop-at.self.cursor) c.next.new.self.word_start c.loop-at.invariant.ready over.none over.starts in
+    stands_last code rows c.requires.reading input are (moved (with_chunk c.loop-at.chunk c.loop-at.self) c.next.new.self) c.next.new.self.word_start o.0
 
 pub loop-at-preserved : goal.loop-at-preserved
 loop-at-preserved c =
@@ -61,11 +69,12 @@ loop-at-preserved c =
     let input = c.args.reading.now.input.now in
     let i = c.loop-at.invariant in
     let n = c.in_default.ensures in
+    let over = n.next in
     let f = c.filled-run.ensures in
-    let o = over_found code rows c.requires.reading input (bytes_at input c.are_bytes.ensures) (with_chunk c.loop-at.chunk c.loop-at.self) c.next.new.self n.base n.stands i.ready n.next.0 n.next.2 in
-    let first = c.args.self.now.cursor.start in
+    let o = over_found code rows c.requires.reading input (bytes_at input c.are_bytes.ensures) (with_chunk c.loop-at.chunk c.loop-at.self) c.next.new.self n.base n.stands (start_of c.loop-at.self.cursor) c.next.new.self.word_start i.ready over.none over.starts in
+    let first = start_of c.args.self.now.cursor in
     let zero : min c.filled-run.result.cursor.from c.filled-run.result.count ≡ 0 = omega (arith, f.from) in
     record {
-      ready = subst (λ (k : ℕ). IsRun code rows input (with_chunk c.filled-run.new.chunk c.filled-run.result) k) (sym zero) f.run;
-      skips = subst (λ (k : ℕ). SkipsTo code input first k) (sym f.start) (skips_join code input first c.loop-at.self.cursor.start c.next.new.self.start i.skips o.1);
+      ready = ready_run code rows input (with_chunk c.filled-run.new.chunk c.filled-run.result) c.next.new.self.word_start 0 f.start zero f.run;
+      skips = subst (λ (k : ℕ). SkipsTo code input first k) (sym f.start) (skips_join code input first (start_of c.loop-at.self.cursor) c.next.new.self.word_start i.skips o.1);
     }

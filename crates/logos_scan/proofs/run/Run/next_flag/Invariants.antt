@@ -1,12 +1,13 @@
 use Rattle.std.proofs.Common.{◌-◌, length}
 use Rattle.logos_scan.specs.Runs.{IsReady, with_chunk}
 use Rattle.logos_scan.specs.Tries.{SkipsTo}
+use Rattle.logos_walk.specs.Cursors.{start_of}
 use Rattle.logos_scan.proofs.run.Run.next_flag.Given as goal
 
 abbrev pub invariant-loop-at : goal.invariant-loop-at
 invariant-loop-at l = record {
   ready : IsReady l.reading (with_chunk l.chunk l.self);
-  skips : SkipsTo l.reading.code.now l.reading.input.now l.initial.self.cursor.start l.self.cursor.start;
+  skips : SkipsTo l.reading.code.now l.reading.input.now (start_of l.initial.self.cursor) (start_of l.self.cursor);
 }
 
 abbrev pub decreases-loop-at : goal.decreases-loop-at

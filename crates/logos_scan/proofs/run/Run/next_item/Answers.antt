@@ -6,6 +6,7 @@ use Rattle.logos_machine.proofs.LexerLemmas.{GoesOn, none_of}
 use Rattle.logos_scan.specs.Items.{lexer_at}
 use Rattle.logos_scan.specs.Runs.{IsTaken}
 use Rattle.logos_scan.specs.declared.tries.Taken.TheVariants.{Emits, Asks, Fails, Ends}
+use Rattle.logos_walk.specs.Cursors.{start_of}
 use Rattle.logos_scan.proofs.ItemLemmas.{goes_asks, item_asks, item_emits, item_fails, items_end, skips_le}
 use Rattle.logos_scan.proofs.run.Run.next_item.Goals as goal
 
@@ -13,11 +14,11 @@ pub returns-in-Emits-clause-item : goal.returns-in-Emits-clause-item
 returns-in-Emits-clause-item g c =
     let reading = c.args.reading.now in
     let answers = answers_of g.C.Fn c.args.callback.now in
-    let first = c.args.self.now.cursor.start in
+    let first = (start_of c.args.self.now.cursor) in
     let old = lexer_at reading c.args.callback.now first first in
-    let start = c.loop-leaf.self.cursor.start in
+    let start = (start_of c.loop-leaf.self.cursor) in
     let span = c.in-Emits.span in
-    let t : IsTaken reading.code.now reading.input.now start (Emits c.in-Emits.leaf span) c.next.new.self.cursor.start = c.in-Emits.ensures.taken in (
+    let t : IsTaken reading.code.now reading.input.now start (Emits c.in-Emits.leaf span) (start_of c.next.new.self.cursor) = c.in-Emits.ensures.taken in (
       span.from,
       subst (λ (to : ℕ). Gives answers old (lexer_at reading c.args.callback.now span.from to) (item_of c.token.result)) (sym t.3)
           (item_emits answers old start span.from span.to t.1.0 c.loop-leaf.invariant.on t.0 c.in-Emits.leaf.0 (item_of c.token.result) t.1.1 t.2 c.token.ensures),
@@ -27,12 +28,12 @@ pub returns-in-Some-clause-item : goal.returns-in-Some-clause-item
 returns-in-Some-clause-item g c =
     let reading = c.args.reading.now in
     let answers = answers_of g.C.Fn c.args.callback.now in
-    let first = c.args.self.now.cursor.start in
+    let first = (start_of c.args.self.now.cursor) in
     let old = lexer_at reading c.args.callback.now first first in
-    let start = c.loop-leaf.self.cursor.start in
+    let start = (start_of c.loop-leaf.self.cursor) in
     let span = c.in-Asks.span in
     let leaf = c.in-Asks.leaf.0 in
-    let t : IsTaken reading.code.now reading.input.now start (Asks c.in-Asks.leaf span) c.next.new.self.cursor.start = c.in-Asks.ensures.taken in
+    let t : IsTaken reading.code.now reading.input.now start (Asks c.in-Asks.leaf span) (start_of c.next.new.self.cursor) = c.in-Asks.ensures.taken in
     let gives = c.matched_item.ensures in
     let is : items_of reading.code.now.leaves answers reading.input.now gives.answer leaf span.from span.to ≡ item_of c.in-Some.item ∷ [] = rw c.in-Some.is at gives.is in (
       span.from,
@@ -43,12 +44,12 @@ returns-in-Some-clause-item g c =
 pub loop-leaf-smaller : goal.loop-leaf-smaller
 loop-leaf-smaller g c =
     let reading = c.args.reading.now in
-    let start = c.loop-leaf.self.cursor.start in
+    let start = (start_of c.loop-leaf.self.cursor) in
     let span = c.in-Asks.span in
-    let t : IsTaken reading.code.now reading.input.now start (Asks c.in-Asks.leaf span) c.next.new.self.cursor.start = c.in-Asks.ensures.taken in
+    let t : IsTaken reading.code.now reading.input.now start (Asks c.in-Asks.leaf span) (start_of c.next.new.self.cursor) = c.in-Asks.ensures.taken in
     let tried = t.1.1 in
     let fits : IsMatch reading.code.now reading.input.now span.from c.in-Asks.leaf.0 span.to = tried.within in
-    let smaller : length reading.input.now - c.next.new.self.cursor.start < length reading.input.now - start =
+    let smaller : length reading.input.now - (start_of c.next.new.self.cursor) < length reading.input.now - start =
     omega (arith, skips_le reading.code.now reading.input.now start span.from t.0, fits.1, fits.2, t.2) in
     smaller
 
@@ -56,12 +57,12 @@ pub loop-leaf-preserved : goal.loop-leaf-preserved
 loop-leaf-preserved g c =
     let reading = c.args.reading.now in
     let answers = answers_of g.C.Fn c.args.callback.now in
-    let first = c.args.self.now.cursor.start in
+    let first = (start_of c.args.self.now.cursor) in
     let old = lexer_at reading c.args.callback.now first first in
-    let start = c.loop-leaf.self.cursor.start in
+    let start = (start_of c.loop-leaf.self.cursor) in
     let span = c.in-Asks.span in
     let leaf = c.in-Asks.leaf.0 in
-    let t : IsTaken reading.code.now reading.input.now start (Asks c.in-Asks.leaf span) c.next.new.self.cursor.start = c.in-Asks.ensures.taken in
+    let t : IsTaken reading.code.now reading.input.now start (Asks c.in-Asks.leaf span) (start_of c.next.new.self.cursor) = c.in-Asks.ensures.taken in
     let gives = c.matched_item.ensures in
     let is : items_of reading.code.now.leaves answers reading.input.now gives.answer leaf span.from span.to ≡ [] = rw (none_of c.matched_item.result c.in_default.not-Some) at gives.is in
     record {
@@ -74,11 +75,11 @@ pub returns-in-Fails-clause-item : goal.returns-in-Fails-clause-item
 returns-in-Fails-clause-item g c =
     let reading = c.args.reading.now in
     let answers = answers_of g.C.Fn c.args.callback.now in
-    let first = c.args.self.now.cursor.start in
+    let first = (start_of c.args.self.now.cursor) in
     let old = lexer_at reading c.args.callback.now first first in
-    let start = c.loop-leaf.self.cursor.start in
+    let start = (start_of c.loop-leaf.self.cursor) in
     let span = c.in-Fails.span in
-    let t : IsTaken reading.code.now reading.input.now start (Fails span) c.next.new.self.cursor.start = c.in-Fails.ensures.taken in (
+    let t : IsTaken reading.code.now reading.input.now start (Fails span) (start_of c.next.new.self.cursor) = c.in-Fails.ensures.taken in (
       span.from,
       subst (λ (to : ℕ). Gives answers old (lexer_at reading c.args.callback.now span.from to) (item_of c.error.result)) (sym t.2)
           (item_fails answers old start span.from span.to t.1.0 c.loop-leaf.invariant.on t.0 (item_of c.error.result) t.1.1 c.error.ensures),
@@ -88,8 +89,8 @@ pub returns-in-Ends-clause-item : goal.returns-in-Ends-clause-item
 returns-in-Ends-clause-item g c =
     let reading = c.args.reading.now in
     let answers = answers_of g.C.Fn c.args.callback.now in
-    let first = c.args.self.now.cursor.start in
+    let first = (start_of c.args.self.now.cursor) in
     let old = lexer_at reading c.args.callback.now first first in
-    let start = c.loop-leaf.self.cursor.start in
-    let t : IsTaken reading.code.now reading.input.now start Ends c.next.new.self.cursor.start = c.in-Ends.ensures.taken in
-    items_end answers old start c.next.new.self.cursor.start t.1.0 c.loop-leaf.invariant.on t.0 t.1.1
+    let start = (start_of c.loop-leaf.self.cursor) in
+    let t : IsTaken reading.code.now reading.input.now start Ends (start_of c.next.new.self.cursor) = c.in-Ends.ensures.taken in
+    items_end answers old start (start_of c.next.new.self.cursor) t.1.0 c.loop-leaf.invariant.on t.0 t.1.1

@@ -3,14 +3,15 @@ use Rattle.logos_machine.specs.LexerValue.{answers_of}
 use Rattle.logos_machine.proofs.LexerLemmas.{GoesOn}
 use Rattle.logos_scan.specs.Items.{lexer_at}
 use Rattle.logos_scan.specs.Runs.{IsReady, with_chunk}
+use Rattle.logos_walk.specs.Cursors.{start_of}
 use Rattle.logos_scan.proofs.run.Run.next_item.Given as goal
 
 -- what goes on after the matches that gave no item goes on from where the run stood
 abbrev pub invariant-loop-leaf : goal.invariant-loop-leaf
 invariant-loop-leaf g l = record {
   ready : IsReady l.reading (with_chunk l.chunk l.self);
-  on : GoesOn (answers_of g.C.Fn l.callback) (lexer_at l.reading l.callback l.initial.self.cursor.start l.initial.self.cursor.start) l.self.cursor.start;
+  on : GoesOn (answers_of g.C.Fn l.callback) (lexer_at l.reading l.callback (start_of l.initial.self.cursor) (start_of l.initial.self.cursor)) (start_of l.self.cursor);
 }
 
 abbrev pub decreases-loop-leaf : goal.decreases-loop-leaf
-decreases-loop-leaf g l = length l.reading.input.now - l.self.cursor.start
+decreases-loop-leaf g l = length l.reading.input.now - (start_of l.self.cursor)

@@ -1,6 +1,6 @@
 use Rattle.std.proofs.Common.{◌∙◌, List, ℕ, ap, arith}
-use Rattle.logos_tables.specs.Layout.{rows_at}
-use Rattle.logos_tables.proofs.RowLemmas.{rows_pushed}
+use Rattle.logos_reduce.specs.Rows.{rows_at}
+use Rattle.logos_reduce.proofs.tables.RowLemmas.{rows_pushed}
 use Rattle.logos_tables.proofs.rows.StepRows.push.Goals as goal
 
 pub returns : goal.returns

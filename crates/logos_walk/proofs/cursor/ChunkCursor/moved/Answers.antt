@@ -1,18 +1,23 @@
-use Rattle.std.proofs.Common.{◌≡◌, ◌+◌, ◌*◌, refl, subst, arith}
-use Rattle.logos_walk.specs.Cursor.{NoToken, StartsAt}
-use Rattle.logos_walk.proofs.CursorLemmas.{none_left, under_whole}
+use Rattle.std.proofs.Common.{◌≡◌, ◌+◌, ◌*◌, ◌<◌, refl, slice_index, arith}
+use Rattle.logos_walk.proofs.CursorLemmas.{left_whole, passes_word}
 use Rattle.logos_walk.proofs.cursor.ChunkCursor.moved.Goals as goal
+
+abbrev pub returns-clause-stands : goal.returns-clause-stands
+returns-clause-stands c =
+    let trace = c.args.chunk.now.entries in
+    let w = c.args.self.word + 1 in
+    let small : w < 64 = omega (arith, c.requires.last) in
+    let m = c.requires.marked in
+    record {
+      within = small;
+      far = omega arith;
+      tokens_left = left_whole 30 trace w (slice_index c.args.chunk.now.tokens w) (m.tokens w small);
+      first = 64 * w;
+      near = omega arith;
+      order = omega arith;
+      ends_left = left_whole 31 trace w (slice_index c.args.chunk.now.ends w) (m.ends w small);
+    }
 
 pub returns-clause-passes : goal.returns-clause-passes
 returns-clause-passes c =
-    let trace = c.args.chunk.now.entries in
-    let w = c.args.self.word in
-    let s = c.requires.stands in
-    let end : 64 * w + 64 ≡ 64 * (w + 1) = omega arith in
-    record {
-      base = refl;
-      order = omega (arith, s.far, end);
-      none = subst (λ at. NoToken trace c.args.self.from at) end (none_left trace w c.args.self.tokens c.args.self.from c.requires.none s.near s.tokens_left);
-      starts = subst (λ at. StartsAt c.args.self.base trace c.args.self.from c.args.self.start at c.start_after.result) end
-          (c.start_after.ensures trace (64 * w + 64) (under_whole trace w c.args.self.ends c.args.self.from s.near s.ends_left));
-    }
+    passes_word c.args.chunk.now.entries c.args.self _ c.requires.stands (returns-clause-stands c) (omega arith) c.requires.none refl refl (omega arith) c.start_after.ensures

@@ -1,6 +1,6 @@
 use Rattle.std.proofs.Common.{Some, None, arith, rules}
-use Rattle.logos_cli.proofs.CutLemmas.{cut_at_last}
-use Rattle.logos_cli.proofs.batch.file_name.Goals as goal
+use Rattle.logos_host.proofs.CutLemmas.{cut_at_last}
+use Rattle.logos_host.proofs.paths.file_name.Goals as goal
 
 pub returns-in-Some : goal.returns-in-Some
 returns-in-Some c =

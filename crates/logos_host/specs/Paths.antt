@@ -1,0 +1,12 @@
+-- The paths of files, as lists of bytes.
+use Rattle.std.specs.Prelude.{ℕ, List, Option, Some, None}
+use Rattle.std.specs.Path.{slash, rsplit_once}
+
+-- What follows the last slash of a path, or all of it: its split at that slash.
+abbrev pub name_of_split : List ℕ → Option (List ℕ × List ℕ) → List ℕ
+name_of_split path None = path
+name_of_split path (Some split) = split.1
+
+-- The name at the end of a path.
+abbrev pub file_name : List ℕ → List ℕ
+file_name path = name_of_split path (rsplit_once slash path)

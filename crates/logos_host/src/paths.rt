@@ -1,0 +1,14 @@
+//! The paths of files.
+
+ghost use Rattle.std.specs.Prelude.{◌≡◌};
+ghost use Rattle.logos_host.specs.Words.{file_name};
+
+/// Returns the name at the end of a path: what follows its last `/`, or all of it.
+pub fn file_name(path: &str) -> &str
+    ensures { result.now ≡ file_name path.now }
+{
+    match path.rsplit_once('/') {
+        Some((_, name)) => name,
+        None => path,
+    }
+}
