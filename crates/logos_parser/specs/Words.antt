@@ -1,6 +1,6 @@
 -- Definitions that clauses cite: of lower crates, and those of this one that name no type of it.
 pub use Rattle.logos_attribute.specs.Reports.{AddsFault, fault, only}
-pub use Rattle.logos_definition.specs.Options.{utf8_mode}
+pub use Rattle.logos_definition.specs.Options.{no_options, utf8_mode}
 pub use Rattle.logos_definition.specs.ParserViews.{parser_view}
 pub use Rattle.logos_enum.specs.EnumValues.{enum_value}
 pub use Rattle.logos_leaf.specs.LeafViews.{leaf_view}
@@ -12,7 +12,7 @@ pub use Rattle.logos_token.specs.Views.{stream_tokens, tokens_of}
 pub use Rattle.logos_type.specs.Parts.{tree_of}
 pub use Rattle.logos_type.specs.TypeTrees.{type_tree}
 pub use Rattle.logos_type_params.specs.Generics.{generics, generics_of}
-pub use Rattle.logos_parser.specs.Analyses.{IsAnalysis, IsEnumAnalysis, IsTokenAnalysis, type_faults}
+pub use Rattle.logos_parser.specs.Analyses.{HasItsType, IsAnalysis, IsEnumAnalysis, IsTokenAnalysis, ReadsEnum, type_faults}
 pub use Rattle.logos_parser.specs.Endings.{EndsReading, EndsTokens, IsMisread, IsShallow, lexical_text, too_long}
 pub use Rattle.logos_parser.specs.EnumTypes.{argument, arguments, bracketed, enum_type, lifetime_argument}
 pub use Rattle.logos_parser.specs.Utf8Faults.{leaf_faults, utf8_fault, utf8_faults, utf8_text}

@@ -1,7 +1,7 @@
 //! The analysis of a source. `generate` of `logos_codegen` calls `analyze` first.
 
 ghost use Rattle.std.specs.Prelude.{◌≡◌, ◌<◌, ◌≤◌, ◌∷◌, ◌++◌, [], length, map, option_map, IfOk, IfErr, IsErrAnd, OnOk};
-ghost use Rattle.logos_parser.specs.Views.{source_limit, Fault, run_span, stream_tokens, tokens_of, enum_value, generics_of, generics, parser_view, leaf_view, utf8_mode, IsShallow, too_long, EndsReading, EndsTokens, type_faults, IsEnumAnalysis, IsTokenAnalysis, IsAnalysis, utf8_faults, Refuses, analysis_view};
+ghost use Rattle.logos_parser.specs.Views.{source_limit, Fault, run_span, stream_tokens, tokens_of, enum_value, generics_of, generics, parser_view, leaf_view, utf8_mode, IsShallow, too_long, EndsReading, EndsTokens, type_faults, HasItsType, IsEnumAnalysis, IsTokenAnalysis, IsAnalysis, ReadsEnum, no_options, type_tree, utf8_faults, Refuses, analysis_view};
 
 use crate::enum_type::enum_type;
 use crate::mode::report_not_utf8;
@@ -51,6 +51,26 @@ fn check_leaves<'s>(
     parser.types.generics(&mut parser.errors)
 }
 
+/// Reads the leaves of an enum into a new parser, and checks them. Returns them, and the type that
+/// the enum is.
+fn read_typed<'s>(
+    alloc: Global,
+    item: &ItemEnum<'_, 's>,
+    parser: &mut Parser<'s>,
+) -> Result<(Vec<Leaf<'s>>, TypeExpr<'s>), Memory>
+    requires options { parser_view parser.old ≡ no_options }
+    requires faults { parser.old.errors ≡ [] }
+    ensures says { IfOk result (λ made. ReadsEnum (enum_value item.now)
+        (map leaf_view made.0.items) (parser_view parser.new) parser.new.errors) }
+    ensures is_type { IfOk result (λ made. HasItsType (enum_value item.now).name
+        (parser_view parser.new) (type_tree made.1)) }
+{
+    let leaves = read_leaves(item, parser)?;
+    let generics = check_leaves(leaves.as_slice(), parser)?;
+    let this = enum_type(alloc, item.name.text, generics)?;
+    Ok((leaves, this))
+}
+
 /// Analyzes an enum whose tokens have this span. Faults do not stop it.
 ///
 /// # Errors
@@ -65,16 +85,16 @@ pub fn analyze_enum<'s>(
         IsEnumAnalysis (enum_value item.now) span (analysis_view analysis)) }
 {
     let mut parser = Parser::new(alloc);
-    let leaves = read_leaves(item, &mut parser)?;
-    let generics = check_leaves(leaves.as_slice(), &mut parser)?;
-    let this = enum_type(alloc, item.name.text, generics)?;
-    Ok(Analysis {
-        name: item.name,
-        span,
-        this,
-        leaves,
-        parser,
-    })
+    match read_typed(alloc, item, &mut parser) {
+        Ok((leaves, this)) => Ok(Analysis {
+            name: item.name,
+            span,
+            this,
+            leaves,
+            parser,
+        }),
+        Err(Memory) => Err(Memory),
+    }
 }
 
 /// Analyzes the tokens of a source.
