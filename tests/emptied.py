@@ -72,7 +72,7 @@ def rows(folder):
 
 # For each part what can be taken away: how that is called, and the change.
 TAKEN = {
-    "borrows": {"all edits": every(removed("tests/borrows/*.edit"), without("tests/borrows/run.sh", r'^of_(tokens|enums|pieces)=".*?"', 'of_tokens="" of_enums="" of_pieces=""'))},
+    "borrows": {"all edits": every(removed("tests/borrows/*.edit"), without("tests/borrows/run.sh", r'^wanted=".*?"', 'wanted=""'))},
     "definitions": {"all lists": without("docs/DEFINITIONS.md", r"(?<=\n)## .*\Z")},
     "words": {"the sources of all crates": removed("crates/*"), "the rows of the glossary": without("docs/GLOSSARY.md", r"^\| (?!Word|Not used|---)[^|]+\| [^|]+ \| [^|]+ \|\n")},
     "parameters": {"the sources of half of the crates": removed("crates/logos_[a-l]*")},
