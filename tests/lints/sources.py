@@ -40,22 +40,20 @@ def files_of(name):
 
 
 def unformatted(at, names):
-    """Returns the paths of the files of these crates that `rt fmt` would change. Its formatter is
-    asked about some files at a time, as `rt fmt` asks it about a crate."""
+    """Yields the path of each file of these crates that `rt fmt` would change or cannot read, and
+    what is wrong with it. Its formatter is asked about many files at a time."""
     paths = [path for name in names for path in files_of(name)]
     jobs = len(os.sched_getaffinity(0))
 
     def look(some):
         return subprocess.run([f"{at}/bin/rattle", "fmt", "--check", *some], stdin=subprocess.DEVNULL, stdout=subprocess.DEVNULL, stderr=subprocess.PIPE, text=True)
 
-    found = []
     with ThreadPoolExecutor(jobs) as pool:
         for ran in pool.map(look, filter(None, (paths[number::jobs] for number in range(jobs)))):
-            lines = re.findall(r"^(.*) is not in the layout$", ran.stderr, re.M)
-            if ran.returncode and not lines:
+            found = re.findall(r"^(.+?\.(?:rt|antt)):? (.*)", ran.stderr, re.M)
+            if ran.returncode and not found:
                 build.fail(f"the formatter fails: {ran.stderr.strip()[-400:]}")
-            found += lines
-    return sorted(found)
+            yield from found
 
 
 def sum_of(name, at):
@@ -90,9 +88,8 @@ def main():
     sums = {name: sum_of(name, at) for name in names}
     changed_names = [name for name in names if before.get(name) != sums[name]]
     changed = {name: [] for name in changed_names}
-    for path in unformatted(at, changed_names):
-        path = os.path.relpath(path, ROOT)
-        changed[path.split("/")[1]].append(f"{path} is not as rt fmt leaves it")
+    for path, wrong in unformatted(at, changed_names):
+        changed[os.path.relpath(path, f"{ROOT}/crates").split("/")[0]].append(f"{os.path.relpath(path, ROOT)}: {wrong}")
     keep({**sums, **{name: "" for name, lines in changed.items() if lines}})
     wrong = [f"{path} may not stand there: files of the toolchain stand in crates alone" for path in misplaced()]
     for line in [*wrong, *(line for lines in changed.values() for line in lines)]:
