@@ -264,7 +264,8 @@ impl Run {
     }
 
     /// Takes what the try finds that begins at `start`, by itself. Only that try is called out of
-    /// line, and it is given a copy of the run, so that the compiler can hold this one in registers.
+    /// line, and it is given a copy of the run, so that the compiler can hold this one in
+    /// registers.
     #[inline(always)]
     fn next_again(&mut self, reading: &Reading, chunk: &mut ChunkEntries, start: usize) -> Taken
         requires reading { IsReading reading.now }
