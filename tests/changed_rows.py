@@ -43,6 +43,7 @@ PARTS = {
     "derive": ("tests/derive/refused", "Unknown flag: accents", "Unknown flag: accent"),
     "limits": ("tests/limits.sh", "'17..522 LimitPatternNesting", "'17..521 LimitPatternNesting"),
     "memory_calls": ("tests/rows/calls/types.rows", "a :: b\n", "a : : b\n"),
+    "checks": ("tests/checks.sh", "builds kept", "builds 'left out'"),
     "install": ("README.md", "1:6  Space", "1:7  Space"),
     "rows_logos": ("tests/rows/logos/answers.rows", "error 2..3", "error 2..4"),
     "rows_logos_cli": ("tests/rows/logos_cli/rendering.rows", "t.rs:2:10", "t.rs:2:11"),

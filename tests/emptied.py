@@ -72,7 +72,7 @@ def rows(folder):
 
 # For each part what can be taken away: how that is called, and the change.
 TAKEN = {
-    "borrows": {"all edits": every(removed("tests/borrows/*.edit"), without("tests/borrows/run.sh", r'^of_(tokens|enums|pieces)=".*?"', 'of_tokens="" of_enums="" of_pieces=""'))},
+    "borrows": {"all edits": every(removed("tests/borrows/*.edit"), without("tests/borrows/run.sh", r'^wanted=".*?"', 'wanted=""'))},
     "definitions": {"all lists": without("docs/DEFINITIONS.md", r"(?<=\n)## .*\Z")},
     "words": {"the sources of all crates": removed("crates/*"), "the rows of the glossary": without("docs/GLOSSARY.md", r"^\| (?!Word|Not used|---)[^|]+\| [^|]+ \| [^|]+ \|\n")},
     "parameters": {"the sources of half of the crates": removed("crates/logos_[a-l]*")},
@@ -100,6 +100,7 @@ TAKEN = {
     "derive": {"a package": removed("tests/derive/accepted/closures"), "the table of refused sources": without("tests/derive/refused", r".+")},
     "limits": {"all cases": without("tests/limits.sh", r"^token=.*(?=^echo)"), "the beginnings of a source": without("tests/limits.sh", r"^for \(\(length = 0.*?^done\n")},
     "memory_calls": {"all rows": rows("tests/rows/calls"), "the rows of types": removed("tests/rows/calls/types.rows")},
+    "checks": {"the build with checks": without("tests/checks.sh", r"^    expect 'checks stay[^\n]*\n", "")},
     "install": {"the installed program": without("tools/install.sh", r"^build_all \|\| exit 1", "exit 0")},
     "rows_logos": {"all rows": rows("tests/rows/logos"), "a file": removed("tests/rows/logos/charts.rows")},
     "rows_logos_cli": {"all rows": rows("tests/rows/logos_cli"), "a file": removed("tests/rows/logos_cli/rendering.rows")},

@@ -30,7 +30,7 @@ if ! command -v cargo > /dev/null; then
 fi
 # Tests a package, and writes into a file how many of its tests passed.
 tested() {
-    CARGO_TARGET_DIR="$room/target" cargo test --quiet --offline --manifest-path "$root/$1/Cargo.toml" > "$room/output" 2>&1 || return
+    CARGO_TARGET_DIR="$room/target" CARGO_PROFILE_DEV_DEBUG=0 CARGO_INCREMENTAL=0 cargo test --quiet --offline --manifest-path "$root/$1/Cargo.toml" > "$room/output" 2>&1 || return
     awk '/^test result: ok\. [0-9]+ passed/ { all += $4 } END { print all + 0 }' "$room/output" > "$2"
 }
 

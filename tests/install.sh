@@ -5,14 +5,10 @@
 #   tests/install.sh [FOLDER]   installs them as tests/programs.py has built them in FOLDER, out/installed if it is not given
 #   tests/install.sh --whole    has tools/install.sh build them, as users do, which takes minutes. This is not in the gate
 #
-# Then it packs a release in two clones, and installs one of them. Last it builds a program that
-# adds one to the byte 255, whose checks at run time end it: where its sums are those of
-# proved.sums, and where its source has changed since. A quick test builds it again where the tools
-# or the toolchain have changed.
+# Then it packs a release in two clones, and installs one of them.
 set -uo pipefail
 
 root=$(cd "$(dirname "${BASH_SOURCE[0]}")/.." && pwd)
-. "$root/tests/kept.sh"
 room=$(mktemp -d)
 trap 'rm -rf "$room"' EXIT
 passed=0
@@ -68,38 +64,6 @@ rows() {
     return 1
 }
 
-# A repository with the tools and a program alone.
-make_probe() {
-    mkdir -p "$probe/crates/probe"/{src,specs,proofs}
-    cp -R "$root/tools" "$root/HANDLES" "$probe"
-    echo 'probe:' > "$probe/crates.txt"
-    cat > "$probe/crates/probe/src/main.rt" <<'END'
-//! Adds one to a byte.
-
-use std::io;
-
-#[inline(never)]
-fn next(byte: u8) -> u8 {
-    byte + 1
-}
-
-fn main(rt: HostRuntime) -> io::Result<()> {
-    println!(rt; "{}", next(255))
-}
-END
-}
-
-# SAID: builds the probe, and looks whether the last line begins so.
-builds() {
-    python3 "$probe/tools/build.py" "$room/built" probe | tail -n 1 | grep -q "^$1 the checks at run time"
-}
-
-# The checks end the program that was built last.
-is_ended() {
-    "$room/built" > /dev/null 2>&1
-    [ $? -gt 128 ]
-}
-
 # FOLDER: makes a clone of what a release packs.
 make_clone() {
     mkdir -p "$1"
@@ -146,31 +110,8 @@ refuses_changed_clone() {
     ! packs "$room/one" 2> /dev/null
 }
 
-# Builds the probe in both ways, and writes into a file how many of the three tests passed and how
-# many failed.
-probes() {
-    passed=0
-    failed=0
-    make_probe
-    python3 "$probe/tools/proved_sums.py" --write
-    expect 'checks are left out by the sums' builds 'left out'
-    echo '// changed' >> "$probe/crates/probe/src/main.rt"
-    expect 'checks stay where a crate has changed' builds kept
-    expect 'they end the program' is_ended
-    echo "$passed $failed" > "$room/install_probe"
-    [ "$failed" = 0 ]
-}
-
-add_probes() {
-    local good=0 bad=3
-    read -r good bad < "$room/install_probe"
-    passed=$((passed + good))
-    failed=$((failed + bad))
-}
-
 bin=$room/prefix/bin
 built=${1:-$root/out/installed}
-probe=$room/probe
 if [ "${1-}" = --whole ]; then
     built=$bin
     expect 'the programs are built and installed' bash "$root/tools/install.sh" "$room/prefix" > "$room/said"
@@ -192,9 +133,6 @@ expect 'the packed programs are installed, and show the items in README.md' inst
 expect 'the packed programs name their commit' names_commit
 expect 'a packed file that has changed is refused' refuses_changed_release
 expect 'a clone with changes is refused' refuses_changed_clone
-
-{ of_toolchain; cat "$root"/tools/*.py "$root"/tools/*.sh "$root/HANDLES" "$root/tests/install.sh"; } | kept "$room/install_probe" probes
-add_probes
 
 echo "$passed passed, $failed failed"
 [ "$failed" = 0 ]

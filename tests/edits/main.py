@@ -66,16 +66,27 @@ def asked(seed):
 
 
 def made_edits(seed):
+    accepted = accepted_source(seed)
+    if not accepted:
+        return None
+    source, is_utf8, inputs = accepted
+    random = Random(seed)
+    inputs = [text for text in inputs if text]
+    text = text_of(inputs, random, is_utf8)
+    return source, text, *edits_of(text, inputs, random, is_utf8)
+
+
+def accepted_source(seed):
+    """The source of a seed, whether it reads text, and its inputs; or None where it is refused. In
+    a quick test `generated` leaves what it makes."""
+    kept = earlier('made', seed)
+    if kept:
+        return kept[0]
     try:
         source, reading, inputs = made(seed)
     except TooLarge:
         return None
-    if reading.faults.list:
-        return None
-    random = Random(seed)
-    inputs = [text for text in inputs if text]
-    text = text_of(inputs, random, reading.utf8)
-    return source, text, *edits_of(text, inputs, random, reading.utf8)
+    return None if reading.faults.list else (source, reading.utf8, inputs)
 
 
 def judge(program, seed):

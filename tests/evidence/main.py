@@ -1,6 +1,7 @@
 """Makes small sets of patterns, asks the program of evidence about each in both modes, and compares
 its answers with those of the reader."""
 
+import os
 import subprocess
 import sys
 from concurrent.futures import ProcessPoolExecutor
@@ -10,6 +11,8 @@ from random import Random
 HERE = path.dirname(path.realpath(__file__))
 sys.path.insert(0, path.join(path.dirname(HERE), 'generated'))
 from automata import rules_of
+from byte_sets import partners, runs_of_categories
+from earlier import earlier, keep
 from main import PATTERNS, WORDS, made
 from matching import Matching, TooLarge
 from patterns import Faulty, compiled
@@ -122,13 +125,30 @@ def is_right(answer, wanted, one, other):
 
 
 def judge(job):
-    """How many answers about a seed are right, and the first that is not."""
+    """How many answers about a seed are right, the first that is not, and the words of all. Answers
+    that an earlier test found to be right are right."""
     program, seed = job
+    kept = earlier('evidence', seed)
+    if kept and answered(program, kept[0]) == kept[1]:
+        return kept[2]
     asked = questions(seed)
-    if not asked:
-        return 0, None, []
-    done = subprocess.run([program], input='\n'.join(line for line, *_ in asked).encode(), capture_output=True, check=False)
-    answers = done.stdout.decode().split('\n')[:-1]
+    text = '\n'.join(line for line, *_ in asked)
+    answers = answered(program, text)
+    found = judged(seed, asked, answers)
+    if not found[1]:
+        keep('evidence', seed, (text, answers, found))
+    return found
+
+
+def answered(program, text):
+    """The lines that the program answers, if it is asked anything."""
+    if not text:
+        return []
+    return subprocess.run([program], input=text.encode(), capture_output=True, check=False).stdout.decode().split('\n')[:-1]
+
+
+def judged(seed, asked, answers):
+    """The same for answers that are there."""
     if len(answers) != len(asked):
         return 0, f'{seed}: {len(answers)} answers to {len(asked)} lines', []
     met = [word for answer in answers for word in answer.split()]
@@ -141,7 +161,10 @@ def judge(job):
 def main():
     program, seeds = sys.argv[1], [int(word) for word in sys.argv[2:]] or [*PATTERNS[::7], *WORDS[::8]]
     good, bad, met = 0, 0, {}
-    with ProcessPoolExecutor() as pool:
+    # What is looked up once for all is there before the workers are.
+    partners()
+    runs_of_categories()
+    with ProcessPoolExecutor(len(os.sched_getaffinity(0))) as pool:
         for count, fault, words in pool.map(judge, [(program, seed) for seed in seeds], chunksize=8):
             good += count
             bad += fault is not None

@@ -36,9 +36,16 @@ def common(one, other):
 
 def without(one, other):
     """What is in the first set and not in the second."""
-    left = list(one)
-    for low, high in other:
-        left = [part for a, b in left for part in ((a, min(b, low - 1)), (max(a, high + 1), b)) if part[0] <= part[1]]
+    left, others = [], sorted(other)
+    for low, high in one:
+        for start, end in others:
+            if start > high:
+                break
+            if low < start:
+                left.append((low, start - 1))
+            low = max(low, end + 1)
+        if low <= high:
+            left.append((low, high))
     return united(left)
 
 

@@ -103,6 +103,9 @@ class Comparison:
         # For each state of the chart the marks with which it is entered where these are new, and
         # where they stood there before.
         self.needed, self.free, self.unmarked = {}, {}, {0}
+        # For each state the leaf in front of each byte and of the end.
+        self.rows = {DEAD: {None: None}, **{
+            state: {byte: best[0] if best else None for byte, best in found.items()} or {None: None} for state, found in matching.matches.items()}}
         # The sets of leaves whose match some edge marks anew where nothing more can match; None
         # where a class without members hides that.
         self.last = None if any(map(has_empty_class, trees)) else {
@@ -116,17 +119,13 @@ class Comparison:
     def is_new(self, state, byte):
         """Whether a leaf matches at a state in front of a byte that does not match there whatever
         comes next."""
-        mark = self.row(state).get(byte)
+        mark = self.rows[state].get(byte)
         return mark is not None and mark != self.early(state)
 
     def early(self, state):
         """The leaf that matches at a state whatever comes next, or None."""
-        marks = set(self.row(state).values())
+        marks = set(self.rows[state].values())
         return marks.pop() if len(marks) == 1 else None
-
-    def row(self, state):
-        """The leaf that matches at a state in front of each byte, and of the end."""
-        return {byte: best[0] if best else None for byte, best in self.matching.matches.get(state, {}).items()} or {None: None}
 
     def compare(self):
         """Follows chart and leaves side by side, and then compares the states of the chart with one
@@ -149,21 +148,29 @@ class Comparison:
     def targets(self, number, state):
         """Where the bytes and the end lead from a state. There is an edge where it is of use, or
         where the same leaves' match is marked elsewhere."""
-        row, found = self.row(state), []
+        known, found = {}, []
         for byte in [*range(256), None]:
             first = byte if byte is None else self.matching.first[byte]
-            after = DEAD if byte is None or state == DEAD else self.matching.edges[state][first]
-            after = after if after in self.matching.live else DEAD
-            mark, is_new = row.get(first), self.is_new(state, first)
+            if first not in known:
+                known[first] = self.edge(state, first)
+            after, wanted, *mark = known[first]
             target = self.chart.end[number] if byte is None else self.chart.edges[number].get(byte)
-            wanted = is_new or after != DEAD
-            if mark is not None and not wanted:
-                wanted = self.matching.listed[state][first] in self.last if self.last is not None and self.is_last(state, first) else target is not None
-            need((target is not None) == wanted, f'the edge of state {number} by {byte}')
+            need(wanted is None or (target is not None) == wanted, f'the edge of state {number} by {byte}')
             if target is not None:
                 found.append((target, after))
-                self.enter(target, mark, is_new)
+                self.enter(target, *mark)
         return found
+
+    def edge(self, state, first):
+        """What is left behind a state and a byte, or the end; whether an edge has to be there, or
+        None where it may; the leaf that matches, and whether it is new."""
+        after = DEAD if first is None or state == DEAD else self.matching.edges[state][first]
+        after = after if after in self.matching.live else DEAD
+        mark, is_new = self.rows[state].get(first), self.is_new(state, first)
+        wanted = is_new or after != DEAD
+        if mark is not None and not wanted:
+            wanted = self.matching.listed[state][first] in self.last if self.last is not None and self.is_last(state, first) else None
+        return after, wanted, mark, is_new
 
     def enter(self, target, mark, is_new):
         """Keeps with which mark a state is entered."""

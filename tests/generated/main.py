@@ -198,6 +198,8 @@ def judge(program, calls, seed):
         return kept[1]
     ASKED.clear()
     source, reading, inputs = made(seed)
+    # (for edits)
+    keep('made', seed, (None if reading.faults.list else (source, reading.utf8, inputs),))
     forms = [] if reading.faults.list else [form for form in FORMS if MET[form]]
     with tempfile.TemporaryDirectory() as room:
         try:

@@ -37,7 +37,7 @@ class Matching:
     def __init__(self, trees, priorities):
         self.priorities = priorities
         numbers = tuple(whole(tree) for tree in trees)
-        self.start = (numbers, None)
+        self.start, self.looking = (numbers, None), any(map(looks, numbers))
         self.first = classes_of(numbers)
         self.letters = sorted(set(self.first))
         self.edges, ahead = {}, [self.start]
@@ -53,26 +53,28 @@ class Matching:
         self.matches = {state: self.matches_of(state) for state in self.edges}
         self.live = self.live_states()
 
-    @staticmethod
-    def step(state, byte):
-        numbers = tuple(rest(number, state[1], byte) if number != NONE else NONE for number in state[0])
-        return numbers, kind_of(byte) if any(looks(number) for number in numbers) else 0
+    def step(self, state, byte):
+        numbers = tuple([rest(number, state[1], byte) if number != NONE else NONE for number in state[0]])
+        return numbers, kind_of(byte) if self.looking and any(map(looks, numbers)) else 0
 
     def listed_of(self, state):
         """The leaves that match at a state in front of each first byte and of the end."""
         numbers, before = state
         if before is None:
             return {}
-        return {behind: tuple(leaf for leaf, number in enumerate(numbers) if number != NONE and ends(number, before, behind))
-                for behind in self.letters + [None]}
+        there = [(leaf, number) for leaf, number in enumerate(numbers) if number != NONE]
+        if not any(looks(number) for _, number in there):
+            # (what comes next says nothing)
+            return dict.fromkeys(self.letters + [None], tuple(leaf for leaf, number in there if ends(number, before, None)))
+        return {behind: tuple([leaf for leaf, number in there if ends(number, before, behind)]) for behind in self.letters + [None]}
 
     def matches_of(self, state):
         """The best of these leaves."""
-        found = {}
-        for behind, listed in self.listed[state].items():
+        best = {}
+        for listed in set(self.listed[state].values()):
             top = max((self.priorities[leaf] for leaf in listed), default=0)
-            found[behind] = tuple(leaf for leaf in listed if self.priorities[leaf] == top)
-        return found
+            best[listed] = tuple(leaf for leaf in listed if self.priorities[leaf] == top)
+        return {behind: best[listed] for behind, listed in self.listed[state].items()}
 
     def live_states(self):
         """The states from which some bytes lead to a match."""

@@ -2,11 +2,13 @@
 lexeme."""
 
 import re
+from itertools import accumulate
 
 OPENING = {'(': ')', '[': ']', '{': '}'}
 BLANKS = re.compile('[\t-\r \x85\u200e\u200f\u2028\u2029]+')
 NAME = re.compile(r'(?:r#)?[^\W\d]\w*')
 NUMBER = re.compile(r'0[xob]\w*|[0-9](?:\w|\.(?=[0-9])|(?<=[eE])[+-](?=[0-9]))*')
+LITERAL_BEGINS = 'bcr"\'0123456789'
 RAW = re.compile(r'([bc]?)r(#{0,255})"')
 QUOTED = re.compile(r'([bc]?)"')
 QUOTED_END = re.compile(r'(?:[^"\\]|\\.)*"', re.S)
@@ -57,6 +59,8 @@ def span(run):
 def comment_end(text, at):
     """The end of the comment that starts here, or None where none does. A line comment ends before
     its line's end."""
+    if text[at] != '/':
+        return None
     if text.startswith('//', at):
         end = text.find('\n', at)
         return len(text[at:].rstrip('\r')) + at if end < 0 else len(text[at:end].rstrip('\r')) + at
@@ -119,6 +123,8 @@ def escape_code(escape, form):
 def literal_at(text, at):
     """The literal that opens here, as its form, its value and its end without the suffix; None
     where none opens."""
+    if text[at] not in LITERAL_BEGINS:
+        return None
     forms = {'': 'str', 'b': 'bytes', 'c': 'cstr'}
     raw = RAW.match(text, at)
     if raw:
@@ -164,9 +170,7 @@ class Reader:
 
     def __init__(self, text):
         self.text, self.open, self.trees = text, [], []
-        self.places = [0]
-        for sign in text:
-            self.places.append(self.places[-1] + len(sign.encode()))
+        self.places = range(len(text) + 1) if text.isascii() else list(accumulate((len(sign.encode()) for sign in text), initial=0))
 
     def add(self, kind, start, end, **more):
         self.trees.append(Tree(kind, self.text[start:end], self.places[start], self.places[end], **more))

@@ -102,18 +102,35 @@ arm() {
     [ -z "${4:-}" ] || printf '"%s_scan" => print(&mut out, &bytes, <expanded::%s::%s as logos::Scan>::scan(%s)),\n' "${1%_tables}" "$1" "$2" "$source"
 }
 
-# Says whether a result is as rustfmt leaves it. Fails if it is not, and its source is.
-stays_settled() {
-    local options=(--edition 2021 --check)
-    [ "$(basename "$1")" != tabs.rs ] || options+=(--config hard_tabs=true)
-    ! rustfmt "${options[@]}" "$2" > "$room/difference" 2>&1 || return 0
-    ! rustfmt "${options[@]}" "$1" > /dev/null 2>&1 || { cat "$room/difference" >&2; fail "rustfmt changes $2"; }
-    return 1
+# Writes the names of the files, sources and results, that rustfmt changes.
+unsettled() {
+    local names
+    {
+        mapfile -t names < <(printf '%s\n' files/*.rs results/*.rs | grep -v '/tabs\.')
+        rustfmt --edition 2021 --check -l "${names[@]}" || true
+        rustfmt --edition 2021 --check -l --config hard_tabs=true files/tabs.rs results/tabs.*.rs || true
+    } > "$room/named" 2> "$room/complaints"
+    [ ! -s "$room/complaints" ] || { cat "$room/complaints" >&2; return 1; }
+    sed "s|^$(pwd -P)/||" "$room/named" > "$room/lexers_unsettled"
+}
+
+# Counts the results that are as rustfmt leaves them. Fails if one is not, and its source is.
+count_settled() {
+    local name
+    { rustfmt --version; cat "$here/run.sh" files/*.rs results/*.rs; } | kept "$room/lexers_unsettled" unsettled || fail "rustfmt does not read a file"
+    for name in results/*.rs; do
+        if ! grep -qxF "$name" "$room/lexers_unsettled"; then
+            stable=$((stable + 1))
+        elif name=${name#results/} && ! grep -qxF "files/${name%%.*}.rs" "$room/lexers_unsettled"; then
+            fail "rustfmt changes $name"
+        fi
+    done
 }
 
 lay_out
 echo '#![deny(warnings)]' > "$room/expanded.rs"
 touch "$room/scanning"
+mkdir "$room/results"
 found=0
 stable=0
 for file in "$room"/files/*.rs; do
@@ -138,13 +155,14 @@ for file in "$room"/files/*.rs; do
         }
         arm "${name}_$shape" "${types[$name]:-$enum}" "$reads" "$scans" >> "$room/arms"
         [ -z "$scans" ] || echo "$name" >> "$room/scanning"
-        ! command -v rustfmt > /dev/null || ! stays_settled "$file" "$expanded" || stable=$((stable + 1))
+        ln "$expanded" "$room/results/$name.$shape.rs"
     done
     found=$((found + 1))
 done
 [ "$found" = "$lexers" ] || fail "$found lexers in place of $lexers"
 [ "$(wc -l < "$room/scanning")" = "$scanning" ] || fail "$(wc -l < "$room/scanning") lexers scan, in place of $scanning"
 if command -v rustfmt > /dev/null; then
+    cd "$room" && count_settled
     [ "$stable" = "$((settled * 3))" ] || fail "rustfmt leaves $stable results as they are, in place of $((settled * 3))"
 else
     echo "lexers: rustfmt is missing, so it was not asked"

@@ -8,15 +8,12 @@ folders `src`, `specs` and `proofs` of crates alone, and a list of crates at the
 sources have names that end with `.in`. In a quick test a crate that was found to be so is looked at
 again where its files or the toolchain have changed. The last line is `sources: N passed, M failed`:
 one for each crate, and one for the places of files."""
-import filecmp
 import hashlib
 import json
 import os
 import re
-import shutil
 import subprocess
 import sys
-import tempfile
 from concurrent.futures import ThreadPoolExecutor
 
 ROOT = os.path.dirname(os.path.dirname(os.path.dirname(os.path.realpath(__file__))))
@@ -36,23 +33,33 @@ def misplaced():
             if (path.endswith((".rt", ".antt")) or os.path.basename(path) in ("crates.txt", "BUILD.bazel", "MODULE.bazel")) and not PLACES.fullmatch(path)]
 
 
-def unformatted(room, name):
-    """Returns the paths of the sources of a crate that `rt fmt` changes in a copy."""
-    folder, copy = f"{ROOT}/crates/{name}", f"{room}/crates/{name}"
-    ran = subprocess.run(["rt", "fmt"], cwd=copy, stdin=subprocess.DEVNULL, stdout=subprocess.PIPE, stderr=subprocess.STDOUT, text=True)
-    if ran.returncode:
-        return [f"{name}: {ran.stdout.strip()[-200:]}"]
-    found = [os.path.relpath(f"{at}/{it}", copy) for at, _, files in os.walk(copy) for it in files]
-    return [f"{name}/{path} is not as rt fmt leaves it" for path in sorted(found)
-            if not filecmp.cmp(f"{folder}/{path}", f"{copy}/{path}", shallow=False)]
+def files_of(name):
+    """Returns the paths of the sources, definitions and proofs of a crate."""
+    return sorted(f"{at}/{it}" for part in ("src", "specs", "proofs") for at, _, files in os.walk(f"{ROOT}/crates/{name}/{part}")
+                  for it in files if it.endswith((".rt", ".antt")))
+
+
+def unformatted(at, names):
+    """Yields the path of each file of these crates that `rt fmt` would change or cannot read, and
+    what is wrong with it. Its formatter is asked about many files at a time."""
+    paths = [path for name in names for path in files_of(name)]
+    jobs = len(os.sched_getaffinity(0))
+
+    def look(some):
+        return subprocess.run([f"{at}/bin/rattle", "fmt", "--check", *some], stdin=subprocess.DEVNULL, stdout=subprocess.DEVNULL, stderr=subprocess.PIPE, text=True)
+
+    with ThreadPoolExecutor(jobs) as pool:
+        for ran in pool.map(look, filter(None, (paths[number::jobs] for number in range(jobs)))):
+            found = re.findall(r"^(.+?\.(?:rt|antt)):? (.*)", ran.stderr, re.M)
+            if ran.returncode and not found:
+                build.fail(f"the formatter fails: {ran.stderr.strip()[-400:]}")
+            yield from found
 
 
 def sum_of(name, at):
     """Returns the sum of what decides how `rt fmt` leaves a crate, and of the crate."""
     made = hashlib.sha256()
-    paths = [os.path.realpath(__file__), f"{at}/KIT-ID", shutil.which("rt"), f"{ROOT}/crates.txt"]
-    for part in ("src", "specs", "proofs"):
-        paths += sorted(f"{folder}/{it}" for folder, _, files in os.walk(f"{ROOT}/crates/{name}/{part}") for it in files)
+    paths = [os.path.realpath(__file__), f"{at}/KIT-ID", *files_of(name)]
     for path in paths:
         with open(path, "rb") as it:
             made.update(f"{os.path.relpath(path, ROOT)} {hashlib.sha256(it.read()).hexdigest()}\n".encode())
@@ -80,20 +87,14 @@ def main():
     at, before = build.kit(), kept()
     sums = {name: sum_of(name, at) for name in names}
     changed_names = [name for name in names if before.get(name) != sums[name]]
-    with tempfile.TemporaryDirectory(prefix="sources-") as room:
-        shutil.copy(f"{ROOT}/crates.txt", room)
-        os.mkdir(f"{room}/.git")
-        for name in changed_names:
-            for folder in ("src", "specs", "proofs"):
-                if os.path.isdir(f"{ROOT}/crates/{name}/{folder}"):
-                    shutil.copytree(f"{ROOT}/crates/{name}/{folder}", f"{room}/crates/{name}/{folder}")
-        with ThreadPoolExecutor(len(os.sched_getaffinity(0))) as pool:
-            changed = list(pool.map(lambda name: unformatted(room, name), changed_names))
-    keep({**sums, **{name: "" for name, lines in zip(changed_names, changed) if lines}})
+    changed = {name: [] for name in changed_names}
+    for path, wrong in unformatted(at, changed_names):
+        changed[os.path.relpath(path, f"{ROOT}/crates").split("/")[0]].append(f"{os.path.relpath(path, ROOT)}: {wrong}")
+    keep({**sums, **{name: "" for name, lines in changed.items() if lines}})
     wrong = [f"{path} may not stand there: files of the toolchain stand in crates alone" for path in misplaced()]
-    for line in [*wrong, *(line for lines in changed for line in lines)]:
+    for line in [*wrong, *(line for lines in changed.values() for line in lines)]:
         print(f"sources: {line}")
-    failed = bool(wrong) + sum(bool(lines) for lines in changed)
+    failed = bool(wrong) + sum(map(bool, changed.values()))
     print(f"sources: {len(names) + 1 - failed} passed, {failed} failed")
     return 1 if failed else 0
 

@@ -163,63 +163,84 @@ write_program() {
       echo "} }"; } >> "$room/main.rs"
 }
 
-# Runs `logos lex`, and makes of its output the lines that an input has to give.
+# Runs `logos lex` in both shapes, and makes of its output the lines that an input has to give. They
+# lie in files named after the shape, as what it complains of does, and its status in a table.
 ask_lexer() {
-    local name=$1 input=$2 shape=$3
-    [ "$shape" != tables ] && [ "$shape" != derived ] || shape=state_machine
-    if [ ! -e "$here/skips/$name.sed" ]; then
-        "$logos" lex "$room/sources/$name.rs" "$input" --shape "$shape" > "$room/wanted" 2> "$room/complaint"
-        return
-    fi
-    "$logos" lex "$room/$name.shown.rs" "$input" --shape "$shape" > "$room/matches" 2> "$room/complaint" || return
-    sed -f "$here/skips/$name.sed" "$room/matches" > "$room/wanted"
+    local name=$1 input=$2 shape source=$room/sources/$1.rs
+    [ ! -e "$here/skips/$name.sed" ] || source=$room/$name.shown.rs
+    for shape in state_machine tailcall; do
+        status[$shape]=0
+        "$logos" lex "$source" "$input" --shape "$shape" > "$room/wanted.$shape" 2> "$room/complaint.$shape" || status[$shape]=$?
+        [ "$source" != "$room/$name.shown.rs" ] || sed -i -f "$here/skips/$name.sed" "$room/wanted.$shape"
+    done
 }
 
-# Compares what the text of a source in a shape finds in an input with the lines of the lexer.
+# Compares what the text of a source in a shape finds in an input with the lines of the lexer, which
+# has a shape of its own for two of them.
 compare() {
-    local name=$1 input=$2 shape=$3 what status=0
-    what="the $shape text of $name on $(basename "$input")"
-    ask_lexer "$name" "$input" "$shape" || status=$?
-    if [ -n "${not_utf8[$(basename "$input")]:-}" ] && [[ $of_bytes != *" $name "* ]]; then
-        if [ "$status" != 1 ] || [ "$(< "$room/complaint")" != "NotUtf8 ${not_utf8[$(basename "$input")]}" ]; then
-            fail "$what: status $status and $(< "$room/complaint"), where bytes that are not UTF-8 have to be refused"
+    local name=$1 input=$2 shape=$3 file=${2##*/} what complaint asked=state_machine
+    what="the $shape text of $name on $file"
+    [ "$shape" != tailcall ] || asked=tailcall
+    if [ "${status[$asked]}" != 0 ] || [ -n "${not_utf8[$file]:-}" ]; then
+        complaint=$(< "$room/complaint.$asked")
+    fi
+    if [ -n "${not_utf8[$file]:-}" ] && [[ $of_bytes != *" $name "* ]]; then
+        if [ "${status[$asked]}" != 1 ] || [ "$complaint" != "NotUtf8 ${not_utf8[$file]}" ]; then
+            fail "$what: status ${status[$asked]} and $complaint, where bytes that are not UTF-8 have to be refused"
         fi
         refused=$((refused + 1))
         return
     fi
-    [ "$status" = 0 ] || fail "$what: the lexer ends with status $status and $(< "$room/complaint")"
+    [ "${status[$asked]}" = 0 ] || fail "$what: the lexer ends with status ${status[$asked]} and $complaint"
     "$room/rust_text" "$name" "$shape" "$input" > "$room/found" || fail "$what: the compiled text does not end well"
-    if ! cmp -s "$room/wanted" "$room/found"; then
-        diff "$room/wanted" "$room/found" >&2 || true
+    if ! cmp -s "$room/wanted.$asked" "$room/found"; then
+        diff "$room/wanted.$asked" "$room/found" >&2 || true
         fail "$what finds other items"
     fi
-    [ "$shape" != tables ] || compare_cuts "$name" "$input"
-    [ "$shape" != tables ] || compare_scan "$name" "$input"
     compared=$((compared + 1))
 }
 
 # Compares what the tables of a source find in each beginning of an input with what its code finds
 # there.
 compare_cuts() {
-    local name=$1 input=$2 kind=text shape
+    local name=$1 input=$2 kind=text shape first
     [[ $of_bytes != *" $name "* ]] || kind=bytes
     for shape in state_machine tables; do
-        "$room/rust_text" "$name" "$shape" "$input" "$kind" > "$room/cuts.$shape" || fail "the $shape text of $name on beginnings of $(basename "$input") does not end well"
+        "$room/rust_text" "$name" "$shape" "$input" "$kind" > "$room/cuts.$shape" || fail "the $shape text of $name on beginnings of ${input##*/} does not end well"
     done
-    cmp -s "$room/cuts.state_machine" "$room/cuts.tables" || fail "the tables of $name find other items in a beginning of $(basename "$input")"
-    grep -q '^cut 0$' "$room/cuts.tables" || fail "$name on $(basename "$input") was not cut"
+    cmp -s "$room/cuts.state_machine" "$room/cuts.tables" || fail "the tables of $name find other items in a beginning of ${input##*/}"
+    read -r first < "$room/cuts.tables" || first=
+    [ "$first" = 'cut 0' ] || fail "$name on ${input##*/} was not cut"
 }
 
 # Compares what `scan` finds by the tables of a source with what they find otherwise, in inputs that
 # are made of this one, whole and in parts.
 compare_scan() {
-    local name=$1 input=$2 how=parted
+    local name=$1 input=$2 how=parted lines
     [[ $placed != *" $name "* ]] || how=scan
     "$room/rust_text" "$name" $how "$input" > "$room/told" 2> "$room/scanned" \
-        || { cat "$room/scanned" >&2; fail "what scan finds by the tables of $name in inputs made of $(basename "$input")"; }
-    scanned=$((scanned + $(tail -n 1 "$room/scanned")))
+        || { cat "$room/scanned" >&2; fail "what scan finds by the tables of $name in inputs made of ${input##*/}"; }
+    mapfile -t lines < "$room/scanned"
+    scanned=$((scanned + lines[-1]))
 }
 
+# Compares what the tables of all sources find in beginnings of their inputs, and by `scan`. Writes
+# how many items `scan` finds.
+compare_tables() {
+    local inputs input name
+    for inputs in "$room"/inputs/*; do
+        name=${inputs##*/}
+        for input in "$inputs"/*; do
+            if [ -z "${not_utf8[${input##*/}]:-}" ] || [[ $of_bytes = *" $name "* ]]; then
+                compare_cuts "$name" "$input"
+                compare_scan "$name" "$input"
+            fi
+        done
+    done
+    echo "$scanned" > "$room/rust_text_scanned"
+}
+
+declare -A status
 command -v rustc > /dev/null || fail "rustc is missing"
 export LOGOS_CLI=$cli
 lay_out
@@ -227,11 +248,15 @@ write_program
 { of_runtime "$root"; cat "$root"/runtime/derive/src/*.rs "$here/serde.rs" "$room/main.rs"; } | kept_by_answers "$room/rust_text" compile || fail "rustc refuses the printed texts"
 for inputs in "$room"/inputs/*; do
     for input in "$inputs"/*; do
+        ask_lexer "${inputs##*/}" "$input"
         for shape in "${shapes[@]}"; do
-            compare "$(basename "$inputs")" "$input" "$shape"
+            compare "${inputs##*/}" "$input" "$shape"
         done
     done
 done
+{ cat "$here/run.sh" "$room/rust_text"; (cd "$room/inputs" && find . -type f -print0 | LC_ALL=C sort -z | xargs -0 sha256sum); } \
+    | kept "$room/rust_text_scanned" compare_tables || exit 1
+scanned=$(< "$room/rust_text_scanned")
 [ "$compared $refused" = "$comparisons $refusals" ] \
     || fail "$compared comparisons and $refused refusals, where $comparisons and $refusals are stated"
 [ "$scanned" -ge "$scans" ] || fail "scan found $scanned items, where $scans are stated"

@@ -1,6 +1,6 @@
 //! The command `lex`: a line for each item of an input, written in blocks while the input is lexed.
 
-ghost use Rattle.std.specs.Prelude.{◌≡◌, ◌++◌, ◌+◌, ◌<◌, ◌≤◌, ℕ, List, [], IfErr, IfOk, IfSome, OnOk, IsTrue, IsUtf8, vec_len, vec_capacity};
+ghost use Rattle.std.specs.Prelude.{◌≡◌, ◌++◌, ◌+◌, ◌<◌, ◌≤◌, ℕ, List, [], IfErr, OnOk, IsTrue, IsUtf8, vec_len, vec_capacity};
 ghost use Rattle.logos_commands.specs.Views.{Appends, Keeps, Action as Answer, answers_of, item_of, WritesLines, emits, line_of, AppendsFront, status_of, Output, IsTornBy, PrintsItems, PrintsItemsOf, RefusesInput, RefusesItems};
 
 use crate::failure::CommandFailure;
@@ -13,10 +13,10 @@ use logos_codegen::leaf::LeafId;
 use logos_codegen::machine::{Action, Item, Lexer};
 use logos_fold::folded::Folded;
 use logos_host::{Files, write_full, write_through};
-use logos_scan::choice::suits;
+use logos_scan::choice::rows_for;
 use logos_scan::run::{Reading, Run};
 use logos_walk::masks::ChunkEntries;
-use std::alloc::{AllocError, Global};
+use std::alloc::Global;
 use std::io::Write;
 
 /// The length in bytes from which a block is written.
@@ -109,20 +109,6 @@ fn lex_by_code<O: Write>(
             valid_up_to: error.valid_up_to,
         }),
     }
-}
-
-/// Returns the folded rows of a code where a run by chunks likely takes less time than a lexer.
-fn rows_for<'c, 's>(
-    alloc: Global,
-    code: &'c Code<'s>,
-    input: &[u8],
-) -> Result<Option<Folded<'c, 's>>, AllocError>
-    ensures { IfOk result (λ rows. IfSome rows (λ folded. folded.code ≡ code.now)) }
-{
-    if suits(code, input) {
-        return Folded::new(alloc, code);
-    }
-    Ok(None)
 }
 
 /// Writes a line for each item of an input, found by chunks and collected in a block, and flushes

@@ -12,7 +12,7 @@ use logos_codegen::token::Span;
 pub(super) const LONGEST: usize = 70;
 
 /// Writes the line of an item at the end of the array, and returns where it begins.
-#[inline]
+#[inline(always)]
 pub(super) fn write_line(line: &mut [u8; LONGEST], item: Item<'_>) -> usize
     ensures { drop result line.new ≡ line_of (item_of item.entry) }
 {

@@ -9,7 +9,7 @@ use logos_codegen::leaf::LeafId;
 use logos_codegen::machine::{Action, Item, Lexer};
 use logos_fold::folded::Folded;
 use logos_host::Failure;
-use logos_scan::choice::suits;
+use logos_scan::choice::rows_for;
 use logos_scan::run::{Reading, Run};
 use logos_walk::masks::ChunkEntries;
 use std::alloc::{AllocError, Global};
@@ -56,18 +56,6 @@ pub(crate) fn write_all<B: ItemBlock, O: Write>(
             valid_up_to: error.valid_up_to,
         }),
     }
-}
-
-/// Returns the folded rows of a code where a run by chunks likely takes less time than a lexer.
-fn rows_for<'c, 's>(
-    alloc: Global,
-    code: &'c Code<'s>,
-    input: &[u8],
-) -> Result<Option<Folded<'c, 's>>, AllocError> {
-    if suits(code, input) {
-        return Folded::new(alloc, code);
-    }
-    Ok(None)
 }
 
 /// Writes each item of an input, found by chunks.

@@ -1,9 +1,11 @@
 //! Whether a run by chunks takes less time than a lexer.
 
-ghost use Rattle.std.specs.Prelude.{◌≤◌, ◌+◌, length};
+ghost use Rattle.std.specs.Prelude.{◌≡◌, ◌≤◌, ◌+◌, IfOk, IfSome, length};
 
 use crate::tries::{Taken, tried};
 use logos_code::code::Code;
+use logos_fold::folded::Folded;
+use std::alloc::{AllocError, Global};
 
 /// How many bytes are looked at from one point of an input on.
 const SAMPLE: usize = 2_048;
@@ -50,6 +52,25 @@ fn suits_at(code: &Code, input: &[u8], at: usize) -> bool
     let long = counts.items <= SAMPLE / 3;
     let errors = counts.errors <= counts.items / 20;
     short & long & errors
+}
+
+/// Returns the folded rows of a code where a run by chunks likely takes less time on the input than
+/// a lexer, and there are not too many states for them.
+///
+/// # Errors
+///
+/// Returns `AllocError` if memory runs out.
+pub fn rows_for<'c, 's>(
+    alloc: Global,
+    code: &'c Code<'s>,
+    input: &[u8],
+) -> Result<Option<Folded<'c, 's>>, AllocError>
+    ensures { IfOk result (λ rows. IfSome rows (λ folded. folded.code ≡ code.now)) }
+{
+    if suits(code, input) {
+        return Folded::new(alloc, code);
+    }
+    Ok(None)
 }
 
 /// Returns where the first line begins that begins in a part of an input, after its first byte, or

@@ -3,7 +3,7 @@
 ghost use Rattle.std.specs.Prelude.{◌≡◌, map, IfOk};
 ghost use Rattle.logos_scan.specs.Words.{answers_of, item_of, Runs};
 
-use crate::choice::suits;
+use crate::choice::rows_for;
 use crate::run::{Reading, Run};
 use logos_code::action::Action;
 use logos_fold::folded::Folded;
@@ -27,10 +27,7 @@ pub fn items<'i, C: Fn(LeafId, &[u8]) -> Action + Drop>(
     ensures { IfOk result (λ items. Runs lexer.entry.code (answers_of C.Fn lexer.entry.callback)
         lexer.entry.input 0 (map item_of items.items)) }
 {
-    if !suits(lexer.code(), lexer.input()) {
-        return lexer.items(alloc);
-    }
-    match Folded::new(alloc, lexer.code())? {
+    match rows_for(alloc, lexer.code(), lexer.input())? {
         Some(folded) => items_by_chunks(alloc, &folded, lexer.input(), lexer.callback()),
         None => lexer.items(alloc),
     }
