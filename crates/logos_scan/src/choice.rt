@@ -50,7 +50,7 @@ fn suits_at(code: &Code, input: &[u8], at: usize) -> bool
     let counts = counted(code, &input[from..from + SAMPLE]);
     let short = counts.items >= SAMPLE / 20;
     let long = counts.items <= SAMPLE / 3;
-    let errors = counts.errors <= counts.items / 32;
+    let errors = counts.errors <= counts.items / 20;
     short & long & errors
 }
 

@@ -1,4 +1,4 @@
-use Rattle.std.proofs.Common.{◌≡◌, ◌+◌, ◌*◌, ◌<◌, refl, slice_index, arith}
+use Rattle.std.proofs.Common.{◌+◌, ◌*◌, ◌<◌, refl, slice_index, arith}
 use Rattle.logos_walk.proofs.CursorLemmas.{left_whole, passes_word}
 use Rattle.logos_walk.proofs.cursor.ChunkCursor.moved.Goals as goal
 
