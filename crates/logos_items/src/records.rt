@@ -22,10 +22,10 @@ use std::mem;
 ///
 /// Returns `NotUtf8` if the lexer reads text and the input is not UTF-8, `Output` if writing fails,
 /// and `Memory` if memory runs out.
-pub fn write_item_records<O: Write>(
+pub fn write_item_records<'t, O: Write>(
     alloc: Global,
-    code: &Code<'_>,
-    input: &[u8],
+    code: &'t Code<'t>,
+    input: &'t [u8],
     out: &mut O,
 ) -> Result<String, Failure<'static>>
     ensures { IfErr result IsNoMisuse }
@@ -46,9 +46,9 @@ pub fn write_item_records<O: Write>(
 
 /// Where the objects of the items of an input go.
 #[derive(Drop)]
-struct Records<'t, 'c, 's> {
+struct Records<'t> {
     alloc: Global,
-    leaves: &'c [CodeLeaf<'s>],
+    leaves: &'t [CodeLeaf<'t>],
     /// The objects that are not written yet.
     block: Vec<u8>,
     counts: Counts,
@@ -56,7 +56,7 @@ struct Records<'t, 'c, 's> {
     cursor: Cursor<'t>,
 }
 
-impl<'t, 'c, 's> ItemBlock for Records<'t, 'c, 's> {
+impl<'t> ItemBlock for Records<'t> {
     fn add(&mut self, item: Item<'_>) -> Result<(), AllocError> {
         match item {
             Item::Token { leaf, span, slice } => {
