@@ -66,10 +66,10 @@ def given(data, enum='Token', pieces=None):
     return running.returncode, out.decode(errors='replace').split('\n\n')[0].split('\n'), err.decode()
 
 
-def line(running):
-    """Returns the next line, or None if none comes soon."""
+def line(running, most=SECONDS):
+    """Returns the next line, or None if none begins within so many seconds."""
     found = b''
-    while select.select([running.stdout], [], [], 0.3 if not found else SECONDS)[0]:
+    while select.select([running.stdout], [], [], most if not found else SECONDS)[0]:
         found += os.read(running.stdout.fileno(), 1)
         if found.endswith(b'\n'):
             return found.decode()
@@ -84,7 +84,7 @@ def decided_items_come():
             os.write(running.stdin.fileno(), text)
             for item in wanted:
                 wants(f'after {text}', item, line(running))
-            wants(f'after {text}', None, line(running))
+            wants(f'after {text}', None, line(running, 0.3))
         running.stdin.close()
         wants('at the end', '4:3  <error>  "\\""\n', line(running))
         wants('the status', 0, running.wait(SECONDS))
