@@ -3,11 +3,11 @@
 ghost use Rattle.std.specs.Prelude.{IfErr};
 ghost use Rattle.logos_items.specs.Words.{IsNoMisuse};
 
-use crate::blocks::{BLOCK, print_bytes};
-use crate::inputs::{ItemBlock, write_all};
+use crate::blocks::{BLOCK, print_bytes, write_if_full};
 use logos_answers::{Counts, code_name_at, note_of};
 use logos_codegen::code::{Code, CodeLeaf};
-use logos_codegen::machine::Item;
+use logos_codegen::leaf::LeafId;
+use logos_codegen::machine::{Action, Item, Lexer};
 use logos_host::Failure;
 use logos_lines::Cursor;
 use logos_records::{ItemRecord, JsonLines, push_item_record};
@@ -22,73 +22,106 @@ use std::mem;
 ///
 /// Returns `NotUtf8` if the lexer reads text and the input is not UTF-8, `Output` if writing fails,
 /// and `Memory` if memory runs out.
-pub fn write_item_records<'t, O: Write>(
+pub fn write_item_records<O: Write>(
     alloc: Global,
-    code: &'t Code<'t>,
-    input: &'t [u8],
+    code: &Code<'_>,
+    input: &[u8],
     out: &mut O,
 ) -> Result<String, Failure<'static>>
     ensures { IfErr result IsNoMisuse }
 {
     let mut records = Records {
         alloc,
-        leaves: code.leaves(),
         block: Vec::with_capacity(alloc, BLOCK + BLOCK / 16)?,
         counts: Counts::new(alloc, code.leaves().len())?,
-        cursor: Cursor::new(input),
     };
-    write_all(alloc, code, input, &mut records, out)?;
+    write_all_records(code, input, &mut records, out)?;
     // The note is made first, so that nothing is printed if memory runs out.
     let note = note_of(alloc, code.leaves(), &records.counts)?;
     print_bytes(&records.block, out)?;
     Ok(note)
 }
 
-/// Where the objects of the items of an input go.
+/// Where the objects of items go.
 #[derive(Drop)]
-struct Records<'t> {
+struct Records {
     alloc: Global,
-    leaves: &'t [CodeLeaf<'t>],
     /// The objects that are not written yet.
     block: Vec<u8>,
     counts: Counts,
-    /// Where the last item begins.
-    cursor: Cursor<'t>,
 }
 
-impl<'t> ItemBlock for Records<'t> {
-    fn add(&mut self, item: Item<'_>) -> Result<(), AllocError> {
-        match item {
-            Item::Token { leaf, span, slice } => {
-                self.cursor.go_to(span.from);
-                self.counts.count_token(leaf.0);
-                let record = ItemRecord {
-                    position: self.cursor.position(),
-                    from: span.from,
-                    leaf: Some(leaf.0),
-                    variant: code_name_at(self.leaves, leaf.0),
-                    bytes: slice,
-                };
-                push_record(self.alloc, &mut self.block, record)
-            }
-            Item::Error { span, slice, .. } => {
-                self.cursor.go_to(span.from);
-                self.counts.count_error();
-                let record = ItemRecord {
-                    position: self.cursor.position(),
-                    from: span.from,
-                    leaf: None,
-                    variant: None,
-                    bytes: slice,
-                };
-                push_record(self.alloc, &mut self.block, record)
-            }
+/// Writes an object for each item of an input, by blocks. The last block is left to the caller.
+fn write_all_records<O: Write>(
+    code: &Code<'_>,
+    input: &[u8],
+    records: &mut Records,
+    out: &mut O,
+) -> Result<(), Failure<'static>>
+    ensures { IfErr result IsNoMisuse }
+{
+    let emit = |_leaf: LeafId, _slice: &[u8]| Action::Emit;
+    match Lexer::new_bytes(code, input, emit) {
+        Ok(lexer) => {
+            let mut lexer = lexer;
+            write_records(&mut lexer, code.leaves(), records, out)
         }
+        Err(error) => Err(Failure::NotUtf8 {
+            valid_up_to: error.valid_up_to,
+        }),
     }
+}
 
-    #[inline(always)]
-    fn text(&mut self) -> &mut Vec<u8> {
-        &mut self.block
+/// Writes an object for each item that a lexer still gives, by blocks.
+fn write_records<C: Fn(LeafId, &[u8]) -> Action, O: Write>(
+    lexer: &mut Lexer<'_, '_, '_, C>,
+    leaves: &[CodeLeaf<'_>],
+    records: &mut Records,
+    out: &mut O,
+) -> Result<(), Failure<'static>>
+    requires { C.IsAlwaysCallable lexer.old.callback }
+    ensures { IfErr result IsNoMisuse }
+{
+    let mut cursor = Cursor::new(lexer.remainder());
+    while let Some(item) = lexer.next() {
+        add_record(records, leaves, &mut cursor, item)?;
+        write_if_full(&mut records.block, out)?;
+    }
+    Ok(())
+}
+
+/// Adds the object of an item, and counts it.
+fn add_record(
+    records: &mut Records,
+    leaves: &[CodeLeaf<'_>],
+    cursor: &mut Cursor<'_>,
+    item: Item<'_>,
+) -> Result<(), AllocError> {
+    match item {
+        Item::Token { leaf, span, slice } => {
+            cursor.go_to(span.from);
+            records.counts.count_token(leaf.0);
+            let record = ItemRecord {
+                position: cursor.position(),
+                from: span.from,
+                leaf: Some(leaf.0),
+                variant: code_name_at(leaves, leaf.0),
+                bytes: slice,
+            };
+            push_record(records.alloc, &mut records.block, record)
+        }
+        Item::Error { span, slice, .. } => {
+            cursor.go_to(span.from);
+            records.counts.count_error();
+            let record = ItemRecord {
+                position: cursor.position(),
+                from: span.from,
+                leaf: None,
+                variant: None,
+                bytes: slice,
+            };
+            push_record(records.alloc, &mut records.block, record)
+        }
     }
 }
 

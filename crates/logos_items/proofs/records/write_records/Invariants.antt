@@ -1,0 +1,11 @@
+use Rattle.std.proofs.Common.{◌≡◌, ◌-◌, length}
+use Rattle.logos_items.proofs.records.write_records.Given as goal
+
+-- the callback stays
+abbrev pub invariant-loop-item : goal.invariant-loop-item
+invariant-loop-item g l = record {
+  same_callback : l.lexer.callback ≡ l.fn.lexer.callback;
+}
+
+abbrev pub decreases-loop-item : goal.decreases-loop-item
+decreases-loop-item g l = length l.lexer.input - l.lexer.to
