@@ -51,7 +51,7 @@ builds() {
 
 # The checks end the program that was built last.
 is_ended() {
-    "$room/built" > /dev/null 2>&1
+    ("$room/built" > /dev/null 2>&1; exit $?) 2> /dev/null
     [ $? -gt 128 ]
 }
 
