@@ -97,6 +97,7 @@ commit_line() {
 
 room=$(mktemp -d)
 trap 'rm -rf "$room"' EXIT
+[ "$proved" = yes ] || [ -n "$built" ] || echo "Building ${names[*]}: about 8 minutes of processor time" >&2
 build_all || exit 1
 commit_line > "$room/commit"
 mkdir -p "$bin"
