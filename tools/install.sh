@@ -121,4 +121,4 @@ else
         echo "  $name: $(tail -n 1 "$room/$name.said")"
     done
 fi
-case :$PATH: in *:$bin:*) ;; *) echo "$bin is not on your PATH: add it, or call the programs by their paths." ;; esac
+case :$PATH: in *:$bin:*) ;; *) echo "$bin is not on your PATH: export PATH=\"$bin:\$PATH\" adds it. The derive macro looks into ~/.local/bin in any case." ;; esac

@@ -29,4 +29,4 @@ for it in README.md CHANGELOG.md LICENSE-APACHE LICENSE-MIT COMMIT docs runtime;
 done
 echo "Installed in $prefix/bin: logos_cli, logos_show, logos, of commit $(head -n 1 "$here/COMMIT" | cut -c 1-12)."
 echo "In Cargo.toml: logos = { path = \"$prefix/share/logos/runtime/rust\" }"
-case :$PATH: in *:$prefix/bin:*) ;; *) echo "$prefix/bin is not on your PATH: add it, or call the programs by their paths." ;; esac
+case :$PATH: in *:$prefix/bin:*) ;; *) echo "$prefix/bin is not on your PATH: export PATH=\"$prefix/bin:\$PATH\" adds it. The derive macro looks into ~/.local/bin in any case." ;; esac

@@ -13,6 +13,7 @@ import subprocess
 import sys
 
 MARK = re.compile(r"( *// *)(\^+) (.*)|//\.\. (.*)")
+MORE = re.compile(r" *//> (.*)")
 
 
 def sources(table):
@@ -28,6 +29,8 @@ def wanted(source):
     errors, line = [], 0
     for number, text in enumerate(source.split("\n"), 1):
         mark = MARK.fullmatch(text)
+        if MORE.fullmatch(text):
+            continue
         if not mark:
             line = number
             continue
@@ -37,6 +40,19 @@ def wanted(source):
             start = len(mark[1]) + 1
             errors.append((line, start, start + len(mark[2]), mark[3]))
     return sorted(errors, key=str)
+
+
+def further(source):
+    """Returns the lines that are written in a source as those after the first one of an error, for
+    each error that has some."""
+    lists = [[]]
+    for text in source.split("\n"):
+        more = MORE.fullmatch(text)
+        if more:
+            lists[-1].append(more[1])
+        else:
+            lists.append([])
+    return [lines for lines in lists if lines]
 
 
 def write(folder, name, text):
@@ -77,15 +93,18 @@ def main():
     named = sources(table)
     programs = lay_out(folder, named, os.path.realpath(runtime))
     errors = {program: [] for program in programs}
+    lines = {program: [] for program in programs}
     for program, message in messages(folder, "--bins"):
         if message["level"] == "error":
             errors[program].append(found(message))
+            lines[program].append(message["message"].split("\n")[1:])
     failed = 0
     for program, name in programs.items():
-        expected = wanted(named[name])
-        if not expected or sorted(errors[program], key=str) != expected:
+        expected, more = wanted(named[name]), further(named[name])
+        lacking = [it for it in more if it not in lines[program]]
+        if not expected or sorted(errors[program], key=str) != expected or lacking:
             failed += 1
-            print(f"{name}:\n  wanted {expected}\n  found  {sorted(errors[program], key=str)}")
+            print(f"{name}:\n  wanted {expected} {lacking}\n  found  {sorted(errors[program], key=str)} {lines[program]}")
     print(f"{len(programs) - failed} passed, {failed} failed")
     sys.exit(failed != 0)
 

@@ -27,7 +27,7 @@
 set -uo pipefail
 
 accepted=36
-refused=34
+refused=35
 programs=24
 switched=3
 features=3

@@ -37,6 +37,8 @@ pub struct Message {
     pub spans: Vec<Label>,
     /// The lines after it: `note: ..` or `help: ..`.
     pub lines: Vec<String>,
+    /// The message as the program shows it to a person: with a line of the question, and carets.
+    pub shown: Option<String>,
 }
 
 /// A byte range of a message, with what it says of it.
@@ -148,6 +150,7 @@ fn message(value: &Json) -> Option<Message> {
             .iter()
             .filter_map(child)
             .collect(),
+        shown: value.get("rendered").text().map(String::from),
     })
 }
 

@@ -3,6 +3,7 @@
 use crate::answer::{Label, Message};
 use crate::ask::Failure;
 use crate::question::{Place, Question};
+use crate::shown;
 use proc_macro::{Delimiter, Group, Ident, Literal, Punct, Spacing, Span, TokenStream, TokenTree};
 
 /// Returns the error for a failure, under the derive.
@@ -29,7 +30,7 @@ pub fn text(message: &Message, question: &Question) -> String {
     let mut lines = vec![message.text.clone()];
     if let Some(label) = primary(message) {
         lines.extend(label.text.iter().map(|text| format!("note: {text}")));
-        lines.extend(in_literal(label, question));
+        lines.extend(in_literal(label, question).or_else(|| in_pattern(message, label, question)));
     }
     lines.extend(
         message
@@ -90,6 +91,20 @@ fn in_literal(label: &Label, question: &Question) -> Option<String> {
         " ".repeat(column),
         "^".repeat(marked)
     ))
+}
+
+/// Returns the notes for a place inside of a pattern, where the program says that the whole literal
+/// is faulty, and shows by carets where.
+fn in_pattern(message: &Message, label: &Label, question: &Question) -> Option<String> {
+    let shown = message.shown.as_deref()?;
+    let literal = question.text.get(label.from..label.to)?;
+    let put_in = shown::put_in(shown).map(|note| format!("note: the byte counts with {note}"));
+    let (line, column, marked) = match shown::carets(shown, literal) {
+        Some(place) if place.0.chars().count() <= LONG => place,
+        _ => return put_in,
+    };
+    let (blanks, carets) = (" ".repeat(column), "^".repeat(marked));
+    Some(format!("note: in this literal\n{line}\n{blanks}{carets}"))
 }
 
 /// The longest line that is shown as a whole, in characters.

@@ -28,6 +28,7 @@ mod input;
 mod json;
 mod program;
 mod question;
+mod shown;
 mod stub;
 mod tracked;
 mod type_syntax;
