@@ -30,6 +30,7 @@ PARTS = {
     "contracts": ("docs/PROOFS.md", "By `lexeme_at`", "By `lexeme_of`"),
     "pages": ("tests/lints/pages.py", '"README.md": 110', '"README.md": 20'),
     "crates_page": ("crates.txt", "logos_lines:\n", ""),
+    "bodies_pages": ("crates/logos_walk/must-fail/others.md", "old: tokens: cursor.tokens &", "old: tokens: cursor.token &"),
     "sources": ("tests/lints/sources.py", "crates\\.txt", "crates\\.text"),
     "rattle_examples": ("examples/config/data/expected", None, "?"),
     "memory_tools": ("tests/memory/run.py", "status == 3", "status == 4"),
