@@ -173,7 +173,7 @@ impl SampleCounts {
     ///
     /// The numbers are measured: a lexer takes about as long for three states as a run for ten
     /// bytes or tries. An error costs a run more where items are longer, since it steps again over
-    /// what stands behind it.
+    /// what comes after it.
     fn suit_runs(self) -> bool {
         let entered = self.states.wrapping_mul(10) / 3;
         let long = self.items <= SAMPLED / 3;
