@@ -1,57 +1,90 @@
 //! Whether a run by chunks takes less time than a lexer.
 
-ghost use Rattle.std.specs.Prelude.{◌≡◌, ◌≤◌, ◌+◌, IfOk, IfSome, length};
+ghost use Rattle.std.specs.Prelude.{◌≡◌, ◌<◌, ◌≤◌, ◌+◌, IfOk, IfSome, length};
 
-use crate::tries::{Taken, tried};
 use logos_code::code::Code;
 use logos_fold::folded::Folded;
+use logos_machine::machine::walk::{Outcome, attempt};
 use std::alloc::{AllocError, Global};
 
-/// How many bytes are looked at from one point of an input on.
-const SAMPLE: usize = 2_048;
+/// In how many parts of an input samples are looked at.
+const PARTS: usize = 16;
 
-/// Among how many bytes from that point on the sample lies.
+/// How many bytes a sample has.
+const SAMPLE: usize = 512;
+
+/// How many bytes all samples have.
+const SAMPLED: usize = PARTS * SAMPLE;
+
+/// Among how many bytes of its part a sample lies.
 const SPREAD: usize = 2 * SAMPLE;
+
+/// The most errors of a sample that count: one that begins within a quote may have many more.
+const ERRORS: usize = 4;
 
 /// How many bytes of input pay for the folded row of one state.
 const WORTH: usize = 8_192;
 
-/// How many items there are in a part of an input, and how many of them are errors.
+/// What a lexer meets in samples of an input.
 #[derive(Clone, Copy, Drop)]
 struct SampleCounts {
+    /// How many tries it makes.
+    tries: usize,
+    /// How many of them end with an item.
     items: usize,
+    /// How many items are errors.
     errors: usize,
+    /// How many states its tries enter.
+    states: usize,
 }
+
+/// The counts of no bytes.
+const NOTHING: SampleCounts = SampleCounts {
+    tries: 0,
+    items: 0,
+    errors: 0,
+    states: 0,
+};
 
 /// Returns whether a run by chunks likely takes less time on the input than a lexer. Any answer is
 /// right: both find the same items.
 ///
-/// A run loses where matches are long, where nearly each byte is one, where there are many errors,
-/// and where the input is too short for what the folded rows take. Four parts of the input are
-/// looked at, each from the beginning of a line on where there is one, and one of them may be
-/// otherwise.
+/// A run takes the same time for each byte, and less for a token than a lexer, which takes most of
+/// its time for the states that it enters. So a run loses where matches stay long in few states,
+/// where nearly each byte is an item, where there are many errors, and where the input is too short
+/// for what the folded rows take. Samples from sixteen parts of the input are looked at, each from
+/// the beginning of a line on where there is one.
 pub fn suits(code: &Code, input: &[u8]) -> bool {
-    let quarter = input.len() / 4;
-    if quarter < SPREAD || input.len() / WORTH < code.parts().states.len() {
+    let part = input.len() / PARTS;
+    if part < SPREAD || input.len() / WORTH < code.parts().states.len() {
         return false;
     }
-    let first = suits_at(code, input, 0);
-    let second = suits_at(code, input, quarter);
-    let third = suits_at(code, input, 2 * quarter);
-    let fourth = suits_at(code, input, 3 * quarter);
-    (first & second & (third | fourth)) | (third & fourth & (first | second))
+    in_parts(code, input, part).suit_runs()
 }
 
-/// Returns whether a run by chunks suits the bytes from a point of the input on.
-fn suits_at(code: &Code, input: &[u8], at: usize) -> bool
+/// Counts what a lexer meets in a sample from each part of an input, which has so many bytes.
+fn in_parts(code: &Code, input: &[u8], part: usize) -> SampleCounts
+    requires { SPREAD ≤ part }
+{
+    let mut counts = NOTHING;
+    let mut at = 0;
+    while input.len() - at >= part {
+        counts = counts.and(in_sample(code, input, at));
+        at += part;
+    }
+    counts
+}
+
+/// Counts what a lexer meets in the sample of the part that begins at a point of the input.
+fn in_sample(code: &Code, input: &[u8], at: usize) -> SampleCounts
     requires { at + SPREAD ≤ length input.now }
 {
     let from = at + line_start(&input[at..at + SAMPLE]);
     let counts = counted(code, &input[from..from + SAMPLE]);
-    let short = counts.items >= SAMPLE / 20;
-    let long = counts.items <= SAMPLE / 3;
-    let errors = counts.errors <= counts.items / 20;
-    short & long & errors
+    SampleCounts {
+        errors: counts.errors.min(ERRORS),
+        ..counts
+    }
 }
 
 /// Returns the folded rows of a code where a run by chunks likely takes less time on the input than
@@ -86,28 +119,65 @@ fn line_start(part: &[u8]) -> usize
     0
 }
 
-/// Counts the items of a part of an input.
+/// Counts what a lexer meets in a part of an input.
 fn counted(code: &Code, part: &[u8]) -> SampleCounts {
-    let mut counts = SampleCounts {
-        items: 0,
-        errors: 0,
-    };
+    let mut counts = NOTHING;
     let mut from = 0;
     while from < part.len() {
-        let (taken, next) = tried(code, part, from);
-        counts = counts.and(taken);
+        let (found, next) = met(code, part, from);
+        counts = counts.and(found);
         from = next;
     }
     counts
 }
 
+/// Returns what a lexer meets in the try from a point of a part on, and where the next one begins.
+/// A match that is skipped is taken for one of two states, as of blanks.
+fn met(code: &Code, part: &[u8], from: usize) -> (SampleCounts, usize)
+    requires { from < length part.now }
+    ensures past { from < result.1 }
+    ensures within { result.1 ≤ length part.now }
+{
+    match attempt(code, part, from) {
+        Outcome::Skips(to) => (SampleCounts::of(0, 0, 2), to),
+        Outcome::Emits(_, to, states) => (SampleCounts::of(1, 0, states), to),
+        Outcome::Asks(_, to, states) => (SampleCounts::of(1, 0, states), to),
+        Outcome::Fails(to, states) => (SampleCounts::of(1, 1, states), to),
+        Outcome::Ends(states) => (SampleCounts::of(0, 0, states), part.len()),
+    }
+}
+
 impl SampleCounts {
-    /// Returns the counts with one item more.
-    fn and(self, taken: Taken) -> SampleCounts {
-        let is_error = matches!(taken, Taken::Fails(_));
+    /// Returns the counts of one try.
+    fn of(items: usize, errors: usize, states: usize) -> SampleCounts {
         SampleCounts {
-            items: self.items.wrapping_add(1),
-            errors: self.errors.wrapping_add(usize::from(is_error)),
+            tries: 1,
+            items,
+            errors,
+            states,
         }
+    }
+
+    /// Returns the sums of these counts and of others.
+    fn and(self, found: SampleCounts) -> SampleCounts {
+        SampleCounts {
+            tries: self.tries.wrapping_add(found.tries),
+            items: self.items.wrapping_add(found.items),
+            errors: self.errors.wrapping_add(found.errors),
+            states: self.states.wrapping_add(found.states),
+        }
+    }
+
+    /// Returns whether a run by chunks likely takes less time than a lexer where these are the
+    /// counts of all samples.
+    ///
+    /// The numbers are measured: a lexer takes about as long for three states as a run for ten
+    /// bytes or tries. An error costs a run more where items are longer, since it steps again over
+    /// what comes after it.
+    fn suit_runs(self) -> bool {
+        let entered = self.states.wrapping_mul(10) / 3;
+        let long = self.items <= SAMPLED / 3;
+        let few = self.errors.wrapping_mul(3 * SAMPLED) <= self.items.wrapping_mul(self.items);
+        long & few & (entered > self.tries.wrapping_add(SAMPLED))
     }
 }
