@@ -1,9 +1,11 @@
 -- Steps on branches of which one has all places of the set.
-use Rattle.std.proofs.Common.{◌≡◌, ℕ, ◌+◌, ◌-◌, ◌<◌, ◌≤◌, ◌⊎◌, ◌||◌, Bool, true, false, List, length, slice_index, refl, ⊎_elim, arith}
-use Rattle.logos_places.specs.Core.{Core, alt, width}
+use Rattle.std.proofs.Common.{◌≡◌, ℕ, ◌+◌, ◌-◌, ◌<◌, ◌≤◌, ◌↔◌, ◌⊎◌, ◌||◌, IsTrue, Bool, true, false, List, slice_index, refl, ⊎_elim, arith}
+use Rattle.logos_places.specs.Core.{Core, Exits, alt, width}
 use Rattle.logos_places.specs.Marks.{Has, IsFirstFrom, IsRising, IsSet}
 use Rattle.logos_places.specs.inside.Stepped.{Stepped}
 use Rattle.logos_hir.specs.declared.hir.Look.{Look}
+use Rattle.logos_places.proofs.steps.JumpLemmas.{exits_nothing}
+use Rattle.logos_places.proofs.steps.StepLemmas.{exits_alt}
 use Rattle.logos_places.proofs.steps.SteppedLemmas.{stepped_alt, stepped_nothing}
 
 lt_or_ge : (a b : ℕ) → (a < b) ⊎ (b ≤ a)
@@ -49,11 +51,6 @@ begins_after xs low middle from rising first le over = record {
       (lt_or_ge from k);
 }
 
--- a place below `middle` is before the first one from there on
-pub front_some : (xs : List ℕ) (middle from at : ℕ) → IsFirstFrom xs middle at → from < length xs → slice_index xs from < middle → from < at
-front_some xs middle from at first lt under =
-    ⊎_elim (λ low. low) (λ ge. let over = first.above from ge lt in absurd (omega (arith, over, under))) (lt_or_ge from at)
-
 -- a place from `middle` on is not before the first one there
 pub back_some : (xs : List ℕ) (middle from to at : ℕ) → IsFirstFrom xs middle at → from < to → middle ≤ slice_index xs (to - 1) → at < to
 back_some xs middle from to at first some over =
@@ -78,3 +75,18 @@ module _ (test : Look → Bool) (x : ℕ) (marks : List ℕ) (a b : Core) (old n
   stepped_second from left set first last s =
       stepped_alt test x marks a b old old new base w false false left is
       (stepped_nothing test x marks a old base set (none_between marks base (width a) from from first (rw is at last) (omega arith))) s
+
+module _ (test : Look → Bool) (marks : List ℕ) (a b : Core) (base w : ℕ) (is : w ≡ width a) where
+  pub exits_first : (to : ℕ) (left : Bool) → IsFirstFrom marks (base + w) to → IsFirstFrom marks (base + (width a + width b)) to →
+      IsTrue left ↔ Exits a test (λ q. Has marks (base + q)) (IsTrue false) → IsTrue left ↔ Exits (alt a b) test (λ q. Has marks (base + q)) (IsTrue false)
+  exits_first to left first last f =
+      let end : base + (width a + width b) ≡ base + w + width b = omega (arith, is) in
+      rw (← or_false left)
+      (exits_alt test marks a b base w (IsTrue false) left false is f
+      (exits_nothing b test _ (none_between marks (base + w) (width b) to to first (rw end at last) (omega arith))))
+
+  pub exits_second : (from : ℕ) (left : Bool) → IsFirstFrom marks base from → IsFirstFrom marks (base + w) from →
+      IsTrue left ↔ Exits b test (λ q. Has marks (base + w + q)) (IsTrue false) → IsTrue left ↔ Exits (alt a b) test (λ q. Has marks (base + q)) (IsTrue false)
+  exits_second from left first last f =
+      exits_alt test marks a b base w (IsTrue false) false left is
+      (exits_nothing a test _ (none_between marks base (width a) from from first (rw is at last) (omega arith))) f
