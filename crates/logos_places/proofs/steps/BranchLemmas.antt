@@ -25,7 +25,7 @@ none_between xs base w from to first last le q lt has =
     (λ ge. let over = last.above has.at (omega (arith, ge, le)) has.within in omega (arith, over, is, lt))
     (lt_or_ge has.at from)
 
--- all places of a stretch are below `middle`
+-- all places of a tree are below `middle`
 pub ends_before : (xs : List ℕ) (high middle from to : ℕ) → IsRising xs → IsFirstFrom xs high to → from < to → middle ≤ high →
     slice_index xs (to - 1) < middle → IsFirstFrom xs middle to
 ends_before xs high middle from to rising last some le under = record {
@@ -38,7 +38,7 @@ ends_before xs high middle from to rising last some le under = record {
   above = λ k ge lt. let over = last.above k ge lt in omega (arith, over, le);
 }
 
--- all places of a stretch are from `middle` on
+-- all places of a tree are from `middle` on
 pub begins_after : (xs : List ℕ) (low middle from : ℕ) → IsRising xs → IsFirstFrom xs low from → low ≤ middle →
     middle ≤ slice_index xs from → IsFirstFrom xs middle from
 begins_after xs low middle from rising first le over = record {

@@ -7,7 +7,7 @@ ghost use Rattle.logos_places.specs.Core as core;
 
 use crate::node::{Copies, Node, TreeSpot, width};
 use crate::places::look::{Context, holds};
-use crate::places::set::{Stretch, has_mark, next_copy, stretch_of};
+use crate::places::set::{OwnPlaces, has_mark, next_copy, own_places};
 
 /// Returns whether a tree can be left, where `marks` are the places that read the byte before.
 #[cycle(exits)]
@@ -21,39 +21,43 @@ pub(crate) fn exits(node: &Node, marks: &[usize], spot: TreeSpot, at: Context) -
     if spot.entered {
         return exits_node(node, marks, spot, at);
     }
-    let own = stretch_of(marks, spot.base, width(node));
+    let own = own_places(marks, spot.base, width(node));
     if own.to <= own.from {
         return false;
     }
-    exits_marked(node, marks, spot.base, own, at)
+    exits_marked(node, marks, own, at)
 }
 
-/// Returns whether a tree can be left that is not entered, and has the places of this stretch of
-/// the set. A branch without a place is passed over.
+/// Returns whether a tree can be left that is not entered and has these places of the set. A branch
+/// without one of them is passed over.
 #[cycle(exits)]
-fn exits_marked(node: &Node, marks: &[usize], base: usize, own: Stretch, at: Context) -> bool
-    requires fits { base + core.width (core_of node.now) < 2 ^ 64 }
+fn exits_marked(node: &Node, marks: &[usize], own: OwnPlaces, at: Context) -> bool
+    requires fits { own.base + core.width (core_of node.now) < 2 ^ 64 }
     requires measured { IsTrue (is_measured node.now) }
     requires rising { IsRising marks.now }
     requires some { own.from < own.to }
-    requires from { IsFirstFrom marks.now base own.from }
-    requires to { IsFirstFrom marks.now (base + core.width (core_of node.now)) own.to }
+    requires from { IsFirstFrom marks.now own.base own.from }
+    requires to { IsFirstFrom marks.now (own.base + core.width (core_of node.now)) own.to }
     ensures { IsTrue result ↔ Exits (core_of node.now) (test_at at) (λ q.
-        Has marks.now (base + q)) (IsTrue false) }
+        Has marks.now (own.base + q)) (IsTrue false) }
 {
     let Node::Alt { first, second, .. } = node else {
-        return exits_node(node, marks, TreeSpot::unentered(base), at);
+        return exits_node(node, marks, TreeSpot::unentered(own.base), at);
     };
-    let middle = base + width(first);
+    let middle = own.base + width(first);
     if marks[own.to - 1] < middle {
-        return exits_marked(first, marks, base, own, at);
+        return exits_marked(first, marks, own, at);
     }
     if middle <= marks[own.from] {
-        return exits_marked(second, marks, middle, own, at);
+        let own = OwnPlaces {
+            base: middle,
+            ..own
+        };
+        return exits_marked(second, marks, own, at);
     }
     let (front, back) = own.parted(marks, middle);
-    let one = exits_marked(first, marks, base, front, at);
-    let other = exits_marked(second, marks, middle, back, at);
+    let one = exits_marked(first, marks, front, at);
+    let other = exits_marked(second, marks, back, at);
     one | other
 }
 

@@ -11,7 +11,7 @@ use crate::node::{Copies, Node, TreeSpot, width};
 use crate::places::exits::exits;
 use crate::places::look::{Context, holds};
 use crate::places::set::{
-    Stretch, alike_copies, first_from, has_mark, insert_mark, next_copy, push_moved, stretch_of,
+    OwnPlaces, alike_copies, first_from, has_mark, insert_mark, next_copy, push_moved, own_places,
 };
 use logos_hir::hir::Range;
 use std::alloc::AllocError;
@@ -217,15 +217,15 @@ pub(crate) fn step(
     if spot.entered {
         return step_node(node, by, spot, next);
     }
-    let own = stretch_of(by.marks, spot.base, width(node));
+    let own = own_places(by.marks, spot.base, width(node));
     if own.to <= own.from {
         return Ok(false);
     }
-    step_marked(node, by, spot.base, own, next)
+    step_marked(node, by, own, next)
 }
 
-/// Steps on a tree that is not entered, and has the places of this stretch of the set. A branch
-/// without a place is passed over.
+/// Steps on a tree that is not entered and has these places of the set. A branch without one of
+/// them is passed over.
 ///
 /// # Errors
 ///
@@ -234,34 +234,37 @@ pub(crate) fn step(
 fn step_marked(
     node: &Node,
     by: ReadByte<'_>,
-    base: usize,
-    own: Stretch,
+    own: OwnPlaces,
     next: &mut Vec<usize>,
 ) -> Result<bool, AllocError>
-    requires fits { base + core.width (core_of node.now) < 2 ^ 64 }
+    requires fits { own.base + core.width (core_of node.now) < 2 ^ 64 }
     requires measured { IsTrue (is_measured node.now) }
     requires rising { IsRising by.marks.now }
-    requires set { IsSet next.old.items base }
+    requires set { IsSet next.old.items own.base }
     requires some { own.from < own.to }
-    requires from { IsFirstFrom by.marks.now base own.from }
-    requires to { IsFirstFrom by.marks.now (base + core.width (core_of node.now)) own.to }
+    requires from { IsFirstFrom by.marks.now own.base own.from }
+    requires to { IsFirstFrom by.marks.now (own.base + core.width (core_of node.now)) own.to }
     ensures { IfOk result (λ left. Stepped (core_of node.now) (test_at by.entry.at)
         by.entry.byte by.entry.marks.now
-        next.old.items next.new.items base false left) }
+        next.old.items next.new.items own.base false left) }
 {
     let Node::Alt { first, second, .. } = node else {
-        return step_node(node, by, TreeSpot::unentered(base), next);
+        return step_node(node, by, TreeSpot::unentered(own.base), next);
     };
-    let middle = base + width(first);
+    let middle = own.base + width(first);
     if by.marks[own.to - 1] < middle {
-        return step_marked(first, by, base, own, next);
+        return step_marked(first, by, own, next);
     }
     if middle <= by.marks[own.from] {
-        return step_marked(second, by, middle, own, next);
+        let own = OwnPlaces {
+            base: middle,
+            ..own
+        };
+        return step_marked(second, by, own, next);
     }
     let (front, back) = own.parted(by.marks, middle);
-    let one = step_marked(first, by, base, front, next)?;
-    let other = step_marked(second, by, middle, back, next)?;
+    let one = step_marked(first, by, front, next)?;
+    let other = step_marked(second, by, back, next)?;
     Ok(one | other)
 }
 

@@ -202,7 +202,7 @@ exits_repeat-returns t c =
 
 pub exits-returns-then-own : goal.exits-returns-then-own
 exits-returns-then-own t c =
-    let own = c.stretch_of-own.ensures in
+    let own = c.own_places-own.ensures in
     rw c.if-spot.false
     (exits_nothing (core_of c.args.node.now) (test_at c.args.at) _
     (none_between c.args.marks.now c.args.spot.base (width (core_of c.args.node.now)) _ _ own.from (rw c.width.ensures at own.to) c.if-own.true))
@@ -214,12 +214,12 @@ exits_marked-exits_marked-requires t c =
     let marks = c.args.marks.now in
     let is = ap core_of c.in-Alt.is ∙ core-Alt _ c.in-Alt.first c.in-Alt.second in
     let v : c.width.result ≡ width a = rw c.deref.ensures at c.width.ensures in
-    let to : IsFirstFrom marks (c.args.base + (width a + width b)) c.args.own.to = rw is at c.requires.to in
+    let to : IsFirstFrom marks (c.args.own.base + (width a + width b)) c.args.own.to = rw is at c.requires.to in
     let p = pair-Alt _ c.in-Alt.first c.in-Alt.second (rw c.in-Alt.is at c.requires.measured) in
-    let fits : c.args.base + (width a + width b) < 2 ^ 64 = rw is at c.requires.fits in
+    let fits : c.args.own.base + (width a + width b) < 2 ^ 64 = rw is at c.requires.fits in
     let d = c.deref-then-marks-own.ensures in
-    let under : slice_index marks (c.args.own.to - 1) < c.args.base + width a = rw v at c.if-marks-own.true in
-    let end = ends_before marks (c.args.base + (width a + width b)) (c.args.base + width a) c.args.own.from c.args.own.to c.requires.rising to c.requires.some (omega arith) under in (
+    let under : slice_index marks (c.args.own.to - 1) < c.args.own.base + width a = rw v at c.if-marks-own.true in
+    let end = ends_before marks (c.args.own.base + (width a + width b)) (c.args.own.base + width a) c.args.own.from c.args.own.to c.requires.rising to c.requires.some (omega arith) under in (
       search (rules, the_lemmas),
       (rw d (omega (arith, fits)), (rw d p.first, (c.requires.rising, (c.requires.some, (c.requires.from, rw d end))))),
     )
@@ -231,10 +231,10 @@ exits_marked-returns-then-marks-own t c =
     let marks = c.args.marks.now in
     let is = ap core_of c.in-Alt.is ∙ core-Alt _ c.in-Alt.first c.in-Alt.second in
     let v : c.width.result ≡ width a = rw c.deref.ensures at c.width.ensures in
-    let to : IsFirstFrom marks (c.args.base + (width a + width b)) c.args.own.to = rw is at c.requires.to in
-    let end = ends_before marks (c.args.base + (width a + width b)) (c.args.base + c.width.result) c.args.own.from c.args.own.to c.requires.rising to c.requires.some (omega (arith, v)) c.if-marks-own.true in
+    let to : IsFirstFrom marks (c.args.own.base + (width a + width b)) c.args.own.to = rw is at c.requires.to in
+    let end = ends_before marks (c.args.own.base + (width a + width b)) (c.args.own.base + c.width.result) c.args.own.from c.args.own.to c.requires.rising to c.requires.some (omega (arith, v)) c.if-marks-own.true in
     rw is
-    (exits_first (test_at c.args.at) marks a b c.args.base c.width.result v c.args.own.to _ end to
+    (exits_first (test_at c.args.at) marks a b c.args.own.base c.width.result v c.args.own.to _ end to
     (rw c.deref-then-marks-own.ensures at c.exits_marked.ensures))
 
 pub exits_marked-exits_marked-requires-then-middle-marks :
@@ -245,12 +245,12 @@ exits_marked-exits_marked-requires-then-middle-marks t c =
     let marks = c.args.marks.now in
     let is = ap core_of c.in-Alt.is ∙ core-Alt _ c.in-Alt.first c.in-Alt.second in
     let v : c.width.result ≡ width a = rw c.deref.ensures at c.width.ensures in
-    let to : IsFirstFrom marks (c.args.base + (width a + width b)) c.args.own.to = rw is at c.requires.to in
+    let to : IsFirstFrom marks (c.args.own.base + (width a + width b)) c.args.own.to = rw is at c.requires.to in
     let p = pair-Alt _ c.in-Alt.first c.in-Alt.second (rw c.in-Alt.is at c.requires.measured) in
-    let fits : c.args.base + (width a + width b) < 2 ^ 64 = rw is at c.requires.fits in
+    let fits : c.args.own.base + (width a + width b) < 2 ^ 64 = rw is at c.requires.fits in
     let d = c.deref-then-middle-marks.ensures in
-    let sum : c.args.base + (width a + width b) ≡ c.args.base + c.width.result + width b = omega (arith, v) in
-    let begin = begins_after marks c.args.base (c.args.base + c.width.result) c.args.own.from c.requires.rising c.requires.from (omega arith) c.if-middle-marks.true in (
+    let sum : c.args.own.base + (width a + width b) ≡ c.args.own.base + c.width.result + width b = omega (arith, v) in
+    let begin = begins_after marks c.args.own.base (c.args.own.base + c.width.result) c.args.own.from c.requires.rising c.requires.from (omega arith) c.if-middle-marks.true in (
       search (rules, the_lemmas),
       (rw d (omega (arith, fits, v)), (rw d p.second, (c.requires.rising, (c.requires.some, (begin, rw d (rw sum at to)))))),
     )
@@ -262,9 +262,9 @@ exits_marked-returns-then-middle-marks t c =
     let marks = c.args.marks.now in
     let is = ap core_of c.in-Alt.is ∙ core-Alt _ c.in-Alt.first c.in-Alt.second in
     let v : c.width.result ≡ width a = rw c.deref.ensures at c.width.ensures in
-    let begin = begins_after marks c.args.base (c.args.base + c.width.result) c.args.own.from c.requires.rising c.requires.from (omega arith) c.if-middle-marks.true in
+    let begin = begins_after marks c.args.own.base (c.args.own.base + c.width.result) c.args.own.from c.requires.rising c.requires.from (omega arith) c.if-middle-marks.true in
     rw is
-    (exits_second (test_at c.args.at) marks a b c.args.base c.width.result v c.args.own.from _ c.requires.from begin
+    (exits_second (test_at c.args.at) marks a b c.args.own.base c.width.result v c.args.own.from _ c.requires.from begin
     (rw c.deref-then-middle-marks.ensures at c.exits_marked-then-middle-marks.ensures))
 
 pub exits_marked-returns : goal.exits_marked-returns
@@ -275,12 +275,12 @@ exits_marked-returns t c =
     let is = ap core_of c.in-Alt.is ∙ core-Alt _ c.in-Alt.first c.in-Alt.second in
     let v : c.width.result ≡ width a = rw c.deref.ensures at c.width.ensures in
     rw is
-    (exits_alt (test_at c.args.at) marks a b c.args.base c.width.result (IsTrue false) c.exits_marked-one.result c.exits_marked-other.result v
-    (rw c.deref-2.ensures at c.exits_marked-one.ensures)
-    (rw c.deref-3.ensures at c.exits_marked-other.ensures))
+    (exits_alt (test_at c.args.at) marks a b c.args.own.base c.width.result (IsTrue false) c.exits_marked-one.result c.exits_marked-other.result v
+    (rw (c.parted.ensures.base, c.deref-2.ensures) at c.exits_marked-one.ensures)
+    (rw (c.parted.ensures.after, c.deref-3.ensures) at c.exits_marked-other.ensures))
 
 pub exits-returns : goal.exits-returns
-exits-returns t c = rw c.if-spot.false c.exits_marked.ensures
+exits-returns t c = rw c.if-spot.false (rw c.own_places-own.ensures.base at c.exits_marked.ensures)
 
 pub exits_marked-returns-in_default : goal.exits_marked-returns-in_default
 exits_marked-returns-in_default t c = rw (c.unentered.ensures.base, c.unentered.ensures.entered) at c.exits_node.ensures
@@ -296,14 +296,14 @@ exits_marked-exits_marked-other-requires t c =
     let marks = c.args.marks.now in
     let is = ap core_of c.in-Alt.is ∙ core-Alt _ c.in-Alt.first c.in-Alt.second in
     let v : c.width.result ≡ width a = rw c.deref.ensures at c.width.ensures in
-    let to : IsFirstFrom marks (c.args.base + (width a + width b)) c.args.own.to = rw is at c.requires.to in
+    let to : IsFirstFrom marks (c.args.own.base + (width a + width b)) c.args.own.to = rw is at c.requires.to in
     let p = pair-Alt _ c.in-Alt.first c.in-Alt.second (rw c.in-Alt.is at c.requires.measured) in
-    let fits : c.args.base + (width a + width b) < 2 ^ 64 = rw is at c.requires.fits in
+    let fits : c.args.own.base + (width a + width b) < 2 ^ 64 = rw is at c.requires.fits in
     let d = c.deref-3.ensures in
     let parts = c.parted.ensures in
-    let sum : c.args.base + (width a + width b) ≡ c.args.base + c.width.result + width b = omega (arith, v) in
-    let over : c.args.base + c.width.result ≤ slice_index marks (c.args.own.to - 1) = omega (arith, c.if-marks-own.false) in
-    let some = back_some marks (c.args.base + c.width.result) c.args.own.from c.args.own.to _ parts.middle c.requires.some over in (
+    let sum : c.args.own.base + (width a + width b) ≡ c.args.own.base + c.width.result + width b = omega (arith, v) in
+    let over : c.args.own.base + c.width.result ≤ slice_index marks (c.args.own.to - 1) = omega (arith, c.if-marks-own.false) in
+    let some = back_some marks (c.args.own.base + c.width.result) c.args.own.from c.args.own.to _ parts.middle c.requires.some over in (
       search (rules, the_lemmas),
-      (rw d (omega (arith, fits, v)), (rw d p.second, (c.requires.rising, (rw (parts.meet, parts.to) some, (rw parts.meet parts.middle, rw (parts.to, d) (rw sum at to)))))),
+      (rw (parts.after, d) (omega (arith, fits, v)), (rw d p.second, (c.requires.rising, (rw (parts.meet, parts.to) some, (rw (parts.after, parts.meet) parts.middle, rw (parts.after, parts.to, d) (rw sum at to)))))),
     )

@@ -1,4 +1,4 @@
-use Rattle.std.proofs.Common.{Bool, ◌||◌, slice_index, ◌≡◌, ◌+◌, ◌-◌, ◌*◌, ◌≤◌, ◌<◌, ◌^◌, false, true≢false, sym, ap, ◌∙◌, arith, rules, max}
+use Rattle.std.proofs.Common.{Bool, ◌||◌, slice_index, ◌≡◌, ◌+◌, ◌-◌, ◌*◌, ◌≤◌, ◌<◌, ◌^◌, false, ap, ◌∙◌, arith, rules, max}
 use Rattle.std.proofs.Math.Nat.{mul-le-mul_left}
 use Rattle.std.proofs.lemmas.Result.{IfOk-weaker}
 use Rattle.logos_hir.specs.Hir.{pairs}
@@ -218,7 +218,7 @@ step_at_least-returns t c =
 
 pub step-returns-then-own : goal.step-returns-then-own
 step-returns-then-own t c =
-    let own = c.stretch_of-own.ensures in
+    let own = c.own_places-own.ensures in
     rw c.if-spot.false
     (stepped_nothing (test_at c.args.by.at) c.args.by.byte c.args.by.marks.now (core_of c.args.node.now) _ c.args.spot.base c.requires.set
     (none_between c.args.by.marks.now c.args.spot.base (width (core_of c.args.node.now)) _ _ own.from (rw c.width.ensures at own.to) c.if-own.true))
@@ -230,12 +230,12 @@ step_marked-step_marked-requires t c =
     let marks = c.args.by.marks.now in
     let is = ap core_of c.in-Alt.is ∙ core-Alt _ c.in-Alt.first c.in-Alt.second in
     let v : c.width.result ≡ width a = rw c.deref.ensures at c.width.ensures in
-    let to : IsFirstFrom marks (c.args.base + (width a + width b)) c.args.own.to = rw is at c.requires.to in
+    let to : IsFirstFrom marks (c.args.own.base + (width a + width b)) c.args.own.to = rw is at c.requires.to in
     let p = pair-Alt _ c.in-Alt.first c.in-Alt.second (rw c.in-Alt.is at c.requires.measured) in
-    let fits : c.args.base + (width a + width b) < 2 ^ 64 = rw is at c.requires.fits in
+    let fits : c.args.own.base + (width a + width b) < 2 ^ 64 = rw is at c.requires.fits in
     let d = c.deref-then-by-own.ensures in
-    let under : slice_index marks (c.args.own.to - 1) < c.args.base + width a = rw v at c.if-by-own.true in
-    let end = ends_before marks (c.args.base + (width a + width b)) (c.args.base + width a) c.args.own.from c.args.own.to c.requires.rising to c.requires.some (omega arith) under in (
+    let under : slice_index marks (c.args.own.to - 1) < c.args.own.base + width a = rw v at c.if-by-own.true in
+    let end = ends_before marks (c.args.own.base + (width a + width b)) (c.args.own.base + width a) c.args.own.from c.args.own.to c.requires.rising to c.requires.some (omega arith) under in (
       search (rules, the_lemmas),
       (rw d (omega (arith, fits)), (rw d p.first, (c.requires.rising, (c.requires.set, (c.requires.some, (c.requires.from, rw d end)))))),
     )
@@ -247,11 +247,11 @@ step_marked-returns-then-by-own t c =
     let marks = c.args.by.marks.now in
     let is = ap core_of c.in-Alt.is ∙ core-Alt _ c.in-Alt.first c.in-Alt.second in
     let v : c.width.result ≡ width a = rw c.deref.ensures at c.width.ensures in
-    let to : IsFirstFrom marks (c.args.base + (width a + width b)) c.args.own.to = rw is at c.requires.to in
-    let end = ends_before marks (c.args.base + (width a + width b)) (c.args.base + c.width.result) c.args.own.from c.args.own.to c.requires.rising to c.requires.some (omega (arith, v)) c.if-by-own.true in
+    let to : IsFirstFrom marks (c.args.own.base + (width a + width b)) c.args.own.to = rw is at c.requires.to in
+    let end = ends_before marks (c.args.own.base + (width a + width b)) (c.args.own.base + c.width.result) c.args.own.from c.args.own.to c.requires.rising to c.requires.some (omega (arith, v)) c.if-by-own.true in
     rw is
     (IfOk-weaker _ _ _
-    (λ left s. stepped_first (test_at c.args.by.at) c.args.by.byte marks a b _ c.step_marked.new.next.items c.args.base c.width.result v c.args.own.to left end to
+    (λ left s. stepped_first (test_at c.args.by.at) c.args.by.byte marks a b _ c.step_marked.new.next.items c.args.own.base c.width.result v c.args.own.to left end to
     (rw c.deref-then-by-own.ensures at s))
     c.step_marked.ensures)
 
@@ -263,14 +263,14 @@ step_marked-step_marked-requires-then-middle-by t c =
     let marks = c.args.by.marks.now in
     let is = ap core_of c.in-Alt.is ∙ core-Alt _ c.in-Alt.first c.in-Alt.second in
     let v : c.width.result ≡ width a = rw c.deref.ensures at c.width.ensures in
-    let to : IsFirstFrom marks (c.args.base + (width a + width b)) c.args.own.to = rw is at c.requires.to in
+    let to : IsFirstFrom marks (c.args.own.base + (width a + width b)) c.args.own.to = rw is at c.requires.to in
     let p = pair-Alt _ c.in-Alt.first c.in-Alt.second (rw c.in-Alt.is at c.requires.measured) in
-    let fits : c.args.base + (width a + width b) < 2 ^ 64 = rw is at c.requires.fits in
+    let fits : c.args.own.base + (width a + width b) < 2 ^ 64 = rw is at c.requires.fits in
     let d = c.deref-then-middle-by.ensures in
-    let sum : c.args.base + (width a + width b) ≡ c.args.base + c.width.result + width b = omega (arith, v) in
-    let begin = begins_after marks c.args.base (c.args.base + c.width.result) c.args.own.from c.requires.rising c.requires.from (omega arith) c.if-middle-by.true in (
+    let sum : c.args.own.base + (width a + width b) ≡ c.args.own.base + c.width.result + width b = omega (arith, v) in
+    let begin = begins_after marks c.args.own.base (c.args.own.base + c.width.result) c.args.own.from c.requires.rising c.requires.from (omega arith) c.if-middle-by.true in (
       search (rules, the_lemmas),
-      (rw d (omega (arith, fits, v)), (rw d p.second, (c.requires.rising, (IsSet-more _ c.args.base _ (omega arith) c.requires.set, (c.requires.some, (begin, rw d (rw sum at to))))))),
+      (rw d (omega (arith, fits, v)), (rw d p.second, (c.requires.rising, (IsSet-more _ c.args.own.base _ (omega arith) c.requires.set, (c.requires.some, (begin, rw d (rw sum at to))))))),
     )
 
 pub step_marked-returns-then-middle-by : goal.step_marked-returns-then-middle-by
@@ -280,10 +280,10 @@ step_marked-returns-then-middle-by t c =
     let marks = c.args.by.marks.now in
     let is = ap core_of c.in-Alt.is ∙ core-Alt _ c.in-Alt.first c.in-Alt.second in
     let v : c.width.result ≡ width a = rw c.deref.ensures at c.width.ensures in
-    let begin = begins_after marks c.args.base (c.args.base + c.width.result) c.args.own.from c.requires.rising c.requires.from (omega arith) c.if-middle-by.true in
+    let begin = begins_after marks c.args.own.base (c.args.own.base + c.width.result) c.args.own.from c.requires.rising c.requires.from (omega arith) c.if-middle-by.true in
     rw is
     (IfOk-weaker _ _ _
-    (λ left s. stepped_second (test_at c.args.by.at) c.args.by.byte marks a b _ c.step_marked-then-middle-by.new.next.items c.args.base c.width.result v c.args.own.from left c.requires.set c.requires.from begin
+    (λ left s. stepped_second (test_at c.args.by.at) c.args.by.byte marks a b _ c.step_marked-then-middle-by.new.next.items c.args.own.base c.width.result v c.args.own.from left c.requires.set c.requires.from begin
     (rw c.deref-then-middle-by.ensures at s))
     c.step_marked-then-middle-by.ensures)
 
@@ -294,18 +294,18 @@ step_marked-step_marked-requires-3 t c =
     let marks = c.args.by.marks.now in
     let is = ap core_of c.in-Alt.is ∙ core-Alt _ c.in-Alt.first c.in-Alt.second in
     let v : c.width.result ≡ width a = rw c.deref.ensures at c.width.ensures in
-    let to : IsFirstFrom marks (c.args.base + (width a + width b)) c.args.own.to = rw is at c.requires.to in
+    let to : IsFirstFrom marks (c.args.own.base + (width a + width b)) c.args.own.to = rw is at c.requires.to in
     let p = pair-Alt _ c.in-Alt.first c.in-Alt.second (rw c.in-Alt.is at c.requires.measured) in
-    let fits : c.args.base + (width a + width b) < 2 ^ 64 = rw is at c.requires.fits in
+    let fits : c.args.own.base + (width a + width b) < 2 ^ 64 = rw is at c.requires.fits in
     let d = c.deref-3.ensures in
     let parts = c.parted.ensures in
-    let sum : c.args.base + (width a + width b) ≡ c.args.base + c.width.result + width b = omega (arith, v) in
-    let over : c.args.base + c.width.result ≤ slice_index marks (c.args.own.to - 1) = omega (arith, c.if-by-own.false) in
-    let some = back_some marks (c.args.base + c.width.result) c.args.own.from c.args.own.to _ parts.middle c.requires.some over in (
+    let sum : c.args.own.base + (width a + width b) ≡ c.args.own.base + c.width.result + width b = omega (arith, v) in
+    let over : c.args.own.base + c.width.result ≤ slice_index marks (c.args.own.to - 1) = omega (arith, c.if-by-own.false) in
+    let some = back_some marks (c.args.own.base + c.width.result) c.args.own.from c.args.own.to _ parts.middle c.requires.some over in (
       search (rules, the_lemmas),
       (
-        rw d (omega (arith, fits, v)),
-        (rw d p.second, (c.requires.rising, (rw v (rw c.deref-2.ensures at c.in_ok-one.ensures.set), (rw (parts.meet, parts.to) some, (rw parts.meet parts.middle, rw (parts.to, d) (rw sum at to)))))),
+        rw (parts.after, d) (omega (arith, fits, v)),
+        (rw d p.second, (c.requires.rising, (rw (parts.after, v) (rw (parts.base, c.deref-2.ensures) at c.in_ok-one.ensures.set), (rw (parts.meet, parts.to) some, (rw (parts.after, parts.meet) parts.middle, rw (parts.after, parts.to, d) (rw sum at to)))))),
       ),
     )
 
@@ -318,9 +318,9 @@ step_marked-returns t c =
     let v : c.width.result ≡ width a = rw c.deref.ensures at c.width.ensures in
     rw is
     (stepped_alt (test_at c.args.by.at) c.args.by.byte marks a b
-    _ c.step_marked-2.new.next.items _ c.args.base c.width.result false c.in_ok-one.one c.in_ok-other.other v
-    (rw c.deref-2.ensures at c.in_ok-one.ensures)
-    (rw c.deref-3.ensures at c.in_ok-other.ensures))
+    _ c.step_marked-2.new.next.items _ c.args.own.base c.width.result false c.in_ok-one.one c.in_ok-other.other v
+    (rw (c.parted.ensures.base, c.deref-2.ensures) at c.in_ok-one.ensures)
+    (rw (c.parted.ensures.after, c.deref-3.ensures) at c.in_ok-other.ensures))
 
 pub step_node-returns-in_ok-left-in-Cat : goal.step_node-returns-in_ok-left-in-Cat
 step_node-returns-in_ok-left-in-Cat t c =
