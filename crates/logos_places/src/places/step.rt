@@ -11,7 +11,7 @@ use crate::node::{Copies, Node, TreeSpot, width};
 use crate::places::exits::exits;
 use crate::places::look::{Context, holds};
 use crate::places::set::{
-    OwnPlaces, alike_copies, first_from, has_mark, insert_mark, next_copy, push_moved, own_places,
+    OwnPlaces, alike_copies, first_from, has_mark, insert_mark, next_copy, own_places, push_moved,
 };
 use logos_hir::hir::Range;
 use std::alloc::AllocError;
