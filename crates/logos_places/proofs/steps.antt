@@ -1,4 +1,5 @@
 pub mod AlikeLemmas
+pub mod BranchLemmas
 pub mod CharStepLemmas
 pub mod JumpLemmas
 pub mod LookLemmas

@@ -21,13 +21,13 @@ fn accepted_by(table: &Table, row: &Row, k: usize) -> Option<usize>
 fn common_leaf(table: &Table, row: &Row) -> Option<usize>
     ensures { IsCommonIn table.now row.now result }
 {
-    let leaf = accepted_by(table, row, END);
+    let leaf = accepted_by(table, row, END)?;
     for k in 0..END {
-        if accepted_by(table, row, k) != leaf {
+        if accepted_by(table, row, k) != Some(leaf) {
             return None;
         }
     }
-    leaf
+    Some(leaf)
 }
 
 /// Returns for each distinct row the leaf that is accepted wherever it leads.

@@ -197,8 +197,10 @@ fn split_by_block(
     ensures falls { IfOk result (λ w. steps_left w ≤ steps_left parts) }
 {
     let mut split = parts;
-    for k in 0..WIDTH {
+    let mut k = 0;
+    while k < WIDTH {
         split = split_by_symbol(alloc, table, split, by, k)?;
+        k = by.used.after(k);
     }
     Ok(split)
 }

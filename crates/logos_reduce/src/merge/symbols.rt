@@ -25,6 +25,19 @@ impl Symbols {
         (self.words[k / 64] >> (k % 64)) & 1 == 1
     }
 
+    /// Returns a symbol after `k` with none of the set between the two.
+    pub fn after(&self, k: usize) -> usize
+        requires { k < WIDTH }
+        ensures { k < result }
+    {
+        let next = k + 1;
+        let rest = self.words[next / 64] >> (next % 64);
+        if rest == 0 {
+            return (next / 64 + 1) * 64;
+        }
+        next + rest.trailing_zeros() as usize
+    }
+
     /// Adds a symbol.
     pub fn add(&mut self, k: usize)
         requires { k < WIDTH }

@@ -1,4 +1,4 @@
-use Rattle.std.proofs.Common.{◌≡◌, ◌≤◌, ◌<◌, vec_len, slice_index}
+use Rattle.std.proofs.Common.{◌≡◌, ◌-◌, ◌≤◌, ◌<◌, vec_len, slice_index}
 use Rattle.logos_reduce.specs.Merge.{target_block}
 use Rattle.logos_reduce.specs.inside.Refinements.{IsSoundRefinement, IsFinerRefinement, steps_left}
 use Rattle.logos_reduce.specs.inside.Lists.{AreSources}
@@ -13,3 +13,6 @@ invariant-loop-k l =
     × AreSources (size l.table) (target_block l.table (slice_index l.split.filing.blocks.items)) l.by.sources.items l.by.block
     × IsSoundRefinement l.table l.split
     × IsFinerRefinement l.table l.split l.initial.split
+
+abbrev pub decreases-loop-k : goal.decreases-loop-k
+decreases-loop-k l = 257 - l.k
