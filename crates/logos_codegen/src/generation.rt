@@ -209,7 +209,11 @@ fn accept_analysis<'s>(analysis: Analysis<'s>) -> Result<(Graph<'s>, EnumHead<'s
                 options,
             },
         )),
-        Err(refusal) => Err(refusal),
+        Err(refusal) => {
+            drop(this);
+            drop(options);
+            Err(refusal)
+        }
     }
 }
 
@@ -343,6 +347,10 @@ pub fn generate<'s>(alloc: Global, src: &'s str, config: Config) -> Result<Gener
     };
     match code_of(alloc, config, &head, &graph) {
         Ok(code) => Ok(put_together(code, graph, head)),
-        Err(_) => Err(Refusal::Memory),
+        Err(_) => {
+            drop(graph);
+            drop(head);
+            Err(Refusal::Memory)
+        }
     }
 }
