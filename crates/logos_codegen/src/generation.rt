@@ -140,7 +140,10 @@ fn graph_of<'s>(
 {
     match Graph::new(errors.alloc(), leaves, GraphConfig { utf8_mode }) {
         Ok(graph) => {
-            report_faults(graph.leaves(), item, graph.errors(), errors)?;
+            let Ok(()) = report_faults(graph.leaves(), item, graph.errors(), errors) else {
+                drop(graph);
+                return Err(Memory);
+            };
             Ok(Some(graph))
         }
         Err(error) => {
@@ -171,6 +174,7 @@ fn faultless_graph<'s>(
         Ok(Some(graph)) => if is_faultless(&errors) {
             Ok(graph)
         } else {
+            drop(graph);
             Err(Refusal::Errors(errors))
         },
         Ok(None) => Err(Refusal::Errors(errors)),
