@@ -16,6 +16,7 @@ use logos_token::error::Memory;
 use logos_token::token::{Span, TokenError, Tokens, tokenize};
 use logos_warnings::item_warnings;
 use std::alloc::{AllocError, Global};
+use std::mem;
 
 /// What is known of a source that is refused.
 #[derive(Debug, Drop)]
@@ -150,12 +151,33 @@ fn clues_in(
     requires { GivesEnum source.now (enum_value item.now) span }
     ensures { IfOk result (λ clues. HasSets source.now (sizes_of clues)) }
 {
-    let analysis = analyze_enum(alloc, item, span)?;
-    let error = callback_of(&analysis);
+    match analyze_enum(alloc, item, span) {
+        Ok(analysis) => {
+            let mut analysis = analysis;
+            let clues = clues_of_analysis(alloc, source, &mut analysis, warnings);
+            drop(analysis);
+            clues
+        }
+        Err(Memory) => Err(Memory),
+    }
+}
+
+/// Returns what is known of the faults of an analysis, whose leaves it takes out. Adds the warnings
+/// of its callbacks.
+fn clues_of_analysis(
+    alloc: Global,
+    source: &str,
+    analysis: &mut Analysis<'_>,
+    warnings: &mut Vec<Warning>,
+) -> Result<Clues, Memory>
+    ensures { IfOk result (λ clues.
+        LeavesHaveSets analysis.old.leaves.items (sizes_of clues)) }
+{
+    let error = callback_of(analysis);
     add_callback(alloc, source, CallbackOwner::ErrorType, error, warnings)?;
     add_callbacks(alloc, source, &analysis.leaves, warnings)?;
     let utf8_mode = analysis.parser.is_utf8();
-    clues_of_leaves(alloc, leaves_of(analysis), utf8_mode)
+    clues_of_leaves(alloc, leaves_of(alloc, analysis), utf8_mode)
 }
 
 /// Returns the callback for errors of an analysis, if there is one.
@@ -166,11 +188,11 @@ fn callback_of<'a, 's>(analysis: &'a Analysis<'s>) -> Option<&'a Callback<'s>> {
     }
 }
 
-/// Returns the leaves of an analysis.
-fn leaves_of<'s>(analysis: Analysis<'s>) -> Vec<Leaf<'s>>
-    ensures { result ≡ analysis.entry.leaves }
+/// Takes the leaves out of an analysis, and returns them.
+fn leaves_of<'s>(alloc: Global, analysis: &mut Analysis<'s>) -> Vec<Leaf<'s>>
+    ensures { result ≡ analysis.old.leaves }
 {
-    analysis.leaves
+    mem::replace(&mut analysis.leaves, Vec::new(alloc))
 }
 
 /// Returns what is known of the faults of the graph of leaves. Nothing is known where a limit keeps

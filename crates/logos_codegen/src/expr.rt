@@ -144,7 +144,10 @@ impl Language {
         let code = code_in(made);
         match kinds {
             Ok(kinds) => Ok(Language { code, kinds }),
-            Err(_) => Err(ExprError::Memory),
+            Err(_) => {
+                drop(code);
+                Err(ExprError::Memory)
+            }
         }
     }
 
@@ -204,7 +207,9 @@ impl Language {
 fn code_in(made: Generated<'static>) -> Code<'static>
     ensures { result ≡ made.entry.code }
 {
-    made.code
+    let Generated { code, graph, .. } = made;
+    drop(graph);
+    code
 }
 
 /// Returns the kinds of the tokens of all leaves, in the order of their numbers.

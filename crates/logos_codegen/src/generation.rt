@@ -140,7 +140,10 @@ fn graph_of<'s>(
 {
     match Graph::new(errors.alloc(), leaves, GraphConfig { utf8_mode }) {
         Ok(graph) => {
-            report_faults(graph.leaves(), item, graph.errors(), errors)?;
+            let Ok(()) = report_faults(graph.leaves(), item, graph.errors(), errors) else {
+                drop(graph);
+                return Err(Memory);
+            };
             Ok(Some(graph))
         }
         Err(error) => {
@@ -171,6 +174,7 @@ fn faultless_graph<'s>(
         Ok(Some(graph)) => if is_faultless(&errors) {
             Ok(graph)
         } else {
+            drop(graph);
             Err(Refusal::Errors(errors))
         },
         Ok(None) => Err(Refusal::Errors(errors)),
@@ -209,7 +213,11 @@ fn accept_analysis<'s>(analysis: Analysis<'s>) -> Result<(Graph<'s>, EnumHead<'s
                 options,
             },
         )),
-        Err(refusal) => Err(refusal),
+        Err(refusal) => {
+            drop(this);
+            drop(options);
+            Err(refusal)
+        }
     }
 }
 
@@ -343,6 +351,10 @@ pub fn generate<'s>(alloc: Global, src: &'s str, config: Config) -> Result<Gener
     };
     match code_of(alloc, config, &head, &graph) {
         Ok(code) => Ok(put_together(code, graph, head)),
-        Err(_) => Err(Refusal::Memory),
+        Err(_) => {
+            drop(graph);
+            drop(head);
+            Err(Refusal::Memory)
+        }
     }
 }

@@ -126,7 +126,11 @@ pub fn lex_source<'i, C: Fn(LeafId, &[u8]) -> Action + Drop>(
         IsWithinLimits src.now rules → IfErr result IsNoRefusal }
 {
     match generate(alloc, src, config) {
-        Ok(generated) => lex_input(alloc, &generated.code, input, callbacks),
+        Ok(generated) => {
+            let found = lex_input(alloc, &generated.code, input, callbacks);
+            drop(generated);
+            found
+        }
         Err(refusal) => Err(LexSourceError::from(refusal)),
     }
 }

@@ -97,12 +97,22 @@ fn folded_leaf<'s>(
         (option_map leaf_view leaf) errors.old errors.new) }
     ensures unreported { OnErr result (errors.new ≡ errors.old) }
 {
-    let read = folded_pattern(&definition.literal, errors)?;
-    let Some(pattern) = read else {
-        return Ok(None);
-    };
-    let priority = priority_of(&definition);
-    Ok(Some(leaf_with(definition, kind, pattern, priority)))
+    match folded_pattern(&definition.literal, errors) {
+        Ok(Some(pattern)) => {
+            let priority = priority_of(&definition);
+            Ok(Some(leaf_with(definition, kind, pattern, priority)))
+        }
+        Ok(None) => {
+            drop(definition);
+            drop(kind);
+            Ok(None)
+        }
+        Err(Memory) => {
+            drop(definition);
+            drop(kind);
+            Err(Memory)
+        }
+    }
 }
 
 /// Returns the leaf of a `token` that matches the bytes of its literal.
@@ -115,9 +125,17 @@ fn plain_leaf<'s>(
         ≡ token_leaf (definition_view definition.entry) (kind_value kind.entry)
         (literal_tree (bytes_of (literal_view definition.entry.literal).held))) }
 {
-    let pattern = Pattern::compile_lit(alloc, &definition.literal)?;
-    let priority = priority_of(&definition);
-    Ok(leaf_with(definition, kind, pattern, priority))
+    match Pattern::compile_lit(alloc, &definition.literal) {
+        Ok(pattern) => {
+            let priority = priority_of(&definition);
+            Ok(leaf_with(definition, kind, pattern, priority))
+        }
+        Err(_) => {
+            drop(definition);
+            drop(kind);
+            Err(Memory)
+        }
+    }
 }
 
 /// Returns the leaf of a `token`. Returns `None` when its text is not a pattern, which is reported.
@@ -182,9 +200,13 @@ fn fitted_pattern<'s>(
         source_of p.0 ≡ (token_of definition.now.literal).text.now)) }
     ensures regex { IfOk result (λ fitted. IfSome fitted (λ p. is_token p.0 ≡ false)) }
 {
-    check_greedy(definition, &pattern, errors)?;
+    let Ok(()) = check_greedy(definition, &pattern, errors) else {
+        drop(pattern);
+        return Err(Memory);
+    };
     let priority = regex_priority(definition, &pattern);
     let Some(priority) = priority else {
+        drop(pattern);
         report_overflow(definition.literal.span(), errors)?;
         return Ok(None);
     };
@@ -273,8 +295,16 @@ fn read_leaf<'s>(
 {
     match regex_pattern(&definition, subpatterns, errors) {
         Ok(Some((pattern, priority))) => Ok(Some(leaf_with(definition, kind, pattern, priority))),
-        Ok(None) => Ok(None),
-        Err(Memory) => Err(Memory),
+        Ok(None) => {
+            drop(definition);
+            drop(kind);
+            Ok(None)
+        }
+        Err(Memory) => {
+            drop(definition);
+            drop(kind);
+            Err(Memory)
+        }
     }
 }
 
@@ -298,6 +328,11 @@ pub fn regex_leaf<'s>(
 {
     let mut found = Errors::new(errors.alloc());
     let leaf = read_leaf(definition, kind, subpatterns, &mut found)?;
-    errors.append(found)?;
-    Ok(leaf)
+    match errors.append(found) {
+        Ok(()) => Ok(leaf),
+        Err(Memory) => {
+            drop(leaf);
+            Err(Memory)
+        }
+    }
 }

@@ -1,16 +1,16 @@
 use Rattle.logos_code.specs.CodeView.{code_of}
 use Rattle.logos_code.proofs.CodeLemmas.{root_there}
 use Rattle.logos_code.proofs.RowLemmas.{first_row_says}
-use Rattle.logos_code.proofs.code.making.make_code.Goals as goal
+use Rattle.logos_code.proofs.code.making.tables_of.Goals as goal
 
 pub last_marks_of-requires-clause-rows : goal.last_marks_of-requires-clause-rows
 last_marks_of-requires-clause-rows c = rw c.deref.ensures.value c.in_ok-rows.ensures
 
-pub invariant_of-result : goal.invariant_of-result
-invariant_of-result c = record {
+pub returns : goal.returns
+returns c = record {
   valid = c.requires;
-  first_row = first_row_says (code_of c.args.parts) c.in_ok-rows.rows.items c.first_row-first.result c.in_ok-rows.ensures
-      (root_there (code_of c.args.parts) c.requires.sound) (rw c.deref-2.ensures.value at c.first_row-first.ensures);
+  first_row = first_row_says (code_of c.args.parts.now) c.in_ok-rows.rows.items c.first_row-first.result c.in_ok-rows.ensures
+      (root_there (code_of c.args.parts.now) c.requires.sound) (rw c.deref-2.ensures.value at c.first_row-first.ensures);
   all_rows = c.in_ok-rows.ensures;
   all_masks = c.in_ok-masks.ensures;
   all_signs = c.in_ok-signs.ensures;
