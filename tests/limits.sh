@@ -139,7 +139,7 @@ gives "types that hold each other" 1 '' '53..54 TypeHoldsItself: Type parameter 
     printf 'enum E { #[regex("(?&s64)")] A }'
 } > source
 (
-    ulimit -v 400000
+    ulimit -v 100000
     gives "subpatterns that double" 3 '' 'out of memory'
 )
 # Each of these types has the next one in it twice.
@@ -155,7 +155,7 @@ gives "types that hold each other" 1 '' '53..54 TypeHoldsItself: Type parameter 
     printf '> { #[token("a")] A(T0) }'
 } > source
 (
-    ulimit -v 400000
+    ulimit -v 100000
     gives "types that double" 3 '' 'out of memory'
 )
 met=$((met + 4))

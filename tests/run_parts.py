@@ -28,7 +28,7 @@ import time
 ROOT = os.path.dirname(os.path.dirname(os.path.realpath(__file__)))
 LIST = f"{ROOT}/tests/parts"
 KEPT = {"quick": f"{ROOT}/out/quick", "proved": f"{ROOT}/out/installed"}
-LEVEL = {"quick": "-O1", "proved": ""}
+LEVEL = {"quick": "-O2", "proved": ""}
 # The programs that commands name, the folder of the examples in Rattle, and that of all that is
 # built without proofs.
 NAMES = {"logos": "logos", "logos_cli": "logos_cli", "logos_show": "logos_show", "calls": "calls", "evidence": "evidence", "edits": "edits", "examples": "examples", "built": "."}

@@ -14,7 +14,7 @@ sys.path.insert(0, path.join(path.dirname(HERE), 'generated'))
 from byte_sets import partners, runs_of_categories
 from earlier import earlier, keep
 from inputs import OTHER
-from main import ALL, made
+from main import ALL, made, place
 from matching import TooLarge
 
 # An input has at least so many bytes, and so many edits are made of it.
@@ -96,7 +96,7 @@ def judge(program, seed):
     if not asks:
         return None, False
     source, text, lines, refused = asks
-    with tempfile.TemporaryDirectory() as room:
+    with tempfile.TemporaryDirectory(dir=place()) as room:
         for name, content in (('source', source.encode()), ('input', text), ('edits', '\n'.join(lines).encode())):
             with open(f'{room}/{name}', 'wb') as out:
                 out.write(content)

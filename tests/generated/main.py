@@ -44,13 +44,18 @@ class Difference(Exception):
     """What the program answered in place of what the reader found."""
 
 
+def place():
+    """A folder in memory for what the programs read, if there is one."""
+    return '/dev/shm' if os.access('/dev/shm', os.W_OK) else None
+
+
 def answer(done):
     return done.returncode, done.stdout, done.stderr
 
 
 def answers_as_before(programs, asked):
     """Whether the programs answer all that was asked for a source in the same way again."""
-    with tempfile.TemporaryDirectory() as room:
+    with tempfile.TemporaryDirectory(dir=place()) as room:
         for number, words, files, given, wanted in asked:
             for name, content in files.items():
                 write(f'{room}/{name}', content)
@@ -201,7 +206,7 @@ def judge(program, calls, seed):
     # (for edits)
     keep('made', seed, (None if reading.faults.list else (source, reading.utf8, inputs),))
     forms = [] if reading.faults.list else [form for form in FORMS if MET[form]]
-    with tempfile.TemporaryDirectory() as room:
+    with tempfile.TemporaryDirectory(dir=place()) as room:
         try:
             compared = compare(program, room, source, reading, inputs)
             streamed = 0 if reading.faults.list else stream(calls, source, reading, inputs, Random(seed))
@@ -216,7 +221,7 @@ def judge(program, calls, seed):
 
 def judge_kept(program):
     """Compares the program with the lines that are written down, and the reader with them too."""
-    with tempfile.TemporaryDirectory() as room:
+    with tempfile.TemporaryDirectory(dir=place()) as room:
         for source, faults in KEPT:
             write(f'{room}/source', source.encode())
             found = run(program, room, 'mermaid', 'source')

@@ -6,8 +6,8 @@
   run.py calls PROGRAM        has the program of calls answer the rows of tests/rows/calls, but for
                               those of large.rows
 
-Each run of a program is made once with ample memory, and then once for each of its requests with
-just that one refused (refuse.c). Each time it must end as it did, or in want of memory: with status
+Each run of a program is made once with ample memory, and once for each of its requests with just
+that one refused (refuse.c). Each time it must end as it did, or in want of memory: with status
 3, `out of memory` as the last line of its messages, and nothing on standard output. A file is
 written as it was, or not at all, and no other file is left. For each run some refusal has to end
 so.
@@ -57,10 +57,17 @@ def read(path):
         return it.read()
 
 
+def files_of(folder):
+    """Returns what the files in a folder hold. Most folders are empty."""
+    if not os.listdir(folder):
+        return {}
+    return {os.path.relpath(path, folder): read(path) for path in glob.glob(f"{folder}/**", recursive=True) if os.path.isfile(path)}
+
+
 def answer(folder, number):
     """Returns how a run ended: its status, its outputs, and the files that it left. The time
     differs from run to run."""
-    files = {os.path.relpath(path, f"{folder}/{number}"): read(path) for path in glob.glob(f"{folder}/{number}/**", recursive=True) if os.path.isfile(path)}
+    files = files_of(f"{folder}/{number}")
     out = re.sub(rb"^milliseconds: .*\n", b"", read(f"{folder}/{number}.out"), flags=re.M)
     return int(read(f"{folder}/{number}.status")), out, read(f"{folder}/{number}.err"), files
 
