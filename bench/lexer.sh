@@ -1,152 +1,200 @@
 #!/usr/bin/env bash
-# Measures `Lexer` and, as `chunks`, a run by chunks beside scanners of the same rules on the same
-# texts: those that flex and re2c make, and, where rustc is found, what it makes of the Rust text of
-# these rules, over `runtime/rust`: in both shapes of `logos gen`, and as tables. Each text has 32
-# MiB and is made by bench/lexer/text.py. Prints a table of megabytes a second, the times of `Lexer`
-# and of `chunks` by that of the fastest of these but the tables, and the times of the tables and of
-# their `scan` by that of the faster other shape. Where rustc is found a second table follows:
-# `logos lex` beside programs in Rust that print the same lines through a `BufWriter`, on texts of
-# 64 MiB. Of the runs, taken in turns, the fastest of each counts; the first argument says how many,
-# ten without it. Further arguments name the texts that are measured, instead of all.
+# Measures lexers on texts of 32 MiB: `Lexer` and, as `chunks`, a run by chunks, in a proved build
+# and as `tools/install.sh` builds programs, beside scanners of the same rules: those that flex and
+# re2c make, and, where rustc is found, what it makes of the Rust text of these rules, over
+# `runtime/rust`: in both shapes of `logos gen`, and as tables. Of the runs, taken in turns, the
+# fastest of each counts; the first argument says how many, ten without it. Further arguments name
+# the texts that are measured, instead of all.
+#
+# bench/lexer/text.py makes eleven of the texts and iplog, bench/lexer/files.py those of files on
+# this machine. A text of which it has too few files is left out, and a shape for which rustc takes
+# more than 100 processor seconds.
+#
+# bench/lexer/table.py prints the tables: MB/s of all, the speed of `ours`, which is `chunks` or
+# `lexer` as the programs choose, by that of the fastest other, and of the tables and their `scan` by
+# the faster other shape; then the means; the installed program beside the proved one; and
+# nanoseconds for inputs of 64 bytes and 1 KiB. Where rustc is found the last table is of `logos lex`
+# beside programs in Rust that print the same lines through a `BufWriter`, on texts of 64 MiB.
 #
 # It needs flex, re2c, gcc and python3, as in `apt-get install flex re2c gcc python3`, and uses
-# rustc where it is found. `bench/program.sh` builds the program of `bench/lexer`, and `logos`. The
-# variables LEXER and LOGOS name two programs to measure in their place, which can be ones that are
-# not proved.
+# rustc where it is found. `bench/program.sh` builds the programs. The variables LEXER, INSTALLED,
+# LOGOS and CLI name programs to measure in their place, which can be ones that are not proved, and
+# KEEP a folder in which texts and compiled scanners are kept for the next time.
 set -euo pipefail
 
 . "$(dirname "${BASH_SOURCE[0]}")/program.sh"
 runs=${1:-10}
 size=33554432
-for tool in flex re2c gcc python3 rt; do
+limit=100
+keep=${KEEP:-$copy/kept}
+mkdir -p "$keep"
+for tool in flex re2c gcc python3; do
     command -v "$tool" > /dev/null || { echo "needs $tool" >&2; exit 2; }
 done
 
-# the texts, and which rules each is read by
-declare -A rules=([program]=program [words]=program [blanks]=program [operators]=program [json]=json [log]=log [prose]=prose)
-rules+=([sql]=sql [css]=css [template]=template [access]=access)
-texts=(program json log prose words blanks operators sql css template access)
+# the texts, and by which rules those are read that have another name
+declare -A rules=([words]=program [blanks]=program [operators]=program [json_files]=json [css_files]=css)
+made=(program json log prose words blanks operators sql css template access iplog)
+found=(json_files css_files rust python c asm xml markdown)
+texts=("${made[@]}" "${found[@]}")
 lines=(program json log prose)
 if [ $# -gt 1 ]; then
     texts=("${@:2}")
     lines=()
     for text in "${texts[@]}"; do
-        if [[ $text =~ ^(program|json|log|prose)$ ]]; then
-            lines+=("$text")
-        fi
+        [[ ! $text =~ ^(program|json|log|prose)$ ]] || lines+=("$text")
     done
 fi
-mapfile -t enums < <(for text in "${texts[@]}"; do echo "${rules[$text]}"; done | sort -u)
-for text in "${texts[@]}"; do
-    python3 "$bench/lexer/text.py" "$size" "$text" > "$copy/$text.text"
-done
 
-for name in "${enums[@]}"; do
-    [[ $name =~ ^(program|access)$ ]] && encoding=() || encoding=(--utf8)
-    flex -CF -o "$copy/$name.flex.c" "$bench/lexer/flex/$name.l"
-    re2c "${encoding[@]}" -o "$copy/$name.re2c.c" "$bench/lexer/re2c/$name.re"
+# FILE ..: a word that changes with what is in these files.
+sum() {
+    sha256sum "$@" | cut -c -64 | sha256sum | cut -c -16
+}
+
+# TEXT: makes a text, and writes its path. The status is not 0 where this machine lacks its files.
+make_text() {
+    local script=files.py path
+    [[ " ${made[*]} " != *" $1 "* ]] || script=text.py
+    path="$keep/$1.$(sum "$bench/lexer/$script" "$bench"/lexer/re2c/*.re)"
+    if [ ! -e "$path" ]; then
+        python3 "$bench/lexer/$script" "$size" "$1" > "$path.part" || return 1
+        mv "$path.part" "$path"
+    fi
+    ln -s "$path" "$copy/$1.text"
+}
+
+# NAME: compiles the scanners of flex and re2c for these rules.
+compile_c() {
+    local encoding=(--utf8) path
+    [[ ! $1 =~ ^(program|access|iplog)$ ]] || encoding=()
+    flex -CF -o "$copy/$1.flex.c" "$bench/lexer/flex/$1.l"
+    re2c "${encoding[@]}" -o "$copy/$1.re2c.c" "$bench/lexer/re2c/$1.re"
     for scanner in flex re2c; do
-        gcc -O2 -I "$bench/lexer" -o "$copy/$name.$scanner" "$copy/$name.$scanner.c"
+        path="$keep/$1.$scanner.$(sum "$copy/$1.$scanner.c" "$bench"/lexer/*.h)"
+        [ -e "$path" ] || gcc -O2 -I "$bench/lexer" -o "$path" "$copy/$1.$scanner.c"
+        ln -s "$path" "$copy/$1.$scanner"
     done
-done
+}
+
+# NAME SHAPE SCANNER MAIN WORD ..: compiles a program over the text of a shape with these words for
+# rustc. Where rustc takes too long there is no such scanner.
+compile_rust() {
+    local folder="$copy/$1.$2.text" path
+    path="$keep/$1.$3.$(sum "$folder/lexer.rs" "$folder/rules.rs" "$bench/lexer/rust/$4" "$copy/runtime")"
+    if [ ! -e "$path" ] && [ ! -e "$path.slow" ]; then
+        cp "$bench/lexer/rust/$4" "$folder/$3.rs"
+        (ulimit -t "$limit" && rustc --edition 2021 -C opt-level=3 "${@:5}" --extern "logos=$copy/liblogos.rlib" \
+            -o "$path.part" "$folder/$3.rs" 2> "$path.said") || mv "$path.said" "$path.slow"
+        [ ! -e "$path.part" ] || mv "$path.part" "$path"
+        rm -f "$path.said"
+    fi
+    if [ -e "$path" ]; then
+        ln -s "$path" "$copy/$1.$3"
+    else
+        echo "$1: no $3, since rustc takes more than $limit processor seconds for it" >&2
+    fi
+}
+
+# NAME SHAPE: prints the text of a shape, the implementation alone.
+shape() {
+    if [ "$2" = tables ]; then
+        "$cli" "$bench/lexer/rules/$1.rs" --shape tables | sed -n '/^impl < /,$p'
+    else
+        "$logos" gen "$bench/lexer/rules/$1.rs" --shape "$2"
+    fi
+}
+
+# NAME: compiles the scanners of all shapes for these rules.
+compile_shapes() {
+    local folder shape
+    for shape in tailcall state_machine tables; do
+        folder="$copy/$1.$shape.text"
+        mkdir "$folder"
+        { grep -v '^ *#\[' "$bench/lexer/rules/$1.rs"
+          sed -n 's/^enum \([A-Za-z]*\) {$/type Rules = \1;/p' "$bench/lexer/rules/$1.rs"; } > "$folder/rules.rs"
+        shape "$1" "$shape" > "$folder/lexer.rs"
+        compile_rust "$1" "$shape" "$shape" main.rs
+        [[ $shape = tables || " ${lines[*]} " != *" $1 "* ]] || compile_rust "$1" "$shape" "$shape.lines" lines.rs
+    done
+    compile_rust "$1" tables scan main.rs --cfg scan
+}
 
 lexer=${LEXER:-$copy/crates/lexer_bench/out/lexer_bench}
+installed=${INSTALLED:-$copy/installed}
 logos=${LOGOS:-$copy/crates/logos_program/out/logos_program}
-if [ -z "${LEXER:-}" ] || [ -z "${LOGOS:-}" ]; then
+cli=${CLI:-$copy/crates/logos_cli/out/logos_cli}
+if [ -z "${LEXER:-}" ] || [ -z "${INSTALLED:-}" ] || [ -z "${LOGOS:-}" ] || [ -z "${CLI:-}" ]; then
     copy_crates
     add_crate lexer "logos_code logos_codegen logos_fold logos_generator logos_machine logos_pattern logos_scan logos_walk"
-    build "$crate" "$bench/lexer/rules/json.rs" "$bench/lexer/rules/json.rs"
-    build "$copy/crates/logos_program" gen "$bench/lexer/rules/json.rs"
+    [ -n "${LEXER:-}" ] || build "$crate" "$bench/lexer/rules/json.rs" "$bench/lexer/rules/json.rs"
+    [ -n "${INSTALLED:-}" ] || build_as_installed lexer_bench "$installed"
+    [ -n "${LOGOS:-}" ] || build "$copy/crates/logos_program" gen "$bench/lexer/rules/json.rs"
+    [ -n "${CLI:-}" ] || build "$copy/crates/logos_cli" "$bench/lexer/rules/json.rs"
 fi
 
-scanners=(lexer chunks flex re2c)
-if command -v rustc > /dev/null; then
-    scanners+=(tailcall state_machine)
-    rustc --edition 2021 -C opt-level=3 --crate-type rlib --crate-name logos --cfg 'feature="std"' -o "$copy/liblogos.rlib" "$bench/../runtime/rust/src/lib.rs"
-    for name in "${enums[@]}"; do
-        for shape in tailcall state_machine; do
-            folder="$copy/$name.$shape.text"
-            mkdir "$folder"
-            cp "$bench/lexer/rust/main.rs" "$bench/lexer/rust/lines.rs" "$folder"
-            { grep -v '^ *#\[' "$bench/lexer/rules/$name.rs"
-              sed -n 's/^enum \([A-Za-z]*\) {$/type Rules = \1;/p' "$bench/lexer/rules/$name.rs"; } > "$folder/rules.rs"
-            "$logos" gen "$bench/lexer/rules/$name.rs" --shape "$shape" > "$folder/lexer.rs"
-            rustc --edition 2021 -C opt-level=3 --extern "logos=$copy/liblogos.rlib" -o "$copy/$name.$shape" "$folder/main.rs"
-            [[ " ${lines[*]} " != *" $name "* ]] \
-                || rustc --edition 2021 -C opt-level=3 --extern "logos=$copy/liblogos.rlib" -o "$copy/$name.$shape.lines" "$folder/lines.rs"
-        done
-    done
-fi
-
-# Adds the shape of tables, which `logos_cli` prints, as a scanner. The variable CLI names a program
-# to take in its place.
-add_tables() {
-    local name folder cli=${CLI:-$copy/crates/logos_cli/out/logos_cli}
-    if [ -z "${CLI:-}" ]; then
-        [ -d "$copy/crates" ] || copy_crates
-        build "$copy/crates/logos_cli" "$bench/lexer/rules/json.rs"
+here=()
+for text in "${texts[@]}"; do
+    if make_text "$text"; then
+        here+=("$text")
+    else
+        echo "$text: left out, since this machine has too few of its files" >&2
     fi
-    for name in "${enums[@]}"; do
-        folder="$copy/$name.tables.text"
-        mkdir "$folder"
-        cp "$copy/$name.tailcall.text"/{main,rules}.rs "$folder"
-        "$cli" "$bench/lexer/rules/$name.rs" --shape tables | sed -n '/^impl < /,$p' > "$folder/lexer.rs"
-        rustc --edition 2021 -C opt-level=3 --extern "logos=$copy/liblogos.rlib" -o "$copy/$name.tables" "$folder/main.rs"
-        rustc --edition 2021 -C opt-level=3 --cfg scan --extern "logos=$copy/liblogos.rlib" -o "$copy/$name.scan" "$folder/main.rs"
-    done
-    scanners+=(tables scan)
-}
+done
+texts=("${here[@]}")
+mapfile -t enums < <(for text in "${texts[@]}"; do echo "${rules[$text]:-$text}"; done | sort -u)
+others=(flex re2c)
 if command -v rustc > /dev/null; then
-    add_tables
+    others+=(tailcall state_machine tables scan)
+    { cat "$bench/../runtime/rust/src/lib.rs"; rustc --version; } > "$copy/runtime"
+    rustc --edition 2021 -C opt-level=3 --crate-type rlib --crate-name logos --cfg 'feature="std"' -o "$copy/liblogos.rlib" "$bench/../runtime/rust/src/lib.rs"
 fi
+for name in "${enums[@]}"; do
+    compile_c "$name"
+    [[ " ${others[*]} " != *" tables "* ]] || compile_shapes "$name"
+done
 
+# TEXT SCANNER [PATH TIMES]: measures one scanner on a text, or so many times on that of a path.
+measure() {
+    local name=${rules[$1]:-$1} path=${3:-$copy/$1.text} program=$lexer
+    case "$2" in
+        lexer | chunks | installed | installed_chunks)
+            [[ $2 != installed* ]] || program=$installed
+            [[ $2 != *chunks ]] || set -- "$1" "$2" "$path" chunks
+            echo "$1 $2 $("$program" "$bench/lexer/rules/$name.rs" "$path" "${@:4}")" ;;
+        *)
+            [ ! -e "$copy/$name.$2" ] || echo "$1 $2 $("$copy/$name.$2" "$path" "${@:4}")" ;;
+    esac
+}
+
+for text in "${texts[@]}"; do
+    echo "$text $("$lexer" "$bench/lexer/rules/${rules[$text]:-$text}.rs" "$copy/$text.text" choice)"
+done > "$copy/choices"
 for ((run = 0; run < runs; run++)); do
     for text in "${texts[@]}"; do
-        for scanner in "${scanners[@]}"; do
-            case "$scanner" in
-                lexer) command=("$lexer" "$bench/lexer/rules/${rules[$text]}.rs" "$copy/$text.text") ;;
-                chunks) command=("$lexer" "$bench/lexer/rules/${rules[$text]}.rs" "$copy/$text.text" chunks) ;;
-                *) command=("$copy/${rules[$text]}.$scanner" "$copy/$text.text") ;;
-            esac
-            echo "$text $scanner $("${command[@]}")"
+        for scanner in lexer chunks installed installed_chunks "${others[@]}"; do
+            measure "$text" "$scanner"
         done
     done
 done > "$copy/runs"
 
 echo "$(nproc) cores, $(sed -n 's/^model name[^:]*: //p' /proc/cpuinfo | head -n 1), $(rustc --version 2> /dev/null || echo 'no rustc')"
-echo
-awk -v size="$size" -v texts="${texts[*]}" -v scanners="${scanners[*]}" '
-    !(($1, $2) in best) || $3 < best[$1, $2] { best[$1, $2] = $3 }
-    { found[$1, $2] = $4 " tokens and " $5 " errors"; tokens[$1] = $4 }
-    END {
-        many = split(texts, text, " ")
-        count = split(scanners, scanner, " ")
-        head = "| Text | Tokens |"
-        line = "|---|---|"
-        for (i = 1; i <= count; i++) { head = head " " scanner[i] " |"; line = line "---|" }
-        has_tables = scanners ~ /tables/
-        print head " lexer by the fastest other | chunks by it |" (has_tables ? " tables by the faster other shape | scan by it |" : "") "\n" line "---|---|" (has_tables ? "---|---|" : "")
-        for (t = 1; t <= many; t++) {
-            row = "| " text[t] " | " tokens[text[t]] " |"
-            least = 0
-            shape = 0
-            for (i = 1; i <= count; i++) {
-                seconds = best[text[t], scanner[i]]
-                row = row sprintf(" %.0f |", size / seconds / 1e6)
-                if (scanner[i] !~ /lexer|chunks|tables|scan/ && (least == 0 || seconds < least)) { least = seconds }
-                if (scanner[i] ~ /tailcall|state_machine/ && (shape == 0 || seconds < shape)) { shape = seconds }
-                if (found[text[t], scanner[i]] != found[text[t], "lexer"]) {
-                    print text[t] ": " scanner[i] " finds " found[text[t], scanner[i]] > "/dev/stderr"
-                    different = 1
-                }
-            }
-            row = row sprintf(" %.2f | %.2f |", best[text[t], "lexer"] / least, best[text[t], "chunks"] / least)
-            print row (has_tables ? sprintf(" %.2f | %.2f |", best[text[t], "tables"] / shape, best[text[t], "scan"] / shape) : "")
-        }
-        exit different
-    }' "$copy/runs"
+python3 "$bench/lexer/table.py" "$size" "$copy/choices" "$copy/runs"
 
-if [ "${#lines[@]}" != 0 ] && [ "${#scanners[@]}" = 8 ]; then
+# short inputs: the first bytes of some texts, each as often as takes about 20 ms
+for text in "${texts[@]}"; do
+    [[ $text =~ ^(program|json|log|python|css)$ ]] || continue
+    for short in 64 1024; do
+        head -c "$short" "$copy/$text.text" > "$copy/$text.$short"
+        for ((run = 0; run < runs; run++)); do
+            for scanner in lexer installed flex re2c tailcall state_machine tables; do
+                measure "$text" "$scanner" "$copy/$text.$short" $((6000000 / short)) | sed "s/ / $short /"
+            done
+        done
+    done
+done > "$copy/short"
+python3 "$bench/lexer/table.py" short 6000000 "$copy/short"
+
+if [ "${#lines[@]}" != 0 ] && [[ " ${others[*]} " = *" tables "* ]]; then
     echo
     echo "| Text | Lines | logos lex | MiB | tailcall | MiB | state_machine | MiB | logos lex by the fastest other |"
     echo "|---|---|---|---|---|---|---|---|---|"

@@ -1,0 +1,141 @@
+"""Writes a text of files on this machine to the standard output: as many bytes as the first argument
+says, and of the kind that the second one names.
+
+The sums of their paths say in which order files are taken. Those that are longer than a mebibyte,
+are not UTF-8 or have zeros are left out. They are repeated where they are shorter than the text.
+Where a machine has fewer than 256 KiB of them nothing is written, and the status is 3."""
+import ast
+import glob
+import hashlib
+import json
+import os
+import subprocess
+import sys
+import sysconfig
+import tempfile
+
+LONGEST = 1 << 20
+LEAST = 1 << 18
+HERE = os.path.dirname(os.path.realpath(__file__))
+ROOT = os.path.dirname(os.path.dirname(HERE))
+# folders of libraries whose files are wrong on purpose, or tables
+LEFT_OUT = {"test", "tests", "lib2to3", "site-packages", "encodings", "idlelib"}
+# with these words contracts begin
+CONTRACTS = ("requires ", "ensures ", "ghost ")
+
+
+def said_by(*command):
+    """Returns the first word that a command prints, or nothing where there is no such command."""
+    try:
+        said = subprocess.run(command, stdout=subprocess.PIPE, text=True, check=True).stdout
+    except (OSError, subprocess.CalledProcessError):
+        return ""
+    return (said.split() or [""])[0]
+
+
+def toolchain():
+    """Returns the folder of the toolchain's sources."""
+    page = said_by("rt", "doc")
+    return f"{os.path.dirname(os.path.realpath(page))}/rattle" if page else ""
+
+
+def without_contracts(text):
+    """Returns a source in Rattle without what it does not share with Rust: contracts, and lines that
+    have signs of another language outside of comments."""
+    kept, depth = [], 0
+    for line in text.split("\n"):
+        if depth or line.lstrip().startswith(CONTRACTS):
+            depth = max(0, depth + line.count("{") - line.count("}"))
+        elif line.split("//")[0].isascii():
+            kept.append(line)
+    return "\n".join(kept)
+
+
+def with_closed_blocks(text):
+    """Returns a page if each of its blocks of code is closed, and nothing else."""
+    return "" if text.count("```") % 2 else text
+
+
+def read_by(reads):
+    """Returns a function that returns a text if it can be read so, and nothing else."""
+    def checked(text):
+        try:
+            reads(text)
+        except (ValueError, SyntaxError, RecursionError):
+            return ""
+        return text
+    return checked
+
+
+# of each kind: the folders, the ending of the names, and what is done to a file
+KINDS = {
+    "json_files": (lambda: ["/usr/share", "/usr/lib"], ".json", read_by(json.loads)),
+    "rust": (lambda: [f"{ROOT}/crates", toolchain()], ".rt", without_contracts),
+    "python": (lambda: [sysconfig.get_paths()["stdlib"]], ".py", read_by(ast.parse)),
+    "css_files": (lambda: ["/usr/share", "/usr/lib", said_by("rustc", "--print", "sysroot")], ".css", str),
+    "c": (lambda: ["/usr/include"], ".h", str),
+    "xml": (lambda: ["/usr/share"], ".xml", str),
+    "markdown": (lambda: [ROOT, "/usr/share", "/usr/lib"], ".md", with_closed_blocks),
+}
+
+
+def paths(folders, ending):
+    """Returns the paths of a kind."""
+    found = []
+    for folder in filter(None, folders):
+        for at, below, names in os.walk(folder):
+            below[:] = [name for name in below if name not in LEFT_OUT]
+            found += [f"{at}/{name}" for name in names if name.endswith(ending)]
+    return sorted(found, key=lambda path: hashlib.sha256(path.encode("utf-8", "surrogateescape")).digest())
+
+
+def contents(path):
+    """Returns the text of a file, or nothing where it does not serve."""
+    if not os.path.isfile(path) or os.path.islink(path) or os.path.getsize(path) > LONGEST:
+        return ""
+    try:
+        with open(path, encoding="utf-8", newline="") as it:
+            text = it.read()
+    except (OSError, UnicodeDecodeError):
+        return ""
+    return "" if "\0" in text else text
+
+
+def assembled():
+    """Yields what gcc makes of the scanners of this folder for re2c, those with the letters of all
+    scripts left out."""
+    with tempfile.TemporaryDirectory() as room:
+        for path in sorted(glob.glob(f"{HERE}/re2c/*.re")):
+            if "unicode_categories" not in contents(path):
+                subprocess.run(["re2c", "--utf8", "-o", f"{room}/scanner.c", path], check=True)
+                for level in ("-O0", "-O2"):
+                    subprocess.run(["gcc", level, "-S", "-I", HERE, "-o", f"{room}/scanner.s", f"{room}/scanner.c"], check=True)
+                    yield contents(f"{room}/scanner.s")
+
+
+def texts(kind):
+    """Yields the files of a kind."""
+    if kind == "asm":
+        yield from assembled()
+        return
+    folders, ending, made = KINDS[kind]
+    for path in paths(folders(), ending):
+        yield made(contents(path))
+
+
+def main():
+    size, parts, length = int(sys.argv[1]), [], 0
+    for text in texts(sys.argv[2]):
+        parts.append(text.encode())
+        length += len(parts[-1])
+        if length >= size:
+            break
+    if length < LEAST:
+        sys.exit(3)
+    text = b"".join(parts)
+    text = (text * (size // length + 1))[:size]
+    # what is left behind the last line is blanks, so that no character is cut in two
+    sys.stdout.buffer.write(text[:text.rindex(b"\n")].ljust(size))
+
+
+main()
