@@ -6,9 +6,9 @@
 # fastest of each counts; the first argument says how many, ten without it. Further arguments name
 # the texts that are measured, instead of all.
 #
-# bench/lexer/text.py makes eleven of the texts and iplog, bench/lexer/files.py those of files on
-# this machine. A text of which it has too few files is left out, and a shape for which rustc takes
-# more than 100 processor seconds.
+# bench/lexer/text.py makes sixteen of the texts, bench/lexer/files.py those of files on this machine.
+# A text of which it has too few files is left out, and a shape for which rustc takes more than 100
+# processor seconds.
 #
 # bench/lexer/table.py prints the tables: MB/s of all, the speed of `ours`, which is `chunks` or
 # `lexer` as the programs choose, by that of the fastest other, and of the tables and their `scan` by
@@ -18,14 +18,16 @@
 #
 # It needs flex, re2c, gcc and python3, as in `apt-get install flex re2c gcc python3`, and uses
 # rustc where it is found. `bench/program.sh` builds the programs. The variables LEXER, INSTALLED,
-# LOGOS and CLI name programs to measure in their place, which can be ones that are not proved, and
-# KEEP a folder in which texts and compiled scanners are kept for the next time.
+# LOGOS and CLI name programs to measure in their place, which can be ones that are not proved, KEEP
+# a folder in which texts and compiled scanners are kept for the next time, and BEFORE words that
+# stand before each program that is measured, such as `chrt -f 1`.
 set -euo pipefail
 
 . "$(dirname "${BASH_SOURCE[0]}")/program.sh"
 runs=${1:-10}
 size=33554432
 limit=100
+read -ra before <<< "${BEFORE:-}"
 keep=${KEEP:-$copy/kept}
 mkdir -p "$keep"
 for tool in flex re2c gcc python3; do
@@ -34,7 +36,7 @@ done
 
 # the texts, and by which rules those are read that have another name
 declare -A rules=([words]=program [blanks]=program [operators]=program [json_files]=json [css_files]=css)
-made=(program json log prose words blanks operators sql css template access iplog)
+made=(program json log prose words blanks operators sql css template access iplog httplog toml graphql mustache)
 found=(json_files css_files rust python c asm xml markdown)
 texts=("${made[@]}" "${found[@]}")
 lines=(program json log prose)
@@ -53,9 +55,13 @@ sum() {
 
 # TEXT: makes a text, and writes its path. The status is not 0 where this machine lacks its files.
 make_text() {
-    local script=files.py path
-    [[ " ${made[*]} " != *" $1 "* ]] || script=text.py
-    path="$keep/$1.$(sum "$bench/lexer/$script" "$bench"/lexer/re2c/*.re)"
+    local script=files.py sources=("$bench/lexer/files.py") path
+    if [[ " ${made[*]} " = *" $1 "* ]]; then
+        script=text.py sources=("$bench"/lexer/{text,further}.py)
+    elif [ "$1" = asm ]; then
+        sources+=("$bench"/lexer/re2c/*.re)
+    fi
+    path="$keep/$1.$(sum "${sources[@]}")"
     if [ ! -e "$path" ]; then
         python3 "$bench/lexer/$script" "$size" "$1" > "$path.part" || return 1
         mv "$path.part" "$path"
@@ -66,7 +72,7 @@ make_text() {
 # NAME: compiles the scanners of flex and re2c for these rules.
 compile_c() {
     local encoding=(--utf8) path
-    [[ ! $1 =~ ^(program|access|iplog)$ ]] || encoding=()
+    [[ ! $1 =~ ^(program|access|iplog|httplog)$ ]] || encoding=()
     flex -CF -o "$copy/$1.flex.c" "$bench/lexer/flex/$1.l"
     re2c "${encoding[@]}" -o "$copy/$1.re2c.c" "$bench/lexer/re2c/$1.re"
     for scanner in flex re2c; do
@@ -160,9 +166,9 @@ measure() {
         lexer | chunks | installed | installed_chunks)
             [[ $2 != installed* ]] || program=$installed
             [[ $2 != *chunks ]] || set -- "$1" "$2" "$path" chunks
-            echo "$1 $2 $("$program" "$bench/lexer/rules/$name.rs" "$path" "${@:4}")" ;;
+            echo "$1 $2 $("${before[@]}" "$program" "$bench/lexer/rules/$name.rs" "$path" "${@:4}")" ;;
         *)
-            [ ! -e "$copy/$name.$2" ] || echo "$1 $2 $("$copy/$name.$2" "$path" "${@:4}")" ;;
+            [ ! -e "$copy/$name.$2" ] || echo "$1 $2 $("${before[@]}" "$copy/$name.$2" "$path" "${@:4}")" ;;
     esac
 }
 

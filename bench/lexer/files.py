@@ -16,6 +16,8 @@ import tempfile
 
 LONGEST = 1 << 20
 LEAST = 1 << 18
+# how many bytes at the end of a text may be blanks
+SPARE = 1 << 12
 HERE = os.path.dirname(os.path.realpath(__file__))
 ROOT = os.path.dirname(os.path.dirname(HERE))
 # folders of libraries whose files are wrong on purpose, or tables
@@ -123,19 +125,32 @@ def texts(kind):
         yield made(contents(path))
 
 
-def main():
-    size, parts, length = int(sys.argv[1]), [], 0
-    for text in texts(sys.argv[2]):
-        parts.append(text.encode())
-        length += len(parts[-1])
-        if length >= size:
-            break
-    if length < LEAST:
+def fitting(files, left):
+    """Yields files that fit one after the other into what is left of a text."""
+    for text in files:
+        if len(text) <= left:
+            left -= len(text)
+            yield text
+        if left < SPARE:
+            return
+
+
+def filled(files, size):
+    """Returns files in a row, from the first on again where there are too few, and blanks behind
+    them. No file is cut in two."""
+    parts = kept = list(fitting(files, size))
+    left = size - sum(map(len, kept))
+    if size - left < LEAST:
         sys.exit(3)
-    text = b"".join(parts)
-    text = (text * (size // length + 1))[:size]
-    # what is left behind the last line is blanks, so that no character is cut in two
-    sys.stdout.buffer.write(text[:text.rindex(b"\n")].ljust(size))
+    while more := list(fitting(kept, left)):
+        parts = parts + more
+        left -= sum(map(len, more))
+    return b"".join(parts).ljust(size)
+
+
+def main():
+    files = (text.encode() for text in texts(sys.argv[2]) if text)
+    sys.stdout.buffer.write(filled(files, int(sys.argv[1])))
 
 
 main()

@@ -5,18 +5,13 @@ A page of about a mebibyte is made from a fixed seed and repeated; what is left 
 import random
 import sys
 
+from further import DIGITS, FURTHER, LETTERS, LOWER, some
+
 PAGE = 1 << 20
 KEYWORDS = "if else while for return let fn break continue struct".split()
 OPERATORS = "+ - * / = == != < <= > >= && || ! ( ) { } [ ] ; , .".split()
-LETTERS = "abcdefghijklmnopqrstuvwxyzABCDEFGHIJKLMNOPQRSTUVWXYZ_"
-LOWER = "abcdefghijklmnopqrstuvwxyz"
-DIGITS = "0123456789"
 # the first and the last letter of scripts, with how often a word is of each
 SCRIPTS = [("a", "z", 40), ("\u00e0", "\u00f6", 8), ("\u03b1", "\u03c9", 12), ("\u0430", "\u044f", 16), ("\u05d0", "\u05ea", 6), ("\u0905", "\u0939", 6), ("\u3042", "\u3094", 6), ("\u4e00", "\u9fa0", 6)]
-
-
-def some(rng, letters, least, most):
-    return "".join(rng.choices(letters, k=rng.randrange(least, most + 1)))
 
 
 def program_token(rng):
@@ -248,44 +243,6 @@ def access(rng):
     return f"{access_address(rng)} - {user} {date} ".encode() + access_request(rng) + f' {status} "{referrer}" "{agent}"{time}\n'.encode()
 
 
-def iplog_address(rng):
-    address = ".".join(str(rng.randrange(256)) for _ in range(4))
-    return address + rng.choice(["", "", "", f":{rng.randrange(65536)}", f"/{rng.randrange(8, 33)}"])
-
-
-def iplog_value(rng):
-    kind = rng.randrange(10)
-    if kind < 4:
-        return iplog_address(rng)
-    if kind == 4:
-        return ":".join(f"{rng.randrange(256):02x}" for _ in range(6))
-    if kind == 5:
-        return f"0x{rng.randrange(1 << 24):x}"
-    if kind == 6:
-        return "/" + "/".join(some(rng, LOWER + DIGITS, 2, 9) for _ in range(rng.randrange(1, 5)))
-    if kind == 7:
-        return '"' + some(rng, LETTERS + "      ", 3, 40) + rng.choice(["", "", '\\"', "\u00e9"]) + '"'
-    number = str(rng.randrange(10 ** rng.randrange(1, 7)))
-    return number + rng.choice(["", "", "ms", "us", "kB", "%", f".{rng.randrange(10)}s"])
-
-
-def iplog_field(rng):
-    if rng.randrange(3):
-        return some(rng, LOWER, 2, 8) + "=" + iplog_value(rng)
-    return rng.choice([iplog_value, lambda rng: " ".join(some(rng, LOWER, 2, 9) for _ in range(rng.randrange(1, 5)))])(rng)
-
-
-def iplog(rng):
-    clock = f"{rng.randrange(24):02}:{rng.randrange(60):02}:{rng.randrange(60):02}"
-    month = rng.choice("Jan Feb Mar Apr May Jun Jul Aug Sep Oct Nov Dec".split())
-    iso = f"2024-{rng.randrange(1, 13):02}-{rng.randrange(1, 29):02}T{clock}.{rng.randrange(1000):03}Z"
-    time = rng.choice([f"{month} {rng.randrange(1, 29):2} {clock}", iso])
-    process = f"{some(rng, LOWER, 3, 8)}[{rng.randrange(100000)}]:"
-    level = rng.choice(["", "INFO ", "WARNING ", "ERR ", "NOTICE "])
-    fields = rng.choice([" ", " ", ", "]).join(iplog_field(rng) for _ in range(rng.randrange(1, 8)))
-    return f"{time} {some(rng, LOWER, 3, 8)}-{rng.randrange(100)} {process} {level}{fields}\n"
-
-
 PARTS = {
     "program": program,
     "json": json,
@@ -298,7 +255,7 @@ PARTS = {
     "css": css,
     "template": template,
     "access": access,
-    "iplog": iplog,
+    **FURTHER,
 }
 
 

@@ -18,7 +18,7 @@ static void lex(const unsigned char *cursor, const unsigned char *limit)
             [^\\`*_[\]()<>!&~\n#|:\-\x00]+ { tokens++; continue; }
             "`" [^`\n\x00]+ "`" { tokens++; continue; }
             "``" [^\n`\x00]+ ("`" [^`\n\x00]+)* "``" { tokens++; continue; }
-            "```" [a-z]* "\n" ([^`\x00] | "`" [^`\x00] | "``" [^`\x00])* "```" { tokens++; continue; }
+            "```" [^`\n\x00]* "\n" ([^`\x00] | "`" [^`\x00] | "``" [^`\x00])* "```" { tokens++; continue; }
             "*"{1,3} | "_"{1,3} | "~~" { tokens++; continue; }
             "!"? "[" [^\][\n\x00]* "](" [^) \t\n\x00]* ([ \t]+ ["][^"\n\x00]*["])? ")" { tokens++; continue; }
             "!"? "[" [^\][\n\x00]* "][" [^\][\n\x00]* "]" { tokens++; continue; }

@@ -9,7 +9,7 @@ enum Markdown {
     #[regex(r"`[^`\n]+`")]
     #[regex(r"``[^\n`]+(`[^`\n]+)*``", priority = 6)]
     Code,
-    #[regex(r"```[a-z]*\n([^`]|`[^`]|``[^`])*```", priority = 20)]
+    #[regex(r"```[^`\n]*\n([^`]|`[^`]|``[^`])*```", priority = 20)]
     Block,
     #[regex(r"\*\*?\*?|__?_?|~~")]
     Mark,
