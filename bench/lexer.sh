@@ -82,18 +82,29 @@ compile_c() {
     done
 }
 
+# OUT WORD ..: compiles a program in Rust. Where rustc takes too long, OUT.slow is there afterwards.
+compile_within() {
+    local status=0
+    (ulimit -t "$limit" && exec rustc --edition 2021 -C opt-level=3 --crate-name lexer \
+        --extern "logos=$copy/liblogos.rlib" -o "$1.part" "${@:2}" 2> "$1.said") || status=$?
+    if [ "$status" -gt 128 ]; then
+        mv "$1.said" "$1.slow"
+    elif [ "$status" != 0 ]; then
+        cat "$1.said" >&2
+        return 1
+    else
+        mv "$1.part" "$1"
+        rm "$1.said"
+    fi
+}
+
 # NAME SHAPE SCANNER MAIN WORD ..: compiles a program over the text of a shape with these words for
-# rustc. Where rustc takes too long there is no such scanner.
+# rustc.
 compile_rust() {
     local folder="$copy/$1.$2.text" path
     path="$keep/$1.$3.$(sum "$folder/lexer.rs" "$folder/rules.rs" "$bench/lexer/rust/$4" "$copy/runtime")"
-    if [ ! -e "$path" ] && [ ! -e "$path.slow" ]; then
-        cp "$bench/lexer/rust/$4" "$folder/$3.rs"
-        (ulimit -t "$limit" && rustc --edition 2021 -C opt-level=3 "${@:5}" --extern "logos=$copy/liblogos.rlib" \
-            -o "$path.part" "$folder/$3.rs" 2> "$path.said") || mv "$path.said" "$path.slow"
-        [ ! -e "$path.part" ] || mv "$path.part" "$path"
-        rm -f "$path.said"
-    fi
+    cp "$bench/lexer/rust/$4" "$folder/$3.rs"
+    [ -e "$path" ] || [ -e "$path.slow" ] || compile_within "$path" "${@:5}" "$folder/$3.rs"
     if [ -e "$path" ]; then
         ln -s "$path" "$copy/$1.$3"
     else
@@ -186,14 +197,14 @@ done > "$copy/runs"
 echo "$(nproc) cores, $(sed -n 's/^model name[^:]*: //p' /proc/cpuinfo | head -n 1), $(rustc --version 2> /dev/null || echo 'no rustc')"
 python3 "$bench/lexer/table.py" "$size" "$copy/choices" "$copy/runs"
 
-# short inputs: the first bytes of some texts, each as often as takes about 20 ms
+# short inputs: lines of some texts, each as often as has six million bytes
 for text in "${texts[@]}"; do
-    [[ $text =~ ^(program|json|log|python|css)$ ]] || continue
-    for short in 64 1024; do
-        head -c "$short" "$copy/$text.text" > "$copy/$text.$short"
+    [[ $text =~ ^(program|json|log|css|sql)$ ]] || continue
+    for length in 64 1024; do
+        python3 "$bench/lexer/short.py" "$length" "$copy/$text.text" > "$copy/$text.$length"
         for ((run = 0; run < runs; run++)); do
             for scanner in lexer installed flex re2c tailcall state_machine tables; do
-                measure "$text" "$scanner" "$copy/$text.$short" $((6000000 / short)) | sed "s/ / $short /"
+                measure "$text" "$scanner" "$copy/$text.$length" $((6000000 / length)) | sed "s/ / $length /"
             done
         done
     done
