@@ -6,15 +6,16 @@
 # fastest of each counts; the first argument says how many, ten without it. Further arguments name
 # the texts that are measured, instead of all.
 #
-# bench/lexer/text.py makes sixteen of the texts, bench/lexer/files.py those of files on this machine.
-# A text of which it has too few files is left out, and a shape for which rustc takes more than 100
-# processor seconds.
+# bench/lexer/text.py makes sixteen of the texts, bench/lexer/files.py those of files on this
+# machine. A text of which it has too few files is left out, and a shape for which rustc takes more
+# than 100 processor seconds.
 #
-# bench/lexer/table.py prints the tables: MB/s of all, the speed of `ours`, which is `chunks` or
-# `lexer` as the programs choose, by that of the fastest other, and of the tables and their `scan` by
-# the faster other shape; then the means; the installed program beside the proved one; and
-# nanoseconds for inputs of 64 bytes and 1 KiB. Where rustc is found the last table is of `logos lex`
-# beside programs in Rust that print the same lines through a `BufWriter`, on texts of 64 MiB.
+# bench/lexer/table.py prints the tables: MB/s of all; the speed of `ours`, which is `chunks` or
+# `lexer` as the programs choose, by that of the fastest other, and of the tables and their `scan`
+# by the faster other shape; the means of these; the installed program beside the proved one; and
+# nanoseconds for inputs of 64 bytes and 1 KiB. Where rustc is found the last table is of
+# `logos lex` beside programs in Rust that print the same lines through a `BufWriter`, on texts of
+# 64 MiB.
 #
 # It needs flex, re2c, gcc and python3, as in `apt-get install flex re2c gcc python3`, and uses
 # rustc where it is found. `bench/program.sh` builds the programs. The variables LEXER, INSTALLED,
@@ -28,7 +29,7 @@ runs=${1:-10}
 size=33554432
 limit=100
 read -ra before <<< "${BEFORE:-}"
-keep=${KEEP:-$copy/kept}
+keep=$(realpath -m "${KEEP:-$copy/kept}")
 mkdir -p "$keep"
 for tool in flex re2c gcc python3; do
     command -v "$tool" > /dev/null || { echo "needs $tool" >&2; exit 2; }
@@ -82,19 +83,19 @@ compile_c() {
     done
 }
 
-# OUT WORD ..: compiles a program in Rust. Where rustc takes too long, OUT.slow is there afterwards.
+# OUT FOLDER WORD ..: compiles a program in Rust, in a folder. Where rustc takes too long OUT.slow
+# is there afterwards, and no OUT.
 compile_within() {
     local status=0
     (ulimit -t "$limit" && exec rustc --edition 2021 -C opt-level=3 --crate-name lexer \
-        --extern "logos=$copy/liblogos.rlib" -o "$1.part" "${@:2}" 2> "$1.said") || status=$?
+        --extern "logos=$copy/liblogos.rlib" -o "$2/part" "${@:3}" 2> "$2/said") || status=$?
     if [ "$status" -gt 128 ]; then
-        mv "$1.said" "$1.slow"
+        touch "$1.slow"
     elif [ "$status" != 0 ]; then
-        cat "$1.said" >&2
+        cat "$2/said" >&2
         return 1
     else
-        mv "$1.part" "$1"
-        rm "$1.said"
+        mv "$2/part" "$1"
     fi
 }
 
@@ -104,7 +105,7 @@ compile_rust() {
     local folder="$copy/$1.$2.text" path
     path="$keep/$1.$3.$(sum "$folder/lexer.rs" "$folder/rules.rs" "$bench/lexer/rust/$4" "$copy/runtime")"
     cp "$bench/lexer/rust/$4" "$folder/$3.rs"
-    [ -e "$path" ] || [ -e "$path.slow" ] || compile_within "$path" "${@:5}" "$folder/$3.rs"
+    [ -e "$path" ] || [ -e "$path.slow" ] || compile_within "$path" "$folder" "${@:5}" "$folder/$3.rs"
     if [ -e "$path" ]; then
         ln -s "$path" "$copy/$1.$3"
     else
@@ -121,9 +122,11 @@ shape() {
     fi
 }
 
-# NAME: compiles the scanners of all shapes for these rules.
-compile_shapes() {
+# NAME: compiles all scanners for these rules.
+compile() {
     local folder shape
+    compile_c "$1"
+    [[ " ${others[*]} " = *" tables "* ]] || return 0
     for shape in tailcall state_machine tables; do
         folder="$copy/$1.$shape.text"
         mkdir "$folder"
@@ -166,21 +169,25 @@ if command -v rustc > /dev/null; then
     rustc --edition 2021 -C opt-level=3 --crate-type rlib --crate-name logos --cfg 'feature="std"' -o "$copy/liblogos.rlib" "$bench/../runtime/rust/src/lib.rs"
 fi
 for name in "${enums[@]}"; do
-    compile_c "$name"
-    [[ " ${others[*]} " != *" tables "* ]] || compile_shapes "$name"
+    [ "$(jobs -rp | wc -l)" -lt "$(nproc)" ] || wait -n
+    { compile "$name"; touch "$copy/$name.compiled"; } &
+done
+wait
+for name in "${enums[@]}"; do
+    [ -e "$copy/$name.compiled" ] || exit 1
 done
 
-# TEXT SCANNER [PATH TIMES]: measures one scanner on a text, or so many times on that of a path.
+# TEXT SCANNER PATH [TIMES]: measures a scanner by the rules of a text on the file at a path, once
+# or so many times. Prints nothing where there is no such scanner.
 measure() {
-    local name=${rules[$1]:-$1} path=${3:-$copy/$1.text} program=$lexer
+    local name=${rules[$1]:-$1} program=$lexer command
+    [[ $2 != installed* ]] || program=$installed
     case "$2" in
-        lexer | chunks | installed | installed_chunks)
-            [[ $2 != installed* ]] || program=$installed
-            [[ $2 != *chunks ]] || set -- "$1" "$2" "$path" chunks
-            echo "$1 $2 $("${before[@]}" "$program" "$bench/lexer/rules/$name.rs" "$path" "${@:4}")" ;;
-        *)
-            [ ! -e "$copy/$name.$2" ] || echo "$1 $2 $("${before[@]}" "$copy/$name.$2" "$path" "${@:4}")" ;;
+        lexer | installed) command=("$program" "$bench/lexer/rules/$name.rs" "${@:3}") ;;
+        chunks | installed_chunks) command=("$program" "$bench/lexer/rules/$name.rs" "$3" chunks) ;;
+        *) command=("$copy/$name.$2" "${@:3}") ;;
     esac
+    [ ! -e "${command[0]}" ] || echo "$1 $2 $("${before[@]}" "${command[@]}")"
 }
 
 for text in "${texts[@]}"; do
@@ -189,7 +196,7 @@ done > "$copy/choices"
 for ((run = 0; run < runs; run++)); do
     for text in "${texts[@]}"; do
         for scanner in lexer chunks installed installed_chunks "${others[@]}"; do
-            measure "$text" "$scanner"
+            measure "$text" "$scanner" "$copy/$text.text"
         done
     done
 done > "$copy/runs"
@@ -211,14 +218,16 @@ for text in "${texts[@]}"; do
 done > "$copy/short"
 python3 "$bench/lexer/table.py" short 6000000 "$copy/short"
 
-if [ "${#lines[@]}" != 0 ] && [[ " ${others[*]} " = *" tables "* ]]; then
+if [ "${#lines[@]}" != 0 ] && command -v rustc > /dev/null; then
     echo
     echo "| Text | Lines | logos lex | MiB | tailcall | MiB | state_machine | MiB | logos lex by the fastest other |"
     echo "|---|---|---|---|---|---|---|---|---|"
-    for name in "${lines[@]}"; do
+fi
+for name in "${lines[@]}"; do
+    if [ -e "$copy/$name.tailcall.lines" ] && [ -e "$copy/$name.state_machine.lines" ]; then
         python3 "$bench/lexer/text.py" $((2 * size)) "$name" > "$copy/$name.long"
         python3 "$bench/lexer/lines.py" "$runs" "$copy/$name.long" "$name" \
             "$logos lex $bench/lexer/rules/$name.rs" "$copy/$name.tailcall.lines" "$copy/$name.state_machine.lines"
         rm "$copy/$name.long"
-    done
-fi
+    fi
+done

@@ -1,5 +1,5 @@
-"""Writes a text of files on this machine to the standard output: as many bytes as the first argument
-says, and of the kind that the second one names.
+"""Writes a text of files on this machine to the standard output: as many bytes as the first
+argument says, and of the kind that the second one names.
 
 The sums of their paths say in which order files are taken. Those that are longer than a mebibyte,
 are not UTF-8 or have zeros are left out. They are repeated where they are shorter than the text.
@@ -42,8 +42,8 @@ def toolchain():
 
 
 def without_contracts(text):
-    """Returns a source in Rattle without what it does not share with Rust: contracts, and lines that
-    have signs of another language outside of comments."""
+    """Returns a source in Rattle without what it does not share with Rust: contracts, and lines
+    that have signs of another language outside of comments."""
     kept, depth = [], 0
     for line in text.split("\n"):
         if depth or line.lstrip().startswith(CONTRACTS):
