@@ -38,8 +38,9 @@ done
 # the texts, and by which rules those are read that have another name
 declare -A rules=([words]=program [blanks]=program [operators]=program [json_files]=json [css_files]=css)
 made=(program json log prose words blanks operators sql css template access iplog httplog toml graphql mustache)
-found=(json_files css_files rust python c asm xml markdown)
-texts=("${made[@]}" "${found[@]}")
+# those of languages, data and logs first, then held-out kinds and what is there to be hard
+texts=(json_files rust python css_files c asm iplog xml program log json prose sql css template)
+texts+=(markdown toml httplog graphql mustache access words blanks operators)
 lines=(program json log prose)
 if [ $# -gt 1 ]; then
     texts=("${@:2}")

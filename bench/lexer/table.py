@@ -15,7 +15,8 @@ SHAPES = ["tailcall", "state_machine"]
 TABLES = ["tables", "scan"]
 INSTALLED = ["installed", "installed_chunks"]
 # the texts of languages, data and logs, over which the means are
-USUAL = "json_files rust python css_files c asm iplog xml program log json prose sql css template".split()
+USUAL = """json_files rust python css_files c asm iplog xml program log json prose sql css
+template""".split()
 
 
 def words_of(path):
