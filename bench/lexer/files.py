@@ -1,9 +1,10 @@
 """Writes a text of files on this machine to the standard output: as many bytes as the first
 argument says, and of the kind that the second one names.
 
-The sums of their paths say in which order files are taken. Those that are longer than a mebibyte,
-are not UTF-8 or have zeros are left out. They are repeated where they are shorter than the text.
-Where a machine has fewer than 256 KiB of them nothing is written, and the status is 3."""
+The sums of their paths below their folder say in which order files are taken. Those that are longer
+than a mebibyte, are not UTF-8 or have zeros are left out. They are repeated where they are shorter
+than the text. Where a machine has fewer than 256 KiB of them nothing is written, and the status is
+3."""
 import ast
 import glob
 import hashlib
@@ -13,6 +14,7 @@ import subprocess
 import sys
 import sysconfig
 import tempfile
+import warnings
 
 LONGEST = 1 << 20
 LEAST = 1 << 18
@@ -20,8 +22,8 @@ LEAST = 1 << 18
 SPARE = 1 << 12
 HERE = os.path.dirname(os.path.realpath(__file__))
 ROOT = os.path.dirname(os.path.dirname(HERE))
-# folders of libraries whose files are wrong on purpose, or tables
-LEFT_OUT = {"test", "tests", "lib2to3", "site-packages", "encodings", "idlelib"}
+# folders whose files are wrong on purpose, tables, or made by the toolchain
+LEFT_OUT = {"test", "tests", "lib2to3", "site-packages", "encodings", "idlelib", "out"}
 # with these words contracts begin
 CONTRACTS = ("requires ", "ensures ", "ghost ")
 
@@ -81,14 +83,19 @@ KINDS = {
 }
 
 
+def order(folder, path):
+    """Returns what decides when a file of a folder is taken."""
+    return hashlib.sha256(os.path.relpath(path, folder).encode("utf-8", "surrogateescape")).digest()
+
+
 def paths(folders, ending):
     """Returns the paths of a kind."""
     found = []
     for folder in filter(None, folders):
         for at, below, names in os.walk(folder):
             below[:] = [name for name in below if name not in LEFT_OUT]
-            found += [f"{at}/{name}" for name in names if name.endswith(ending)]
-    return sorted(found, key=lambda path: hashlib.sha256(path.encode("utf-8", "surrogateescape")).digest())
+            found += [(order(folder, f"{at}/{name}"), f"{at}/{name}") for name in names if name.endswith(ending)]
+    return [path for _, path in sorted(found)]
 
 
 def contents(path):
@@ -149,6 +156,7 @@ def filled(files, size):
 
 
 def main():
+    warnings.simplefilter("ignore")
     files = (text.encode() for text in texts(sys.argv[2]) if text)
     sys.stdout.buffer.write(filled(files, int(sys.argv[1])))
 
