@@ -1,159 +1,234 @@
 #!/usr/bin/env bash
-# Measures `Lexer` and, as `chunks`, a run by chunks beside scanners of the same rules on the same
-# texts: those that flex and re2c make, and, where rustc is found, what it makes of the Rust text of
-# these rules, over `runtime/rust`: in both shapes of `logos gen`, and as tables. Each text has 32
-# MiB and is made by bench/lexer/text.py. Prints a table of megabytes a second, the times of `Lexer`
-# and of `chunks` by that of the fastest of these but the tables, and the times of the tables and of
-# their `scan` by that of the faster other shape. Where rustc is found a second table follows:
+# Measures lexers on texts of 32 MiB: `Lexer` and, as `chunks`, a run by chunks, in a proved build
+# and as `tools/install.sh` builds programs, beside scanners of the same rules: those that flex and
+# re2c make, and, where rustc is found, what it makes of the Rust text of these rules, over
+# `runtime/rust`: in both shapes of `logos gen`, and as tables. Of the runs, taken in turns, the
+# fastest of each counts; the first argument says how many, ten without it. Further arguments name
+# the texts that are measured, instead of all.
+#
+# bench/lexer/text.py makes sixteen of the texts, bench/lexer/files.py those of files on this
+# machine. A text of which it has too few files is left out, and a shape for which rustc takes more
+# than 100 processor seconds.
+#
+# bench/lexer/table.py prints the tables: MB/s of all; the speed of `ours`, which is `chunks` or
+# `lexer` as the programs choose, by that of the fastest other, and of the tables and their `scan`
+# by the faster other shape; the means of these; the installed program beside the proved one; and
+# nanoseconds for inputs of 64 bytes and 1 KiB. Where rustc is found the last table is of
 # `logos lex` beside programs in Rust that print the same lines through a `BufWriter`, on texts of
-# 64 MiB. Of the runs, taken in turns, the fastest of each counts; the first argument says how many,
-# ten without it. Further arguments name the texts that are measured, instead of all.
+# 64 MiB.
 #
 # It needs flex, re2c, gcc and python3, as in `apt-get install flex re2c gcc python3`, and uses
-# rustc where it is found. `bench/program.sh` builds the program of `bench/lexer`, and `logos`. The
-# variables LEXER and LOGOS name two programs to measure in their place, which can be ones that are
-# not proved.
+# rustc where it is found. `bench/program.sh` builds the programs. The variables LEXER, INSTALLED,
+# LOGOS and CLI name programs to measure in their place, which can be ones that are not proved, KEEP
+# a folder in which texts and compiled scanners are kept for the next time, and BEFORE words that
+# stand before each program that is measured, such as `chrt -f 1`.
 set -euo pipefail
 
 . "$(dirname "${BASH_SOURCE[0]}")/program.sh"
 runs=${1:-10}
 size=33554432
-for tool in flex re2c gcc python3 rt; do
+limit=100
+read -ra before <<< "${BEFORE:-}"
+keep=$(realpath -m "${KEEP:-$copy/kept}")
+mkdir -p "$keep"
+for tool in flex re2c gcc python3; do
     command -v "$tool" > /dev/null || { echo "needs $tool" >&2; exit 2; }
 done
 
-# the texts, and which rules each is read by
-declare -A rules=([program]=program [words]=program [blanks]=program [operators]=program [json]=json [log]=log [prose]=prose)
-rules+=([sql]=sql [css]=css [template]=template [access]=access)
-texts=(program json log prose words blanks operators sql css template access)
+# the texts, and by which rules those are read that have another name
+declare -A rules=([words]=program [blanks]=program [operators]=program [json_files]=json [css_files]=css)
+made=(program json log prose words blanks operators sql css template access iplog httplog toml graphql mustache)
+# those of languages, data and logs first, then held-out kinds and what is there to be hard
+texts=(json_files rust python css_files c asm iplog xml program log json prose sql css template)
+texts+=(markdown toml httplog graphql mustache access words blanks operators)
 lines=(program json log prose)
 if [ $# -gt 1 ]; then
     texts=("${@:2}")
     lines=()
     for text in "${texts[@]}"; do
-        if [[ $text =~ ^(program|json|log|prose)$ ]]; then
-            lines+=("$text")
-        fi
+        [[ ! $text =~ ^(program|json|log|prose)$ ]] || lines+=("$text")
     done
 fi
-mapfile -t enums < <(for text in "${texts[@]}"; do echo "${rules[$text]}"; done | sort -u)
-for text in "${texts[@]}"; do
-    python3 "$bench/lexer/text.py" "$size" "$text" > "$copy/$text.text"
-done
 
-for name in "${enums[@]}"; do
-    [[ $name =~ ^(program|access)$ ]] && encoding=() || encoding=(--utf8)
-    flex -CF -o "$copy/$name.flex.c" "$bench/lexer/flex/$name.l"
-    re2c "${encoding[@]}" -o "$copy/$name.re2c.c" "$bench/lexer/re2c/$name.re"
+# FILE ..: a word that changes with what is in these files.
+sum() {
+    sha256sum "$@" | cut -c -64 | sha256sum | cut -c -16
+}
+
+# TEXT: makes a text, and writes its path. The status is not 0 where this machine lacks its files.
+make_text() {
+    local script=files.py sources=("$bench/lexer/files.py") path
+    if [[ " ${made[*]} " = *" $1 "* ]]; then
+        script=text.py sources=("$bench"/lexer/{text,further}.py)
+    elif [ "$1" = asm ]; then
+        sources+=("$bench"/lexer/re2c/*.re)
+    fi
+    path="$keep/$1.$(sum "${sources[@]}")"
+    if [ ! -e "$path" ]; then
+        python3 "$bench/lexer/$script" "$size" "$1" > "$path.part" || return 1
+        mv "$path.part" "$path"
+    fi
+    ln -s "$path" "$copy/$1.text"
+}
+
+# NAME: compiles the scanners of flex and re2c for these rules.
+compile_c() {
+    local encoding=(--utf8) path
+    [[ ! $1 =~ ^(program|access|iplog|httplog)$ ]] || encoding=()
+    flex -CF -o "$copy/$1.flex.c" "$bench/lexer/flex/$1.l"
+    re2c "${encoding[@]}" -o "$copy/$1.re2c.c" "$bench/lexer/re2c/$1.re"
     for scanner in flex re2c; do
-        gcc -O2 -I "$bench/lexer" -o "$copy/$name.$scanner" "$copy/$name.$scanner.c"
+        path="$keep/$1.$scanner.$(sum "$copy/$1.$scanner.c" "$bench"/lexer/*.h)"
+        [ -e "$path" ] || gcc -O2 -I "$bench/lexer" -o "$path" "$copy/$1.$scanner.c"
+        ln -s "$path" "$copy/$1.$scanner"
     done
-done
+}
+
+# OUT FOLDER WORD ..: compiles a program in Rust, in a folder. Where rustc takes too long OUT.slow
+# is there afterwards, and no OUT.
+compile_within() {
+    local status=0
+    (ulimit -t "$limit" && exec rustc --edition 2021 -C opt-level=3 --crate-name lexer \
+        --extern "logos=$copy/liblogos.rlib" -o "$2/part" "${@:3}" 2> "$2/said") || status=$?
+    if [ "$status" -gt 128 ]; then
+        touch "$1.slow"
+    elif [ "$status" != 0 ]; then
+        cat "$2/said" >&2
+        return 1
+    else
+        mv "$2/part" "$1"
+    fi
+}
+
+# NAME SHAPE SCANNER MAIN WORD ..: compiles a program over the text of a shape with these words for
+# rustc.
+compile_rust() {
+    local folder="$copy/$1.$2.text" path
+    path="$keep/$1.$3.$(sum "$folder/lexer.rs" "$folder/rules.rs" "$bench/lexer/rust/$4" "$copy/runtime")"
+    cp "$bench/lexer/rust/$4" "$folder/$3.rs"
+    [ -e "$path" ] || [ -e "$path.slow" ] || compile_within "$path" "$folder" "${@:5}" "$folder/$3.rs"
+    if [ -e "$path" ]; then
+        ln -s "$path" "$copy/$1.$3"
+    else
+        echo "$1: no $3, since rustc takes more than $limit processor seconds for it" >&2
+    fi
+}
+
+# NAME SHAPE: prints the text of a shape, the implementation alone.
+shape() {
+    if [ "$2" = tables ]; then
+        "$cli" "$bench/lexer/rules/$1.rs" --shape tables | sed -n '/^impl < /,$p'
+    else
+        "$logos" gen "$bench/lexer/rules/$1.rs" --shape "$2"
+    fi
+}
+
+# NAME: compiles all scanners for these rules.
+compile() {
+    local folder shape
+    compile_c "$1"
+    [[ " ${others[*]} " = *" tables "* ]] || return 0
+    for shape in tailcall state_machine tables; do
+        folder="$copy/$1.$shape.text"
+        mkdir "$folder"
+        { grep -v '^ *#\[' "$bench/lexer/rules/$1.rs"
+          sed -n 's/^enum \([A-Za-z]*\) {$/type Rules = \1;/p' "$bench/lexer/rules/$1.rs"; } > "$folder/rules.rs"
+        shape "$1" "$shape" > "$folder/lexer.rs"
+        compile_rust "$1" "$shape" "$shape" main.rs
+        [[ $shape = tables || " ${lines[*]} " != *" $1 "* ]] || compile_rust "$1" "$shape" "$shape.lines" lines.rs
+    done
+    compile_rust "$1" tables scan main.rs --cfg scan
+}
 
 lexer=${LEXER:-$copy/crates/lexer_bench/out/lexer_bench}
+installed=${INSTALLED:-$copy/installed}
 logos=${LOGOS:-$copy/crates/logos_program/out/logos_program}
-if [ -z "${LEXER:-}" ] || [ -z "${LOGOS:-}" ]; then
+cli=${CLI:-$copy/crates/logos_cli/out/logos_cli}
+if [ -z "${LEXER:-}" ] || [ -z "${INSTALLED:-}" ] || [ -z "${LOGOS:-}" ] || [ -z "${CLI:-}" ]; then
     copy_crates
     add_crate lexer "logos_code logos_codegen logos_fold logos_generator logos_machine logos_pattern logos_scan logos_walk"
-    build "$crate" "$bench/lexer/rules/json.rs" "$bench/lexer/rules/json.rs"
-    build "$copy/crates/logos_program" gen "$bench/lexer/rules/json.rs"
+    [ -n "${LEXER:-}" ] || build "$crate" "$bench/lexer/rules/json.rs" "$bench/lexer/rules/json.rs"
+    [ -n "${INSTALLED:-}" ] || build_as_installed lexer_bench "$installed"
+    [ -n "${LOGOS:-}" ] || build "$copy/crates/logos_program" gen "$bench/lexer/rules/json.rs"
+    [ -n "${CLI:-}" ] || build "$copy/crates/logos_cli" "$bench/lexer/rules/json.rs"
 fi
 
-scanners=(lexer chunks flex re2c)
-if command -v rustc > /dev/null; then
-    scanners+=(tailcall state_machine)
-    rustc --edition 2021 -C opt-level=3 --crate-type rlib --crate-name logos --cfg 'feature="std"' -o "$copy/liblogos.rlib" "$bench/../runtime/rust/src/lib.rs"
-    for name in "${enums[@]}"; do
-        for shape in tailcall state_machine; do
-            folder="$copy/$name.$shape.text"
-            mkdir "$folder"
-            cp "$bench/lexer/rust/main.rs" "$bench/lexer/rust/lines.rs" "$folder"
-            { grep -v '^ *#\[' "$bench/lexer/rules/$name.rs"
-              sed -n 's/^enum \([A-Za-z]*\) {$/type Rules = \1;/p' "$bench/lexer/rules/$name.rs"; } > "$folder/rules.rs"
-            "$logos" gen "$bench/lexer/rules/$name.rs" --shape "$shape" > "$folder/lexer.rs"
-            rustc --edition 2021 -C opt-level=3 --extern "logos=$copy/liblogos.rlib" -o "$copy/$name.$shape" "$folder/main.rs"
-            [[ " ${lines[*]} " != *" $name "* ]] \
-                || rustc --edition 2021 -C opt-level=3 --extern "logos=$copy/liblogos.rlib" -o "$copy/$name.$shape.lines" "$folder/lines.rs"
-        done
-    done
-fi
-
-# Adds the shape of tables, which `logos_cli` prints, as a scanner. The variable CLI names a program
-# to take in its place.
-add_tables() {
-    local name folder cli=${CLI:-$copy/crates/logos_cli/out/logos_cli}
-    if [ -z "${CLI:-}" ]; then
-        [ -d "$copy/crates" ] || copy_crates
-        build "$copy/crates/logos_cli" "$bench/lexer/rules/json.rs"
+here=()
+for text in "${texts[@]}"; do
+    if make_text "$text"; then
+        here+=("$text")
+    else
+        echo "$text: left out, since this machine has too few of its files" >&2
     fi
-    for name in "${enums[@]}"; do
-        folder="$copy/$name.tables.text"
-        mkdir "$folder"
-        cp "$copy/$name.tailcall.text"/{main,rules}.rs "$folder"
-        "$cli" "$bench/lexer/rules/$name.rs" --shape tables | sed -n '/^impl < /,$p' > "$folder/lexer.rs"
-        rustc --edition 2021 -C opt-level=3 --extern "logos=$copy/liblogos.rlib" -o "$copy/$name.tables" "$folder/main.rs"
-        rustc --edition 2021 -C opt-level=3 --cfg scan --extern "logos=$copy/liblogos.rlib" -o "$copy/$name.scan" "$folder/main.rs"
-    done
-    scanners+=(tables scan)
-}
+done
+texts=("${here[@]}")
+mapfile -t enums < <(for text in "${texts[@]}"; do echo "${rules[$text]:-$text}"; done | sort -u)
+others=(flex re2c)
 if command -v rustc > /dev/null; then
-    add_tables
+    others+=(tailcall state_machine tables scan)
+    { cat "$bench/../runtime/rust/src/lib.rs"; rustc --version; } > "$copy/runtime"
+    rustc --edition 2021 -C opt-level=3 --crate-type rlib --crate-name logos --cfg 'feature="std"' -o "$copy/liblogos.rlib" "$bench/../runtime/rust/src/lib.rs"
 fi
+for name in "${enums[@]}"; do
+    [ "$(jobs -rp | wc -l)" -lt "$(nproc)" ] || wait -n
+    { compile "$name"; touch "$copy/$name.compiled"; } &
+done
+wait
+for name in "${enums[@]}"; do
+    [ -e "$copy/$name.compiled" ] || exit 1
+done
 
+# TEXT SCANNER PATH [TIMES]: measures a scanner by the rules of a text on the file at a path, once
+# or so many times. Prints nothing where there is no such scanner.
+measure() {
+    local name=${rules[$1]:-$1} program=$lexer command
+    [[ $2 != installed* ]] || program=$installed
+    case "$2" in
+        lexer | installed) command=("$program" "$bench/lexer/rules/$name.rs" "${@:3}") ;;
+        chunks | installed_chunks) command=("$program" "$bench/lexer/rules/$name.rs" "$3" chunks) ;;
+        *) command=("$copy/$name.$2" "${@:3}") ;;
+    esac
+    [ ! -e "${command[0]}" ] || echo "$1 $2 $("${before[@]}" "${command[@]}")"
+}
+
+for text in "${texts[@]}"; do
+    echo "$text $("$lexer" "$bench/lexer/rules/${rules[$text]:-$text}.rs" "$copy/$text.text" choice)"
+done > "$copy/choices"
 for ((run = 0; run < runs; run++)); do
     for text in "${texts[@]}"; do
-        for scanner in "${scanners[@]}"; do
-            case "$scanner" in
-                lexer) command=("$lexer" "$bench/lexer/rules/${rules[$text]}.rs" "$copy/$text.text") ;;
-                chunks) command=("$lexer" "$bench/lexer/rules/${rules[$text]}.rs" "$copy/$text.text" chunks) ;;
-                *) command=("$copy/${rules[$text]}.$scanner" "$copy/$text.text") ;;
-            esac
-            echo "$text $scanner $("${command[@]}")"
+        for scanner in lexer chunks installed installed_chunks "${others[@]}"; do
+            measure "$text" "$scanner" "$copy/$text.text"
         done
     done
 done > "$copy/runs"
 
 echo "$(nproc) cores, $(sed -n 's/^model name[^:]*: //p' /proc/cpuinfo | head -n 1), $(rustc --version 2> /dev/null || echo 'no rustc')"
-echo
-awk -v size="$size" -v texts="${texts[*]}" -v scanners="${scanners[*]}" '
-    !(($1, $2) in best) || $3 < best[$1, $2] { best[$1, $2] = $3 }
-    { found[$1, $2] = $4 " tokens and " $5 " errors"; tokens[$1] = $4 }
-    END {
-        many = split(texts, text, " ")
-        count = split(scanners, scanner, " ")
-        head = "| Text | Tokens |"
-        line = "|---|---|"
-        for (i = 1; i <= count; i++) { head = head " " scanner[i] " |"; line = line "---|" }
-        has_tables = scanners ~ /tables/
-        print head " lexer by the fastest other | chunks by it |" (has_tables ? " tables by the faster other shape | scan by it |" : "") "\n" line "---|---|" (has_tables ? "---|---|" : "")
-        for (t = 1; t <= many; t++) {
-            row = "| " text[t] " | " tokens[text[t]] " |"
-            least = 0
-            shape = 0
-            for (i = 1; i <= count; i++) {
-                seconds = best[text[t], scanner[i]]
-                row = row sprintf(" %.0f |", size / seconds / 1e6)
-                if (scanner[i] !~ /lexer|chunks|tables|scan/ && (least == 0 || seconds < least)) { least = seconds }
-                if (scanner[i] ~ /tailcall|state_machine/ && (shape == 0 || seconds < shape)) { shape = seconds }
-                if (found[text[t], scanner[i]] != found[text[t], "lexer"]) {
-                    print text[t] ": " scanner[i] " finds " found[text[t], scanner[i]] > "/dev/stderr"
-                    different = 1
-                }
-            }
-            row = row sprintf(" %.2f | %.2f |", best[text[t], "lexer"] / least, best[text[t], "chunks"] / least)
-            print row (has_tables ? sprintf(" %.2f | %.2f |", best[text[t], "tables"] / shape, best[text[t], "scan"] / shape) : "")
-        }
-        exit different
-    }' "$copy/runs"
+python3 "$bench/lexer/table.py" "$size" "$copy/choices" "$copy/runs"
 
-if [ "${#lines[@]}" != 0 ] && [ "${#scanners[@]}" = 8 ]; then
+# short inputs: lines of some texts, each as often as has six million bytes
+for text in "${texts[@]}"; do
+    [[ $text =~ ^(program|json|log|css|sql)$ ]] || continue
+    for length in 64 1024; do
+        python3 "$bench/lexer/short.py" "$length" "$copy/$text.text" > "$copy/$text.$length"
+        for ((run = 0; run < runs; run++)); do
+            for scanner in lexer installed flex re2c tailcall state_machine tables; do
+                measure "$text" "$scanner" "$copy/$text.$length" $((6000000 / length)) | sed "s/ / $length /"
+            done
+        done
+    done
+done > "$copy/short"
+python3 "$bench/lexer/table.py" short 6000000 "$copy/short"
+
+if [ "${#lines[@]}" != 0 ] && command -v rustc > /dev/null; then
     echo
     echo "| Text | Lines | logos lex | MiB | tailcall | MiB | state_machine | MiB | logos lex by the fastest other |"
     echo "|---|---|---|---|---|---|---|---|---|"
-    for name in "${lines[@]}"; do
+fi
+for name in "${lines[@]}"; do
+    if [ -e "$copy/$name.tailcall.lines" ] && [ -e "$copy/$name.state_machine.lines" ]; then
         python3 "$bench/lexer/text.py" $((2 * size)) "$name" > "$copy/$name.long"
         python3 "$bench/lexer/lines.py" "$runs" "$copy/$name.long" "$name" \
             "$logos lex $bench/lexer/rules/$name.rs" "$copy/$name.tailcall.lines" "$copy/$name.state_machine.lines"
         rm "$copy/$name.long"
-    done
-fi
+    fi
+done

@@ -49,6 +49,23 @@ build() {
     fi
 }
 
+# CRATE OUT: builds the program of a crate that was added, as `tools/install.sh` builds programs.
+# Its own sources count as proved there, so that its checks at run time are left out where those of
+# the crates below are.
+build_as_installed() {
+    cp -R "$bench/../tools" "$bench/../proved.sums" "$copy"
+    python3 - "$copy" "$1" >> "$copy/proved.sums" << 'END'
+import sys
+
+root, crate = sys.argv[1:]
+sys.path.insert(0, f"{root}/tools")
+import proved_sums
+
+print(f"{proved_sums.sum_of(root, crate, proved_sums.lines_of(root)[crate])}  {crate}")
+END
+    python3 "$copy/tools/build.py" "$2" "$1" >&2
+}
+
 # HEADING ..: prints a line about the machine, and the head of a table with these columns.
 print_head() {
     local heading line='|'

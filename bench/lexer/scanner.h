@@ -3,10 +3,14 @@
 #include <stdlib.h>
 #include <time.h>
 
+/* The tokens without blanks, and the bytes that no rule matches. */
+static unsigned long tokens;
+static unsigned long errors;
+
 /* The text of the file that the first argument names, with two zeros behind it. */
 static char *read_text(int argc, char **argv, size_t *size)
 {
-    FILE *file = argc == 2 ? fopen(argv[1], "rb") : NULL;
+    FILE *file = argc > 1 ? fopen(argv[1], "rb") : NULL;
     if (file == NULL || fseek(file, 0, SEEK_END) != 0) {
         exit(2);
     }
@@ -28,10 +32,20 @@ static double now(void)
     return (double)time.tv_sec + (double)time.tv_nsec / 1e9;
 }
 
-/* Prints the seconds, the tokens without blanks, and the bytes that no rule matches. */
-static void report(double start, double end, unsigned long tokens, unsigned long errors)
+/* Scans a text as often as the second argument says, once without it. Prints the seconds, and the
+ * tokens and the errors that one scan finds. */
+static int measure(int argc, char **argv, void (*scan)(char *, size_t))
 {
-    printf("%.6f %lu %lu\n", end - start, tokens, errors);
+    size_t size;
+    char *text = read_text(argc, argv, &size);
+    unsigned long times = argc > 2 ? strtoul(argv[2], NULL, 10) : 1;
+    double start = now();
+    for (unsigned long time = 0; time < times; time++) {
+        scan(text, size);
+    }
+    double end = now();
+    printf("%.6f %lu %lu\n", end - start, tokens / times, errors / times);
+    return 0;
 }
 
 /* Counts a match of a rule with a callback, which refuses matches of more than 127 bytes. */

@@ -5,18 +5,13 @@ A page of about a mebibyte is made from a fixed seed and repeated; what is left 
 import random
 import sys
 
+from further import DIGITS, FURTHER, LETTERS, LOWER, some
+
 PAGE = 1 << 20
 KEYWORDS = "if else while for return let fn break continue struct".split()
 OPERATORS = "+ - * / = == != < <= > >= && || ! ( ) { } [ ] ; , .".split()
-LETTERS = "abcdefghijklmnopqrstuvwxyzABCDEFGHIJKLMNOPQRSTUVWXYZ_"
-LOWER = "abcdefghijklmnopqrstuvwxyz"
-DIGITS = "0123456789"
 # the first and the last letter of scripts, with how often a word is of each
 SCRIPTS = [("a", "z", 40), ("\u00e0", "\u00f6", 8), ("\u03b1", "\u03c9", 12), ("\u0430", "\u044f", 16), ("\u05d0", "\u05ea", 6), ("\u0905", "\u0939", 6), ("\u3042", "\u3094", 6), ("\u4e00", "\u9fa0", 6)]
-
-
-def some(rng, letters, least, most):
-    return "".join(rng.choices(letters, k=rng.randrange(least, most + 1)))
 
 
 def program_token(rng):
@@ -260,6 +255,7 @@ PARTS = {
     "css": css,
     "template": template,
     "access": access,
+    **FURTHER,
 }
 
 

@@ -1,8 +1,5 @@
 #include "scanner.h"
 
-static unsigned long tokens;
-static unsigned long errors;
-
 static void lex(const unsigned char *cursor, const unsigned char *limit)
 {
     const unsigned char *marker;
@@ -27,13 +24,4 @@ static void lex(const unsigned char *cursor, const unsigned char *limit)
     }
 }
 
-int main(int argc, char **argv)
-{
-    size_t size;
-    char *text = read_text(argc, argv, &size);
-    double start = now();
-    lex((const unsigned char *)text, (const unsigned char *)text + size);
-    double end = now();
-    report(start, end, tokens, errors);
-    return 0;
-}
+#include "re2c_main.h"

@@ -1,6 +1,7 @@
 //! Measures the lexer that the text beside this file says: `rules.rs` is the enum without its
-//! attributes, `lexer.rs` the text. Lexes the file that the first argument names, and prints the
-//! seconds, the tokens and the errors. With `--cfg scan` the items are those of `Scan::scan`.
+//! attributes, `lexer.rs` the text. Lexes the file that the first argument names, as often as the
+//! second one says, once without it, and prints the seconds, and the tokens and errors of one time.
+//! With `--cfg scan` the items are those of `Scan::scan`.
 
 #![allow(warnings)]
 
@@ -9,13 +10,18 @@ include!("lexer.rs");
 
 fn main() {
     let path = std::env::args().nth(1).expect("a file");
+    let times = std::env::args().nth(2).map_or(1, |word| word.parse().expect("a number"));
     let input = std::fs::read(path).expect("a file that can be read");
     let source = <<Rules as logos::Logos>::Source as Read>::read(&input);
     let start = std::time::Instant::now();
-    #[cfg(not(scan))]
-    let (tokens, errors) = count(logos::Lexer::<Rules>::new(source));
-    #[cfg(scan)]
-    let (tokens, errors) = count(<Rules as logos::Scan>::scan(source).map(|(item, _)| item));
+    let (mut tokens, mut errors) = (0, 0);
+    for _ in 0..times {
+        #[cfg(not(scan))]
+        let items = logos::Lexer::<Rules>::new(std::hint::black_box(source));
+        #[cfg(scan)]
+        let items = <Rules as logos::Scan>::scan(source).map(|(item, _)| item);
+        (tokens, errors) = count(items);
+    }
     let seconds = start.elapsed().as_secs_f64();
     println!("{seconds:.6} {tokens} {errors}");
 }
