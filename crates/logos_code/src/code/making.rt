@@ -14,7 +14,7 @@ use std::alloc::{AllocError, Global};
 
 /// The tables of a code, which are made of its parts.
 #[derive(Drop)]
-struct Tables {
+struct CodeTables {
     /// What each byte does at the start of a try.
     first: [u32; 256],
     rows: Vec<u32>,
@@ -25,7 +25,7 @@ struct Tables {
 }
 
 /// Makes the tables of these parts.
-fn tables_of(alloc: Global, parts: &CodeParts<'_>) -> Result<Tables, AllocError>
+fn tables_of(alloc: Global, parts: &CodeParts<'_>) -> Result<CodeTables, AllocError>
     requires { IsValid parts.now }
     ensures { IfOk result (λ tables. IsWhole parts.now tables.first tables.rows.items
         tables.masks.items tables.signs.items tables.last_marks.items tables.uses.items) }
@@ -36,7 +36,7 @@ fn tables_of(alloc: Global, parts: &CodeParts<'_>) -> Result<Tables, AllocError>
     let last_marks = last_marks_of(alloc, parts, &rows)?;
     let uses = uses_of(alloc, parts)?;
     let first = first_row(&rows, parts.root);
-    Ok(Tables {
+    Ok(CodeTables {
         first,
         rows,
         masks,
@@ -58,7 +58,7 @@ pub fn make_code<'s>(alloc: Global, parts: CodeParts<'s>) -> Result<Code<'s>, Al
 {
     match tables_of(alloc, &parts) {
         Ok(tables) => {
-            let Tables {
+            let CodeTables {
                 first,
                 rows,
                 masks,
