@@ -46,20 +46,18 @@ impl Chunk {
 
     /// Sets the bits of the words from one byte to another.
     fn set_bits(&mut self, from: usize, to: usize) {
-        let words = self.ends.iter_mut().zip(&mut self.tokens);
-        let traces = self.trace.chunks_exact(WORD);
-        for ((ends, tokens), trace) in words.zip(traces).take(to.div_ceil(WORD)).skip(from / WORD) {
-            (*ends, *tokens) = bits_of(trace);
+        for word in from / WORD..to.div_ceil(WORD).min(WORDS) {
+            let trace = self.trace[WORD * word..]
+                .first_chunk()
+                .expect("the entries of a word");
+            (self.ends[word], self.tokens[word]) = bits_of(trace);
         }
     }
 }
 
 /// Returns the bits of the entries of a word.
-fn bits_of(trace: &[u32]) -> (u64, u64) {
-    let mut flags = [0; WORD];
-    for (flag, entry) in flags.iter_mut().zip(trace) {
-        *flag = (*entry >> 24) as u8;
-    }
+fn bits_of(trace: &[u32; WORD]) -> (u64, u64) {
+    let flags = trace.map(|entry| (entry >> 24) as u8);
     let (mut ends, mut tokens) = (0, 0);
     for (n, eight) in flags.chunks_exact(8).enumerate() {
         let eight = u64::from_le_bytes([
@@ -74,18 +72,18 @@ fn bits_of(trace: &[u32]) -> (u64, u64) {
 /// Returns the upper bits of eight bytes.
 #[inline(always)]
 fn upper_bits(eight: u64) -> u64 {
-    (eight >> 7 & 0x0101_0101_0101_0101).wrapping_mul(0x0102_0408_1020_4080) >> 56
+    (eight & 0x8080_8080_8080_8080).wrapping_mul(0x0002_0408_1020_4081) >> 56
 }
 
-/// Returns the entry of a byte in the row at a place.
+/// Returns the entry of a byte in the row at a place, or at the place of an entry.
 #[inline(always)]
 fn step<'s, T: Tables<'s>>(byte: u8, place: u32) -> u32 {
     let column = if T::BY_BYTES {
-        byte as usize
+        byte
     } else {
         T::ROWS.column(byte)
     };
-    T::ROWS.entry(column, place)
+    T::ROWS.entry(column as usize, place)
 }
 
 /// Walks over all blocks at once, each from its place, and returns the places after them.
@@ -107,10 +105,10 @@ fn walk_blocks<'s, T: Tables<'s>>(
         for k in 0..BLOCKS {
             let entry = step::<T>(blocks[k][at], places[k]);
             traces[k][at] = entry;
-            places[k] = entry & PLACE;
+            places[k] = entry;
         }
     }
-    places
+    places.map(|place| place & PLACE)
 }
 
 /// Returns which of eight bytes are line ends: their upper bits.
