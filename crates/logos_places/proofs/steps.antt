@@ -1,5 +1,4 @@
 pub mod AlikeLemmas
-pub mod BranchLemmas
 pub mod CharStepLemmas
 pub mod JumpLemmas
 pub mod LookLemmas

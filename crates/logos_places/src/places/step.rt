@@ -2,7 +2,7 @@
 //! it on each tree.
 
 ghost use Rattle.std.specs.Prelude.{max, ◌≡◌, ℕ, ◌+◌, ◌*◌, ◌^◌, ◌<◌, ◌≤◌, ◌⊎◌, IsTrue, IfOk, OnOk, IfSome, ◌↔◌, Bool, false, Option, List, length};
-ghost use Rattle.logos_places.specs.Views.{Core, IsFirstFrom, IsRising, IsSet, Has, spelled, in_front, up_to, at_least, repeated, count_of, IsOrdered, Stepped, Owes, is_in, pairs, Look, test_at, core_of, is_measured, reader_of};
+ghost use Rattle.logos_places.specs.Views.{Core, IsRising, IsSet, Has, spelled, in_front, up_to, at_least, repeated, count_of, IsOrdered, Stepped, Owes, is_in, pairs, Look, test_at, core_of, is_measured, reader_of};
 ghost use Rattle.logos_places.specs.Core as core;
 ghost use Rattle.logos_places.specs.inside.Repeated.{Repeated};
 
@@ -11,7 +11,7 @@ use crate::node::{Copies, Node, TreeSpot, width};
 use crate::places::exits::exits;
 use crate::places::look::{Context, holds};
 use crate::places::set::{
-    OwnPlaces, alike_copies, first_from, has_mark, insert_mark, next_copy, own_places, push_moved,
+    alike_copies, any_mark, first_from, has_mark, insert_mark, next_copy, push_moved,
 };
 use logos_hir::hir::Range;
 use std::alloc::AllocError;
@@ -214,80 +214,9 @@ pub(crate) fn step(
         by.entry.byte by.entry.marks.now
         next.old.items next.new.items spot.base spot.entered left) }
 {
-    if spot.entered {
-        return step_node(node, by, spot, next);
-    }
-    let own = own_places(by.marks, spot.base, width(node));
-    if own.to <= own.from {
+    if !spot.entered && !any_mark(by.marks, spot.base, width(node)) {
         return Ok(false);
     }
-    step_marked(node, by, own, next)
-}
-
-/// Steps on a tree that is not entered and has these places of the set. A branch without one of
-/// them is passed over.
-///
-/// # Errors
-///
-/// Returns `AllocError` if memory runs out.
-#[cycle(step)]
-fn step_marked(
-    node: &Node,
-    by: ReadByte<'_>,
-    own: OwnPlaces,
-    next: &mut Vec<usize>,
-) -> Result<bool, AllocError>
-    requires fits { own.base + core.width (core_of node.now) < 2 ^ 64 }
-    requires measured { IsTrue (is_measured node.now) }
-    requires rising { IsRising by.marks.now }
-    requires set { IsSet next.old.items own.base }
-    requires some { own.from < own.to }
-    requires from { IsFirstFrom by.marks.now own.base own.from }
-    requires to { IsFirstFrom by.marks.now (own.base + core.width (core_of node.now)) own.to }
-    ensures { IfOk result (λ left. Stepped (core_of node.now) (test_at by.entry.at)
-        by.entry.byte by.entry.marks.now
-        next.old.items next.new.items own.base false left) }
-{
-    let Node::Alt { first, second, .. } = node else {
-        return step_node(node, by, TreeSpot::unentered(own.base), next);
-    };
-    let middle = own.base + width(first);
-    if by.marks[own.to - 1] < middle {
-        return step_marked(first, by, own, next);
-    }
-    if middle <= by.marks[own.from] {
-        let own = OwnPlaces {
-            base: middle,
-            ..own
-        };
-        return step_marked(second, by, own, next);
-    }
-    let (front, back) = own.parted(by.marks, middle);
-    let one = step_marked(first, by, front, next)?;
-    let other = step_marked(second, by, back, next)?;
-    Ok(one | other)
-}
-
-/// Steps on a tree by its form.
-///
-/// # Errors
-///
-/// Returns `AllocError` if memory runs out.
-#[cycle(step)]
-fn step_node(
-    node: &Node,
-    by: ReadByte<'_>,
-    spot: TreeSpot,
-    next: &mut Vec<usize>,
-) -> Result<bool, AllocError>
-    requires fits { spot.base + core.width (core_of node.now) < 2 ^ 64 }
-    requires measured { IsTrue (is_measured node.now) }
-    requires rising { IsRising by.marks.now }
-    requires set { IsSet next.old.items spot.base }
-    ensures { IfOk result (λ left. Stepped (core_of node.now) (test_at by.entry.at)
-        by.entry.byte by.entry.marks.now
-        next.old.items next.new.items spot.base spot.entered left) }
-{
     match node {
         Node::Void => Ok(false),
         Node::Empty => Ok(spot.entered),
