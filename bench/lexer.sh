@@ -166,7 +166,7 @@ mapfile -t enums < <(for text in "${texts[@]}"; do echo "${rules[$text]:-$text}"
 others=(flex re2c)
 if command -v rustc > /dev/null; then
     others+=(tailcall state_machine tables scan)
-    { cat "$bench/../runtime/rust/src/lib.rs"; rustc --version; } > "$copy/runtime"
+    { cat "$bench"/../runtime/rust/src/*.rs; rustc --version; } > "$copy/runtime"
     rustc --edition 2021 -C opt-level=3 --crate-type rlib --crate-name logos --cfg 'feature="std"' -o "$copy/liblogos.rlib" "$bench/../runtime/rust/src/lib.rs"
 fi
 for name in "${enums[@]}"; do
