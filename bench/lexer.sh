@@ -2,17 +2,18 @@
 # Measures lexers on texts of 32 MiB: `Lexer` and, as `chunks`, a run by chunks, in a proved build
 # and as `tools/install.sh` builds programs, beside scanners of the same rules: those that flex and
 # re2c make, and, where rustc is found, what it makes of the Rust text of these rules, over
-# `runtime/rust`: in both shapes of `logos gen`, and as tables. Of the runs, taken in turns, the
-# fastest of each counts; the first argument says how many, ten without it. Further arguments name
-# the texts that are measured, instead of all.
+# `runtime/rust`: in both shapes of `logos gen`, and as tables. Their `scan` is measured by
+# `for_each` and, as `loop`, by a loop. Of the runs, taken in turns, the fastest of each counts; the
+# first argument says how many, ten without it. Further arguments name the texts that are measured,
+# instead of all.
 #
 # bench/lexer/text.py makes sixteen of the texts, bench/lexer/files.py those of files on this
 # machine. A text of which it has too few files is left out, and a shape for which rustc takes more
 # than 100 processor seconds.
 #
 # bench/lexer/table.py prints the tables: MB/s of all; the speed of `ours`, which is `chunks` or
-# `lexer` as the programs choose, by that of the fastest other, and of the tables and their `scan`
-# by the faster other shape; the means of these; the installed program beside the proved one; and
+# `lexer` as the programs choose, by that of the fastest other, and of the tables, their `scan` and
+# `loop` by the faster other shape; the means of these; the installed program beside the proved one; and
 # nanoseconds for inputs of 64 bytes and 1 KiB. Where rustc is found the last table is of
 # `logos lex` beside programs in Rust that print the same lines through a `BufWriter`, on texts of
 # 64 MiB.
@@ -138,6 +139,7 @@ compile() {
         [[ $shape = tables || " ${lines[*]} " != *" $1 "* ]] || compile_rust "$1" "$shape" "$shape.lines" lines.rs
     done
     compile_rust "$1" tables scan main.rs --cfg scan
+    compile_rust "$1" tables loop main.rs --cfg scan --cfg looped
 }
 
 lexer=${LEXER:-$copy/crates/lexer_bench/out/lexer_bench}
@@ -165,7 +167,7 @@ texts=("${here[@]}")
 mapfile -t enums < <(for text in "${texts[@]}"; do echo "${rules[$text]:-$text}"; done | sort -u)
 others=(flex re2c)
 if command -v rustc > /dev/null; then
-    others+=(tailcall state_machine tables scan)
+    others+=(tailcall state_machine tables scan loop)
     { cat "$bench"/../runtime/rust/src/*.rs; rustc --version; } > "$copy/runtime"
     rustc --edition 2021 -C opt-level=3 --crate-type rlib --crate-name logos --cfg 'feature="std"' -o "$copy/liblogos.rlib" "$bench/../runtime/rust/src/lib.rs"
 fi

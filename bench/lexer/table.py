@@ -12,7 +12,7 @@ import sys
 OWN = ["lexer", "chunks"]
 OTHERS = ["flex", "re2c", "tailcall", "state_machine"]
 SHAPES = ["tailcall", "state_machine"]
-TABLES = ["tables", "scan"]
+TABLES = ["tables", "scan", "loop"]
 INSTALLED = ["installed", "installed_chunks"]
 # the texts of languages, data and logs, over which the means are
 USUAL = """json_files rust python css_files c asm iplog xml program log json prose sql css
@@ -82,11 +82,11 @@ def print_means(ratios):
 def main_table(size, choices, best, found):
     """Prints MB/s of all scanners, and the ratios."""
     scanners = [it for it in OWN + OTHERS + TABLES if any(scanner == it for _, scanner in best)]
-    kinds = {"ours by the fastest other": {}, "tables by the faster shape": {}, "scan by it": {}}
+    kinds = {"ours by the fastest other": {}, "tables by the faster shape": {}, "scan by it": {}, "loop by it": {}}
     rows = []
     for text, choice in choices:
         ours, shape = best[text, choice], fastest(best, text, SHAPES)
-        ratios = [by(fastest(best, text, OTHERS), ours), by(shape, best.get((text, "tables"))), by(shape, best.get((text, "scan")))]
+        ratios = [by(fastest(best, text, OTHERS), ours), *(by(shape, best.get((text, way))) for way in TABLES)]
         for kind, ratio in zip(kinds.values(), ratios):
             kind[text] = ratio
         speeds = [shown(by(size / 1e6, best.get((text, scanner))), ".0f") for scanner in scanners]

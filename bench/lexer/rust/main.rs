@@ -1,7 +1,8 @@
 //! Measures the lexer that the text beside this file says: `rules.rs` is the enum without its
 //! attributes, `lexer.rs` the text. Lexes the file that the first argument names, as often as the
 //! second one says, once without it, and prints the seconds, and the tokens and errors of one time.
-//! With `--cfg scan` the items are those of `Scan::scan`.
+//! With `--cfg scan` the items are those of `Scan::scan`, by `for_each`, or with `--cfg looped` by a
+//! loop.
 
 #![allow(warnings)]
 
@@ -19,7 +20,7 @@ fn main() {
         #[cfg(not(scan))]
         let items = logos::Lexer::<Rules>::new(std::hint::black_box(source));
         #[cfg(scan)]
-        let items = <Rules as logos::Scan>::scan(source).map(|(item, _)| item);
+        let items = <Rules as logos::Scan>::scan(source);
         (tokens, errors) = count(items);
     }
     let seconds = start.elapsed().as_secs_f64();
@@ -28,6 +29,7 @@ fn main() {
 
 /// Returns how many tokens and errors there are. It is a function of its own, so that the counts
 /// stay in registers.
+#[cfg(not(scan))]
 #[inline(never)]
 fn count<Error>(items: impl Iterator<Item = Result<Rules, Error>>) -> (u64, u64) {
     let (mut tokens, mut errors) = (0, 0);
@@ -36,6 +38,24 @@ fn count<Error>(items: impl Iterator<Item = Result<Rules, Error>>) -> (u64, u64)
             Ok(_) => tokens += 1,
             Err(_) => errors += 1,
         }
+    }
+    (tokens, errors)
+}
+
+/// The same for items with their places.
+#[cfg(scan)]
+#[inline(never)]
+fn count<Error>(items: impl Iterator<Item = (Result<Rules, Error>, logos::Span)>) -> (u64, u64) {
+    let (mut tokens, mut errors) = (0, 0);
+    let add = |(item, _): (Result<Rules, Error>, _)| match item {
+        Ok(_) => tokens += 1,
+        Err(_) => errors += 1,
+    };
+    #[cfg(not(looped))]
+    items.for_each(add);
+    #[cfg(looped)]
+    for item in items {
+        add(item);
     }
     (tokens, errors)
 }

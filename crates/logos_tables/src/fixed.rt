@@ -15,18 +15,21 @@ pub(crate) const STEPS: &str = "\
 const _KIND_BIT: u32 = _Entry::BITS - 3;
 const _ONE_KIND: _Entry = 1 << _KIND_BIT;
 const _NUMBERS: _Entry = _ONE_KIND - 1;
-// The byte stays in the state.
+// The byte stays in the state, by the loop with this number. `_INNER` is added where no match ends in the state.
 const _STAYS: _Entry = _ONE_KIND;
+const _INNER: _Entry = _ONE_KIND / 2;
 // A match of the leaf ends before the byte; in the next kind the leaf is left out without a callback.
 const _ENDS: _Entry = 2 * _ONE_KIND;
 // A match of the leaf ends after the byte, and nothing leads on from there; in the next kind the leaf is left out without a callback.
 const _CLOSES: _Entry = 4 * _ONE_KIND;
-// The byte leads nowhere, and the last match has to be found by another try.
+// The byte leads nowhere, and no match ends before it.
 const _NOWHERE: _Entry = 6 * _ONE_KIND;
+// The end of the input leads on, and the last match has to be found by another try.
+const _AGAIN: _Entry = 7 * _ONE_KIND;
 
 // Where there are few states, a row has an entry for each byte and for the end of the input, so that the loop looks up no class. Rows
 // are longer than that: at a distance of a power of two, the entries of a byte in all rows would share a few lines of a cache.
-const _BY_BYTES: bool = _ROWS.len() <= 128;
+const _BY_BYTES: bool = _ROWS.len() <= 300;
 const _COLUMNS: usize = if _BY_BYTES { 272 } else { _WIDTH };
 const _END_COLUMN: usize = if _BY_BYTES { 256 } else { _CLASSES[256] as usize };
 const _LEADS: _Entry = (_ROWS.len() * _COLUMNS) as _Entry;
@@ -90,7 +93,7 @@ static _ENTRIES: [(_Entry, _Entry); _ROWS.len()] = {
 // The rows of all states, with an entry for each class. There are so many entries that each place with each class is inside.
 #[allow(long_running_const_eval)]
 static _STEPS: [_Entry; _ROWS.len() * _WIDTH + 256] = {
-    let (lengths, steps, rows) = (&_RUN_LENGTHS, &_RUN_STEPS, &_ROWS);
+    let (lengths, steps, rows, marks) = (&_RUN_LENGTHS, &_RUN_STEPS, &_ROWS, &_MARKS);
     let (mut table, mut state, mut place) = ([_NOWHERE; _ROWS.len() * _WIDTH + 256], 0, 0);
     while state < _ROWS.len() {
         let row = _KINDS[rows[state] as usize];
@@ -99,7 +102,7 @@ static _STEPS: [_Entry; _ROWS.len() * _WIDTH + 256] = {
             let step = steps[run] as usize;
             let entry = match step {
                 0 => _ENTRIES[state].1,
-                1 => _STAYS + row.number as _Entry,
+                1 => _STAYS + (marks[state] == 0) as _Entry * _INNER + row.number as _Entry,
                 _ => _ENTRIES[step - 2].0,
             };
             let mut end = place + lengths[run] as usize - passed;
@@ -134,6 +137,50 @@ static _TABLE: [_Entry; if _BY_BYTES { _ROWS.len() * _COLUMNS + 256 } else { 256
         state += 1;
     }
     table
+};
+// The last match of a try that is over in a state, where the byte leads nowhere: `_NEVER` if there is none, `_VARIES` if that depends on the
+// bytes, and else 256 times 1 more than the leaf, and how many bytes before it ended.
+const _NEVER: u32 = 1;
+const _VARIES: u32 = 2;
+const _FARTHEST: u32 = 30;
+#[allow(long_running_const_eval)]
+static _LASTS: [u32; _ROWS.len()] = {
+    let (lengths, steps, rows, marks) = (&_RUN_LENGTHS, &_RUN_STEPS, &_ROWS, &_MARKS);
+    // Those without the match of the state itself; 0 for states that no bytes are known to lead to.
+    let (mut before, mut lasts, mut changed) = ([0; _ROWS.len()], [0; _ROWS.len()], true);
+    before[_ROOT] = _NEVER;
+    while changed {
+        changed = false;
+        let mut state = 0;
+        while state < _ROWS.len() {
+            let (row, mark) = (_KINDS[rows[state] as usize], marks[state] as u32);
+            let last = match mark {
+                0 if before[state] > _VARIES && row.loops => _VARIES,
+                0 => before[state],
+                _ if mark % 2 == 0 => mark / 2 << 8,
+                _ if row.loops => _VARIES,
+                _ => mark / 2 << 8 | 1,
+            };
+            lasts[state] = last;
+            let after = match last {
+                0..=_VARIES => last,
+                _ if last & 255 < _FARTHEST => last + 1,
+                _ => _VARIES,
+            };
+            let (mut run, mut left) = (row.run, _WIDTH + row.passed);
+            while after != 0 && left > 0 {
+                let next = (steps[run] as usize).wrapping_sub(2);
+                if next < before.len() && before[next] != after && before[next] != _VARIES {
+                    before[next] = if before[next] == 0 { after } else { _VARIES };
+                    changed = true;
+                }
+                left = left.saturating_sub(lengths[run] as usize);
+                run += 1;
+            }
+            state += 1;
+        }
+    }
+    lasts
 };
 const _START: _Entry = (_ROOT * _COLUMNS) as _Entry;
 // The entries of the root, by bytes.
@@ -177,11 +224,12 @@ fn _step(state: _Entry, byte: u8) -> _Entry {
     let column = if _BY_BYTES { &_TABLE[byte as usize..] } else { &_STEPS[classes[byte as usize] as usize..] };
     column[state as usize]
 }
-// The leaf of an entry of this kind, or a number that no leaf has.
+// The leaf of an entry of this kind, or a number that no leaf has. It is no `usize` yet: comparing it would take a register more.
 #[inline(always)]
-fn _leaf(entry: _Entry, kind: _Entry) -> usize {
-    entry.wrapping_sub(kind) as usize
+fn _leaf(entry: _Entry, kind: _Entry) -> _Entry {
+    entry.wrapping_sub(kind)
 }
+const _LEAVES: _Entry = _NAMES.len() as _Entry;
 // The step of the end of the input.
 fn _last_step(state: _Entry) -> _Entry {
     if _BY_BYTES { _TABLE[state as usize + _END_COLUMN] } else { _STEPS[state as usize + _END_COLUMN] }
@@ -195,9 +243,32 @@ fn _bits(mask: &[[u8; 8]; 256], block: &[u8; 8]) -> u8 {
     let high = high.wrapping_add(mask[block[6] as usize][6] | mask[block[7] as usize][7]);
     low | high
 }
-// The first place from `from` on whose byte does not stay, or the end of the input.
+// The first place from `from` on whose byte does not stay, or the end of the input. What comes after the first bytes is out of line, so that
+// the loop over tries has its registers for itself.
 #[inline(always)]
 fn _stop(mask: &[[u8; 8]; 256], bytes: &[u8], from: usize) -> usize {
+    let _Option::Some(rest) = bytes.get(from..) else { return from };
+    let _Option::Some(block) = rest.first_chunk::<8>() else { return _stop_late(mask, bytes, from) };
+    let bits = _bits(mask, block);
+    if bits == 0 {
+        return _stop_far(mask, bytes, from + 8);
+    }
+    from + bits.trailing_zeros() as usize
+}
+// The same in a state where no match ends. Each of the first bytes has a branch: what follows need not wait to know how many stay.
+#[inline(always)]
+fn _stop_within(mask: &[[u8; 8]; 256], bytes: &[u8], from: usize) -> usize {
+    let _Option::Some(rest) = bytes.get(from..) else { return from };
+    let _Option::Some(block) = rest.first_chunk::<8>() else { return _stop_late(mask, bytes, from) };
+    for (n, byte) in block.iter().enumerate() {
+        if mask[*byte as usize][0] != 0 {
+            return from + n;
+        }
+    }
+    _stop_far(mask, bytes, from + 8)
+}
+#[inline(never)]
+fn _stop_far(mask: &[[u8; 8]; 256], bytes: &[u8], from: usize) -> usize {
     let _Option::Some(mut rest) = bytes.get(from..) else { return from };
     while let _Option::Some((block, tail)) = rest.split_first_chunk::<8>() {
         let bits = _bits(mask, block);
@@ -248,31 +319,42 @@ fn _try_again(bytes: &[u8], start: usize) -> (usize, usize) {
         at += 1;
     }
 }
+// The match of a try that is over before a byte for which the state has this entry, and where no match ends: its leaf and its end, or a number
+// that no leaf has, with where the try is over.
+#[inline(always)]
+fn _match_before(bytes: &[u8], start: usize, state: _Entry, entry: _Entry, at: usize) -> (usize, usize) {
+    let last = _LASTS[state as usize / _COLUMNS];
+    if entry != _NOWHERE || last == _VARIES {
+        return _try_again(bytes, start);
+    }
+    if last == _NEVER { (_NAMES.len(), at) } else { ((last >> 8) as usize - 1, at - (last & 255) as usize) }
+}
 // The entry of the end of the input. Where it leads on, another try finds the match.
 #[cold]
 #[inline(never)]
 fn _end_entry(state: _Entry) -> _Entry {
     let entry = _last_step(state);
-    if entry < _ENDS { _NOWHERE } else { entry }
+    if entry < _ENDS { _AGAIN } else { entry }
 }
-// The first entry of a try that does not lead on, and the place after its byte, where the first byte leads to a state.
+// The first entry of a try that does not lead on, the place after its byte, and its state, where the first byte leads to a state.
 #[inline(always)]
-fn _walk(bytes: &[u8], from: usize, first: _Entry) -> (_Entry, usize) {
+fn _walk(bytes: &[u8], from: usize, first: _Entry) -> (_Entry, usize, _Entry) {
     let (mut state, mut at) = (first, from);
     loop {
-        let _Option::Some(byte) = bytes.get(at) else { return (_end_entry(state), at + 1) };
+        let _Option::Some(byte) = bytes.get(at) else { return (_end_entry(state), at + 1, state) };
         let mut next = _step(state, *byte);
         at += 1;
         if next >= _LEADS {
             if next >= _ENDS {
-                return (next, at);
+                return (next, at, state);
             }
-            at = _stop(&_MASKS[next as usize & (_LOOPS - 1)], bytes, at);
-            let _Option::Some(byte) = bytes.get(at) else { return (_end_entry(state), at + 1) };
+            let mask = &_MASKS[next as usize & (_LOOPS - 1)];
+            at = if next & _INNER == 0 { _stop(mask, bytes, at) } else { _stop_within(mask, bytes, at) };
+            let _Option::Some(byte) = bytes.get(at) else { return (_end_entry(state), at + 1, state) };
             next = _step(state, *byte);
             at += 1;
             if next >= _LEADS {
-                return (next, at);
+                return (next, at, state);
             }
         }
         state = next;
@@ -368,18 +450,18 @@ let bytes: &[u8] = lex.source().as_ref();
 let mut start = lex.offset();
 'tries: loop {
     let _Option::Some(byte) = bytes.get(start) else { return _Option::None };
-    let (mut entry, mut at) = (_first_step(*byte), start + 1);
+    let (mut entry, mut at, mut state) = (_first_step(*byte), start + 1, _START);
     // The leaf, and where its match ends. Each way is a branch: the next try need not wait for the entry to know where it begins.
     let (leaf, end) = 'found: {
         let leaf = _leaf(entry, _CLOSES);
-        if leaf < _NAMES.len() {
-            break 'found (leaf, at);
+        if leaf < _LEAVES {
+            break 'found (leaf as usize, at);
         }
         if entry < _LEADS {
-            (entry, at) = _walk(bytes, at, entry);
+            (entry, at, state) = _walk(bytes, at, entry);
             let leaf = _leaf(entry, _ENDS);
-            if leaf < _NAMES.len() {
-                break 'found (leaf, at - 1);
+            if leaf < _LEAVES {
+                break 'found (leaf as usize, at - 1);
             }
             if entry < _CLOSES {
                 lex.end(at - 1);
@@ -388,8 +470,8 @@ let mut start = lex.offset();
                 continue 'tries;
             }
             let leaf = _leaf(entry, _CLOSES);
-            if leaf < _NAMES.len() {
-                break 'found (leaf, at);
+            if leaf < _LEAVES {
+                break 'found (leaf as usize, at);
             }
         }
         if entry >= _CLOSES && entry < _NOWHERE {
@@ -398,7 +480,7 @@ let mut start = lex.offset();
             start = at;
             continue 'tries;
         }
-        let (leaf, end) = _try_again(bytes, start);
+        let (leaf, end) = _match_before(bytes, start, state, entry, at - 1);
         if leaf >= _NAMES.len() {
             lex.end_to_boundary(end.max(start + 1));
             return _Option::Some(_Result::Err(_make_error(lex)));

@@ -29,6 +29,7 @@ pub mod internal;
 mod lexer;
 mod scan;
 pub mod source;
+mod walk;
 
 pub use lexer::{Lexer, Span, SpannedIter};
 #[cfg(feature = "export_derive")]

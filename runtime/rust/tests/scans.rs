@@ -191,7 +191,7 @@ fn text(pieces: usize, seed: u64) -> String {
 }
 
 /// Compares what is found, and shows the first difference.
-fn compare<Token: PartialEq + std::fmt::Debug>(found: Found<Token>, wanted: Found<Token>) {
+fn compare<Item: PartialEq + std::fmt::Debug>(found: Vec<Item>, wanted: Vec<Item>) {
     for (n, wanted) in wanted.iter().enumerate() {
         assert_eq!(found.get(n), Some(wanted), "item {n}");
     }
@@ -223,18 +223,40 @@ where
     found
 }
 
+/// What `for_each` finds.
+fn folded<'s, Token>(scanner: Scanner<'s, Token>) -> Vec<(Result<Token, ()>, Span)>
+where
+    Token: Scan<'s> + Logos<'s, Error = ()>,
+{
+    let mut found = vec![];
+    scanner.for_each(|item| found.push(item));
+    found
+}
+
+fn without_extras<Token: Clone>(
+    found: &[(Result<Token, ()>, Span, usize)],
+) -> Vec<(Result<Token, ()>, Span)> {
+    let items = found.iter().cloned();
+    items.map(|(item, span, _)| (item, span)).collect()
+}
+
+/// Compares what a scanner finds, item by item and by `for_each`, with what the lexer does.
+fn compare_scan<'s, Token>(text: &'s str)
+where
+    Token: Scan<'s> + Logos<'s, Error = (), Extras = usize, Source = str>,
+    Token: Clone + PartialEq + std::fmt::Debug,
+{
+    let wanted = lexed(Token::lexer(text));
+    compare(folded(Token::scan(text)), without_extras(&wanted));
+    compare(scanned(&mut Token::scan(text)), wanted);
+}
+
 #[test]
 fn scanning_finds_what_the_lexer_does() {
     for n in 0..150 {
         let text = text(n * n % 4001, n as u64);
-        compare(
-            scanned(&mut ByBytes::scan(&text)),
-            lexed(ByBytes::lexer(&text)),
-        );
-        compare(
-            scanned(&mut ByClasses::scan(&text)),
-            lexed(ByClasses::lexer(&text)),
-        );
+        compare_scan::<ByBytes>(&text);
+        compare_scan::<ByClasses>(&text);
     }
 }
 
@@ -250,14 +272,8 @@ fn long_runs_and_errors_are_found() {
         .iter()
         .chain([&texts.concat(), &texts.concat().repeat(4)])
     {
-        compare(
-            scanned(&mut ByBytes::scan(text)),
-            lexed(ByBytes::lexer(text)),
-        );
-        compare(
-            scanned(&mut ByClasses::scan(text)),
-            lexed(ByClasses::lexer(text)),
-        );
+        compare_scan::<ByBytes>(text);
+        compare_scan::<ByClasses>(text);
     }
 }
 
@@ -267,7 +283,9 @@ fn a_scanner_begins_where_its_lexer_stands() {
     for count in [0, 1, 10, 2000] {
         let mut lexer = ByBytes::lexer(&text);
         lexer.by_ref().take(count).for_each(drop);
-        compare(scanned(&mut lexer.clone().scan()), lexed(lexer));
+        let wanted = lexed(lexer.clone());
+        compare(folded(lexer.clone().scan()), without_extras(&wanted));
+        compare(scanned(&mut lexer.scan()), wanted);
     }
 }
 
@@ -298,9 +316,29 @@ fn a_callback_can_take_another_text() {
         let mut plain = lexer.clone();
         // Nothing in front of the first `<` changes the extras.
         plain.extras = 7;
-        let (wanted, mut scanner) = (lexed(plain), lexer.scan());
-        compare(scanned(&mut scanner), wanted);
+        let wanted = lexed(plain);
+        compare(folded(lexer.clone().scan()), without_extras(&wanted));
+        compare(scanned(&mut lexer.scan()), wanted);
     }
+}
+
+#[test]
+fn folding_goes_on_where_a_scanner_stands() {
+    let text = [text(3000, 10), "a ".repeat(20_000), "a".repeat(70_000)].concat();
+    let wanted = lexed(ByBytes::lexer(&text));
+    for count in (0..wanted.len()).step_by(997) {
+        let mut scanner = ByBytes::scan(&text);
+        scanner.by_ref().take(count).for_each(drop);
+        compare(folded(scanner), without_extras(&wanted[count..]));
+    }
+}
+
+#[test]
+fn folding_a_part_ends_where_its_scanner_does() {
+    let text = text(3000, 11);
+    let mut scanner = ByBytes::scan_part(&text);
+    let wanted = scanned(&mut scanner);
+    compare(folded(ByBytes::scan_part(&text)), without_extras(&wanted));
 }
 
 #[test]
