@@ -13,8 +13,8 @@
 #
 # bench/lexer/table.py prints the tables: MB/s of all; the speed of `ours`, which is `chunks` or
 # `lexer` as the programs choose, by that of the fastest other, and of the tables, their `scan` and
-# `loop` by the faster other shape; the means of these; the installed program beside the proved one; and
-# nanoseconds for inputs of 64 bytes and 1 KiB. Where rustc is found the last table is of
+# `loop` by the faster other shape; the means of these; the installed program beside the proved one;
+# and nanoseconds for inputs of 64 bytes and 1 KiB. Where rustc is found the last table is of
 # `logos lex` beside programs in Rust that print the same lines through a `BufWriter`, on texts of
 # 64 MiB.
 #

@@ -1,8 +1,8 @@
 //! Measures the lexer that the text beside this file says: `rules.rs` is the enum without its
 //! attributes, `lexer.rs` the text. Lexes the file that the first argument names, as often as the
 //! second one says, once without it, and prints the seconds, and the tokens and errors of one time.
-//! With `--cfg scan` the items are those of `Scan::scan`, by `for_each`, or with `--cfg looped` by a
-//! loop.
+//! With `--cfg scan` the items are those of `Scan::scan`, by `for_each`, and with `--cfg looped` by
+//! a loop.
 
 #![allow(warnings)]
 

@@ -145,10 +145,11 @@ impl<'source, Token: Scan<'source>> Scanner<'source, Token> {
             let found = self.walk.found_at::<Token>(bytes, cut);
             return self.item_of_try(found, start);
         }
+        // From here on the lexer goes on by itself, if no walk does.
+        self.lexer.set_span(start..start);
         let next = self.walk.base + self.walk.len;
         let left = bytes.len().saturating_sub(next);
         if self.is_part && (left == 0 || !Token::Rows::ARE_THERE) {
-            self.lexer.set_span(start..start);
             return Next::End;
         }
         if !self.is_part && (left < FEWEST || !Token::Rows::ARE_THERE) {
@@ -224,7 +225,6 @@ impl<'source, Token: Scan<'source>> Scanner<'source, Token> {
             mut lexer, walk, ..
         } = self;
         let (source, mut folded) = (lexer.source(), init);
-        lexer.set_span(walk.start..walk.start);
         loop {
             let Some(item) = lexer.next() else {
                 return (None, folded);
@@ -249,13 +249,13 @@ impl<'source, Token: Scan<'source>> Scanner<'source, Token> {
     /// Finds an item by `Logos::lex`.
     #[inline]
     fn plain_item(&mut self) -> Option<Item<'source, Token>> {
-        let (source, start) = (self.lexer.source(), self.walk.start);
-        self.lexer.set_span(start..start);
+        let source = self.lexer.source();
         let item = self.lexer.next();
         let span = self.lexer.span();
         self.walk.start = span.end;
-        let is_last = span.end >= self.walk.plain_to;
-        self.follow(source, if is_last { usize::MAX } else { span.end });
+        if span.end >= self.walk.plain_to || !core::ptr::eq(self.lexer.source(), source) {
+            self.follow(source, usize::MAX);
+        }
         Some((item?, span))
     }
 }
