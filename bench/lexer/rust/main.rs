@@ -47,7 +47,7 @@ fn count<Error>(items: impl Iterator<Item = Result<Rules, Error>>) -> (u64, u64)
 #[inline(never)]
 fn count<Error>(items: impl Iterator<Item = (Result<Rules, Error>, logos::Span)>) -> (u64, u64) {
     let (mut tokens, mut errors) = (0, 0);
-    let add = |(item, _): (Result<Rules, Error>, _)| match item {
+    let mut add = |(item, _): (Result<Rules, Error>, _)| match item {
         Ok(_) => tokens += 1,
         Err(_) => errors += 1,
     };
