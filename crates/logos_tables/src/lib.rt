@@ -11,6 +11,7 @@ mod printing;
 mod rest;
 mod rows;
 mod runs;
+mod scanned;
 mod steps;
 
 pub use lexer::tables;

@@ -3,8 +3,9 @@
 ghost use Rattle.std.specs.Prelude.{OnOk, string_bytes};
 ghost use Rattle.logos_tables.specs.Words.{Grows};
 
-use crate::fixed::{ACTIONS, BODY, OPENING, SCANNED, STEPS};
+use crate::fixed::{BODY, STEPS};
 use crate::printing::push;
+use crate::scanned::{ACTIONS, OPENING, SCANNED};
 use logos_code::code::{Code, CodeLeaf};
 use logos_pattern::leaf::VariantKind;
 use logos_token::error::Memory;
