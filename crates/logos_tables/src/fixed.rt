@@ -157,9 +157,9 @@ static _LASTS: [u32; _ROWS.len()] = {
             let last = match mark {
                 0 if before[state] > _VARIES && row.loops => _VARIES,
                 0 => before[state],
-                _ if mark % 2 == 0 => mark / 2 << 8,
+                _ if mark % 2 == 0 => (mark / 2) << 8,
                 _ if row.loops => _VARIES,
-                _ => mark / 2 << 8 | 1,
+                _ => ((mark / 2) << 8) | 1,
             };
             lasts[state] = last;
             let after = match last {
