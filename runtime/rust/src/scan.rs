@@ -46,7 +46,8 @@ impl<'source, T: Tables<'source>> Scan<'source> for T {}
 
 /// An iterator over tokens with their places, by chunks of the input.
 ///
-/// It dereferences to the lexer, which stands behind the last token.
+/// It dereferences to the lexer, which stands behind the last token. `fold`, and so `for_each`, is
+/// faster than a loop.
 pub struct Scanner<'source, Token: Scan<'source>> {
     lexer: Lexer<'source, Token>,
     walk: Walk,
