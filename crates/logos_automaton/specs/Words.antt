@@ -4,7 +4,7 @@ pub use Rattle.logos_hir.specs.Hir.{class_tree, pairs, tree_of}
 pub use Rattle.logos_hir.specs.Tree.{trees}
 pub use Rattle.logos_places.specs.Core.{Core, byte_in}
 pub use Rattle.logos_places.specs.Kinds.{kind_of_byte}
-pub use Rattle.logos_places.specs.Marks.{Has, IsRising}
+pub use Rattle.logos_places.specs.Marks.{Has, IsFirstFrom, IsRising}
 pub use Rattle.logos_places.specs.Node.{AreMeasured, core_of, is_measured}
 pub use Rattle.logos_places.specs.Repeat.{spelled}
 pub use Rattle.logos_places.specs.Run.{width_of}

@@ -2,14 +2,16 @@
 //! the places that read the last byte. `alike` and the steps of trees ask for them.
 
 ghost use Rattle.std.specs.Prelude.{◌≡◌, ◌<◌, ◌^◌, ◌+◌, ◌*◌, ◌==◌, ℕ, IsTrue, IsFalse, length, slice_index};
-ghost use Rattle.logos_automaton.specs.Views.{byte_in, core_of, is_measured, reader_of, spelled, Has, IsRising, GoesAlike, IsCopyAlike, MayLeave, MayPass, OpensAlike, SetsFlags};
+ghost use Rattle.logos_automaton.specs.Views.{byte_in, core_of, is_measured, reader_of, spelled, Has, IsFirstFrom, IsRising, GoesAlike, IsCopyAlike, MayLeave, MayPass, OpensAlike, SetsFlags};
 ghost use Rattle.logos_places.specs.Core as core;
 
 use crate::alike::{mark_range, mark_ranges};
 use logos_hir::hir::Range;
 use logos_places::characters::reader::CharacterTable;
 use logos_places::node::{Copies, Node, copy_count, width};
-use logos_places::places::set::{alike_copies, any_mark, has_mark, next_copy};
+use logos_places::places::set::{
+    OwnPlaces, alike_copies, any_mark, has_mark, next_copy, own_places,
+};
 
 /// Returns whether the rows differ.
 fn differ(row: Option<usize>, other: Option<usize>) -> bool
@@ -185,6 +187,58 @@ fn follow(node: &Node, marks: &[usize], base: usize, marked: &mut [bool; 256]) -
     if !any_mark(marks, base, width(node)) {
         return false;
     }
+    if let Node::Alt { .. } = node {
+        let own = own_places(marks, base, width(node));
+        return follow_marked(node, marks, own, marked);
+    }
+    follow_node(node, marks, base, marked)
+}
+
+/// Does what `follow` does for a tree that has these places of the set. A branch without one of
+/// them is passed over.
+#[cycle(follow)]
+fn follow_marked(node: &Node, marks: &[usize], own: OwnPlaces, marked: &mut [bool; 256]) -> bool
+    requires fits { own.base + core.width (core_of node.now) < 2 ^ 64 }
+    requires measured { IsTrue (is_measured node.now) }
+    requires rising { IsRising marks.now }
+    requires some { own.from < own.to }
+    requires from { IsFirstFrom marks.now own.base own.from }
+    requires to { IsFirstFrom marks.now (own.base + core.width (core_of node.now)) own.to }
+    ensures marks { SetsFlags (GoesAlike (core_of node.now) (λ q. Has marks.now (own.base + q)))
+        marked.old marked.new }
+    ensures leaves { MayLeave (core_of node.now) (λ q. Has marks.now (own.base + q)) →
+        IsTrue result }
+{
+    let Node::Alt { first, second, .. } = node else {
+        return follow_node(node, marks, own.base, marked);
+    };
+    let middle = own.base + width(first);
+    if marks[own.to - 1] < middle {
+        return follow_marked(first, marks, own, marked);
+    }
+    if middle <= marks[own.from] {
+        let own = OwnPlaces {
+            base: middle,
+            ..own
+        };
+        return follow_marked(second, marks, own, marked);
+    }
+    let (front, back) = own.parted(marks, middle);
+    let one = follow_marked(first, marks, front, marked);
+    let other = follow_marked(second, marks, back, marked);
+    one | other
+}
+
+/// Does what `follow` does, by the form of the tree.
+#[cycle(follow)]
+fn follow_node(node: &Node, marks: &[usize], base: usize, marked: &mut [bool; 256]) -> bool
+    requires fits { base + core.width (core_of node.now) < 2 ^ 64 }
+    requires measured { IsTrue (is_measured node.now) }
+    requires rising { IsRising marks.now }
+    ensures marks { SetsFlags (GoesAlike (core_of node.now) (λ q. Has marks.now (base + q)))
+        marked.old marked.new }
+    ensures leaves { MayLeave (core_of node.now) (λ q. Has marks.now (base + q)) → IsTrue result }
+{
     match node {
         Node::Void | Node::Empty | Node::Look(_) => false,
         Node::Literal(text) => follow_literal(text, marks, base, marked),

@@ -1,6 +1,8 @@
 pub mod AlikeLemmas
+pub mod BranchLemmas
 pub mod CharStepLemmas
 pub mod JumpLemmas
+pub mod LiteralLemmas
 pub mod LookLemmas
 pub mod MarkLemmas
 pub mod OweLemmas

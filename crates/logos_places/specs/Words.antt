@@ -8,7 +8,7 @@ pub use Rattle.std.specs.Option.{MatchOption}
 pub use lib.Utf8.{scalar}
 pub use Rattle.logos_places.specs.Core.{Core, Exits, byte_in}
 pub use Rattle.logos_places.specs.IsCore.{IsCoreOf}
-pub use Rattle.logos_places.specs.Marks.{Has, HasBetween, IsRising, IsSet}
+pub use Rattle.logos_places.specs.Marks.{Has, HasBetween, IsFirstFrom, IsRising, IsSet}
 pub use Rattle.logos_places.specs.Repeat.{IsOrdered, at_least, count_of, in_front, repeated, spelled, up_to}
 pub use Rattle.logos_places.specs.Run.{width_of}
 pub use Rattle.logos_places.specs.Size.{sizes}

@@ -1,6 +1,6 @@
 //! Trees, prepared for the automaton. `prepare` makes them, and steps read them.
 
-ghost use Rattle.std.specs.Prelude.{◌≡◌, ◌+◌, ◌*◌, ◌^◌, ◌<◌, ◌≤◌, ◌-◌, IsTrue};
+ghost use Rattle.std.specs.Prelude.{◌≡◌, ◌+◌, ◌*◌, ◌^◌, ◌<◌, ◌≤◌, ◌-◌, IsTrue, false};
 ghost use Rattle.logos_places.specs.Views.{count_of, core_of, is_measured};
 ghost use Rattle.logos_places.specs.Core as core;
 
@@ -88,6 +88,17 @@ pub struct TreeSpot {
 }
 
 impl TreeSpot {
+    /// Returns the spot of a tree whose places begin at `base`, and that is not entered.
+    pub fn unentered(base: usize) -> TreeSpot
+        ensures base { result.base ≡ base }
+        ensures entered { result.entered ≡ false }
+    {
+        TreeSpot {
+            base,
+            entered: false,
+        }
+    }
+
     /// Returns the spot after the next `width` places.
     pub fn after(self, width: usize, entered: bool) -> TreeSpot
         requires { self.base + width < 2 ^ 64 }

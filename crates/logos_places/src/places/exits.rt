@@ -1,13 +1,13 @@
 //! Whether a tree can be left. Steps ask it of each part that the next part follows, and `all` of
 //! each tree.
 
-ghost use Rattle.std.specs.Prelude.{max, ◌≡◌, ℕ, ◌+◌, ◌*◌, ◌-◌, ◌^◌, ◌<◌, ◌⊎◌, ◌↔◌, IsTrue, Bool, List, length};
-ghost use Rattle.logos_places.specs.Views.{Core, Exits, IsRising, Has, spelled, in_front, up_to, at_least, repeated, count_of, IsOrdered, Look, test_at, core_of, is_measured};
+ghost use Rattle.std.specs.Prelude.{max, ◌≡◌, ℕ, ◌+◌, ◌*◌, ◌-◌, ◌^◌, ◌<◌, ◌⊎◌, ◌↔◌, IsTrue, Bool, false, List, length};
+ghost use Rattle.logos_places.specs.Views.{Core, Exits, IsFirstFrom, IsRising, Has, spelled, in_front, up_to, at_least, repeated, count_of, IsOrdered, Look, test_at, core_of, is_measured};
 ghost use Rattle.logos_places.specs.Core as core;
 
 use crate::node::{Copies, Node, TreeSpot, width};
 use crate::places::look::{Context, holds};
-use crate::places::set::{any_mark, has_mark, next_copy};
+use crate::places::set::{OwnPlaces, any_mark, has_mark, next_copy, own_places};
 
 /// Returns whether a tree can be left, where `marks` are the places that read the byte before.
 #[cycle(exits)]
@@ -18,9 +18,60 @@ pub(crate) fn exits(node: &Node, marks: &[usize], spot: TreeSpot, at: Context) -
     ensures { IsTrue result ↔ Exits (core_of node.now) (test_at at) (λ q.
         Has marks.now (spot.base + q)) (IsTrue spot.entered) }
 {
-    if !spot.entered && !any_mark(marks, spot.base, width(node)) {
-        return false;
+    if !spot.entered {
+        if !any_mark(marks, spot.base, width(node)) {
+            return false;
+        }
+        if let Node::Alt { .. } = node {
+            let own = own_places(marks, spot.base, width(node));
+            return exits_marked(node, marks, own, at);
+        }
     }
+    exits_node(node, marks, spot, at)
+}
+
+/// Returns whether a tree can be left that is not entered and has these places of the set. A branch
+/// without one of them is passed over.
+#[cycle(exits)]
+fn exits_marked(node: &Node, marks: &[usize], own: OwnPlaces, at: Context) -> bool
+    requires fits { own.base + core.width (core_of node.now) < 2 ^ 64 }
+    requires measured { IsTrue (is_measured node.now) }
+    requires rising { IsRising marks.now }
+    requires some { own.from < own.to }
+    requires from { IsFirstFrom marks.now own.base own.from }
+    requires to { IsFirstFrom marks.now (own.base + core.width (core_of node.now)) own.to }
+    ensures { IsTrue result ↔ Exits (core_of node.now) (test_at at) (λ q.
+        Has marks.now (own.base + q)) (IsTrue false) }
+{
+    let Node::Alt { first, second, .. } = node else {
+        return exits_node(node, marks, TreeSpot::unentered(own.base), at);
+    };
+    let middle = own.base + width(first);
+    if marks[own.to - 1] < middle {
+        return exits_marked(first, marks, own, at);
+    }
+    if middle <= marks[own.from] {
+        let own = OwnPlaces {
+            base: middle,
+            ..own
+        };
+        return exits_marked(second, marks, own, at);
+    }
+    let (front, back) = own.parted(marks, middle);
+    let one = exits_marked(first, marks, front, at);
+    let other = exits_marked(second, marks, back, at);
+    one | other
+}
+
+/// Returns whether a tree can be left, by its form.
+#[cycle(exits)]
+fn exits_node(node: &Node, marks: &[usize], spot: TreeSpot, at: Context) -> bool
+    requires fits { spot.base + core.width (core_of node.now) < 2 ^ 64 }
+    requires measured { IsTrue (is_measured node.now) }
+    requires rising { IsRising marks.now }
+    ensures { IsTrue result ↔ Exits (core_of node.now) (test_at at) (λ q.
+        Has marks.now (spot.base + q)) (IsTrue spot.entered) }
+{
     match node {
         Node::Void => false,
         Node::Empty => spot.entered,

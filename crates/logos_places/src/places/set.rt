@@ -6,22 +6,34 @@ ghost use Rattle.logos_places.specs.Marks.{IsRising, IsSet, Has, HasBetween, IsF
 use crate::node::Copies;
 use std::alloc::AllocError;
 
-/// Returns the index of the first place from `from` on.
-pub fn first_from(marks: &[usize], from: usize) -> usize
-    requires { IsRising marks.now }
-    ensures { IsFirstFrom marks.now from result }
+/// Returns the index of the first place from `place` on, which is from `low` to `high`.
+fn first_between(marks: &[usize], low: usize, high: usize, place: usize) -> usize
+    requires rising { IsRising marks.now }
+    requires order { low ≤ high }
+    requires within { high ≤ length marks.now }
+    requires below { (k : ℕ) → k < low → slice_index marks.now k < place }
+    requires above { (k : ℕ) → high ≤ k → k < length marks.now → place ≤ slice_index marks.now k }
+    ensures { IsFirstFrom marks.now place result }
 {
-    let mut low = 0;
-    let mut high = marks.len();
+    let mut low = low;
+    let mut high = high;
     while low < high {
         let mid = low + (high - low) / 2;
-        if marks[mid] < from {
+        if marks[mid] < place {
             low = mid + 1;
         } else {
             high = mid;
         }
     }
     low
+}
+
+/// Returns the index of the first place from `from` on.
+pub fn first_from(marks: &[usize], from: usize) -> usize
+    requires { IsRising marks.now }
+    ensures { IsFirstFrom marks.now from result }
+{
+    first_between(marks, 0, marks.len(), from)
 }
 
 /// Returns whether the place is in the set.
@@ -40,6 +52,61 @@ pub fn any_mark(marks: &[usize], from: usize, width: usize) -> bool
 {
     let i = first_from(marks, from);
     i < marks.len() && marks[i] - from < width
+}
+
+/// Where the places of a tree stand in a set: from the index `from` on, and below `to`.
+#[derive(Clone, Copy)]
+pub struct OwnPlaces {
+    /// The first place of the tree.
+    pub base: usize,
+    pub from: usize,
+    pub to: usize,
+}
+
+/// Returns where the `width` places from `base` on stand in the set.
+pub fn own_places(marks: &[usize], base: usize, width: usize) -> OwnPlaces
+    requires rising { IsRising marks.now }
+    requires fits { base + width < 2 ^ 64 }
+    ensures base { result.base ≡ base }
+    ensures from { IsFirstFrom marks.now base result.from }
+    ensures to { IsFirstFrom marks.now (base + width) result.to }
+{
+    OwnPlaces {
+        base,
+        from: first_from(marks, base),
+        to: first_from(marks, base + width),
+    }
+}
+
+impl OwnPlaces {
+    /// Returns the places below `middle`, and those of a tree that begins there.
+    pub fn parted(self, marks: &[usize], middle: usize) -> (OwnPlaces, OwnPlaces)
+        requires rising { IsRising marks.now }
+        requires order { self.from ≤ self.to }
+        requires within { self.to ≤ length marks.now }
+        requires below { (k : ℕ) → k < self.from → slice_index marks.now k < middle }
+        requires above { (k : ℕ) → self.to ≤ k → k < length marks.now →
+            middle ≤ slice_index marks.now k }
+        ensures base { result.0.base ≡ self.base }
+        ensures after { result.1.base ≡ middle }
+        ensures from { result.0.from ≡ self.from }
+        ensures to { result.1.to ≡ self.to }
+        ensures middle { IsFirstFrom marks.now middle result.0.to }
+        ensures meet { result.1.from ≡ result.0.to }
+    {
+        let at = first_between(marks, self.from, self.to, middle);
+        let front = OwnPlaces {
+            base: self.base,
+            from: self.from,
+            to: at,
+        };
+        let back = OwnPlaces {
+            base: middle,
+            from: at,
+            to: self.to,
+        };
+        (front, back)
+    }
 }
 
 /// Returns how many of the copies have no place, up to the first that has one. Returns 0 if the

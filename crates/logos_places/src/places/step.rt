@@ -1,8 +1,8 @@
 //! Steps from the places that read one byte to those that read the next byte. `all` and `tree` call
 //! it on each tree.
 
-ghost use Rattle.std.specs.Prelude.{max, ◌≡◌, ℕ, ◌+◌, ◌*◌, ◌^◌, ◌<◌, ◌≤◌, ◌⊎◌, IsTrue, IfOk, OnOk, IfSome, ◌↔◌, Bool, false, Option, List, length};
-ghost use Rattle.logos_places.specs.Views.{Core, IsRising, IsSet, Has, spelled, in_front, up_to, at_least, repeated, count_of, IsOrdered, Stepped, Owes, is_in, pairs, Look, test_at, core_of, is_measured, reader_of};
+ghost use Rattle.std.specs.Prelude.{max, ◌≡◌, ℕ, ◌+◌, ◌-◌, ◌*◌, ◌^◌, ◌<◌, ◌≤◌, ◌⊎◌, IsTrue, IfOk, OnOk, IfSome, ◌↔◌, Bool, false, Option, Some, List, length, slice_get, slice_index};
+ghost use Rattle.logos_places.specs.Views.{Core, IsFirstFrom, IsRising, IsSet, Has, spelled, in_front, up_to, at_least, repeated, count_of, IsOrdered, Stepped, Owes, is_in, pairs, Look, test_at, core_of, is_measured, reader_of};
 ghost use Rattle.logos_places.specs.Core as core;
 ghost use Rattle.logos_places.specs.inside.Repeated.{Repeated};
 
@@ -11,7 +11,8 @@ use crate::node::{Copies, Node, TreeSpot, width};
 use crate::places::exits::exits;
 use crate::places::look::{Context, holds};
 use crate::places::set::{
-    alike_copies, any_mark, first_from, has_mark, insert_mark, next_copy, push_moved,
+    OwnPlaces, alike_copies, any_mark, first_from, has_mark, insert_mark, next_copy, own_places,
+    push_moved,
 };
 use logos_hir::hir::Range;
 use std::alloc::AllocError;
@@ -127,6 +128,63 @@ fn step_literal(
     Ok(left)
 }
 
+/// Adds the place after a place of a literal, if it reads the byte.
+///
+/// # Errors
+///
+/// Returns `AllocError` if memory runs out.
+fn push_after(
+    text: &[u8],
+    byte: u8,
+    base: usize,
+    place: usize,
+    next: &mut Vec<usize>,
+) -> Result<(), AllocError>
+    requires fits { base + length text.now < 2 ^ 64 }
+    requires low { base ≤ place }
+    requires high { place < base + length text.now }
+    requires below { (k : ℕ) → k < length next.old.items → slice_index next.old.items k ≤ place }
+    requires rising { IsRising next.old.items }
+    ensures rising { OnOk result (IsRising next.new.items) }
+    ensures has { OnOk result ((q : ℕ) → Has next.new.items q ↔ (Has next.old.items q
+        ⊎ ((q ≡ place + 1) × (slice_get text.now (q - base) ≡ Some byte)))) }
+{
+    let after = place - base + 1;
+    if after < text.len() && text[after] == byte {
+        next.push(place + 1)?;
+    }
+    Ok(())
+}
+
+/// Steps on a literal that is not entered and has these places of the set.
+///
+/// # Errors
+///
+/// Returns `AllocError` if memory runs out.
+fn step_marked_literal(
+    text: &[u8],
+    by: ReadByte<'_>,
+    own: OwnPlaces,
+    next: &mut Vec<usize>,
+) -> Result<bool, AllocError>
+    requires fits { own.base + length text.now < 2 ^ 64 }
+    requires rising { IsRising by.marks.now }
+    requires set { IsSet next.old.items own.base }
+    requires some { own.from < own.to }
+    requires from { IsFirstFrom by.marks.now own.base own.from }
+    requires to { IsFirstFrom by.marks.now (own.base + length text.now) own.to }
+    ensures { IfOk result (λ left. (test : Look → Bool) →
+        Stepped (spelled text.now) test by.entry.byte by.entry.marks.now
+        next.old.items next.new.items own.base false left) }
+{
+    let mut i = own.from;
+    while i < own.to {
+        push_after(text, by.byte, own.base, by.marks[i], next)?;
+        i += 1;
+    }
+    Ok(by.marks[own.to - 1] + 1 == own.base + text.len())
+}
+
 /// Adds the place of a row, if there is one, of a class whose places begin at `base`.
 ///
 /// # Errors
@@ -214,9 +272,85 @@ pub(crate) fn step(
         by.entry.byte by.entry.marks.now
         next.old.items next.new.items spot.base spot.entered left) }
 {
-    if !spot.entered && !any_mark(by.marks, spot.base, width(node)) {
-        return Ok(false);
+    if !spot.entered {
+        if !any_mark(by.marks, spot.base, width(node)) {
+            return Ok(false);
+        }
+        if let Node::Alt { .. } = node {
+            let own = own_places(by.marks, spot.base, width(node));
+            return step_marked(node, by, own, next);
+        }
     }
+    step_node(node, by, spot, next)
+}
+
+/// Steps on a tree that is not entered and has these places of the set. A branch without one of
+/// them is passed over.
+///
+/// # Errors
+///
+/// Returns `AllocError` if memory runs out.
+#[cycle(step)]
+fn step_marked(
+    node: &Node,
+    by: ReadByte<'_>,
+    own: OwnPlaces,
+    next: &mut Vec<usize>,
+) -> Result<bool, AllocError>
+    requires fits { own.base + core.width (core_of node.now) < 2 ^ 64 }
+    requires measured { IsTrue (is_measured node.now) }
+    requires rising { IsRising by.marks.now }
+    requires set { IsSet next.old.items own.base }
+    requires some { own.from < own.to }
+    requires from { IsFirstFrom by.marks.now own.base own.from }
+    requires to { IsFirstFrom by.marks.now (own.base + core.width (core_of node.now)) own.to }
+    ensures { IfOk result (λ left. Stepped (core_of node.now) (test_at by.entry.at)
+        by.entry.byte by.entry.marks.now
+        next.old.items next.new.items own.base false left) }
+{
+    if let Node::Literal(text) = node {
+        return step_marked_literal(text, by, own, next);
+    }
+    let Node::Alt { first, second, .. } = node else {
+        return step_node(node, by, TreeSpot::unentered(own.base), next);
+    };
+    let middle = own.base + width(first);
+    if by.marks[own.to - 1] < middle {
+        return step_marked(first, by, own, next);
+    }
+    if middle <= by.marks[own.from] {
+        let own = OwnPlaces {
+            base: middle,
+            ..own
+        };
+        return step_marked(second, by, own, next);
+    }
+    let (front, back) = own.parted(by.marks, middle);
+    let one = step_marked(first, by, front, next)?;
+    let other = step_marked(second, by, back, next)?;
+    Ok(one | other)
+}
+
+/// Steps on a tree by its form.
+///
+/// # Errors
+///
+/// Returns `AllocError` if memory runs out.
+#[cycle(step)]
+fn step_node(
+    node: &Node,
+    by: ReadByte<'_>,
+    spot: TreeSpot,
+    next: &mut Vec<usize>,
+) -> Result<bool, AllocError>
+    requires fits { spot.base + core.width (core_of node.now) < 2 ^ 64 }
+    requires measured { IsTrue (is_measured node.now) }
+    requires rising { IsRising by.marks.now }
+    requires set { IsSet next.old.items spot.base }
+    ensures { IfOk result (λ left. Stepped (core_of node.now) (test_at by.entry.at)
+        by.entry.byte by.entry.marks.now
+        next.old.items next.new.items spot.base spot.entered left) }
+{
     match node {
         Node::Void => Ok(false),
         Node::Empty => Ok(spot.entered),

@@ -1,12 +1,12 @@
 use Rattle.std.proofs.Common.{◌-◌, ℕ, ◌<◌, ◌≤◌, length, get_or}
-use Rattle.logos_places.proofs.places.set.first_from.Given as goal
+use Rattle.logos_places.proofs.places.set.first_between.Given as goal
 
 abbrev pub invariant-loop-low : goal.invariant-loop-low
 invariant-loop-low l = record {
   order : l.low ≤ l.high;
   within : l.high ≤ length l.marks;
-  below : (k : ℕ) → k < l.low → get_or l.marks k 0 < l.from;
-  above : (k : ℕ) → l.high ≤ k → k < length l.marks → l.from ≤ get_or l.marks k 0;
+  below : (k : ℕ) → k < l.low → get_or l.marks k 0 < l.place;
+  above : (k : ℕ) → l.high ≤ k → k < length l.marks → l.place ≤ get_or l.marks k 0;
 }
 
 abbrev pub decreases-loop-low : goal.decreases-loop-low
