@@ -1,10 +1,11 @@
-use Rattle.std.proofs.Common.{◌≡◌, ℕ, ◌+◌, ◌*◌, ◌<◌, ◌≤◌, ◌⊎◌, ⊎_elim, ap, sym, ◌∙◌, subst, true≢false, rules, arith}
+use Rattle.std.proofs.Common.{◌≡◌, ℕ, ◌+◌, ◌-◌, ◌*◌, ◌^◌, ◌<◌, ◌≤◌, ◌⊎◌, slice_index, ⊎_elim, ap, sym, ◌∙◌, subst, true≢false, rules, arith}
 use Rattle.std.proofs.lemmas.Bool.{or_left, or_right}
 use Rattle.logos_places.specs.Core.{width}
-use Rattle.logos_places.specs.Marks.{Has}
+use Rattle.logos_places.specs.Marks.{Has, IsFirstFrom}
 use Rattle.logos_places.specs.Node.{core_of}
 use Rattle.logos_places.specs.declared.node.Node.{the_lemmas}
 use Rattle.logos_places.proofs.trees.NodeLemmas.{core-Literal, core-Cat, core-Alt, core-Repeat, width-Literal, width-Cat, width-Alt, pair-Cat, pair-Alt, repeat-Repeat, width-Repeat}
+use Rattle.logos_places.proofs.steps.BranchLemmas.{some_between, none_between, ends_before, begins_after, back_some}
 use Rattle.logos_automaton.specs.inside.Alike.{GoesAlike}
 use Rattle.logos_automaton.proofs.keys.WalkLemmas.{alike_copy, copy_map, done_first, done_more, goes_map, goes_none, goes_repeated, leave_map, leave_none, leave_repeated, passed_copy}
 use Rattle.logos_automaton.proofs.walk.+follow.Goals as goal
@@ -19,32 +20,202 @@ pub follow-returns-then-not-any_mark-clause-leaves : goal.follow-returns-then-no
 follow-returns-then-not-any_mark-clause-leaves t c = λ h.
     absurd (leave_none (core_of c.args.node.now) _ (λ q below has. true≢false (sym (c.any_mark.ensures.1 (q, omega (arith, below, c.width.ensures), has)) ∙ c.if-not-any_mark.true)) h)
 
-pub follow-follow_literal-requires-clause-fits : goal.follow-follow_literal-requires-clause-fits
-follow-follow_literal-requires-clause-fits t c =
+pub follow-follow_marked-requires : goal.follow-follow_marked-requires
+follow-follow_marked-requires t c =
+    let own = c.own_places-own.ensures in
+    let some = c.any_mark.ensures.0 c.if-not-any_mark.false in
+    let w = width (core_of c.args.node.now) in
+    let to = rw c.width-in-Alt.ensures at own.to in
+    let lt = some_between c.args.marks.now c.args.base w c.own_places-own.result.from c.own_places-own.result.to own.from to some.0 (omega (arith, some.1, c.width.ensures)) some.2 in (
+      search (rules, the_lemmas),
+      (rw own.base c.requires.fits, (c.requires.measured, (c.requires.rising, (lt, (rw own.base own.from, rw own.base to))))),
+    )
+
+pub follow_marked-follow_marked-requires : goal.follow_marked-follow_marked-requires
+follow_marked-follow_marked-requires t c =
+    let a = core_of c.in-Alt.first.value in
+    let b = core_of c.in-Alt.second.value in
+    let marks = c.args.marks.now in
+    let is = ap core_of c.in-Alt.is ∙ core-Alt _ c.in-Alt.first c.in-Alt.second in
+    let v : c.width.result ≡ width a = rw c.deref.ensures at c.width.ensures in
+    let to : IsFirstFrom marks (c.args.own.base + (width a + width b)) c.args.own.to = rw is at c.requires.to in
+    let p = pair-Alt _ c.in-Alt.first c.in-Alt.second (rw c.in-Alt.is at c.requires.measured) in
+    let fits : c.args.own.base + (width a + width b) < 2 ^ 64 = rw is at c.requires.fits in
+    let d = c.deref-then-marks-own.ensures in
+    let under : slice_index marks (c.args.own.to - 1) < c.args.own.base + width a = rw v at c.if-marks-own.true in
+    let end = ends_before marks (c.args.own.base + (width a + width b)) (c.args.own.base + width a) c.args.own.from c.args.own.to c.requires.rising to c.requires.some (omega arith) under in (
+      search (rules, the_lemmas),
+      (rw d (omega (arith, fits)), (rw d p.first, (c.requires.rising, (c.requires.some, (c.requires.from, rw d end))))),
+    )
+
+pub follow_marked-follow_marked-requires-then-middle-marks :
+    goal.follow_marked-follow_marked-requires-then-middle-marks
+follow_marked-follow_marked-requires-then-middle-marks t c =
+    let a = core_of c.in-Alt.first.value in
+    let b = core_of c.in-Alt.second.value in
+    let marks = c.args.marks.now in
+    let is = ap core_of c.in-Alt.is ∙ core-Alt _ c.in-Alt.first c.in-Alt.second in
+    let v : c.width.result ≡ width a = rw c.deref.ensures at c.width.ensures in
+    let to : IsFirstFrom marks (c.args.own.base + (width a + width b)) c.args.own.to = rw is at c.requires.to in
+    let p = pair-Alt _ c.in-Alt.first c.in-Alt.second (rw c.in-Alt.is at c.requires.measured) in
+    let fits : c.args.own.base + (width a + width b) < 2 ^ 64 = rw is at c.requires.fits in
+    let d = c.deref-then-middle-marks.ensures in
+    let sum : c.args.own.base + (width a + width b) ≡ c.args.own.base + c.width.result + width b = omega (arith, v) in
+    let begin = begins_after marks c.args.own.base (c.args.own.base + c.width.result) c.args.own.from c.requires.rising c.requires.from (omega arith) c.if-middle-marks.true in (
+      search (rules, the_lemmas),
+      (rw d (omega (arith, fits, v)), (rw d p.second, (c.requires.rising, (c.requires.some, (begin, rw d (rw sum at to)))))),
+    )
+
+pub follow_marked-width-requires-clause-measured : goal.follow_marked-width-requires-clause-measured
+follow_marked-width-requires-clause-measured t c =
+    rw c.deref.ensures (pair-Alt _ c.in-Alt.first c.in-Alt.second (rw c.in-Alt.is at c.requires.measured)).first
+
+pub follow_marked-follow_marked-other-requires : goal.follow_marked-follow_marked-other-requires
+follow_marked-follow_marked-other-requires t c =
+    let a = core_of c.in-Alt.first.value in
+    let b = core_of c.in-Alt.second.value in
+    let marks = c.args.marks.now in
+    let is = ap core_of c.in-Alt.is ∙ core-Alt _ c.in-Alt.first c.in-Alt.second in
+    let v : c.width.result ≡ width a = rw c.deref.ensures at c.width.ensures in
+    let to : IsFirstFrom marks (c.args.own.base + (width a + width b)) c.args.own.to = rw is at c.requires.to in
+    let p = pair-Alt _ c.in-Alt.first c.in-Alt.second (rw c.in-Alt.is at c.requires.measured) in
+    let fits : c.args.own.base + (width a + width b) < 2 ^ 64 = rw is at c.requires.fits in
+    let d = c.deref-3.ensures in
+    let parts = c.parted.ensures in
+    let sum : c.args.own.base + (width a + width b) ≡ c.args.own.base + c.width.result + width b = omega (arith, v) in
+    let over : c.args.own.base + c.width.result ≤ slice_index marks (c.args.own.to - 1) = omega (arith, c.if-marks-own.false) in
+    let some = back_some marks (c.args.own.base + c.width.result) c.args.own.from c.args.own.to _ parts.middle c.requires.some over in (
+      search (rules, the_lemmas),
+      (rw (parts.after, d) (omega (arith, fits, v)), (rw d p.second, (c.requires.rising, (rw (parts.meet, parts.to) some, (rw (parts.after, parts.meet) parts.middle, rw (parts.after, parts.to, d) (rw sum at to)))))),
+    )
+
+pub follow-returns-in-Alt-clause-leaves : goal.follow-returns-in-Alt-clause-leaves
+follow-returns-in-Alt-clause-leaves t c = λ h. (rw c.own_places-own.ensures.base at c.follow_marked.ensures.leaves) h
+
+pub follow_marked-returns-then-marks-own-clause-marks :
+    goal.follow_marked-returns-then-marks-own-clause-marks
+follow_marked-returns-then-marks-own-clause-marks t c = λ x lt unmarked.
+    let a = core_of c.in-Alt.first.value in
+    let b = core_of c.in-Alt.second.value in
+    let marks = c.args.marks.now in
+    let base = c.args.own.base in
+    let is = ap core_of c.in-Alt.is ∙ core-Alt _ c.in-Alt.first c.in-Alt.second in
+    let v : c.width.result ≡ width a = rw c.deref.ensures at c.width.ensures in
+    let to : IsFirstFrom marks (base + (width a + width b)) c.args.own.to = rw is at c.requires.to in
+    let under : slice_index marks (c.args.own.to - 1) < base + width a = rw v at c.if-marks-own.true in
+    let end = ends_before marks (base + (width a + width b)) (base + width a) c.args.own.from c.args.own.to c.requires.rising to c.requires.some (omega arith) under in
+    let sum : base + (width a + width b) ≡ base + width a + width b = omega arith in
+    let none = λ (q : ℕ) (below : q < width b) (has : Has marks (base + (width a + q))).
+    none_between marks (base + width a) (width b) _ _ end (rw sum at to) (omega arith) q below (subst (Has marks) (omega arith) has) in
+    let front = rw c.deref-then-marks-own.ensures at c.follow_marked.ensures.marks x lt unmarked in
+    (front.0, rw is (front.1, goes_none x (x + 1) b _ none))
+
+pub follow_marked-returns-then-marks-own-clause-leaves :
+    goal.follow_marked-returns-then-marks-own-clause-leaves
+follow_marked-returns-then-marks-own-clause-leaves t c =
+    let a = core_of c.in-Alt.first.value in
+    let b = core_of c.in-Alt.second.value in
+    let marks = c.args.marks.now in
+    let base = c.args.own.base in
+    let is = ap core_of c.in-Alt.is ∙ core-Alt _ c.in-Alt.first c.in-Alt.second in
+    let v : c.width.result ≡ width a = rw c.deref.ensures at c.width.ensures in
+    let to : IsFirstFrom marks (base + (width a + width b)) c.args.own.to = rw is at c.requires.to in
+    let under : slice_index marks (c.args.own.to - 1) < base + width a = rw v at c.if-marks-own.true in
+    let end = ends_before marks (base + (width a + width b)) (base + width a) c.args.own.from c.args.own.to c.requires.rising to c.requires.some (omega arith) under in
+    let sum : base + (width a + width b) ≡ base + width a + width b = omega arith in
+    let none = λ (q : ℕ) (below : q < width b) (has : Has marks (base + (width a + q))).
+    none_between marks (base + width a) (width b) _ _ end (rw sum at to) (omega arith) q below (subst (Has marks) (omega arith) has) in
+    let front = rw c.deref-then-marks-own.ensures at c.follow_marked.ensures.leaves in
+    rw is (λ h. ⊎_elim (λ u. front u) (λ u. absurd (leave_none b _ none u)) h)
+
+pub follow_marked-returns-then-middle-marks-clause-marks :
+    goal.follow_marked-returns-then-middle-marks-clause-marks
+follow_marked-returns-then-middle-marks-clause-marks t c = λ x lt unmarked.
+    let a = core_of c.in-Alt.first.value in
+    let b = core_of c.in-Alt.second.value in
+    let marks = c.args.marks.now in
+    let base = c.args.own.base in
+    let is = ap core_of c.in-Alt.is ∙ core-Alt _ c.in-Alt.first c.in-Alt.second in
+    let v : c.width.result ≡ width a = rw c.deref.ensures at c.width.ensures in
+    let begin = begins_after marks base (base + c.width.result) c.args.own.from c.requires.rising c.requires.from (omega arith) c.if-middle-marks.true in
+    let none = λ (q : ℕ) (below : q < width a) (has : Has marks (base + q)).
+    none_between marks base (width a) _ _ c.requires.from (rw v at begin) (omega arith) q below has in
+    let moved = λ (q : ℕ) (below : q < width b) (has : Has marks (base + (width a + q))). subst (Has marks) (omega (arith, v)) has in
+    let back = rw c.deref-then-middle-marks.ensures at c.follow_marked-then-middle-marks.ensures.marks x lt unmarked in
+    (back.0, rw is (goes_none x (x + 1) a _ none, goes_map x (x + 1) b (λ q. Has marks (base + c.width.result + q)) (λ q. Has marks (base + (width a + q))) moved back.1))
+
+pub follow_marked-returns-then-middle-marks-clause-leaves :
+    goal.follow_marked-returns-then-middle-marks-clause-leaves
+follow_marked-returns-then-middle-marks-clause-leaves t c =
+    let a = core_of c.in-Alt.first.value in
+    let b = core_of c.in-Alt.second.value in
+    let marks = c.args.marks.now in
+    let base = c.args.own.base in
+    let is = ap core_of c.in-Alt.is ∙ core-Alt _ c.in-Alt.first c.in-Alt.second in
+    let v : c.width.result ≡ width a = rw c.deref.ensures at c.width.ensures in
+    let begin = begins_after marks base (base + c.width.result) c.args.own.from c.requires.rising c.requires.from (omega arith) c.if-middle-marks.true in
+    let none = λ (q : ℕ) (below : q < width a) (has : Has marks (base + q)).
+    none_between marks base (width a) _ _ c.requires.from (rw v at begin) (omega arith) q below has in
+    let moved = λ (q : ℕ) (below : q < width b) (has : Has marks (base + (width a + q))). subst (Has marks) (omega (arith, v)) has in
+    let back = rw c.deref-then-middle-marks.ensures at c.follow_marked-then-middle-marks.ensures.leaves in
+    rw is
+    (λ h. ⊎_elim (λ u. absurd (leave_none a _ none u))
+    (λ u. back (leave_map b (λ q. Has marks (base + (width a + q))) (λ q. Has marks (base + c.width.result + q)) moved u)) h)
+
+pub follow_marked-returns-clause-marks : goal.follow_marked-returns-clause-marks
+follow_marked-returns-clause-marks t c = λ x lt unmarked.
+    let a = core_of c.in-Alt.first.value in
+    let b = core_of c.in-Alt.second.value in
+    let marks = c.args.marks.now in
+    let base = c.args.own.base in
+    let is = ap core_of c.in-Alt.is ∙ core-Alt _ c.in-Alt.first c.in-Alt.second in
+    let v : c.width.result ≡ width a = rw c.deref.ensures at c.width.ensures in
+    let moved = λ (q : ℕ) (below : q < width b) (has : Has marks (base + (width a + q))). subst (Has marks) (omega (arith, v)) has in
+    let second = rw (c.parted.ensures.after, c.deref-3.ensures) at c.follow_marked-other.ensures.marks x lt unmarked in
+    let first = rw (c.parted.ensures.base, c.deref-2.ensures) at c.follow_marked-one.ensures.marks x lt second.0 in
+    (first.0, rw is (first.1, goes_map x (x + 1) b (λ q. Has marks (base + c.width.result + q)) (λ q. Has marks (base + (width a + q))) moved second.1))
+
+pub follow_marked-returns-clause-leaves : goal.follow_marked-returns-clause-leaves
+follow_marked-returns-clause-leaves t c =
+    let a = core_of c.in-Alt.first.value in
+    let b = core_of c.in-Alt.second.value in
+    let marks = c.args.marks.now in
+    let base = c.args.own.base in
+    let is = ap core_of c.in-Alt.is ∙ core-Alt _ c.in-Alt.first c.in-Alt.second in
+    let v : c.width.result ≡ width a = rw c.deref.ensures at c.width.ensures in
+    let moved = λ (q : ℕ) (below : q < width b) (has : Has marks (base + (width a + q))). subst (Has marks) (omega (arith, v)) has in
+    let first = rw (c.parted.ensures.base, c.deref-2.ensures) at c.follow_marked-one.ensures.leaves in
+    let second = rw (c.parted.ensures.after, c.deref-3.ensures) at c.follow_marked-other.ensures.leaves in
+    rw is
+    (λ h. ⊎_elim (λ u. or_left _ _ (first u))
+    (λ u. or_right _ _ (second (leave_map b (λ q. Has marks (base + (width a + q))) (λ q. Has marks (base + c.width.result + q)) moved u))) h)
+
+pub follow_node-follow_literal-requires-clause-fits : goal.follow_node-follow_literal-requires-clause-fits
+follow_node-follow_literal-requires-clause-fits t c =
     let fits = rw c.in-Literal.is at c.requires.fits in
     rw c.deref.ensures.value (omega (arith, fits, width-Literal c.in-Literal.text))
 
-pub follow-width-requires-in-Cat-clause-measured : goal.follow-width-requires-in-Cat-clause-measured
-follow-width-requires-in-Cat-clause-measured t c =
+pub follow_node-width-requires-clause-measured : goal.follow_node-width-requires-clause-measured
+follow_node-width-requires-clause-measured t c =
     rw c.deref-in-Cat-4.ensures (pair-Cat _ c.in-Cat.first c.in-Cat.second (rw c.in-Cat.is at c.requires.measured)).first
 
-pub follow-follow-other-requires : goal.follow-follow-other-requires
-follow-follow-other-requires t c =
+pub follow_node-follow-other-requires : goal.follow_node-follow-other-requires
+follow_node-follow-other-requires t c =
     let h = rw c.in-Cat.is at c.requires.measured in
     let p = pair-Cat _ c.in-Cat.first c.in-Cat.second h in
     let fits = rw c.in-Cat.is at c.requires.fits in
     let w = width-Cat _ _ _ h in
-    let v = rw c.deref-in-Cat-4.ensures at c.width-in-Cat.ensures in (
+    let v = rw c.deref-in-Cat-4.ensures at c.width.ensures in (
       search (rules, the_lemmas),
       (rw c.deref-in-Cat-3.ensures (omega (arith, fits, w, p.whole_is, v)), (rw c.deref-in-Cat-3.ensures p.second, c.requires.rising)),
     )
 
-pub follow-width-requires-in-Alt-clause-measured : goal.follow-width-requires-in-Alt-clause-measured
-follow-width-requires-in-Alt-clause-measured t c =
+pub follow_node-width-requires-in-Alt-clause-measured : goal.follow_node-width-requires-in-Alt-clause-measured
+follow_node-width-requires-in-Alt-clause-measured t c =
     rw c.deref-in-Alt-3.ensures (pair-Alt _ c.in-Alt.first c.in-Alt.second (rw c.in-Alt.is at c.requires.measured)).first
 
-pub follow-follow-other-requires-in-Alt : goal.follow-follow-other-requires-in-Alt
-follow-follow-other-requires-in-Alt t c =
+pub follow_node-follow-other-requires-in-Alt : goal.follow_node-follow-other-requires-in-Alt
+follow_node-follow-other-requires-in-Alt t c =
     let h = rw c.in-Alt.is at c.requires.measured in
     let p = pair-Alt _ c.in-Alt.first c.in-Alt.second h in
     let fits = rw c.in-Alt.is at c.requires.fits in
@@ -54,8 +225,8 @@ follow-follow-other-requires-in-Alt t c =
       (rw c.deref-in-Alt-2.ensures (omega (arith, fits, w, p.whole_is, v)), (rw c.deref-in-Alt-2.ensures p.second, c.requires.rising)),
     )
 
-pub follow-follow_copies-requires : goal.follow-follow_copies-requires
-follow-follow_copies-requires t c =
+pub follow_node-follow_copies-requires : goal.follow_node-follow_copies-requires
+follow_node-follow_copies-requires t c =
     let h = rw c.in-Repeat.is at c.requires.measured in
     let p = repeat-Repeat _ _ _ c.in-Repeat.body h in
     let fits = rw c.in-Repeat.is at c.requires.fits in
@@ -64,17 +235,17 @@ follow-follow_copies-requires t c =
       (rw c.copy_count.ensures (omega (arith, fits, w)), (rw c.deref-in-Repeat.ensures p.each_is, (rw c.deref-in-Repeat.ensures p.body_is, c.requires.rising))),
     )
 
-pub follow-returns-in-Literal-clause-leaves : goal.follow-returns-in-Literal-clause-leaves
-follow-returns-in-Literal-clause-leaves t c =
+pub follow_node-returns-in-Literal-clause-leaves : goal.follow_node-returns-in-Literal-clause-leaves
+follow_node-returns-in-Literal-clause-leaves t c =
     rw (ap core_of c.in-Literal.is ∙ core-Literal _) (λ h. rw c.deref.ensures.value at c.follow_literal.ensures.leaves h)
 
-pub follow-returns-in-Cat-clause-marks : goal.follow-returns-in-Cat-clause-marks
-follow-returns-in-Cat-clause-marks t c = λ x lt unmarked.
+pub follow_node-returns-in-Cat-clause-marks : goal.follow_node-returns-in-Cat-clause-marks
+follow_node-returns-in-Cat-clause-marks t c = λ x lt unmarked.
     let marks = c.args.marks.now in
     let base = c.args.base in
     let a = core_of c.in-Cat.first.value in
     let b = core_of c.in-Cat.second.value in
-    let v = rw c.deref-in-Cat-4.ensures at c.width-in-Cat.ensures in
+    let v = rw c.deref-in-Cat-4.ensures at c.width.ensures in
     let third = rw c.deref-in-Cat-3.ensures at c.follow-other.ensures.marks x lt unmarked in
     let second = rw c.deref-in-Cat-2.ensures at c.open_if-passed.ensures.marks x lt third.0 in
     let first = rw c.deref-in-Cat.ensures at c.follow-left.ensures.marks x lt second.0 in (
@@ -82,27 +253,27 @@ follow-returns-in-Cat-clause-marks t c = λ x lt unmarked.
       rw (ap core_of c.in-Cat.is ∙ core-Cat _ _ _) (
         first.1,
         λ l. second.1 (rw c.deref-in-Cat.ensures at c.follow-left.ensures.leaves l),
-        goes_map x (x + 1) b (λ q. Has marks (base + c.width-in-Cat.result + q)) (λ q. Has marks (base + (width a + q)))
+        goes_map x (x + 1) b (λ q. Has marks (base + c.width.result + q)) (λ q. Has marks (base + (width a + q)))
             (λ q below has. subst (Has marks) (omega (arith, v)) has) third.1,
       ),
     )
 
-pub follow-returns-in-Cat-clause-leaves : goal.follow-returns-in-Cat-clause-leaves
-follow-returns-in-Cat-clause-leaves t c =
+pub follow_node-returns-in-Cat-clause-leaves : goal.follow_node-returns-in-Cat-clause-leaves
+follow_node-returns-in-Cat-clause-leaves t c =
     let marks = c.args.marks.now in
     let base = c.args.base in
     let a = core_of c.in-Cat.first.value in
     let b = core_of c.in-Cat.second.value in
-    let v = rw c.deref-in-Cat-4.ensures at c.width-in-Cat.ensures in
+    let v = rw c.deref-in-Cat-4.ensures at c.width.ensures in
     rw (ap core_of c.in-Cat.is ∙ core-Cat _ _ _)
     (λ h. ⊎_elim
     (λ u. or_left _ _ (rw c.deref-in-Cat-2.ensures at c.open_if-passed.ensures.passes (rw c.deref-in-Cat.ensures at c.follow-left.ensures.leaves u.0) u.1))
     (λ u. or_right _ _ (rw c.deref-in-Cat-3.ensures at c.follow-other.ensures.leaves
-    (leave_map b (λ q. Has marks (base + (width a + q))) (λ q. Has marks (base + c.width-in-Cat.result + q)) (λ q below has. subst (Has marks) (omega (arith, v)) has) u)))
+    (leave_map b (λ q. Has marks (base + (width a + q))) (λ q. Has marks (base + c.width.result + q)) (λ q below has. subst (Has marks) (omega (arith, v)) has) u)))
     h)
 
-pub follow-returns-in-Alt-clause-marks : goal.follow-returns-in-Alt-clause-marks
-follow-returns-in-Alt-clause-marks t c = λ x lt unmarked.
+pub follow_node-returns-in-Alt-clause-marks : goal.follow_node-returns-in-Alt-clause-marks
+follow_node-returns-in-Alt-clause-marks t c = λ x lt unmarked.
     let marks = c.args.marks.now in
     let base = c.args.base in
     let a = core_of c.in-Alt.first.value in
@@ -118,8 +289,8 @@ follow-returns-in-Alt-clause-marks t c = λ x lt unmarked.
       ),
     )
 
-pub follow-returns-in-Alt-clause-leaves : goal.follow-returns-in-Alt-clause-leaves
-follow-returns-in-Alt-clause-leaves t c =
+pub follow_node-returns-in-Alt-clause-leaves : goal.follow_node-returns-in-Alt-clause-leaves
+follow_node-returns-in-Alt-clause-leaves t c =
     let marks = c.args.marks.now in
     let base = c.args.base in
     let a = core_of c.in-Alt.first.value in
@@ -132,8 +303,8 @@ follow-returns-in-Alt-clause-leaves t c =
     (leave_map b (λ q. Has marks (base + (width a + q))) (λ q. Has marks (base + c.width-in-Alt.result + q)) (λ q below has. subst (Has marks) (omega (arith, v)) has) u)))
     h)
 
-pub follow-returns-in-Repeat-clause-marks : goal.follow-returns-in-Repeat-clause-marks
-follow-returns-in-Repeat-clause-marks t c = λ x lt unmarked.
+pub follow_node-returns-in-Repeat-clause-marks : goal.follow_node-returns-in-Repeat-clause-marks
+follow_node-returns-in-Repeat-clause-marks t c = λ x lt unmarked.
     let marks = c.args.marks.now in
     let base = c.args.base in
     let each = c.in-Repeat.each in
@@ -148,8 +319,8 @@ follow-returns-in-Repeat-clause-marks t c = λ x lt unmarked.
           (m.1 k (omega (arith, below, c.copy_count.ensures))))),
     )
 
-pub follow-returns-in-Repeat-clause-leaves : goal.follow-returns-in-Repeat-clause-leaves
-follow-returns-in-Repeat-clause-leaves t c =
+pub follow_node-returns-in-Repeat-clause-leaves : goal.follow_node-returns-in-Repeat-clause-leaves
+follow_node-returns-in-Repeat-clause-leaves t c =
     let marks = c.args.marks.now in
     let base = c.args.base in
     let each = c.in-Repeat.each in
