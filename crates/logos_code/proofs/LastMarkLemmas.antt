@@ -1,26 +1,21 @@
 -- The last marks of a code, from what is checked of them.
-use Rattle.std.proofs.Common.{◌≡◌, ℕ, zero, suc, ◌+◌, ◌-◌, ◌*◌, ◌/◌, ◌<◌, ◌≤◌, ◌⊎◌, ⊎_elim, Bool, true, false, ◌&&◌, ◌==◌, IsTrue, IfSome, IsSomeAnd, List, [], length, drop, get_or, slice_index, Option, Some, None, option_map, slice_get, refl, sym, ap, subst, ◌∙◌, arith, if◌then◌else◌}
-use Rattle.std.proofs.lemmas.Option.{slice_get-get_or, slice_get_within, get_or_from_slice_get}
+use Rattle.std.proofs.Common.{◌≡◌, ℕ, ◌+◌, ◌-◌, ◌<◌, ◌≤◌, ◌⊎◌, ⊎_elim, Bool, true, false, ◌&&◌, ◌==◌, IsTrue, IfSome, IsSomeAnd, All, List, [], length, drop, find, get_or, slice_index, Option, Some, None, option_map, slice_get, refl, sym, ap, subst, ◌∙◌, arith, if◌then◌else◌}
+use Rattle.std.proofs.lemmas.List.{length-map, get_or-map}
+use Rattle.std.proofs.lemmas.Option.{slice_get-get_or, get_or_from_slice_get}
 use Rattle.std.proofs.Math.ListN.{get_or-eq_default}
-use Rattle.logos_hir.specs.Text.{IsBytes}
-use Rattle.logos_code.specs.Code.{CodeValue, CodeState, Mark}
-use Rattle.logos_code.specs.CodeView.{state_at, no_state, state_of, code_of, mark_of}
+use Rattle.logos_code.specs.Code.{CodeValue, CodeState, Condition, Mark, by_conditions, by_table}
+use Rattle.logos_code.specs.CodeView.{state_at, no_state, state_of, code_of, mark_of, fork_of, jumps_of, entry_of}
 use Rattle.logos_code.specs.Headline.{IsSound, IsRoot, IsEnd, IsLate, NamesWhatIsThere}
 use Rattle.logos_code.specs.LastMarks.{Stood, first_stand, next_stand, Holds, AreLastMarks, last_mark_at}
-use Rattle.logos_code.specs.Rows.{closing, IsStepOf, Says, IsEntry, AreRows}
-use Rattle.logos_code.specs.Runs.{Stand, Turn, enters, acts, returns, led, forked, turn, Does, stays, target, looped, marked}
-use Rattle.logos_code.specs.inside.LastMarks.{IsOwn, Follows, BeginsUnmarked, FollowsAt, EntryAgrees, EdgeAgrees, StateAgrees, Agree}
+use Rattle.logos_code.specs.Runs.{Stand, Turn, enters, acts, returns, led, forked, turn, Does, passes, target, looped, marked}
+use Rattle.logos_code.specs.inside.LastMarks.{IsOwn, Follows, BeginsUnmarked, FollowsAt, ForkAgrees, StateAgrees, Agree}
 use Rattle.logos_code.specs.declared.code.last_marks.LastMark.{LastMark}
 use Rattle.logos_code.specs.declared.code.last_marks.LastMark.TheVariants.{Unseen, Varies, Never, Back}
-use Rattle.logos_code.specs.declared.code.rows.MatchUse.{MatchUse}
-use Rattle.logos_code.specs.declared.code.rows.MatchUse.TheVariants.{Emits, Skips, Asks}
-use Rattle.logos_code.specs.declared.code.rows.Step.{Step}
-use Rattle.logos_code.specs.declared.code.rows.Step.TheVariants.{Leads, Stays, Halts, Looks, Closes, Stuck, Unsaid}
 use Rattle.logos_code.specs.declared.code.CodeParts.{CodeParts}
 use Rattle.logos_code.specs.declared.code.CodeState.{CodeState as TheState}
 use Rattle.logos_code.proofs.CodeLemmas.{root_there}
-use Rattle.logos_code.proofs.RowLemmas.{state_there, loop_stops, entry_leads}
-use Rattle.logos_code.proofs.TargetLemmas.{All-slice_get, target_there}
+use Rattle.logos_code.proofs.RowLemmas.{state_there}
+use Rattle.logos_code.proofs.TargetLemmas.{All-slice_get, All-find, target_there}
 
 some_pair : (a b c d : ℕ) → a ≡ b → c ≡ d → Path (Option (ℕ × ℕ)) (Some (a, c)) (Some (b, d))
 some_pair a b c d e f = cc
@@ -76,7 +71,7 @@ root_mark code sound = go (slice_get code.states code.root) refl sound.root
         let same : state_at code code.root ≡ state = get_or_from_slice_get code.states code.root state no_state e in
         ap (λ (s : CodeState). s.mark) same ∙ h.mark
 
-module _ (code : CodeValue) (sound : IsSound code) (marks : List LastMark) (agree : Agree code marks) (bytes : List ℕ) (are : IsBytes bytes) (start : ℕ) where
+module _ (code : CodeValue) (sound : IsSound code) (marks : List LastMark) (agree : Agree code marks) (bytes : List ℕ) (start : ℕ) where
   -- where the fast loop ends of a stand's state
   abbrev stop_of : Stand → ℕ
   stop_of at = at.offset + looped code (state_at code at.state).fast_loop (drop at.offset bytes)
@@ -142,16 +137,11 @@ module _ (code : CodeValue) (sound : IsSound code) (marks : List LastMark) (agre
           let same : Path Stand (after t) next = enters_same (after t) next e in
           subst (λ (n : Stand). Knows n) same (knows_after t there follows)
 
-      by_byte : (b : ℕ) → slice_get bytes (stop_of at) ≡ Some b → (o : Option ℕ) → target code state.fork b ≡ o → led o (stop_of at) (passed_of at) ≡ enters next → Knows next
-      by_byte b here None leads e = absurd (cc)
-      by_byte b here (Some t) leads e =
-          let within : stop_of at < length bytes = slice_get_within bytes (stop_of at) b here in
-          let read : get_or bytes (stop_of at) 0 ≡ b = get_or_from_slice_get bytes (stop_of at) b 0 here in
-          let stopped : stays code state.fast_loop (get_or bytes (stop_of at) 0) ≡ false = loop_stops code state.fast_loop bytes at.offset 0 within in
-          let out : stays code state.fast_loop b ≡ false = subst (λ (x : ℕ). stays code state.fast_loop x ≡ false) read stopped in
-          let small : b < 256 = All-slice_get (λ (x : ℕ). x < 256) bytes (stop_of at) b are here in
+      by_byte : (b : ℕ) (o : Option ℕ) → target code state.fork b ≡ o → led o (stop_of at) (passed_of at) ≡ enters next → Knows next
+      by_byte b None leads e = absurd (cc)
+      by_byte b (Some t) leads e =
           let s = agree.each at.state k.there in
-          entered t (target_there code state.fork b t names.fork leads) (s.edges b small t out leads) e
+          entered t (target_there code state.fork b t names.fork leads) (s.edges b t leads) e
 
       at_end : (o : Option ℕ) → state.at_end ≡ o → led o (stop_of at) (passed_of at) ≡ enters next → Knows next
       at_end None leads e = absurd (cc)
@@ -167,11 +157,11 @@ module _ (code : CodeValue) (sound : IsSound code) (marks : List LastMark) (agre
       by_end false e = at_end state.at_end refl e
 
       knows_next : Does code bytes start at (enters next) → Knows next
-      knows_next d = go (slice_get bytes (stop_of at)) refl (turns (enters next) d)
+      knows_next d = go (slice_get bytes (stop_of at)) (turns (enters next) d)
         where
-          go : (o : Option ℕ) → slice_get bytes (stop_of at) ≡ o → forked code state o fresh (stop_of at) (passed_of at) ≡ enters next → Knows next
-          go (Some b) here e = by_byte b here (target code state.fork b) refl e
-          go None here e = by_end fresh e
+          go : (o : Option ℕ) → forked code state o fresh (stop_of at) (passed_of at) ≡ enters next → Knows next
+          go (Some b) e = by_byte b (target code state.fork b) refl e
+          go None e = by_end fresh e
 
     -- what a try passed that ends here
     module _ (passed : Option (ℕ × ℕ)) (offset : ℕ) where
@@ -204,7 +194,7 @@ module _ (code : CodeValue) (sound : IsSound code) (marks : List LastMark) (agre
 pub are_last_marks : (code : CodeValue) → IsSound code → (marks : List LastMark) → Agree code marks → AreLastMarks code marks
 are_last_marks code sound marks agree s bytes start at passed offset are stood e d =
     subst (λ (n : ℕ). Holds (last_mark_at marks n) passed offset) e
-    (holds_there code sound marks agree bytes are start at (knows code sound marks agree bytes are start stood) passed offset d)
+    (holds_there code sound marks agree bytes start at (knows code sound marks agree bytes start stood) passed offset d)
 
 -- none are right
 pub no_last_marks : (code : CodeValue) → AreLastMarks code []
@@ -212,88 +202,42 @@ no_last_marks code s bytes start at passed offset are stood e d =
     let none : last_mark_at [] s ≡ Unseen = get_or-eq_default [] Unseen {n = s} (omega arith) in
     subst (λ (m : LastMark). Holds m passed offset) (sym none) tt
 
--- a step that neither leads to a state with more to do nor says nothing
-abbrev IsLast : Step → Type 0
-IsLast (Leads s) = ⊥
-IsLast (Stays s) = Unit {0}
-IsLast (Halts leaf used) = Unit {0}
-IsLast (Looks leaf used) = Unit {0}
-IsLast (Closes leaf used) = Unit {0}
-IsLast Stuck = Unit {0}
-IsLast Unsaid = ⊥
+-- where branches lead, what holds of all of their targets holds
+pub branches_follow : (code : CodeValue) (marks : List LastMark) (from : LastMark) (edges : List (Condition × ℕ)) → All (λ edge. FollowsAt code marks from edge.1) edges →
+    ForkAgrees code marks from (by_conditions edges)
+branches_follow code marks from edges all b t leads =
+    go (find (λ edge. passes code edge.0 b) edges) leads (All-find (λ edge. FollowsAt code marks from edge.1) (λ edge. passes code edge.0 b) edges all)
+  where
+    go : (o : Option (Condition × ℕ)) → option_map (λ edge. edge.1) o ≡ Some t → IfSome o (λ edge. FollowsAt code marks from edge.1) → FollowsAt code marks from t
+    go None e n = absurd (cc)
+    go (Some edge) e n = let f : edge.1 ≡ t = cc in subst (FollowsAt code marks from) f n
 
--- the step that an entry of these kinds stands for
-step_before : (entry : ℕ) (used : MatchUse) (first : ℕ) → ((n : ℕ) → entry ≡ first + n → n < 134217728 → IsStepOf entry (Halts (record { 0 = n }) used)) →
-    ((n : ℕ) → entry ≡ first + 134217728 + n → n < 134217728 → IsStepOf entry (Looks (record { 0 = n }) used)) → first ≤ entry → entry < first + 268435456 →
-    (step : Step) × IsStepOf entry step × IsLast step
-step_before entry used first halts looks low high = ⊎_elim
-    (λ h. (Halts (record { 0 = entry - first }) used, halts (entry - first) (omega arith) (omega (arith, h)), tt))
-    (λ h. (Looks (record { 0 = entry - first - 134217728 }) used, looks (entry - first - 134217728) (omega (arith, h)) (omega arith), tt))
-    (either entry (first + 134217728))
+-- and so where a jump table leads
+pub table_follows : (code : CodeValue) (marks : List LastMark) (from : LastMark) (table : List ℕ) →
+    ((k : ℕ) → k < length table → IfSome (entry_of (slice_index table k)) (FollowsAt code marks from)) → ForkAgrees code marks from (by_table (jumps_of table))
+table_follows code marks from table all b t leads = ⊎_elim inside outside (either b (length table))
   where
     either : (a b : ℕ) → (a < b) ⊎ (b ≤ a)
     either a b = grind arith
 
-last_step : (entry : ℕ) → 268435456 ≤ entry → entry < 2415919104 → (step : Step) × IsStepOf entry step × IsLast step
-last_step entry low high = go (entry / 268435456) (omega arith) (omega arith)
-  where
-    go : (k : ℕ) → 268435456 * k ≤ entry → entry < 268435456 * k + 268435456 → (step : Step) × IsStepOf entry step × IsLast step
-    go zero l h = absurd (omega (arith, low, h))
-    go (suc zero) l h = (Stays (entry - 268435456), (omega (arith, l), omega (arith, h)), tt)
-    go (suc (suc zero)) l h = step_before entry Skips 536870912 (λ n e s. (e, s)) (λ n e s. (e, s)) (omega (arith, l)) (omega (arith, h))
-    go (suc (suc (suc zero))) l h = step_before entry Emits 805306368 (λ n e s. (e, s)) (λ n e s. (e, s)) (omega (arith, l)) (omega (arith, h))
-    go (suc (suc (suc (suc zero)))) l h = (Closes (record { 0 = entry - 1073741824 }) Emits, (omega (arith, l), omega (arith, h)), tt)
-    go (suc (suc (suc (suc (suc zero))))) l h = (Closes (record { 0 = entry - 1342177280 }) Skips, (omega (arith, l), omega (arith, h)), tt)
-    go (suc (suc (suc (suc (suc (suc zero)))))) l h = step_before entry Asks 1610612736 (λ n e s. (e, s)) (λ n e s. (e, s)) (omega (arith, l)) (omega (arith, h))
-    go (suc (suc (suc (suc (suc (suc (suc zero))))))) l h = (Closes (record { 0 = entry - 1879048192 }) Asks, (omega (arith, l), omega (arith, h)), tt)
-    go (suc (suc (suc (suc (suc (suc (suc (suc zero)))))))) l h = (Stuck, (omega (arith, l), omega (arith, h)), tt)
-    go (suc (suc (suc (suc (suc (suc (suc (suc (suc k))))))))) l h = absurd (omega (arith, high, l))
+    inside : b < length table → FollowsAt code marks from t
+    inside h =
+        let e : entry_of (slice_index table b) ≡ Some t = sym (get_or-map entry_of table b 0 None h) ∙ leads in
+        rw e at (all b h)
 
-module _ (code : CodeValue) (state : CodeState) (b t : ℕ) (out : stays code state.fast_loop b ≡ false) (leads : target code state.fork b ≡ Some t) (none : (state_at code t).mark ≡ None) where
-  closes_nowhere : (next : ℕ) (mark : Mark) → target code state.fork b ≡ Some next → slice_get code.states next ≡ Some (closing mark) → ⊥
-  closes_nowhere next mark to closes =
-      let same : t ≡ next = cc in
-      let is : state_at code next ≡ closing mark = get_or_from_slice_get code.states next (closing mark) no_state closes in
-      let has : (state_at code t).mark ≡ Some mark = ap (λ (n : ℕ). (state_at code n).mark) same ∙ ap (λ (s : CodeState). s.mark) is in
-      cc
+    outside : length table ≤ b → FollowsAt code marks from t
+    outside h =
+        let e : None ≡ Some t = sym (get_or-eq_default (jumps_of table) None (rw length-map h)) ∙ leads in
+        absurd (cc)
 
-  -- such a step does not lead to a state without a mark
-  leads_nowhere : (step : Step) → IsLast step → Says code state b step → ⊥
-  leads_nowhere (Leads s) last said = last
-  leads_nowhere (Stays s) last said = let e : true ≡ false = sym said.0 ∙ out in cc
-  leads_nowhere (Halts leaf used) last said = let e : None ≡ Some t = sym said.1 ∙ leads in cc
-  leads_nowhere (Looks leaf used) last said = closes_nowhere said.1.next (record { leaf = leaf.0; late = true }) said.1.leads said.1.closes
-  leads_nowhere (Closes leaf used) last said = closes_nowhere said.1.next (record { leaf = leaf.0; late = false }) said.1.leads said.1.closes
-  leads_nowhere Stuck last said = let e : None ≡ Some t = sym said.1 ∙ leads in cc
-  leads_nowhere Unsaid last said = last
-
--- what an entry agrees with is so where its byte leads
-entry_edge : (code : CodeValue) (marks : List LastMark) (s b entry : ℕ) → IsEntry code (state_at code s) b entry → EntryAgrees code marks (last_mark_at marks s) entry → EdgeAgrees code marks s b
-entry_edge code marks s b entry is agrees t out leads none = ⊎_elim low high (either entry)
-  where
-    either : (n : ℕ) → (n < 268435456) ⊎ (268435456 ≤ n)
-    either n = grind arith
-
-    low : entry < 268435456 → Follows (last_mark_at marks t) (last_mark_at marks s) (state_at code t).fast_loop
-    low h =
-        let to : target code (state_at code s).fork b ≡ Some (entry / 272) = entry_leads code (state_at code s) b entry is h in
-        let same : t ≡ entry / 272 = cc in
-        subst (λ (n : ℕ). Follows (last_mark_at marks n) (last_mark_at marks s) (state_at code n).fast_loop) (sym same)
-        (agrees.1 h (subst (λ (n : ℕ). (state_at code n).mark ≡ None) same none))
-
-    high : 268435456 ≤ entry → Follows (last_mark_at marks t) (last_mark_at marks s) (state_at code t).fast_loop
-    high h =
-        let step = last_step entry h agrees.0 in
-        absurd (leads_nowhere code (state_at code s) b t out leads none step.0 step.2 (is.says step.0 step.1))
-
--- a state agrees whose entries do
-pub state_agreed : (parts : CodeParts) (rows : List ℕ) (marks : List LastMark) (from : LastMark) (s : ℕ) (state : TheState) → AreRows (code_of parts) rows →
-    s < length parts.states.items → state ≡ get_or parts.states.items s state → s < length (code_of parts).states → from ≡ last_mark_at marks s → IsOwn from (option_map mark_of state.mark) →
-    ((b : ℕ) → b < 256 → EntryAgrees (code_of parts) marks from (slice_index rows (272 * s + b))) → StateAgrees (code_of parts) marks s
-state_agreed parts rows marks from s state are h is there same own entries =
+-- a state agrees by its mark and its fork
+pub state_agreed : (parts : CodeParts) (marks : List LastMark) (from : LastMark) (s : ℕ) (state : TheState) → s < length parts.states.items →
+    state ≡ get_or parts.states.items s state → from ≡ last_mark_at marks s → IsOwn from (option_map mark_of state.mark) →
+    ForkAgrees (code_of parts) marks from (fork_of parts.jump_tables.items state.fork) → StateAgrees (code_of parts) marks s
+state_agreed parts marks from s state h is same own edges =
     let here : state_at (code_of parts) s ≡ state_of parts.jump_tables.items state = state_there parts s state h is in
     record {
       own = subst (λ (m : LastMark). IsOwn m (state_at (code_of parts) s).mark) same (subst (λ (t : CodeState). IsOwn from t.mark) (sym here) own);
-      edges = λ b l. entry_edge (code_of parts) marks s b (slice_index rows (272 * s + b)) (are.each s b there l)
-          (subst (λ (m : LastMark). EntryAgrees (code_of parts) marks m (slice_index rows (272 * s + b))) same (entries b l));
+      edges = subst (λ (m : LastMark). ForkAgrees (code_of parts) marks m (state_at (code_of parts) s).fork) same
+          (subst (λ (t : CodeState). ForkAgrees (code_of parts) marks from t.fork) (sym here) edges);
     }

@@ -1,3 +1,4 @@
+mod AlikeLemmas
 pub mod TargetLemmas
 pub mod CodeLemmas
 pub mod RowLemmas

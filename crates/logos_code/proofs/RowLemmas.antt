@@ -1,7 +1,7 @@
 -- Rows, and what a state does by its row.
-use Rattle.std.proofs.Common.{◌≡◌, ℕ, zero, suc, ◌+◌, ◌*◌, ◌-◌, ◌/◌, ◌%◌, ◌<◌, ◌≤◌, ◌⊎◌, inl, inr, ⊎_elim, ◌++◌, true, false, IfSome, List, length, take, drop, get_or, slice_index, slice_get, set, Option, Some, None, refl, sym, ap, subst, ◌∙◌, arith, length-drop, Fits, w8}
+use Rattle.std.proofs.Common.{◌≡◌, ℕ, zero, suc, ◌+◌, ◌*◌, ◌-◌, ◌/◌, ◌%◌, ◌<◌, ◌≤◌, ◌⊎◌, inl, inr, ⊎_elim, ◌++◌, true, false, IfSome, List, length, take, drop, get_or, slice_index, slice_get, Option, Some, None, refl, sym, ap, subst, ◌∙◌, arith, length-drop, Fits, w8}
 use Rattle.std.proofs.Math.Facts.{Fits-lt-pow}
-use Rattle.std.proofs.lemmas.List.{length-map, get_or-map, get_or-drop, get_or_append_left, get_or-append-add, length-set, get_or-set_same, get_or-set_other, take_all}
+use Rattle.std.proofs.lemmas.List.{length-map, get_or-map, get_or-drop, get_or_append_left, get_or-append-add, take_all}
 use Rattle.std.proofs.lemmas.List.Folds.{length-prefix_len}
 use Rattle.std.proofs.lemmas.List.Sums.{prefix_len_stops}
 use Rattle.std.proofs.lemmas.Option.{get_or_from_slice_get, slice_get-get_or}
@@ -13,6 +13,7 @@ use Rattle.logos_code.specs.Code.{CodeValue, CodeState, Fork}
 use Rattle.logos_code.specs.Headline.{NamesFork, NamesState}
 use Rattle.logos_code.specs.CodeView.{state_at, state_of, code_of, no_state}
 use Rattle.logos_code.specs.Runs.{stays, looped, target}
+use Rattle.logos_code.specs.inside.Alike.{EndsRun}
 use Rattle.logos_code.specs.Rows.{IsStepOf, Says, SaysAtEnd, IsHalting, IsEntry, IsLastEntry, IsRow, AreRows, IsFirstOf, IsFirstRow, LeadsToPlace}
 use Rattle.logos_code.proofs.TargetLemmas.{target_there}
 use Rattle.logos_code.specs.declared.code.rows.MatchUse.{MatchUse}
@@ -70,21 +71,6 @@ read_column code rows place b all is there within =
     let read : get_or (take (length rows - b) (drop b rows)) place 0 ≡ get_or rows (272 * (place / 272) + b) 0 =
     ap (λ (l : List ℕ). get_or l place 0) rest ∙ get_or-drop b rows place 0 ∙ ap (λ (n : ℕ). get_or rows n 0) (sym index) in
     subst (λ (entry : ℕ). IsEntry code (state_at code (place / 272)) b entry) (sym read) (all.each (place / 272) b there within)
-
--- one more entry of a row
-pub row_turn : (code : CodeValue) (state : CodeState) (row : List ℕ) (b entry : ℕ) → length row ≡ 272 → b < 256 → IsEntry code state b entry →
-    ((k : ℕ) → k < b → IsEntry code state k (slice_index row k)) →
-    (length (set row b entry) ≡ 272) × ((k : ℕ) → k < b + 1 → IsEntry code state k (slice_index (set row b entry) k))
-row_turn code state row b entry long within is before = (length-set row b entry ∙ long, λ k h. ⊎_elim (old k) (now k) (either k b h))
-  where
-    either : (a b : ℕ) → a < b + 1 → (a < b) ⊎ (b ≡ a)
-    either a b h = grind arith
-
-    old : (k : ℕ) → k < b → IsEntry code state k (slice_index (set row b entry) k)
-    old k l = rw (get_or-set_other row b k entry 0 (λ e. omega (arith, e, l))) (before k l)
-
-    now : (k : ℕ) → b ≡ k → IsEntry code state k (slice_index (set row b entry) k)
-    now k e = subst (λ n. IsEntry code state n (slice_index (set row b entry) n)) e (rw (get_or-set_same row b entry 0 (omega (arith, within, long))) is)
 
 -- the byte after the fast loop does not stay
 pub loop_stops : (code : CodeValue) (loop : Option ℕ) (bytes : List ℕ) (at d : ℕ) → at + looped code loop (drop at bytes) < length bytes →
@@ -204,6 +190,35 @@ module _ (code : CodeValue) (state : CodeState) where
     says = only_step (Says code state b) entry step is said tt;
     place = ⊎_elim (step_place entry step) (step_place entry Unsaid) is;
   }
+
+  -- the entry of a byte is that of one which does the same
+  same_entry : (b k entry : ℕ) → stays code state.fast_loop k ≡ stays code state.fast_loop b → target code state.fork k ≡ target code state.fork b → IsEntry code state b entry →
+      IsEntry code state k entry
+  same_entry b k entry loop leads is = record { says = λ step h. says step (is.says step h); place = is.place }
+    where
+      says : (step : Step) → Says code state b step → Says code state k step
+      says (Leads next) h = (loop ∙ h.0, leads ∙ h.1)
+      says (Stays test) h = (loop ∙ h.0, h.1)
+      says (Halts leaf used) h = (loop ∙ h.0, leads ∙ h.1, h.2, h.3)
+      says (Looks leaf used) h = (loop ∙ h.0, record { next = h.1.next; leads = leads ∙ h.1.leads; closes = h.1.closes }, h.2)
+      says (Closes leaf used) h = (loop ∙ h.0, record { next = h.1.next; leads = leads ∙ h.1.leads; closes = h.1.closes }, h.2)
+      says Stuck h = (loop ∙ h.0, leads ∙ h.1)
+      says Unsaid h = tt
+
+  -- the entries of one more run
+  pub run_turn : (row new : List ℕ) (b end entry : ℕ) → EndsRun (stays code state.fast_loop) b 256 end → EndsRun (target code state.fork) b 256 end → IsEntry code state b entry →
+      ((k : ℕ) → b ≤ k → k < end → slice_index new k ≡ entry) → ((k : ℕ) → k < b → slice_index new k ≡ slice_index row k) →
+      ((k : ℕ) → k < b → IsEntry code state k (slice_index row k)) → (k : ℕ) → k < end → IsEntry code state k (slice_index new k)
+  run_turn row new b end entry loop leads is inside others before k h = ⊎_elim old now (either k b)
+    where
+      either : (a b : ℕ) → (a < b) ⊎ (b ≤ a)
+      either a b = grind arith
+
+      old : k < b → IsEntry code state k (slice_index new k)
+      old l = rw (others k l) (before k l)
+
+      now : b ≤ k → IsEntry code state k (slice_index new k)
+      now l = rw (inside k l h) (same_entry b k entry (loop.2 k l h) (leads.2 k l h) is)
 
   -- the entry of a first byte
   first_says : (b entry first : ℕ) → IsEntry code state b entry → ((first ≡ entry) ⊎ (2415919104 ≤ first)) → IsEntry code state b first

@@ -1,9 +1,9 @@
 -- What is checked of last marks.
-use Rattle.std.specs.Prelude.{◌≡◌, ℕ, ◌+◌, ◌/◌, ◌<◌, List, length, Option, Some, None, IfSome, if◌then◌else◌, false}
-use Rattle.logos_code.specs.Code.{CodeValue, Mark}
+use Rattle.std.specs.Prelude.{◌≡◌, ℕ, ◌+◌, ◌<◌, List, length, Option, Some, None, IfSome, if◌then◌else◌}
+use Rattle.logos_code.specs.Code.{CodeValue, Mark, Fork}
 use Rattle.logos_code.specs.CodeView.{state_at}
 use Rattle.logos_code.specs.LastMarks.{last_mark_at}
-use Rattle.logos_code.specs.Runs.{stays, target}
+use Rattle.logos_code.specs.Runs.{target}
 use Rattle.logos_code.specs.declared.code.last_marks.LastMark.{LastMark}
 use Rattle.logos_code.specs.declared.code.last_marks.LastMark.TheVariants.{Unseen, Varies, Never, Back}
 
@@ -41,17 +41,13 @@ module _ (code : CodeValue) (marks : List LastMark) where
   abbrev pub FollowsAt : LastMark → ℕ → Type 0
   FollowsAt from s = (state_at code s).mark ≡ None → Follows (last_mark_at marks s) from (state_at code s).fast_loop
 
-  -- The entry says something, and where it leads to a state the last mark there follows.
-  abbrev pub EntryAgrees : LastMark → ℕ → Type 0
-  EntryAgrees from entry = (entry < 2415919104) × (entry < 268435456 → FollowsAt from (entry / 272))
-
-  -- So does it where the byte leads.
-  abbrev pub EdgeAgrees : ℕ → ℕ → Type 0
-  EdgeAgrees s b = (t : ℕ) → stays code (state_at code s).fast_loop b ≡ false → target code (state_at code s).fork b ≡ Some t → FollowsAt (last_mark_at marks s) t
+  -- So do the last marks in all states to which the fork leads.
+  abbrev pub ForkAgrees : LastMark → Fork → Type 0
+  ForkAgrees from fork = (b t : ℕ) → target code fork b ≡ Some t → FollowsAt from t
 
   pub record StateAgrees (s : ℕ) : Type 0 where
     pub own : IsOwn (last_mark_at marks s) (state_at code s).mark
-    pub edges : (b : ℕ) → b < 256 → EdgeAgrees s b
+    pub edges : ForkAgrees (last_mark_at marks s) (state_at code s).fork
 
   pub record Agree : Type 0 where
     pub root : BeginsUnmarked (last_mark_at marks code.root)

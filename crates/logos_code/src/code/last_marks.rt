@@ -1,14 +1,13 @@
 //! Last marks: which mark a try has passed last, where it ends in a state.
 //!
 //! Where all ways to a state agree on it, a lexer need not note the marks that it passes. The last
-//! marks are searched for along the entries of the rows, and then checked: only the check says that
+//! marks are searched for along the forks of all states, and then checked: only the check says that
 //! they are right.
 
-ghost use Rattle.std.specs.Prelude.{◌≡◌, ◌+◌, ◌*◌, ◌<◌, ◌≤◌, IfOk, IsTrue, length, option_map, if◌then◌else◌};
-ghost use Rattle.logos_code.specs.Views.{code_of, mark_of, IsSound, AreLastMarks, last_mark_at, AreRows, IsOwn, Follows, FollowsBack, EntryAgrees, StateAgrees, BeginsUnmarked, Agree};
+ghost use Rattle.std.specs.Prelude.{◌≡◌, ◌<◌, IfOk, IfSome, IsTrue, length, map, option_map, if◌then◌else◌};
+ghost use Rattle.logos_code.specs.Views.{code_of, mark_of, branch_of, fork_of, jumps_of, entry_of, by_conditions, by_table, IsSound, NamesFork, AreLastMarks, last_mark_at, IsOwn, Follows, FollowsAt, FollowsBack, ForkAgrees, StateAgrees, BeginsUnmarked, Agree};
 
-use super::rows::{STAYS, UNSAID, WIDTH};
-use super::{CodeParts, CodeState, Mark};
+use super::{CodeParts, CodeState, Condition, Fork, Mark, target_of};
 use logos_hir::leaf::LeafId;
 use std::alloc::{AllocError, Global};
 
@@ -39,17 +38,12 @@ struct Search {
 /// # Errors
 ///
 /// Returns an error if memory runs out.
-pub(super) fn last_marks_of(
-    alloc: Global,
-    parts: &CodeParts,
-    rows: &[u32],
-) -> Result<Vec<LastMark>, AllocError>
-    requires sound { IsSound (code_of parts.now) }
-    requires rows { AreRows (code_of parts.now) rows.now }
+pub(super) fn last_marks_of(alloc: Global, parts: &CodeParts) -> Result<Vec<LastMark>, AllocError>
+    requires { IsSound (code_of parts.now) }
     ensures { IfOk result (λ marks. AreLastMarks (code_of parts.now) marks.items) }
 {
-    let found = find(alloc, parts, rows)?;
-    if agree(parts, rows, &found) {
+    let found = find(alloc, parts)?;
+    if agree(parts, &found) {
         return Ok(found);
     }
     Ok(Vec::new(alloc))
@@ -60,36 +54,70 @@ pub(super) fn last_marks_of(
 /// # Errors
 ///
 /// Returns an error if memory runs out.
-fn find(alloc: Global, parts: &CodeParts, rows: &[u32]) -> Result<Vec<LastMark>, AllocError> {
+fn find(alloc: Global, parts: &CodeParts) -> Result<Vec<LastMark>, AllocError> {
     let mut search = Search {
         found: vec![in alloc; LastMark::Unseen; parts.states.len()]?,
         open: Vec::new(alloc),
     };
     search.find_more(parts.root, LastMark::Never)?;
-    for _ in 0..rows.len() {
+    // What is known of a state changes twice at most.
+    for _ in 0..parts.states.len().saturating_mul(2) {
         let Some(state) = search.open.pop() else {
             return Ok(search.found);
         };
-        if state < rows.len() / WIDTH {
-            search.go_on(parts, &rows[WIDTH * state..WIDTH * state + 256], state)?;
-        }
+        search.go_on(parts, state)?;
     }
     Ok(search.found)
 }
 
 impl Search {
-    /// Goes on from a state to all those to which the entries of its row lead.
-    fn go_on(&mut self, parts: &CodeParts, row: &[u32], state: usize) -> Result<(), AllocError> {
+    /// Goes on from a state to all those to which its fork leads.
+    fn go_on(&mut self, parts: &CodeParts, state: usize) -> Result<(), AllocError> {
         let mark = last_mark_at(&self.found, state);
-        for entry in row {
-            if *entry < STAYS {
-                let to = *entry as usize / WIDTH;
-                if let Some(next) = parts.states.get(to) {
-                    self.find_more(to, entered(next, mark))?;
-                }
-            }
+        let Some(state) = parts.states.get(state) else {
+            return Ok(());
+        };
+        match &state.fork {
+            Fork::Conditions(branches) => self.go_on_by_conditions(parts, branches, mark),
+            Fork::Table(k) => self.go_on_by_table(parts, *k, mark),
+        }
+    }
+
+    /// Goes on to all states to which the branches lead, with the last mark before them.
+    fn go_on_by_conditions(
+        &mut self,
+        parts: &CodeParts,
+        branches: &[(Condition, usize)],
+        mark: LastMark,
+    ) -> Result<(), AllocError> {
+        for (_, to) in branches {
+            self.go_to(parts, *to, mark)?;
         }
         Ok(())
+    }
+
+    /// Goes on to all states to which the jump table leads, with the last mark before them.
+    fn go_on_by_table(
+        &mut self,
+        parts: &CodeParts,
+        k: usize,
+        mark: LastMark,
+    ) -> Result<(), AllocError> {
+        let Some(table) = parts.jump_tables.get(k) else {
+            return Ok(());
+        };
+        for entry in table {
+            self.go_to(parts, *entry as usize, mark)?;
+        }
+        Ok(())
+    }
+
+    /// Goes on to a state, if it is there, with the last mark before it.
+    fn go_to(&mut self, parts: &CodeParts, to: usize, mark: LastMark) -> Result<(), AllocError> {
+        match parts.states.get(to) {
+            Some(next) => self.find_more(to, entered(next, mark)),
+            None => Ok(()),
+        }
     }
 
     /// Notes that a try can end in the state with this last mark.
@@ -146,16 +174,15 @@ pub(super) fn last_mark_at(marks: &[LastMark], state: usize) -> LastMark
 }
 
 /// Returns whether the last marks agree with each other along all ways.
-fn agree(parts: &CodeParts, rows: &[u32], marks: &[LastMark]) -> bool
-    requires sound { IsSound (code_of parts.now) }
-    requires rows { AreRows (code_of parts.now) rows.now }
+fn agree(parts: &CodeParts, marks: &[LastMark]) -> bool
+    requires { IsSound (code_of parts.now) }
     ensures { IsTrue result → Agree (code_of parts.now) marks.now }
 {
     if !begins_unmarked(last_mark_at(marks, parts.root)) {
         return false;
     }
     for state in 0..parts.states.len() {
-        if !state_agrees(parts, rows, marks, state) {
+        if !state_agrees(parts, marks, state) {
             return false;
         }
     }
@@ -171,18 +198,62 @@ fn begins_unmarked(mark: LastMark) -> bool
 
 /// Returns whether the last mark in a state agrees with the state's mark, and with the last marks
 /// in those to which its bytes lead.
-fn state_agrees(parts: &CodeParts, rows: &[u32], marks: &[LastMark], state: usize) -> bool
-    requires rows { AreRows (code_of parts.now) rows.now }
+fn state_agrees(parts: &CodeParts, marks: &[LastMark], state: usize) -> bool
+    requires sound { IsSound (code_of parts.now) }
     requires state { state < length parts.now.states.items }
-    requires room { WIDTH * state + 256 ≤ length rows.now }
     ensures { IsTrue result → StateAgrees (code_of parts.now) marks.now state }
 {
     let from = last_mark_at(marks, state);
-    if !is_own(from, parts.states[state].mark) {
+    let state = &parts.states[state];
+    if !is_own(from, state.mark) {
         return false;
     }
+    fork_agrees(parts, marks, from, &state.fork)
+}
+
+/// Returns whether the last marks in the states to which the fork leads follow from that in the
+/// state that has the fork.
+fn fork_agrees(parts: &CodeParts, marks: &[LastMark], from: LastMark, fork: &Fork) -> bool
+    requires { NamesFork (code_of parts.now) (fork_of parts.now.jump_tables.items fork.now) }
+    ensures { IsTrue result → ForkAgrees (code_of parts.now) marks.now from
+        (fork_of parts.now.jump_tables.items fork.now) }
+{
+    match fork {
+        Fork::Conditions(branches) => branches_agree(parts, marks, from, branches),
+        Fork::Table(k) => table_agrees(parts, marks, from, &parts.jump_tables[*k]),
+    }
+}
+
+/// Returns whether the last marks in the states to which the branches lead follow.
+fn branches_agree(
+    parts: &CodeParts,
+    marks: &[LastMark],
+    from: LastMark,
+    branches: &[(Condition, usize)],
+) -> bool
+    ensures { IsTrue result → ForkAgrees (code_of parts.now) marks.now from
+        (by_conditions (map branch_of branches.now)) }
+{
+    for (_, to) in branches {
+        if !target_agrees(parts, marks, from, *to) {
+            return false;
+        }
+    }
+    true
+}
+
+/// Returns whether the last marks in the states to which the jump table leads follow.
+fn table_agrees(
+    parts: &CodeParts,
+    marks: &[LastMark],
+    from: LastMark,
+    table: &[u32; 256],
+) -> bool
+    ensures { IsTrue result → ForkAgrees (code_of parts.now) marks.now from
+        (by_table (jumps_of table.now)) }
+{
     for b in 0..256 {
-        if !entry_agrees(parts, marks, from, rows[WIDTH * state + b]) {
+        if !entry_agrees(parts, marks, from, table[b]) {
             return false;
         }
     }
@@ -203,18 +274,23 @@ fn is_own(last: LastMark, mark: Option<Mark>) -> bool
     }
 }
 
-/// Returns whether the last mark in the state to which the entry leads, if it leads to one, follows
-/// from that in the state that has the entry. An entry that says nothing does not agree.
+/// Returns whether the last mark in the state to which the entry of a jump table leads follows, if
+/// it leads to one.
 fn entry_agrees(parts: &CodeParts, marks: &[LastMark], from: LastMark, entry: u32) -> bool
-    ensures { IsTrue result → EntryAgrees (code_of parts.now) marks.now from entry }
+    ensures { IsTrue result → IfSome (entry_of entry) (FollowsAt (code_of parts.now) marks.now
+        from) }
 {
-    if entry >= UNSAID {
-        return false;
+    match target_of(entry) {
+        Some(to) => target_agrees(parts, marks, from, to),
+        None => true,
     }
-    if entry >= STAYS {
-        return true;
-    }
-    let to = entry as usize / WIDTH;
+}
+
+/// Returns whether the last mark in a state follows from that in a state that leads to it, if it
+/// has no mark of its own.
+fn target_agrees(parts: &CodeParts, marks: &[LastMark], from: LastMark, to: usize) -> bool
+    ensures { IsTrue result → FollowsAt (code_of parts.now) marks.now from to }
+{
     let Some(next) = parts.states.get(to) else {
         return false;
     };

@@ -33,7 +33,7 @@ fn tables_of(alloc: Global, parts: &CodeParts<'_>) -> Result<CodeTables, AllocEr
     let rows = rows_of(alloc, parts)?;
     let masks = masks_of(alloc, parts)?;
     let signs = signs_of(alloc, parts)?;
-    let last_marks = last_marks_of(alloc, parts, &rows)?;
+    let last_marks = last_marks_of(alloc, parts)?;
     let uses = uses_of(alloc, parts)?;
     let first = first_row(&rows, parts.root);
     Ok(CodeTables {

@@ -172,10 +172,24 @@ fn row_of(parts: &CodeParts, state: &CodeState) -> [u32; 272]
     ensures { IsRow (code_of parts.now) (state_of parts.now.jump_tables.items state.now) result }
 {
     let mut row = [UNSAID; 272];
-    for b in 0..256 {
-        row[b] = entry_at(parts, state, b as u8);
+    let mut b = 0;
+    while b < 256 {
+        let end = parts.run_end(state, b);
+        fill(&mut row, b, end, entry_at(parts, state, b as u8));
+        b = end;
     }
     row
+}
+
+/// Writes the entry at all bytes of a run.
+fn fill(row: &mut [u32; 272], byte: usize, end: usize, entry: u32)
+    requires { end ≤ 256 }
+    ensures inside { (k : ℕ) → byte ≤ k → k < end → slice_index row.new k ≡ entry }
+    ensures before { (k : ℕ) → k < byte → slice_index row.new k ≡ slice_index row.old k }
+{
+    for b in byte..end {
+        row[b] = entry;
+    }
 }
 
 /// Returns what the byte does in the state.

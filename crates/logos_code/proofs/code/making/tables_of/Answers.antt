@@ -3,9 +3,6 @@ use Rattle.logos_code.proofs.CodeLemmas.{root_there}
 use Rattle.logos_code.proofs.RowLemmas.{first_row_says}
 use Rattle.logos_code.proofs.code.making.tables_of.Goals as goal
 
-pub last_marks_of-requires-clause-rows : goal.last_marks_of-requires-clause-rows
-last_marks_of-requires-clause-rows c = rw c.deref.ensures.value c.in_ok-rows.ensures
-
 pub returns : goal.returns
 returns c = record {
   valid = c.requires;
