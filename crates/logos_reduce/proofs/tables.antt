@@ -1,3 +1,4 @@
 pub mod PushLemmas
 pub mod RowLemmas
+pub mod RunLemmas
 pub mod EdgeLemmas

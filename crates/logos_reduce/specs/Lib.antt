@@ -1,5 +1,4 @@
 pub mod Edges
-pub mod RowHash
 pub mod Rows
 pub mod RowsView
 pub mod Table

@@ -1,5 +1,5 @@
 -- Rows of targets.
-use Rattle.std.specs.Prelude.{◌≡◌, ◌<◌, ℕ, zero, suc, List, [], map, length, Option, Some, None, slice_index, slice_index_or}
+use Rattle.std.specs.Prelude.{◌≡◌, ◌<◌, ◌≤◌, ℕ, zero, suc, List, [], map, length, Option, Some, None, slice_index, slice_index_or}
 
 -- What an entry of a row stands for: 0 is no target, and else the entry is one more than the state.
 abbrev pub target_of : ℕ → Option ℕ
@@ -17,6 +17,14 @@ rows_at places distinct = map (λ place. slice_index_or distinct place []) place
 -- Where a state leads by a symbol.
 abbrev pub target_in : List (List ℕ) → ℕ → ℕ → Option ℕ
 target_in rows s k = target_by (slice_index_or rows s []) k
+
+-- From an index on, up to another, a row has only this entry.
+abbrev pub HasOnly : List ℕ → ℕ → ℕ → ℕ → Type 0
+HasOnly row from to entry = (k : ℕ) → from ≤ k → k < to → slice_index row k ≡ entry
+
+-- From an index on, up to another, two rows have the same entries.
+abbrev pub AreSame : List ℕ → List ℕ → ℕ → ℕ → Type 0
+AreSame row other from to = (k : ℕ) → from ≤ k → k < to → slice_index row k ≡ slice_index other k
 
 -- No edge leaves the first n states.
 abbrev pub IsClosed : ℕ → List (List ℕ) → Type 0

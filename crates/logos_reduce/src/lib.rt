@@ -10,7 +10,7 @@ mod number;
 mod order;
 mod prune;
 pub mod reduction;
-mod row_hasher;
+mod row_hash;
 pub mod rows;
 mod settle;
 pub mod table;

@@ -3,7 +3,7 @@
 ghost use Rattle.std.specs.Prelude.{true, ◌≡◌, ◌≢◌, ℕ, ◌+◌, ◌-◌, ◌<◌, ◌≤◌, ◌⊎◌, Some, OnOk, IfOk, IsTrue, IsFalse, length, slice_get, vec_len, slice_index};
 ghost use Rattle.logos_reduce.specs.Views.{has, has_in, Rises, AreRising, ArePredecessors, target_by, size, to};
 
-use crate::rows::{Row, WIDTH, changed_target};
+use crate::rows::{Row, WIDTH, run_end, target_at};
 use crate::table::Table;
 use std::alloc::{AllocError, Global};
 
@@ -59,6 +59,27 @@ pub fn file(lists: &mut Vec<Vec<usize>>, b: usize, s: usize) -> Result<(), Alloc
     Ok(())
 }
 
+/// Adds a state to the list of a target, if there is one.
+fn file_target(
+    lists: &mut Vec<Vec<usize>>,
+    target: Option<usize>,
+    s: usize,
+) -> Result<(), AllocError>
+    requires { (t : ℕ) → target ≡ Some t → t < vec_len lists.old }
+    ensures len { vec_len lists.new ≡ vec_len lists.old }
+    ensures stays { (t u : ℕ) → has_in lists.old.items t u ≡ true →
+        has_in lists.new.items t u ≡ true }
+    ensures filed { OnOk result ((t : ℕ) → target ≡ Some t → has_in lists.new.items t s ≡ true) }
+    ensures only { (t u : ℕ) → has_in lists.new.items t u ≡ true →
+        (has_in lists.old.items t u ≡ true) ⊎ ((u ≡ s) × (target ≡ Some t)) }
+    ensures rising { AreRising (s + 1) lists.old.items → AreRising (s + 1) lists.new.items }
+{
+    if let Some(t) = target {
+        file(lists, t, s)?;
+    }
+    Ok(())
+}
+
 /// Adds a state to the list of each of its targets by the first `width` symbols.
 fn file_row(
     lists: &mut Vec<Vec<usize>>,
@@ -78,10 +99,10 @@ fn file_row(
         ⊎ ((u ≡ s) × ((k : ℕ) × (k < width) × (target_by row.now k ≡ Some t))) }
     ensures rising { AreRising (s + 1) lists.old.items → AreRising (s + 1) lists.new.items }
 {
-    for k in 0..width {
-        if let Some(t) = changed_target(row, k) {
-            file(lists, t, s)?;
-        }
+    let mut k = 0;
+    while k < width {
+        file_target(lists, target_at(row, k), s)?;
+        k = run_end(row, k);
     }
     Ok(())
 }

@@ -14,7 +14,7 @@ use crate::lists::looked_up;
 use crate::merge::blocks::{Blocks, Split, by_marks, leaders_of};
 use crate::merge::classes::{class_table, classes_of};
 use crate::merge::refine::{block_of, refine};
-use crate::rows::{Row, WIDTH, target_at};
+use crate::rows::{Row, WIDTH, same_until, target_at};
 use crate::table::Table;
 use std::alloc::{AllocError, Global};
 
@@ -29,12 +29,12 @@ fn first_difference(row: &Row, other: &Row, blocks: &Vec<usize>) -> Option<usize
         × (option_map (slice_index blocks.now.items) (target_by row.now k)
         ≢ option_map (slice_index blocks.now.items) (target_by other.now k))) }
 {
-    for k in 0..WIDTH {
-        if row[k] != other[k]
-            && block_of(target_at(row, k), blocks) != block_of(target_at(other, k), blocks)
-        {
+    let mut k = same_until(row, other, 0);
+    while k < WIDTH {
+        if block_of(target_at(row, k), blocks) != block_of(target_at(other, k), blocks) {
             return Some(k);
         }
+        k = same_until(row, other, k + 1);
     }
     None
 }
@@ -185,7 +185,7 @@ pub fn merge(alloc: Global, table: &Table) -> Result<Partition, AllocError>
         (slice_index m.leaders.items)) }
 {
     let classes = classes_of(alloc, table)?;
-    if table.len() - classes.count < table.len() / 8 {
+    if table.len() - classes.count < table.len() / 2 {
         return merge_classes(alloc, table);
     }
     let small = class_table(alloc, table, &classes)?;

@@ -6,7 +6,7 @@ ghost use Rattle.logos_reduce.specs.Views.{IsMet, Grows, target_by, target_in, t
 use crate::merge::Partition;
 use crate::merge::refine::block_of;
 use crate::order::Order;
-use crate::rows::{Row, Rows, WIDTH, entry_before, target_at};
+use crate::rows::{Row, Rows, WIDTH, fill_run, run_end, target_at};
 use crate::table::{StateMarks, Table};
 use std::alloc::{AllocError, Global};
 
@@ -56,8 +56,10 @@ fn meet_targets(
         (i + 1) 0) }
 {
     let row = table.row(merged.leaders[order.states[i]]);
-    for k in 0..WIDTH {
+    let mut k = 0;
+    while k < WIDTH {
         meet_target(order, block_of(target_at(row, k), &merged.blocks.of))?;
+        k = run_end(row, k);
     }
     Ok(())
 }
@@ -107,11 +109,16 @@ fn numbered_row(row: &Row, blocks: &Vec<usize>, numbers: &Vec<usize>) -> Row
         (option_map (slice_index blocks.now.items) (target_by row.now k)) }
 {
     let mut numbered = [0; WIDTH];
-    for k in 0..WIDTH {
-        numbered[k] = match entry_before(row, &numbered, k) {
-            Some(entry) => entry,
-            None => numbered_entry(target_at(row, k), blocks, numbers),
-        };
+    let mut k = 0;
+    while k < WIDTH {
+        let end = run_end(row, k);
+        fill_run(
+            &mut numbered,
+            k,
+            end,
+            numbered_entry(target_at(row, k), blocks, numbers),
+        );
+        k = end;
     }
     numbered
 }

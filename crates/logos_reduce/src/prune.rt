@@ -3,10 +3,11 @@
 
 ghost use Rattle.std.specs.Prelude.{true, ◌≡◌, ℕ, ◌+◌, ◌<◌, ◌≤◌, ◌↔◌, ◌⊎◌, Some, OnOk, IfOk, IsTrue, IsSome, length, vec_len, slice_index};
 ghost use Rattle.logos_reduce.specs.Views.{has, IsMet, Grows, IsMarked, target_by, target_of, target_in, size, to, mark, type_of, IsSeed, AreUseful, met_target, IsPrunedTable, rows_of};
+ghost use Rattle.logos_reduce.specs.Rows.{AreWide};
 
 use crate::lists::predecessors;
 use crate::order::Order;
-use crate::rows::{END, Row, Rows, WIDTH, entry_before, target_at};
+use crate::rows::{END, Row, Rows, WIDTH, run_end, set_run, target_at};
 use crate::table::{StateMarks, Table};
 use std::alloc::{AllocError, Global};
 
@@ -77,19 +78,19 @@ fn useful_states(alloc: Global, table: &Table) -> Result<Order, AllocError>
     Ok(order)
 }
 
-/// Returns the row without the targets that are not in the order.
-fn pruned_row(row: &Row, order: &Order) -> Row
-    ensures { (k : ℕ) → target_by result k
-        ≡ met_target order.now.numbers.items (target_by row.now k) }
+/// Drops the targets of a row that are not in the order.
+fn prune_row(row: &mut Row, order: &Order)
+    ensures len { length row.new ≡ WIDTH }
+    ensures pruned { (k : ℕ) → target_by row.new k
+        ≡ met_target order.now.numbers.items (target_by row.old k) }
 {
-    let mut pruned = *row;
-    for k in 0..WIDTH {
-        pruned[k] = match entry_before(row, &pruned, k) {
-            Some(entry) => entry,
-            None => pruned_entry(row, k, order),
-        };
+    let mut k = 0;
+    while k < WIDTH {
+        let end = run_end(row, k);
+        let entry = pruned_entry(row, k, order);
+        set_run(row, k, end, entry);
+        k = end;
     }
-    pruned
 }
 
 /// Returns the entry of the row, or 0 where its target is not in the order.
@@ -103,30 +104,35 @@ fn pruned_entry(row: &Row, k: usize, order: &Order) -> u32
     }
 }
 
-/// Returns the distinct rows of a list, each without the targets that are not in the order.
-fn pruned_distinct(alloc: Global, rows: &Rows, order: &Order) -> Result<Rows, AllocError>
-    ensures len { IfOk result (λ r. length (rows_of r) ≡ length rows.now.distinct.keys) }
-    ensures rows { IfOk result (λ r. (i k : ℕ) → i < length rows.now.distinct.keys →
-        target_in (rows_of r) i k
-        ≡ met_target order.now.numbers.items (target_in rows.now.distinct.keys i k)) }
+/// Drops the targets of rows that are not in the order.
+fn prune_all(rows: &mut Vec<Row>, order: &Order)
+    ensures len { vec_len rows.new ≡ vec_len rows.old }
+    ensures wide { AreWide rows.old.items → AreWide rows.new.items }
+    ensures rows { (i k : ℕ) → i < vec_len rows.old → target_in rows.new.items i k
+        ≡ met_target order.now.numbers.items (target_in rows.old.items i k) }
 {
-    let mut pruned = Rows::new(alloc);
-    for place in 0..rows.count() {
-        let row = pruned_row(rows.distinct(place), order);
-        pruned.push(&row)?;
+    for i in 0..rows.len() {
+        prune_row(&mut rows[i], order);
     }
-    Ok(pruned)
 }
 
-/// Returns the rows without the targets that are not in the order.
-fn pruned_rows(alloc: Global, table: &Table, order: &Order) -> Result<Rows, AllocError>
-    ensures len { IfOk result (λ r. length (rows_of r) ≡ size table.now) }
-    ensures rows { IfOk result (λ r. (s k : ℕ) → s < size table.now →
-        target_in (rows_of r) s k ≡ met_target order.now.numbers.items (to table.now s k)) }
+/// Returns the rows of a list without the targets that are not in the order.
+fn pruned_rows(rows: Rows, order: &Order) -> Rows
+    ensures len { length (rows_of result) ≡ length (rows_of rows) }
+    ensures rows { (s k : ℕ) → s < length (rows_of rows) → target_in (rows_of result) s k
+        ≡ met_target order.now.numbers.items (target_in (rows_of rows) s k) }
 {
-    let distinct = pruned_distinct(alloc, &table.rows, order)?;
-    let rows = distinct.picked(alloc, &table.rows.places)?;
-    Ok(rows)
+    let Rows {
+        places,
+        mut distinct,
+        found,
+    } = rows;
+    prune_all(&mut distinct, order);
+    Rows {
+        places,
+        distinct,
+        found,
+    }
 }
 
 /// Returns the table without the edges to states that have no mark and lead to none.
@@ -134,8 +140,8 @@ pub fn prune(alloc: Global, table: Table) -> Result<Table, AllocError>
     ensures { IfOk result (IsPrunedTable table) }
 {
     let order = useful_states(alloc, &table)?;
-    let pruned = pruned_rows(alloc, &table, &order)?;
-    let Table { marks, rows: _ } = table;
+    let Table { marks, rows } = table;
+    let pruned = pruned_rows(rows, &order);
     Ok(Table {
         marks,
         rows: pruned,

@@ -1,14 +1,12 @@
-//! A list of rows of targets, which holds equal rows once. The table of an automaton has one, and
-//! so has each table that the reduction makes of it.
+//! A list of rows of targets, which keeps equal rows once where it can. The table of an automaton
+//! has one, and so has each table that the reduction makes of it.
 
-ghost use Rattle.std.specs.Prelude.{◌≡◌, ℕ, ◌-◌, ◌<◌, ◌⊎◌, ◌++◌, ◌∷◌, [], MatchOption, IfOk, IfSome, OnOk, None, Some, length, vec_len, slice_index, slice_index_or};
-ghost use Rattle.logos_reduce.specs.Rows.{AreWide, target_by, target_of};
+ghost use Rattle.std.specs.Prelude.{◌≡◌, ◌≢◌, ℕ, ◌<◌, ◌≤◌, ◌+◌, ◌++◌, ◌∷◌, [], IfOk, IfSome, IsTrue, OnOk, length, vec_len, slice_index, slice_index_or};
+ghost use Rattle.logos_reduce.specs.Rows.{AreSame, AreWide, HasOnly, target_by};
 
-use crate::lists::looked_up;
-use crate::row_hasher::RowHasher;
-use indexmap::IndexSet;
+use crate::row_hash::row_hash;
+use indexmap::IndexMap;
 use std::alloc::{AllocError, Global};
-use std::hash::BuildHasherDefault;
 
 /// The number of symbols: the bytes, and the end.
 pub const WIDTH: usize = 257;
@@ -25,11 +23,13 @@ pub type Row = [u32; WIDTH];
 pub struct Rows {
     /// For each row of the list its index among the distinct ones.
     pub(crate) places: Vec<usize>,
-    /// The rows of the list, each once.
-    distinct: IndexSet<Row, BuildHasherDefault<RowHasher>>,
-    ghost wide: { AreWide distinct.keys },
+    /// The rows of the list, each once where it was found again.
+    pub(crate) distinct: Vec<Row>,
+    /// For the hash that a row had when it was added its index among the distinct ones.
+    pub(crate) found: IndexMap<u64, usize>,
+    ghost wide: { AreWide distinct.items },
     ghost placed: { (i : ℕ) → i < vec_len places →
-        slice_index places.items i < length distinct.keys },
+        slice_index places.items i < length distinct.items },
 }
 
 impl Rows {
@@ -41,7 +41,8 @@ impl Rows {
     {
         Rows {
             places: Vec::new(alloc),
-            distinct: IndexSet::with_hasher(alloc, BuildHasherDefault::new()),
+            distinct: Vec::new(alloc),
+            found: IndexMap::new(alloc),
         }
     }
 
@@ -57,10 +58,7 @@ impl Rows {
         requires { i < length (rows_of self.now) }
         ensures { result.now ≡ slice_index_or (rows_of self.now) i [] }
     {
-        match self.distinct.get_index(self.places[i]) {
-            Some(row) => row,
-            None => unreachable!(),
-        }
+        &self.distinct[self.places[i]]
     }
 
     /// Returns the index of row `i` among the distinct rows.
@@ -73,41 +71,59 @@ impl Rows {
 
     /// Returns how many distinct rows the list has.
     pub(crate) fn count(&self) -> usize
-        ensures { result ≡ length self.now.distinct.keys }
+        ensures { result ≡ length self.now.distinct.items }
     {
         self.distinct.len()
     }
 
     /// Returns the distinct row at an index.
     pub(crate) fn distinct(&self, place: usize) -> &Row
-        requires { place < length self.now.distinct.keys }
-        ensures { result.now ≡ slice_index_or self.now.distinct.keys place [] }
+        requires { place < length self.now.distinct.items }
+        ensures { result.now ≡ slice_index_or self.now.distinct.items place [] }
     {
-        match self.distinct.get_index(place) {
-            Some(row) => row,
-            None => unreachable!(),
-        }
+        &self.distinct[place]
     }
 
-    /// Returns the list with the rows of this one at these indices.
-    ///
-    /// # Errors
-    ///
-    /// `AllocError` where there is no memory for the list.
-    pub(crate) fn picked(self, alloc: Global, indices: &Vec<usize>) -> Result<Rows, AllocError>
-        requires { (i : ℕ) → i < vec_len indices.now →
-            slice_index indices.now.items i < length (rows_of self) }
-        ensures len { IfOk result (λ r. length (rows_of r) ≡ vec_len indices.now) }
-        ensures rows { IfOk result (λ r. (i : ℕ) → i < vec_len indices.now →
-            slice_index_or (rows_of r) i []
-            ≡ slice_index_or (rows_of self) (slice_index indices.now.items i) []) }
+    /// Returns the index of a row among the distinct ones, if it is found by its hash.
+    fn find(&self, row: &Row, hash: u64) -> Option<usize>
+        ensures { IfSome result (λ place. (place < vec_len self.now.distinct)
+            × (slice_index_or self.now.distinct.items place [] ≡ row.now)) }
     {
-        let Rows { places, distinct } = self;
-        let picked = looked_up(alloc, &places, indices)?;
-        Ok(Rows {
-            places: picked,
-            distinct,
-        })
+        let place = *self.found.get(&hash)?;
+        if place < self.distinct.len() && self.distinct[place] == *row {
+            return Some(place);
+        }
+        None
+    }
+
+    /// Adds a row to the distinct ones.
+    fn add(&mut self, row: &Row, hash: u64) -> Result<usize, AllocError>
+        ensures places { self.new.places ≡ self.old.places }
+        ensures place { IfOk result (λ place. place ≡ vec_len self.old.distinct) }
+        ensures rows { OnOk result
+            (self.new.distinct.items ≡ self.old.distinct.items ++ row.now ∷ []) }
+    {
+        let place = self.distinct.len();
+        self.distinct.push(*row)?;
+        self.found.insert(hash, place)?;
+        Ok(place)
+    }
+
+    /// Returns the index of a row among the distinct ones, to which it is added if need be.
+    fn place_of(&mut self, row: &Row) -> Result<usize, AllocError>
+        ensures places { self.new.places ≡ self.old.places }
+        ensures place { IfOk result (λ place. (place < vec_len self.new.distinct)
+            × (slice_index_or self.new.distinct.items place [] ≡ row.now)) }
+        ensures rows { OnOk result ((i : ℕ) → i < vec_len self.old.distinct →
+            slice_index_or self.new.distinct.items i []
+            ≡ slice_index_or self.old.distinct.items i []) }
+        ensures len { OnOk result (vec_len self.old.distinct ≤ vec_len self.new.distinct) }
+    {
+        let hash = row_hash(row);
+        if let Some(place) = self.find(row, hash) {
+            return Ok(place);
+        }
+        self.add(row, hash)
     }
 
     /// Adds a row at the end.
@@ -118,7 +134,7 @@ impl Rows {
     pub fn push(&mut self, row: &Row) -> Result<(), AllocError>
         ensures { OnOk result (rows_of self.new ≡ rows_of self.old ++ row.now ∷ []) }
     {
-        let (place, _) = self.distinct.insert_full(*row)?;
+        let place = self.place_of(row)?;
         self.places.push(place)?;
         Ok(())
     }
@@ -133,28 +149,117 @@ pub fn target_at(row: &Row, k: usize) -> Option<usize>
     if entry == 0 { None } else { Some(entry - 1) }
 }
 
-/// Returns the entry that is made of the symbol before, if the row leads to the same state by both.
-pub(crate) fn entry_before(row: &Row, made: &Row, k: usize) -> Option<u32>
-    requires { k < WIDTH }
-    ensures { IfSome result (λ entry. (0 < k) × (target_by row.now k ≡ target_by row.now (k - 1))
-        × (target_of entry ≡ target_by made.now (k - 1))) }
+/// How many entries are looked at together.
+const GROUP: usize = 16;
+
+/// Returns whether a group of entries, from an index on, has only this entry.
+#[inline(always)]
+fn is_filled(row: &Row, from: usize, entry: u32) -> bool
+    requires { from + GROUP ≤ WIDTH }
+    ensures { IsTrue result → HasOnly row.now from (from + GROUP) entry }
 {
-    if 0 < k && row[k] == row[k - 1] {
-        return Some(made[k - 1]);
+    let mut differs = false;
+    for i in 0..GROUP {
+        differs |= row[from + i] != entry;
     }
-    None
+    !differs
 }
 
-/// Returns the target of a row by a symbol, unless the symbol before it leads to the same one.
-pub(crate) fn changed_target(row: &Row, k: usize) -> Option<usize>
-    requires { k < WIDTH }
-    ensures { MatchOption result
-        ((target_by row.now k ≡ None)
-        ⊎ ((0 < k) × (target_by row.now k ≡ target_by row.now (k - 1))))
-        (λ t. target_by row.now k ≡ Some t) }
+/// Returns an index up to which the row has only the entry that it has at `start`. It goes past
+/// whole groups.
+fn past_groups(row: &Row, start: usize) -> usize
+    requires { start < WIDTH }
+    ensures after { (start < result) × (result ≤ WIDTH) }
+    ensures same { HasOnly row.now start result (slice_index row.now start) }
 {
-    if 0 < k && row[k] == row[k - 1] {
-        return None;
+    let mut end = start + 1;
+    while GROUP <= WIDTH - end && is_filled(row, end, row[start]) {
+        end += GROUP;
     }
-    target_at(row, k)
+    end
+}
+
+/// Returns the end of the run of equal entries that begins at `start`.
+pub(crate) fn run_end(row: &Row, start: usize) -> usize
+    requires { start < WIDTH }
+    ensures after { (start < result) × (result ≤ WIDTH) }
+    ensures same { HasOnly row.now start result (slice_index row.now start) }
+    ensures ends { result < WIDTH → slice_index row.now result ≢ slice_index row.now start }
+{
+    if start + 1 < WIDTH && row[start + 1] != row[start] {
+        return start + 1;
+    }
+    let mut end = past_groups(row, start);
+    while end < WIDTH && row[end] == row[start] {
+        end += 1;
+    }
+    end
+}
+
+/// Sets the entries from an index on, up to another.
+pub(crate) fn fill_run(row: &mut Row, from: usize, to: usize, entry: u32)
+    requires { (from ≤ to) × (to ≤ WIDTH) }
+    ensures len { length row.new ≡ WIDTH }
+    ensures before { (k : ℕ) → k < from → slice_index row.new k ≡ slice_index row.old k }
+    ensures after { (k : ℕ) → to ≤ k → slice_index row.new k ≡ slice_index row.old k }
+    ensures filled { HasOnly row.new from to entry }
+{
+    for k in from..to {
+        row[k] = entry;
+    }
+}
+
+/// Sets the entries of a run of equal ones, if they are to change.
+pub(crate) fn set_run(row: &mut Row, from: usize, to: usize, entry: u32)
+    requires within { (from < to) × (to ≤ WIDTH) }
+    requires run { HasOnly row.old from to (slice_index row.old from) }
+    ensures len { length row.new ≡ WIDTH }
+    ensures before { (k : ℕ) → k < from → slice_index row.new k ≡ slice_index row.old k }
+    ensures after { (k : ℕ) → to ≤ k → slice_index row.new k ≡ slice_index row.old k }
+    ensures filled { HasOnly row.new from to entry }
+{
+    if row[from] != entry {
+        fill_run(row, from, to, entry);
+    }
+}
+
+/// Returns whether two rows have the same entries in a group, from an index on.
+#[inline(always)]
+fn are_same(row: &Row, other: &Row, from: usize) -> bool
+    requires { from + GROUP ≤ WIDTH }
+    ensures { IsTrue result → AreSame row.now other.now from (from + GROUP) }
+{
+    let mut differ = false;
+    for i in 0..GROUP {
+        differ |= row[from + i] != other[from + i];
+    }
+    !differ
+}
+
+/// Returns an index up to which two rows have the same entries, from `start` on. It goes past
+/// whole groups.
+fn past_same_groups(row: &Row, other: &Row, start: usize) -> usize
+    requires { start ≤ WIDTH }
+    ensures after { (start ≤ result) × (result ≤ WIDTH) }
+    ensures same { AreSame row.now other.now start result }
+{
+    let mut end = start;
+    while GROUP <= WIDTH - end && are_same(row, other, end) {
+        end += GROUP;
+    }
+    end
+}
+
+/// Returns the first index from `start` on at which two rows differ, or `WIDTH`.
+pub(crate) fn same_until(row: &Row, other: &Row, start: usize) -> usize
+    requires { start ≤ WIDTH }
+    ensures after { (start ≤ result) × (result ≤ WIDTH) }
+    ensures same { AreSame row.now other.now start result }
+    ensures ends { result < WIDTH → slice_index row.now result ≢ slice_index other.now result }
+{
+    let mut end = past_same_groups(row, other, start);
+    while end < WIDTH && row[end] == other[end] {
+        end += 1;
+    }
+    end
 }

@@ -4,7 +4,7 @@
 ghost use Rattle.std.specs.Prelude.{◌≡◌, ◌≢◌, ℕ, ◌+◌, ◌<◌, ◌↔◌, ◌⊎◌, None, Some, IfOk, length, vec_len, slice_index_or, if◌then◌else◌};
 ghost use Rattle.logos_reduce.specs.Views.{size, to, mark, mark_in, IsNeeded, IsSpare, IsSettled, accepted_in, IsCommonIn, AreCommonIn, AreCommon, IsSet, AreNeeded, IsMarkedBy};
 
-use crate::rows::{END, Row, WIDTH, changed_target, target_at};
+use crate::rows::{END, Row, WIDTH, run_end, target_at};
 use crate::table::{StateMarks, Table};
 use std::alloc::{AllocError, Global};
 
@@ -32,10 +32,10 @@ fn common_leaf(table: &Table, row: &Row) -> Option<usize>
 
 /// Returns for each distinct row the leaf that is accepted wherever it leads.
 fn common_leaves(alloc: Global, table: &Table) -> Result<Vec<Option<usize>>, AllocError>
-    ensures len { IfOk result (λ v. vec_len v ≡ length table.now.rows.distinct.keys) }
+    ensures len { IfOk result (λ v. vec_len v ≡ length table.now.rows.distinct.items) }
     ensures leaves { IfOk result (λ v.
-        AreCommonIn table.now table.now.rows.distinct.keys
-        (length table.now.rows.distinct.keys) v.items) }
+        AreCommonIn table.now table.now.rows.distinct.items
+        (length table.now.rows.distinct.items) v.items) }
 {
     let mut leaves = Vec::new(alloc);
     for place in 0..table.rows.count() {
@@ -72,6 +72,23 @@ fn note_target(table: &Table, t: usize, early: Option<usize>, needed: &mut Vec<b
     }
 }
 
+/// Sets the flag of the target of an edge, if there is one and its late mark is needed after this
+/// early mark.
+fn note_edge(table: &Table, target: Option<usize>, early: Option<usize>, needed: &mut Vec<bool>)
+    requires inside { (t : ℕ) → target ≡ Some t → t < size table.now }
+    requires len { vec_len needed.old ≡ size table.now }
+    ensures len { vec_len needed.new ≡ vec_len needed.old }
+    ensures stays { (u : ℕ) → IsSet needed.old.items u → IsSet needed.new.items u }
+    ensures needed { (u : ℕ) → IsSet needed.new.items u →
+        IsSet needed.old.items u ⊎ ((target ≡ Some u) × ((mark table.now u).accept ≢ early)) }
+    ensures spare { (t : ℕ) → target ≡ Some t →
+        IsSet needed.new.items t ⊎ ((mark table.now t).accept ≡ early) }
+{
+    if let Some(t) = target {
+        note_target(table, t, early, needed);
+    }
+}
+
 /// Sets the flags of those targets of a state whose late marks are needed after this early mark.
 fn note_targets(table: &Table, s: usize, early: Option<usize>, needed: &mut Vec<bool>)
     requires state { s < size table.now }
@@ -83,10 +100,10 @@ fn note_targets(table: &Table, s: usize, early: Option<usize>, needed: &mut Vec<
     ensures spare { (t : ℕ) → IsSet needed.new.items t ⊎ IsSpare table.now s early t }
 {
     let row = table.row(s);
-    for k in 0..WIDTH {
-        if let Some(t) = changed_target(row, k) {
-            note_target(table, t, early, needed);
-        }
+    let mut k = 0;
+    while k < WIDTH {
+        note_edge(table, target_at(row, k), early, needed);
+        k = run_end(row, k);
     }
 }
 

@@ -1,12 +1,12 @@
 -- Numbering blocks by first visit.
-use Rattle.std.proofs.Common.{◌≡◌, ℕ, zero, suc, ◌<◌, ◌≤◌, ◌+◌, ◌-◌, ◌++◌, ◌⊎◌, inl, inr, nat_eq, if◌then◌else◌, true, false, slice_index, slice_index_or, List, [], ◌∷◌, length, option_and_then, Option, Some, None, refl, sym, ◌∙◌, ap, subst, arith, length-append}
+use Rattle.std.proofs.Common.{◌≡◌, ℕ, zero, suc, ◌<◌, ◌≤◌, ◌+◌, ◌-◌, ◌++◌, ◌⊎◌, inl, inr, nat_eq, if◌then◌else◌, true, false, slice_index, slice_index_or, List, [], ◌∷◌, length, option_and_then, option_map, Option, Some, None, refl, sym, ◌∙◌, ap, subst, arith, length-append}
 use Rattle.std.proofs.lemmas.Bool.{cases_lt}
 use Rattle.std.proofs.lemmas.Bool.Decides.{nat_tests}
 use Rattle.std.proofs.lemmas.Grind.{get_or_default_zero}
 use Rattle.std.proofs.lemmas.List.{get_or_append_left, get_or_push}
 use Rattle.logos_reduce.specs.Merge.{target_block, AreLeaders}
-use Rattle.logos_reduce.specs.Table.{size}
-use Rattle.logos_reduce.specs.Rows.{target_of}
+use Rattle.logos_reduce.specs.Table.{size, to}
+use Rattle.logos_reduce.specs.Rows.{HasOnly, target_by, target_of}
 use Rattle.logos_reduce.specs.declared.table.Table.{Table}
 use Rattle.logos_reduce.proofs.tables.EdgeLemmas.{led_target}
 use Rattle.logos_reduce.specs.Number.{ComesBefore, IsFirstInto, IsInTurn, AreUsed}
@@ -152,6 +152,40 @@ module _ (edge : ℕ → ℕ → Option ℕ) (numbers states numbers' states' : 
   pub turn_more : (states' ≡ states) ⊎ ((b : ℕ) × (edge (slice_index states i) k ≡ Some b) × (slice_index numbers b ≡ 0) × (states' ≡ states ++ b ∷ [])) → IsInTurn edge numbers' states' i (k + 1)
   turn_more (inl e) = old_same e
   turn_more (inr x) = one_more x.0 x.1 x.2 x.3
+
+-- past symbols that lead where the first of them leads
+pub turn_past : (edge : ℕ → ℕ → Option ℕ) (numbers states : List ℕ) (i k e : ℕ) → k < e →
+    ((l : ℕ) → k ≤ l → l < e → edge (slice_index states i) l ≡ edge (slice_index states i) k) → IsInTurn edge numbers states i (k + 1) → IsInTurn edge numbers states i e
+turn_past edge numbers states i k e more same h = record {
+  met = λ r l b m c q. met r l b m c q;
+  place = h.place;
+  symbol = h.symbol;
+  first = h.first;
+  passed = λ j p l. up (h.place j) (h.symbol j) (h.passed j p l);
+  rises = h.rises;
+}
+  where
+    met : (r l b : ℕ) → r < length states → ComesBefore r l i e → edge (slice_index states r) l ≡ Some b → IsMet numbers b
+    met r l b m (inl x) q = h.met r l b m (inl x) q
+    met r l b m (inr x) q = go (cases_lt l k)
+      where
+        go : (l < k) ⊎ (k ≤ l) → IsMet numbers b
+        go (inl n) = h.met r l b m (inr (x.0, omega arith)) q
+        go (inr n) =
+            let first = ap (λ (r : ℕ). edge (slice_index states r) k) x.0 ∙ sym (same l n x.1) ∙ sym (ap (λ (r : ℕ). edge (slice_index states r) l) x.0) ∙ q in
+            h.met r k b m (inr (x.0, omega arith)) first
+
+    up : (r l : ℕ) → ComesBefore r l i (k + 1) → ComesBefore r l i e
+    up r l (inl x) = inl x
+    up r l (inr x) = inr (x.0, let n = x.1 in omega arith)
+
+-- where the symbols of a run lead
+pub run_goes : (table : Table) (block : ℕ → ℕ) (s leader k e : ℕ) (row : List ℕ) → ((l : ℕ) → target_by row l ≡ to table s l) → s ≡ leader →
+    HasOnly row k e (slice_index row k) → (l : ℕ) → k ≤ l → l < e → target_block table block leader l ≡ target_block table block leader k
+run_goes table block s leader k e row goes at same l p m = ap (option_map block) (sym (here l) ∙ ap target_of (same l p m) ∙ here k)
+  where
+    here : (l : ℕ) → target_by row l ≡ to table leader l
+    here l = goes l ∙ ap (λ (s : ℕ). to table s l) at
 
 -- the next place
 pub turn_next : (edge : ℕ → ℕ → Option ℕ) → ((b k c : ℕ) → edge b k ≡ Some c → k < 257) → (numbers states : List ℕ) (i : ℕ) → IsInTurn edge numbers states i 257 → IsInTurn edge numbers states (i + 1) 0

@@ -1,9 +1,7 @@
--- Rows that are distinct once.
-use Rattle.std.proofs.Common.{◌≡◌, ℕ, zero, suc, ◌<◌, ◌≤◌, Bool, true, false, if◌then◌else◌, List, [], ◌∷◌, ◌++◌, length, Some, None, slice_get, slice_index, slice_index_or, nat_eq, refl, sym, ◌∙◌, ap, arith, ◌⊎◌, inl, inr, length-append}
-use Rattle.std.proofs.lemmas.List.{get_or_append_left, get_or_past}
+-- Rows that are listed among the distinct ones.
+use Rattle.std.proofs.Common.{◌≡◌, ℕ, zero, suc, ◌<◌, ◌≤◌, List, [], ◌∷◌, ◌++◌, length, Some, None, slice_index, slice_index_or, refl, ◌∙◌, ap, arith, ◌⊎◌, inl, inr}
+use Rattle.std.proofs.lemmas.List.{get_or_past}
 use Rattle.std.proofs.lemmas.Bool.{cases_lt}
-use Rattle.logos_reduce.proofs.tables.PushLemmas.{pushed}
-use lib.Pointwise.{pointwise, bytes_decides}
 use Rattle.logos_reduce.specs.Rows.{rows_at, target_of, target_by, target_in, AreWide}
 
 -- a longer list of distinct rows has the old ones at their places
@@ -19,32 +17,14 @@ append_rows : (places : List ℕ) (place : ℕ) (distinct : List (List ℕ)) →
 append_rows [] place distinct = refl
 append_rows (p ∷ places) place distinct = ap (λ xs. slice_index_or distinct p [] ∷ xs) (append_rows places place distinct)
 
-got : (xs : List (List ℕ)) (i : ℕ) (x : List ℕ) → slice_get xs i ≡ Some x → slice_index_or xs i [] ≡ x
-got [] i x e = absurd (cc)
-got (y ∷ xs) zero x e = cc
-got (y ∷ xs) (suc i) x e = got xs i x e
-
-pub rows_pushed : (places : List ℕ) (distinct : List (List ℕ)) (row : List ℕ) (added : Bool) (distinct' : List (List ℕ)) (place : ℕ) (stored : List ℕ) →
+pub rows_pushed : (places : List ℕ) (distinct : List (List ℕ)) (row : List ℕ) (distinct' : List (List ℕ)) (place : ℕ) →
     ((i : ℕ) → i < length places → slice_index places i < length distinct) →
-    distinct' ≡ (if added then distinct else distinct ++ row ∷ []) → slice_get distinct' place ≡ Some stored → pointwise nat_eq row stored ≡ true →
+    ((i : ℕ) → i < length distinct → slice_index_or distinct' i [] ≡ slice_index_or distinct i []) → slice_index_or distinct' place [] ≡ row →
     rows_at (places ++ place ∷ []) distinct' ≡ rows_at places distinct ++ row ∷ []
-rows_pushed places distinct row added distinct' place stored inside grown at same =
-    let one : row ≡ stored = (bytes_decides row stored).0 same in
-    let here : slice_index_or distinct' place [] ≡ row = got distinct' place stored at ∙ sym one in
+rows_pushed places distinct row distinct' place inside kept here =
     append_rows places place distinct'
     ∙ ap (λ x. rows_at places distinct' ++ x ∷ []) here
-    ∙ ap (λ xs. xs ++ row ∷ []) (same_rows places distinct distinct' inside (λ p l. ap (λ xs. slice_index_or xs p []) grown ∙ front added p l))
-  where
-    front : (added : Bool) (p : ℕ) → p < length distinct → slice_index_or (if added then distinct else distinct ++ row ∷ []) p [] ≡ slice_index_or distinct p []
-    front true p l = refl
-    front false p l = get_or_append_left distinct (row ∷ []) [] p l
-
--- rows that are distinct are wide
-pub wide_distinct : (distinct : List (List ℕ)) (row : List ℕ) (added : Bool) (distinct' : List (List ℕ)) →
-    distinct' ≡ (if added then distinct else distinct ++ row ∷ []) → length row ≡ 257 → AreWide distinct → AreWide distinct'
-wide_distinct distinct row true distinct' e size wide = λ i l. ap (λ xs. length (slice_index_or xs i [])) e ∙ wide i (rw e at l)
-wide_distinct distinct row false distinct' e size wide =
-    λ i l. pushed (λ i row. length row ≡ 257) distinct distinct' row [] (length distinct) e refl wide size i (let n = ap length e in let m = length-append distinct (row ∷ []) in omega arith)
+    ∙ ap (λ xs. xs ++ row ∷ []) (same_rows places distinct distinct' inside kept)
 
 pub row_placed : (places : List ℕ) (distinct : List (List ℕ)) (s : ℕ) → s < length places → slice_index_or (rows_at places distinct) s [] ≡ slice_index_or distinct (slice_index places s) []
 row_placed [] distinct s l = absurd (omega arith)

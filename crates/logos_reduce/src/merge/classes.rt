@@ -7,7 +7,7 @@ ghost use Rattle.logos_reduce.specs.inside.Classes as inside;
 
 use crate::merge::blocks::{leaders_of, tagged};
 use crate::merge::refine::block_of;
-use crate::rows::{Row, Rows, WIDTH, entry_before, target_at};
+use crate::rows::{Row, Rows, WIDTH, fill_run, run_end, target_at};
 use crate::table::{StateMarks, Table};
 use indexmap::IndexSet;
 use std::alloc::{AllocError, Global};
@@ -59,11 +59,11 @@ fn class_row(row: &Row, of: &Vec<usize>) -> Row
         ≡ option_map (slice_index of.now.items) (target_by row.now k) }
 {
     let mut made = [0; WIDTH];
-    for k in 0..WIDTH {
-        made[k] = match entry_before(row, &made, k) {
-            Some(entry) => entry,
-            None => class_entry(target_at(row, k), of),
-        };
+    let mut k = 0;
+    while k < WIDTH {
+        let end = run_end(row, k);
+        fill_run(&mut made, k, end, class_entry(target_at(row, k), of));
+        k = end;
     }
     made
 }

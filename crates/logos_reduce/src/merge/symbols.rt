@@ -1,8 +1,8 @@
 //! Sets of symbols, by which a block is looked at: no proof about blocks depends on them.
 
-ghost use Rattle.std.specs.Prelude.{◌<◌};
+ghost use Rattle.std.specs.Prelude.{◌<◌, ◌≤◌};
 
-use crate::rows::{Row, WIDTH, target_at};
+use crate::rows::{Row, WIDTH, run_end, target_at};
 use crate::table::Table;
 use std::alloc::{AllocError, Global};
 
@@ -45,6 +45,15 @@ impl Symbols {
         self.words[k / 64] |= 1 << (k % 64);
     }
 
+    /// Adds the symbols from `from` on, up to `to`.
+    fn add_run(&mut self, from: usize, to: usize)
+        requires { to ≤ WIDTH }
+    {
+        for k in from..to {
+            self.add(k);
+        }
+    }
+
     /// Adds the symbols of another set.
     pub fn add_all(&mut self, other: &Symbols) {
         for i in 0..5 {
@@ -53,23 +62,24 @@ impl Symbols {
     }
 }
 
-/// Adds a symbol to the set of a target, if there is one.
-fn note_symbol(symbols: &mut Vec<Symbols>, target: Option<usize>, k: usize)
-    requires { k < WIDTH }
+/// Adds the symbols from `from` on, up to `to`, to the set of a target, if there is one.
+fn note_run(symbols: &mut Vec<Symbols>, target: Option<usize>, from: usize, to: usize)
+    requires { to ≤ WIDTH }
 {
     if let Some(t) = target {
         if t < symbols.len() {
-            symbols[t].add(k);
+            symbols[t].add_run(from, to);
         }
     }
 }
 
 /// Adds each symbol of a row to the set of its target.
 fn note_symbols(symbols: &mut Vec<Symbols>, row: &Row) {
-    for k in 0..WIDTH {
-        if row[k] != 0 {
-            note_symbol(symbols, target_at(row, k), k);
-        }
+    let mut k = 0;
+    while k < WIDTH {
+        let end = run_end(row, k);
+        note_run(symbols, target_at(row, k), k, end);
+        k = end;
     }
 }
 

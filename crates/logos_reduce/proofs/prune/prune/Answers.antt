@@ -7,12 +7,15 @@ pub invariant_of-result : goal.invariant_of-result
 invariant_of-result c =
     let table = c.args.table in
     let numbers = c.in_ok-order.order.numbers.items in
+    let n = table.same_len in
     record {
-      same_len = omega (arith, c.in_ok-pruned.ensures.len);
+      same_len = omega (arith, c.pruned_rows-pruned.ensures.len);
       closed = λ s k t l e.
-          table.closed s k t l (met_some numbers (to table s k) t (sym (c.in_ok-pruned.ensures.rows s k l) ∙ e));
+          table.closed s k t l (met_some numbers (to table s k) t (sym (c.pruned_rows-pruned.ensures.rows s k (omega arith)) ∙ e));
       few = table.few;
     }
 
 pub returns : goal.returns
-returns c = pruned_by c.args.table _ c.in_ok-order.order.numbers.items refl c.in_ok-order.ensures.useful c.in_ok-pruned.ensures.rows
+returns c =
+    let n = c.args.table.same_len in
+    pruned_by c.args.table _ c.in_ok-order.order.numbers.items refl c.in_ok-order.ensures.useful (λ s k l. c.pruned_rows-pruned.ensures.rows s k (omega arith))

@@ -1,18 +1,12 @@
-use Rattle.std.proofs.Common.{◌∙◌, List, ℕ, ap, arith, rules}
+use Rattle.std.proofs.Common.{◌∙◌, ◌++◌, ◌∷◌, [], List, ℕ, Vec, Global, ap, arith}
 use Rattle.logos_reduce.specs.Rows.{rows_at}
-use Rattle.logos_reduce.proofs.tables.RowLemmas.{rows_pushed, wide_distinct}
+use Rattle.logos_reduce.proofs.tables.RowLemmas.{rows_pushed}
 use Rattle.logos_reduce.proofs.rows.Rows.push.Goals as goal
 
 pub returns : goal.returns
 returns c =
-    let h = c.in_ok-place.ensures in
-    ap (λ (xs : List ℕ). rows_at xs c.insert_full.new.self.keys) c.in_ok-push.ensures.items
-    ∙ rows_pushed c.args.self.now.places.items c.args.self.now.distinct.keys c.args.row.now _ _ c.in_ok-place.place h.stored.0 (λ i l. c.args.self.now.placed i (omega arith)) h.keys h.stored.1 h.stored.2
-
-pub invariant_of-self-2 : goal.invariant_of-self-2
-invariant_of-self-2 c =
-    let h = c.in_ok-place.ensures in
-    record {
-      wide = wide_distinct c.args.self.now.distinct.keys c.args.row.now _ _ h.keys (omega arith) c.args.self.now.wide;
-      placed = search rules;
-    }
+    let old = c.args.self.now in
+    let rows = c.place_of.new.self.distinct.items in
+    ap (λ (xs : List ℕ). rows_at xs rows) c.in_ok-push.ensures.items
+    ∙ ap (λ (places : Vec ℕ Global). rows_at (places.items ++ c.in_ok-place.place ∷ []) rows) c.place_of.ensures.places
+    ∙ rows_pushed old.places.items old.distinct.items c.args.row.now rows c.in_ok-place.place (λ i l. old.placed i (omega arith)) (λ i l. c.in_ok-place.ensures.rows i (omega arith)) c.in_ok-place.ensures.place.1

@@ -1,0 +1,33 @@
+//! A hash of a row of targets, by which rows are found again: no proof about rows depends on it.
+//!
+//! Each entry is mixed with a key of its own, and what this gives is summed up. So the entries of a
+//! row do not wait for each other, and some are mixed at once.
+
+use crate::rows::{Row, WIDTH};
+
+/// An odd number whose bits look random.
+const MULTIPLIER: u32 = 0x9e37_79b1;
+
+/// What the key of an entry is more than that of the one before.
+const STEP: u32 = 0x85eb_ca77;
+
+/// An odd number of 64 bits that look random.
+const SPREAD: u64 = 0x9e37_79b9_7f4a_7c15;
+
+/// Returns an entry mixed with its key.
+#[inline(always)]
+fn mixed(entry: u32, key: u32) -> u32 {
+    let both = (entry ^ key).wrapping_mul(MULTIPLIER);
+    both ^ (both >> 15)
+}
+
+/// Returns the hash of a row.
+pub fn row_hash(row: &Row) -> u64 {
+    let mut sum: u32 = 0;
+    let mut key: u32 = 0;
+    for k in 0..WIDTH {
+        sum = sum.wrapping_add(mixed(row[k], key));
+        key = key.wrapping_add(STEP);
+    }
+    u64::from(sum).wrapping_mul(SPREAD)
+}
