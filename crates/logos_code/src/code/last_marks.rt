@@ -243,12 +243,7 @@ fn branches_agree(
 }
 
 /// Returns whether the last marks in the states to which the jump table leads follow.
-fn table_agrees(
-    parts: &CodeParts,
-    marks: &[LastMark],
-    from: LastMark,
-    table: &[u32; 256],
-) -> bool
+fn table_agrees(parts: &CodeParts, marks: &[LastMark], from: LastMark, table: &[u32; 256]) -> bool
     ensures { IsTrue result → ForkAgrees (code_of parts.now) marks.now from
         (by_table (jumps_of table.now)) }
 {

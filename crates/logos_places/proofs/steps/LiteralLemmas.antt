@@ -47,8 +47,8 @@ steps_spelled test x (b ∷ text) M d (suc r) =
       ),
     )
 
--- The places are those of `old`, and the places of a text that begins at `base` that come after one of `marks`
--- between two indices and have the byte x.
+-- The places are those of `old`, and those of a text that begins at `base` that have the byte x and
+-- come after one of `marks` between two indices.
 pub record Comes (x : ℕ) (marks old new text : List ℕ) (base from to : ℕ) : Type 0 where
   pub has : (q : ℕ) → Has new q ↔ (Has old q
       ⊎ ((k : ℕ) × (from ≤ k) × (k < to) × (q ≡ slice_index marks k + 1) × (slice_get text (q - base) ≡ Some x)))

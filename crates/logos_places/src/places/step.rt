@@ -128,7 +128,7 @@ fn step_literal(
     Ok(left)
 }
 
-/// Adds the place after a place of a literal, if it reads the byte.
+/// Appends the place after a place of a literal, if it reads the byte.
 ///
 /// # Errors
 ///
