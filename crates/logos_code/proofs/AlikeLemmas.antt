@@ -1,11 +1,12 @@
 -- Runs of bytes that are alike.
-use Rattle.std.proofs.Common.{◌≡◌, ℕ, ◌+◌, ◌<◌, ◌≤◌, ◌⊎◌, ⊎_elim, Bool, true, false, ◌||◌, ◌&&◌, not, ◌==◌, nat_le, cond, List, [], ◌∷◌, map, length, drop, drop-cons, add-one, get_or, find, Option, Some, option_map, refl, sym, ap, ap₂, ◌∙◌, arith}
+use Rattle.std.proofs.Common.{◌≡◌, ℕ, ◌+◌, ◌<◌, ◌≤◌, ◌⊎◌, ⊎_elim, Bool, true, false, ◌||◌, ◌==◌, nat_le, cond, List, ◌∷◌, map, length, drop, drop-cons, add-one, get_or, find, Option, None, Some, option_map, slice_index, slice_index_or, refl, sym, ap, ap₂, ◌∙◌, arith}
 use Rattle.std.proofs.lemmas.Bool.{ne_eqb}
 use Rattle.std.proofs.lemmas.Bool.Decides.{nat_tests}
 use Rattle.std.proofs.lemmas.List.{drop_all, get_or-map}
 use Rattle.std.specs.List.{list_any}
 use Rattle.logos_byte_class.specs.Bytes.{Comparison, compares, is_among}
 use Rattle.logos_code.specs.Code.{CodeValue, Condition, by_conditions}
+use Rattle.logos_code.specs.CodeView.{entry_of, jumps_of}
 use Rattle.logos_code.specs.Runs.{passes, target}
 use Rattle.logos_code.specs.inside.Alike.{EndsRun}
 
@@ -60,6 +61,14 @@ comparison_run c byte most cut until end within on low high run =
 
     last : (k : ℕ) → byte ≤ k → k < end → nat_le k c.last ≡ nat_le byte c.last
     last k h l = up_to c.last byte k h (λ b. let m = high b in let n = run.1 in omega (arith, m, n, l))
+
+-- a run of the same entry of a jump table
+pub table_run : (table : List ℕ) (entry byte end : ℕ) → end ≤ length table → byte < end → ((k : ℕ) → byte ≤ k → k < end → slice_index table k ≡ entry) →
+    (k : ℕ) → byte ≤ k → k < end → slice_index_or (jumps_of table) k None ≡ slice_index_or (jumps_of table) byte None
+table_run table entry byte end within some same k h l = jumps k h l ∙ sym (jumps byte (omega arith) some)
+  where
+    jumps : (n : ℕ) → byte ≤ n → n < end → slice_index_or (jumps_of table) n None ≡ entry_of entry
+    jumps n h l = get_or-map entry_of table n 0 None (omega (arith, within, l)) ∙ ap entry_of (same n h l)
 
 -- a run for which all are alike where those that are left are
 abbrev pub EndsRunIf : {A : Type 0} → (left all : ℕ → A) → (byte most end : ℕ) → Type 0

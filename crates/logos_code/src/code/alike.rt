@@ -130,7 +130,8 @@ fn comparison_end(comparison: &Comparisons, byte: usize, end: usize) -> usize
 {
     let first = *comparison.range.start() as usize;
     let last = *comparison.range.end() as usize;
-    let until = cut(byte, cut(byte, end, first), last + 1);
+    let before = cut(byte, end, first);
+    let until = cut(byte, before, last + 1);
     exceptions_end(&comparison.except, byte, until)
 }
 
@@ -141,7 +142,8 @@ fn exceptions_end(except: &[u8], byte: usize, end: usize) -> usize
 {
     let mut until = end;
     for one in except {
-        until = cut(byte, cut(byte, until, *one as usize), *one as usize + 1);
+        let before = cut(byte, until, *one as usize);
+        until = cut(byte, before, *one as usize + 1);
     }
     until
 }

@@ -90,8 +90,8 @@ impl Search {
         branches: &[(Condition, usize)],
         mark: LastMark,
     ) -> Result<(), AllocError> {
-        for (_, to) in branches {
-            self.go_to(parts, *to, mark)?;
+        for branch in branches {
+            self.go_to(parts, branch.1, mark)?;
         }
         Ok(())
     }
@@ -234,8 +234,8 @@ fn branches_agree(
     ensures { IsTrue result → ForkAgrees (code_of parts.now) marks.now from
         (by_conditions (map branch_of branches.now)) }
 {
-    for (_, to) in branches {
-        if !target_agrees(parts, marks, from, *to) {
+    for branch in branches {
+        if !target_agrees(parts, marks, from, branch.1) {
             return false;
         }
     }

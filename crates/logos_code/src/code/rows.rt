@@ -23,7 +23,7 @@
 //! itself marks it and the byte leads nowhere (0), or the byte leads to a state that marks it late
 //! and does nothing else (1). What is too large for an entry is `UNSAID`.
 
-ghost use Rattle.std.specs.Prelude.{◌≡◌, ◌+◌, ◌*◌, ◌<◌, ◌≤◌, ◌⊎◌, false, ℕ, List, length, map, None, Some, option_map, IfOk, IfSome, slice_index_or};
+ghost use Rattle.std.specs.Prelude.{◌≡◌, ◌+◌, ◌*◌, ◌<◌, ◌≤◌, ◌⊎◌, false, ℕ, List, length, map, None, Some, option_map, IfOk, IfSome, slice_index, slice_index_or};
 ghost use Rattle.logos_code.specs.Views.{comparison_of, some_compares, passes_test, by_conditions, IsSound, NamesTest, NamesState, NamesCondition, NamesFork, NamesWhatIsThere, stays, target, passes, mark_of, condition_of, branch_of, fork_of, use_of, jumps_of, state_of, has_mask, code_of, closing, IsStepOf, first_halting, first_closing, IsUse, IsPlainUse, Says, IsHalting, IsEntry, IsRow, AreRows, IsFirstEntry, IsFirstOf};
 
 use super::{CodeLeaf, CodeParts, CodeState, Condition, Fork, Mark, target_of};

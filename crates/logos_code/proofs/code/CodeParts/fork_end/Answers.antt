@@ -10,3 +10,6 @@ pub index-requires : goal.index-requires
 index-requires c =
     let h = table_there (code_of c.args.self.now) c.args.self.now.jump_tables.items c.in-Table.k (rw c.in-Table.is at c.requires.there) in
     omega (arith, h, c.args.self.now.jump_tables.ok)
+
+pub returns-in-Conditions : goal.returns-in-Conditions
+returns-in-Conditions c = rw c.in-Conditions.is (rw c.deref.ensures.value at c.branches_end.ensures)

@@ -6,10 +6,10 @@ use Rattle.logos_code.proofs.code.alike.comparisons_end.Goals as goal
 
 pub loop-comparison-preserved : goal.loop-comparison-preserved
 loop-comparison-preserved c =
-    any_turn compares (map comparison_of c.args.comparisons.now) c.loop-comparison.comparison-index (comparison_of c.comparison-item.result.now) c.args.byte c.args.end c.loop-comparison.until
-    c.comparison_end.result (rw length-map c.loop-comparison-test.true)
+    any_turn compares (map comparison_of c.args.comparisons.now) c.loop-comparison.comparison-index (comparison_of c.comparison-item.result) c.args.byte c.args.end c.loop-comparison.until
+    c.comparison_end-until.result (rw length-map c.loop-comparison-test.true)
     (mapped_at comparison_of c.args.comparisons.now c.loop-comparison.comparison-index c.comparison-item.result c.loop-comparison-test.true c.comparison-item.is)
-    c.comparison_end.ensures c.loop-comparison.invariant
+    c.comparison_end-until.ensures c.loop-comparison.invariant
 
 pub returns : goal.returns
 returns c =

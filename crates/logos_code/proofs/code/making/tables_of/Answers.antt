@@ -7,7 +7,7 @@ pub returns : goal.returns
 returns c = record {
   valid = c.requires;
   first_row = first_row_says (code_of c.args.parts.now) c.in_ok-rows.rows.items c.first_row-first.result c.in_ok-rows.ensures
-      (root_there (code_of c.args.parts.now) c.requires.sound) (rw c.deref-2.ensures.value at c.first_row-first.ensures);
+      (root_there (code_of c.args.parts.now) c.requires.sound) (rw c.deref.ensures.value at c.first_row-first.ensures);
   all_rows = c.in_ok-rows.ensures;
   all_masks = c.in_ok-masks.ensures;
   all_signs = c.in_ok-signs.ensures;
