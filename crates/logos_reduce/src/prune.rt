@@ -125,14 +125,9 @@ fn pruned_rows(rows: Rows, order: &Order) -> Rows
     let Rows {
         places,
         mut distinct,
-        found,
     } = rows;
-    prune_all(&mut distinct, order);
-    Rows {
-        places,
-        distinct,
-        found,
-    }
+    prune_all(&mut distinct.keys, order);
+    Rows { places, distinct }
 }
 
 /// Returns the table without the edges to states that have no mark and lead to none.

@@ -18,18 +18,25 @@ pub const END: usize = 256;
 /// state. The symbols are the bytes, and then the end.
 pub type Row = [u32; WIDTH];
 
+/// Rows that were told apart.
+#[derive(Drop)]
+pub struct DistinctRows {
+    /// The rows, each once where it was found again.
+    pub(crate) keys: Vec<Row>,
+    /// For the hash that a row had when it was added its index.
+    found: IndexMap<u64, usize>,
+}
+
 /// A list of rows.
 #[derive(Drop)]
 pub struct Rows {
     /// For each row of the list its index among the distinct ones.
     pub(crate) places: Vec<usize>,
-    /// The rows of the list, each once where it was found again.
-    pub(crate) distinct: Vec<Row>,
-    /// For the hash that a row had when it was added its index among the distinct ones.
-    pub(crate) found: IndexMap<u64, usize>,
-    ghost wide: { AreWide distinct.items },
+    /// The rows of the list, with few of them twice.
+    pub(crate) distinct: DistinctRows,
+    ghost wide: { AreWide distinct.keys.items },
     ghost placed: { (i : ℕ) → i < vec_len places →
-        slice_index places.items i < length distinct.items },
+        slice_index places.items i < length distinct.keys.items },
 }
 
 impl Rows {
@@ -41,8 +48,10 @@ impl Rows {
     {
         Rows {
             places: Vec::new(alloc),
-            distinct: Vec::new(alloc),
-            found: IndexMap::new(alloc),
+            distinct: DistinctRows {
+                keys: Vec::new(alloc),
+                found: IndexMap::new(alloc),
+            },
         }
     }
 
@@ -58,7 +67,7 @@ impl Rows {
         requires { i < length (rows_of self.now) }
         ensures { result.now ≡ slice_index_or (rows_of self.now) i [] }
     {
-        &self.distinct[self.places[i]]
+        &self.distinct.keys[self.places[i]]
     }
 
     /// Returns the index of row `i` among the distinct rows.
@@ -71,26 +80,26 @@ impl Rows {
 
     /// Returns how many distinct rows the list has.
     pub(crate) fn count(&self) -> usize
-        ensures { result ≡ length self.now.distinct.items }
+        ensures { result ≡ length self.now.distinct.keys.items }
     {
-        self.distinct.len()
+        self.distinct.keys.len()
     }
 
     /// Returns the distinct row at an index.
     pub(crate) fn distinct(&self, place: usize) -> &Row
-        requires { place < length self.now.distinct.items }
-        ensures { result.now ≡ slice_index_or self.now.distinct.items place [] }
+        requires { place < length self.now.distinct.keys.items }
+        ensures { result.now ≡ slice_index_or self.now.distinct.keys.items place [] }
     {
-        &self.distinct[place]
+        &self.distinct.keys[place]
     }
 
     /// Returns the index of a row among the distinct ones, if it is found by its hash.
     fn find(&self, row: &Row, hash: u64) -> Option<usize>
-        ensures { IfSome result (λ place. (place < vec_len self.now.distinct)
-            × (slice_index_or self.now.distinct.items place [] ≡ row.now)) }
+        ensures { IfSome result (λ place. (place < vec_len self.now.distinct.keys)
+            × (slice_index_or self.now.distinct.keys.items place [] ≡ row.now)) }
     {
-        let place = *self.found.get(&hash)?;
-        if place < self.distinct.len() && self.distinct[place] == *row {
+        let place = *self.distinct.found.get(&hash)?;
+        if place < self.distinct.keys.len() && self.distinct.keys[place] == *row {
             return Some(place);
         }
         None
@@ -99,25 +108,25 @@ impl Rows {
     /// Adds a row to the distinct ones.
     fn add(&mut self, row: &Row, hash: u64) -> Result<usize, AllocError>
         ensures places { self.new.places ≡ self.old.places }
-        ensures place { IfOk result (λ place. place ≡ vec_len self.old.distinct) }
+        ensures place { IfOk result (λ place. place ≡ vec_len self.old.distinct.keys) }
         ensures rows { OnOk result
-            (self.new.distinct.items ≡ self.old.distinct.items ++ row.now ∷ []) }
+            (self.new.distinct.keys.items ≡ self.old.distinct.keys.items ++ row.now ∷ []) }
     {
-        let place = self.distinct.len();
-        self.distinct.push(*row)?;
-        self.found.insert(hash, place)?;
+        let place = self.distinct.keys.len();
+        self.distinct.keys.push(*row)?;
+        self.distinct.found.insert(hash, place)?;
         Ok(place)
     }
 
     /// Returns the index of a row among the distinct ones, to which it is added if need be.
     fn place_of(&mut self, row: &Row) -> Result<usize, AllocError>
         ensures places { self.new.places ≡ self.old.places }
-        ensures place { IfOk result (λ place. (place < vec_len self.new.distinct)
-            × (slice_index_or self.new.distinct.items place [] ≡ row.now)) }
-        ensures rows { OnOk result ((i : ℕ) → i < vec_len self.old.distinct →
-            slice_index_or self.new.distinct.items i []
-            ≡ slice_index_or self.old.distinct.items i []) }
-        ensures len { OnOk result (vec_len self.old.distinct ≤ vec_len self.new.distinct) }
+        ensures place { IfOk result (λ place. (place < vec_len self.new.distinct.keys)
+            × (slice_index_or self.new.distinct.keys.items place [] ≡ row.now)) }
+        ensures rows { OnOk result ((i : ℕ) → i < vec_len self.old.distinct.keys →
+            slice_index_or self.new.distinct.keys.items i []
+            ≡ slice_index_or self.old.distinct.keys.items i []) }
+        ensures len { OnOk result (vec_len self.old.distinct.keys ≤ vec_len self.new.distinct.keys) }
     {
         let hash = row_hash(row);
         if let Some(place) = self.find(row, hash) {

@@ -32,10 +32,10 @@ fn common_leaf(table: &Table, row: &Row) -> Option<usize>
 
 /// Returns for each distinct row the leaf that is accepted wherever it leads.
 fn common_leaves(alloc: Global, table: &Table) -> Result<Vec<Option<usize>>, AllocError>
-    ensures len { IfOk result (λ v. vec_len v ≡ length table.now.rows.distinct.items) }
+    ensures len { IfOk result (λ v. vec_len v ≡ length table.now.rows.distinct.keys.items) }
     ensures leaves { IfOk result (λ v.
-        AreCommonIn table.now table.now.rows.distinct.items
-        (length table.now.rows.distinct.items) v.items) }
+        AreCommonIn table.now table.now.rows.distinct.keys.items
+        (length table.now.rows.distinct.keys.items) v.items) }
 {
     let mut leaves = Vec::new(alloc);
     for place in 0..table.rows.count() {

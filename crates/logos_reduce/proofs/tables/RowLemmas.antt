@@ -1,7 +1,8 @@
--- Rows that are listed among the distinct ones.
-use Rattle.std.proofs.Common.{◌≡◌, ℕ, zero, suc, ◌<◌, ◌≤◌, List, [], ◌∷◌, ◌++◌, length, Some, None, slice_index, slice_index_or, refl, ◌∙◌, ap, arith, ◌⊎◌, inl, inr}
-use Rattle.std.proofs.lemmas.List.{get_or_past}
+-- Rows that are distinct once.
+use Rattle.std.proofs.Common.{◌≡◌, ℕ, zero, suc, ◌<◌, ◌≤◌, Bool, true, false, if◌then◌else◌, List, Vec, Global, [], ◌∷◌, ◌++◌, length, Some, None, slice_get, slice_index, slice_index_or, nat_eq, refl, sym, ◌∙◌, ap, arith, ◌⊎◌, inl, inr}
+use Rattle.std.proofs.lemmas.List.{get_or_append_left, get_or_past}
 use Rattle.std.proofs.lemmas.Bool.{cases_lt}
+use lib.Pointwise.{pointwise, bytes_decides}
 use Rattle.logos_reduce.specs.Rows.{rows_at, target_of, target_by, target_in, AreWide}
 
 -- a longer list of distinct rows has the old ones at their places
@@ -17,14 +18,31 @@ append_rows : (places : List ℕ) (place : ℕ) (distinct : List (List ℕ)) →
 append_rows [] place distinct = refl
 append_rows (p ∷ places) place distinct = ap (λ xs. slice_index_or distinct p [] ∷ xs) (append_rows places place distinct)
 
-pub rows_pushed : (places : List ℕ) (distinct : List (List ℕ)) (row : List ℕ) (distinct' : List (List ℕ)) (place : ℕ) →
+got : (xs : List (List ℕ)) (i : ℕ) (x : List ℕ) → slice_get xs i ≡ Some x → slice_index_or xs i [] ≡ x
+got [] i x e = absurd (cc)
+got (y ∷ xs) zero x e = cc
+got (y ∷ xs) (suc i) x e = got xs i x e
+
+-- a row more, once it is among the distinct ones
+pub rows_added : (places : List ℕ) (distinct : List (List ℕ)) (row : List ℕ) (distinct' : List (List ℕ)) (place : ℕ) →
     ((i : ℕ) → i < length places → slice_index places i < length distinct) →
     ((i : ℕ) → i < length distinct → slice_index_or distinct' i [] ≡ slice_index_or distinct i []) → slice_index_or distinct' place [] ≡ row →
     rows_at (places ++ place ∷ []) distinct' ≡ rows_at places distinct ++ row ∷ []
-rows_pushed places distinct row distinct' place inside kept here =
+rows_added places distinct row distinct' place inside kept here =
     append_rows places place distinct'
     ∙ ap (λ x. rows_at places distinct' ++ x ∷ []) here
     ∙ ap (λ xs. xs ++ row ∷ []) (same_rows places distinct distinct' inside kept)
+
+pub rows_pushed : (places : List ℕ) (distinct : List (List ℕ)) (row : List ℕ) (added : Bool) (distinct' : List (List ℕ)) (place : ℕ) (stored : List ℕ) →
+    ((i : ℕ) → i < length places → slice_index places i < length distinct) →
+    distinct' ≡ (if added then distinct else distinct ++ row ∷ []) → slice_get distinct' place ≡ Some stored → pointwise nat_eq row stored ≡ true →
+    rows_at (places ++ place ∷ []) distinct' ≡ rows_at places distinct ++ row ∷ []
+rows_pushed places distinct row added distinct' place stored inside grown at same =
+    rows_added places distinct row distinct' place inside (λ p l. ap (λ xs. slice_index_or xs p []) grown ∙ front added p l) (got distinct' place stored at ∙ sym ((bytes_decides row stored).0 same))
+  where
+    front : (added : Bool) (p : ℕ) → p < length distinct → slice_index_or (if added then distinct else distinct ++ row ∷ []) p [] ≡ slice_index_or distinct p []
+    front true p l = refl
+    front false p l = get_or_append_left distinct (row ∷ []) [] p l
 
 pub row_placed : (places : List ℕ) (distinct : List (List ℕ)) (s : ℕ) → s < length places → slice_index_or (rows_at places distinct) s [] ≡ slice_index_or distinct (slice_index places s) []
 row_placed [] distinct s l = absurd (omega arith)
@@ -35,10 +53,13 @@ pub rows_length : (places : List ℕ) (distinct : List (List ℕ)) → length (r
 rows_length [] distinct = refl
 rows_length (place ∷ places) distinct = let e = rows_length places distinct in omega arith
 
-pub rows_wide : (places : List ℕ) (distinct : List (List ℕ)) → ((i : ℕ) → i < length places → slice_index places i < length distinct) → AreWide distinct → AreWide (rows_at places distinct)
-rows_wide [] distinct inside wide i l = absurd (omega arith)
-rows_wide (place ∷ places) distinct inside wide zero l = wide place (inside 0 (omega arith))
-rows_wide (place ∷ places) distinct inside wide (suc i) l = rows_wide places distinct (λ j m. inside (suc j) (omega arith)) wide i (omega arith)
+wide_places : (places : List ℕ) (distinct : List (List ℕ)) → ((i : ℕ) → i < length places → slice_index places i < length distinct) → AreWide distinct → AreWide (rows_at places distinct)
+wide_places [] distinct inside wide i l = absurd (omega arith)
+wide_places (place ∷ places) distinct inside wide zero l = wide place (inside 0 (omega arith))
+wide_places (place ∷ places) distinct inside wide (suc i) l = wide_places places distinct (λ j m. inside (suc j) (omega arith)) wide i (omega arith)
+
+pub rows_wide : (places : List ℕ) (distinct : Vec (List ℕ) Global) → ((i : ℕ) → i < length places → slice_index places i < length distinct.items) → AreWide distinct.items → AreWide (rows_at places distinct.items)
+rows_wide places distinct = wide_places places distinct.items
 
 past : (row : List ℕ) (k : ℕ) → length row ≤ k → slice_index row k ≡ 0
 past row k l = get_or_past row k 0 l

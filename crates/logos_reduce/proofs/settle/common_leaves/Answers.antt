@@ -6,7 +6,7 @@ use Rattle.logos_reduce.proofs.settle.common_leaves.Goals as goal
 pub loop-place-preserved : goal.loop-place-preserved
 loop-place-preserved c =
     let table = c.args.table.now in
-    let keys = table.rows.distinct.items in (
+    let keys = table.rows.distinct.keys.items in (
       omega (arith, c.in_ok-push.ensures.len),
       pushed (λ (i : ℕ) (leaf : Option ℕ). IsCommonIn table (slice_index_or keys i []) leaf) c.loop-place.leaves.items c.push.new.self.items
           c.common_leaf.result None c.loop-place.place c.in_ok-push.ensures.items (omega arith) c.loop-place.invariant.1

@@ -9,7 +9,7 @@ use Rattle.logos_reduce.proofs.settle.early_marks.Goals as goal
 pub index-requires : goal.index-requires
 index-requires c =
     let rows = c.args.table.now.rows in
-    let n = rows_length rows.places.items rows.distinct.items in
+    let n = rows_length rows.places.items rows.distinct.keys.items in
     let same = c.args.table.now.same_len in
     let p = rows.placed c.loop-s.s (omega arith) in
     omega (arith, p, c.place.ensures, c.in_ok-leaves.ensures.len)
@@ -18,7 +18,7 @@ pub loop-s-preserved : goal.loop-s-preserved
 loop-s-preserved c =
     let table = c.args.table.now in
     let places = table.rows.places.items in
-    let keys = table.rows.distinct.items in
+    let keys = table.rows.distinct.keys.items in
     let s = c.loop-s.s in
     let n = rows_length places keys in
     let same = table.same_len in

@@ -1,12 +1,12 @@
 use Rattle.std.proofs.Common.{◌∙◌, ◌++◌, ◌∷◌, [], List, ℕ, Vec, Global, ap, arith}
 use Rattle.logos_reduce.specs.Rows.{rows_at}
-use Rattle.logos_reduce.proofs.tables.RowLemmas.{rows_pushed}
+use Rattle.logos_reduce.proofs.tables.RowLemmas.{rows_added}
 use Rattle.logos_reduce.proofs.rows.Rows.push.Goals as goal
 
 pub returns : goal.returns
 returns c =
     let old = c.args.self.now in
-    let rows = c.place_of.new.self.distinct.items in
+    let rows = c.place_of.new.self.distinct.keys.items in
     ap (λ (xs : List ℕ). rows_at xs rows) c.in_ok-push.ensures.items
     ∙ ap (λ (places : Vec ℕ Global). rows_at (places.items ++ c.in_ok-place.place ∷ []) rows) c.place_of.ensures.places
-    ∙ rows_pushed old.places.items old.distinct.items c.args.row.now rows c.in_ok-place.place (λ i l. old.placed i (omega arith)) (λ i l. c.in_ok-place.ensures.rows i (omega arith)) c.in_ok-place.ensures.place.1
+    ∙ rows_added old.places.items old.distinct.keys.items c.args.row.now rows c.in_ok-place.place (λ i l. old.placed i (omega arith)) (λ i l. c.in_ok-place.ensures.rows i (omega arith)) c.in_ok-place.ensures.place.1
