@@ -18,7 +18,7 @@ pub const END: usize = 256;
 /// state. The symbols are the bytes, and then the end.
 pub type Row = [u32; WIDTH];
 
-/// Rows that were told apart.
+/// Rows that differ from each other, but where two of them have one hash.
 #[derive(Drop)]
 pub struct DistinctRows {
     /// The rows, each once where it was found again.
