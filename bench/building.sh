@@ -6,7 +6,8 @@
 # they may not pass there: each one that passes it is named at the end, and the status is 1.
 #
 # A second table has ASCII words beside what flex and re2c need for the same rules, in processor
-# seconds of the whole program. 4000 words may take 1.2 times as long as the faster of the two.
+# seconds of the whole programs, of the user and of the system. 4000 words may take 1.2 times as
+# long as the faster of the two.
 #
 # It needs python3, and Debian's packages flex and re2c for the second table. `bench/program.sh`
 # builds the program of bench/building. The variable BUILDING names a program to measure in its
@@ -64,23 +65,29 @@ measure "\`(?:\w?){300}!\`" optional_words 300 19
 measure "\`(?:a?){4000}b\`" optional_letters 4000 7
 measure "10 leaves of overlapping sets" overlapping 10 0.2
 
-# PROGRAM KIND SIZE WORD ..: the least processor seconds of three runs on the words of a kind, or a
-# dash where the program is missing or refuses them.
+# COMMAND ..: the least processor seconds of five runs, or a dash where the program is missing or
+# refuses what it gets.
+seconds() {
+    local TIMEFORMAT='%U %S'
+    rm -f "$copy/refused"
+    for _ in 1 2 3 4 5; do
+        { time "$@" > "$copy/said" 2>&1 || touch "$copy/refused"; } 2>&1
+    done | awk '{ print $1 + $2 }' | sort -n | head -n 1 > "$copy/least"
+    if [ -e "$copy/refused" ]; then echo -; else cat "$copy/least"; fi
+}
+
+# PROGRAM KIND SIZE WORD ..: the same for another program on the words of a kind.
 other() {
-    local source="$copy/words.$1" TIMEFORMAT=%U
-    python3 "$bench/building/source.py" "$2" "$3" "$1" > "$source"
-    for _ in 1 2 3; do
-        { time "$1" "${@:4}" -o "$copy/words.c" "$source" > "$copy/said" 2>&1 || echo - >> "$copy/refused.$1"; } 2>&1
-    done | sort -n | head -n 1 > "$copy/least"
-    if [ -e "$copy/refused.$1" ]; then echo -; else cat "$copy/least"; fi
-    rm -f "$copy/refused.$1"
+    python3 "$bench/building/source.py" "$2" "$3" "$1" > "$copy/words.$1"
+    seconds "$1" "${@:4}" -o "$copy/words.c" "$copy/words.$1"
 }
 
 # NAME KIND SIZE [MOST]: a row of the second table, which may take at most MOST times as long as the
 # faster of the other programs.
 beside() {
     local own flex re2c
-    own=$(fastest "$2" "$3" | cut -d " " -f 1)
+    python3 "$bench/building/source.py" "$2" "$3" > "$copy/source"
+    own=$(seconds "$building" "$copy/source")
     flex=$(other flex "$2" "$3" -CF)
     re2c=$(other re2c "$2" "$3")
     awk -v name="$1" -v own="$own" -v flex="$flex" -v re2c="$re2c" -v most="${4:-0}" -v slow="$copy/slow" 'BEGIN {
