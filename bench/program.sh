@@ -1,9 +1,10 @@
 # The beginning of the scripts of this folder, which read it. It gives them `bench`, this folder,
 # and `copy`, a folder that is removed at their end.
 #
-# The program of bench/NAME is built in a copy of the repository as `rt run` builds it, so the
-# crates below it are proved first, where they are not already. Its sources do not end in .rt in
-# bench/NAME, since the gate refuses such files outside the crates, nor do its proofs in .antt.
+# The program of bench/NAME is built in a copy of the repository as `rt run` builds it, but that no
+# jump crosses 32 bytes, so the crates below it are proved first, where they are not already. Its
+# sources do not end in .rt in bench/NAME, since the gate refuses such files outside the crates, nor
+# do its proofs in .antt.
 bench=$(cd "$(dirname "${BASH_SOURCE[0]}")" && pwd)
 copy=$(mktemp -d)
 trap 'rm -rf "$copy"' EXIT
@@ -41,9 +42,36 @@ add_crate() {
     done
 }
 
-# FOLDER ARGUMENTS ..: builds the program of the crate in a folder, and runs it once.
+# Makes a toolchain in $copy/kit: the one that is installed, but that its compiler keeps jumps from
+# crossing 32 bytes, as tools/build.py has it. Where a jump does, many processors decode the code
+# around it anew each time, and which jump does is luck.
+make_kit() {
+    local kit file
+    [ ! -e "$copy/kit" ] || return 0
+    kit=$(dirname "$(realpath "$(rt doc | awk '{ print $1; exit }')")")
+    mkdir -p "$copy/kit/bin" "$copy/kit/toolchain/bin"
+    for file in "$kit"/* "$kit"/bin/* "$kit"/toolchain/* "$kit"/toolchain/bin/*; do
+        [ -e "$copy/kit${file#"$kit"}" ] || ln -s "$file" "$copy/kit${file#"$kit"}"
+    done
+    rm "$copy"/kit/bin/{rt,rtlib.py} "$copy/kit/toolchain/bin/clang"
+    cp "$kit"/bin/{rt,rtlib.py} "$copy/kit/bin"
+    cat > "$copy/kit/toolchain/bin/clang" << END
+#!/bin/sh
+case " \$* " in
+    *" -c "*) exec "$kit/toolchain/bin/clang" "\$@" -mllvm -x86-branches-within-32B-boundaries ;;
+esac
+exec "$kit/toolchain/bin/clang" "\$@"
+END
+    chmod +x "$copy/kit/toolchain/bin/clang"
+}
+
+# FOLDER ARGUMENTS ..: builds the program of the crate in a folder, and runs it once. What is proved
+# is compiled a second time, by the toolchain of `make_kit`.
 build() {
-    if ! (cd "$1" && rt run -- "${@:2}") > "$copy/log" 2>&1; then
+    local out
+    out="$1/out/$(basename "$1")"
+    if ! { (cd "$1" && rt run -- "${@:2}") && make_kit && rm -f "$out" "$out".* &&
+        (cd "$1" && "$copy/kit/bin/rt" run -- "${@:2}"); } > "$copy/log" 2>&1; then
         tail -n 30 "$copy/log" >&2
         exit 1
     fi
