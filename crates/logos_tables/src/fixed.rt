@@ -139,40 +139,53 @@ static _TABLE: [_Entry; if _BY_BYTES { _ROWS.len() * _COLUMNS + 256 } else { 256
     table
 };
 // The last match of a try that is over in a state, where the byte leads nowhere: `_NEVER` if there is none, `_VARIES` if that depends on the
-// bytes, and else 256 times 1 more than the leaf, and how many bytes before it ended.
+// bytes, and else 256 times 1 more than the leaf, and where it ended: so many bytes before, or `_FORTH` more than so many after the start.
 const _NEVER: u32 = 1;
 const _VARIES: u32 = 2;
+const _FORTH: u32 = 128;
 const _FARTHEST: u32 = 30;
 #[allow(long_running_const_eval)]
 static _LASTS: [u32; _ROWS.len()] = {
     let (lengths, steps, rows, marks) = (&_RUN_LENGTHS, &_RUN_STEPS, &_ROWS, &_MARKS);
-    // Those without the match of the state itself; 0 for states that no bytes are known to lead to.
-    let (mut before, mut lasts, mut changed) = ([0; _ROWS.len()], [0; _ROWS.len()], true);
-    before[_ROOT] = _NEVER;
+    // Those without the match of the state itself, first by bytes before and then by bytes after the start, and `_FORTH` more than the bytes
+    // since the start; 0 for states that no bytes are known to lead to.
+    let (mut before, mut lasts, mut changed) = ([[0; 3]; _ROWS.len()], [0; _ROWS.len()], true);
+    before[_ROOT] = [_NEVER, _NEVER, _FORTH];
     while changed {
         changed = false;
         let mut state = 0;
         while state < _ROWS.len() {
             let (row, mark) = (_KINDS[rows[state] as usize], marks[state] as u32);
-            let last = match mark {
-                0 if before[state] > _VARIES && row.loops => _VARIES,
-                0 => before[state],
-                _ if mark % 2 == 0 => (mark / 2) << 8,
-                _ if row.loops => _VARIES,
-                _ => ((mark / 2) << 8) | 1,
-            };
-            lasts[state] = last;
-            let after = match last {
-                0..=_VARIES => last,
-                _ if last & 255 < _FARTHEST => last + 1,
-                _ => _VARIES,
-            };
+            let (leaf, late) = ((mark / 2) << 8, mark % 2);
+            let [mut back, mut forth, mut since] = before[state];
+            let is_known = back != 0;
+            if row.loops {
+                since = _VARIES;
+            }
+            if mark == 0 {
+                back = if row.loops && back > _VARIES { _VARIES } else { back };
+            } else {
+                back = if row.loops && late == 1 { _VARIES } else { leaf | late };
+                forth = if since < _FORTH + late { _VARIES } else { (leaf | since) - late };
+            }
+            lasts[state] = if back == _VARIES { forth } else { back };
+            if back > _VARIES {
+                back = if back & 255 < _FARTHEST { back + 1 } else { _VARIES };
+            }
+            if since != _VARIES {
+                since = if since < _FORTH + _FARTHEST { since + 1 } else { _VARIES };
+            }
+            let after = [back, forth, since];
             let (mut run, mut left) = (row.run, _WIDTH + row.passed);
-            while after != 0 && left > 0 {
-                let next = (steps[run] as usize).wrapping_sub(2);
-                if next < before.len() && before[next] != after && before[next] != _VARIES {
-                    before[next] = if before[next] == 0 { after } else { _VARIES };
-                    changed = true;
+            while is_known && left > 0 {
+                let (next, mut n) = ((steps[run] as usize).wrapping_sub(2), 0);
+                while next < before.len() && n < 3 {
+                    let old = before[next][n];
+                    if old != after[n] && old != _VARIES {
+                        before[next][n] = if old == 0 { after[n] } else { _VARIES };
+                        changed = true;
+                    }
+                    n += 1;
                 }
                 left = left.saturating_sub(lengths[run] as usize);
                 run += 1;
@@ -224,12 +237,11 @@ fn _step(state: _Entry, byte: u8) -> _Entry {
     let column = if _BY_BYTES { &_TABLE[byte as usize..] } else { &_STEPS[classes[byte as usize] as usize..] };
     column[state as usize]
 }
-// The leaf of an entry of this kind, or a number that no leaf has. It is no `usize` yet: comparing it would take a register more.
+// Whether the entry is of this kind, which has a leaf. Its number is not taken from here: that would cost a register more.
 #[inline(always)]
-fn _leaf(entry: _Entry, kind: _Entry) -> _Entry {
-    entry.wrapping_sub(kind)
+fn _has_leaf(entry: _Entry, kind: _Entry) -> bool {
+    entry.wrapping_sub(kind) < _NAMES.len() as _Entry
 }
-const _LEAVES: _Entry = _NAMES.len() as _Entry;
 // The step of the end of the input.
 fn _last_step(state: _Entry) -> _Entry {
     if _BY_BYTES { _TABLE[state as usize + _END_COLUMN] } else { _STEPS[state as usize + _END_COLUMN] }
@@ -254,18 +266,6 @@ fn _stop(mask: &[[u8; 8]; 256], bytes: &[u8], from: usize) -> usize {
         return _stop_far(mask, bytes, from + 8);
     }
     from + bits.trailing_zeros() as usize
-}
-// The same in a state where no match ends. Each of the first bytes has a branch: what follows need not wait to know how many stay.
-#[inline(always)]
-fn _stop_within(mask: &[[u8; 8]; 256], bytes: &[u8], from: usize) -> usize {
-    let _Option::Some(rest) = bytes.get(from..) else { return from };
-    let _Option::Some(block) = rest.first_chunk::<8>() else { return _stop_late(mask, bytes, from) };
-    for (n, byte) in block.iter().enumerate() {
-        if mask[*byte as usize][0] != 0 {
-            return from + n;
-        }
-    }
-    _stop_far(mask, bytes, from + 8)
 }
 #[inline(never)]
 fn _stop_far(mask: &[[u8; 8]; 256], bytes: &[u8], from: usize) -> usize {
@@ -327,7 +327,11 @@ fn _match_before(bytes: &[u8], start: usize, state: _Entry, entry: _Entry, at: u
     if entry != _NOWHERE || last == _VARIES {
         return _try_again(bytes, start);
     }
-    if last == _NEVER { (_NAMES.len(), at) } else { ((last >> 8) as usize - 1, at - (last & 255) as usize) }
+    if last == _NEVER {
+        return (_NAMES.len(), at);
+    }
+    let far = (last % _FORTH) as usize;
+    ((last >> 8) as usize - 1, if last & _FORTH == 0 { at - far } else { start + far })
 }
 // The entry of the end of the input. Where it leads on, another try finds the match.
 #[cold]
@@ -340,7 +344,7 @@ fn _end_entry(state: _Entry) -> _Entry {
 #[inline(always)]
 fn _walk(bytes: &[u8], from: usize, first: _Entry) -> (_Entry, usize, _Entry) {
     let (mut state, mut at) = (first, from);
-    loop {
+    'walk: loop {
         let _Option::Some(byte) = bytes.get(at) else { return (_end_entry(state), at + 1, state) };
         let mut next = _step(state, *byte);
         at += 1;
@@ -349,7 +353,25 @@ fn _walk(bytes: &[u8], from: usize, first: _Entry) -> (_Entry, usize, _Entry) {
                 return (next, at, state);
             }
             let mask = &_MASKS[next as usize & (_LOOPS - 1)];
-            at = if next & _INNER == 0 { _stop(mask, bytes, at) } else { _stop_within(mask, bytes, at) };
+            if next & _INNER == 0 {
+                at = _stop(mask, bytes, at);
+            } else if let _Option::Some(block) = bytes.get(at..).and_then(|rest| rest.first_chunk::<8>()) {
+                // Each of the first bytes has a branch: what follows need not wait to know how many stay.
+                for (n, byte) in block.iter().enumerate() {
+                    if mask[*byte as usize][0] != 0 {
+                        next = _step(state, *byte);
+                        at += n + 1;
+                        if next >= _LEADS {
+                            return (next, at, state);
+                        }
+                        state = next;
+                        continue 'walk;
+                    }
+                }
+                at = _stop_far(mask, bytes, at + 8);
+            } else {
+                at = _stop_late(mask, bytes, at);
+            }
             let _Option::Some(byte) = bytes.get(at) else { return (_end_entry(state), at + 1, state) };
             next = _step(state, *byte);
             at += 1;
@@ -371,15 +393,13 @@ let mut start = lex.offset();
     let (mut entry, mut at, mut state) = (_first_step(*byte), start + 1, _START);
     // The leaf, and where its match ends. Each way is a branch: the next try need not wait for the entry to know where it begins.
     let (leaf, end) = 'found: {
-        let leaf = _leaf(entry, _CLOSES);
-        if leaf < _LEAVES {
-            break 'found (leaf as usize, at);
+        if _has_leaf(entry, _CLOSES) {
+            break 'found ((entry & _NUMBERS) as usize, at);
         }
         if entry < _LEADS {
             (entry, at, state) = _walk(bytes, at, entry);
-            let leaf = _leaf(entry, _ENDS);
-            if leaf < _LEAVES {
-                break 'found (leaf as usize, at - 1);
+            if _has_leaf(entry, _ENDS) {
+                break 'found ((entry & _NUMBERS) as usize, at - 1);
             }
             if entry < _CLOSES {
                 lex.end(at - 1);
@@ -387,9 +407,8 @@ let mut start = lex.offset();
                 start = at - 1;
                 continue 'tries;
             }
-            let leaf = _leaf(entry, _CLOSES);
-            if leaf < _LEAVES {
-                break 'found (leaf as usize, at);
+            if _has_leaf(entry, _CLOSES) {
+                break 'found ((entry & _NUMBERS) as usize, at);
             }
         }
         if entry >= _CLOSES && entry < _NOWHERE {
