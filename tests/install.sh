@@ -2,7 +2,7 @@
 # Installs the three programs into a folder of its own, and runs there what README.md shows and the
 # rows of each program.
 #
-#   tests/install.sh [FOLDER]   installs them as tests/programs.py has built them in FOLDER, out/installed if it is not given
+#   tests/install.sh [FOLDER]   installs them as tests/programs.py has built them in FOLDER, out/gate if it is not given
 #   tests/install.sh --whole    has tools/install.sh build them, as users do, which takes minutes. This is not in the gate
 #
 # Then it packs a release in two clones, and installs one of them.
@@ -111,7 +111,7 @@ refuses_changed_clone() {
 }
 
 bin=$room/prefix/bin
-built=${1:-$root/out/installed}
+built=${1:-$root/out/gate}
 if [ "${1-}" = --whole ]; then
     built=$bin
     expect 'the programs are built and installed' bash "$root/tools/install.sh" "$room/prefix" > "$room/said"

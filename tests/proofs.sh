@@ -77,12 +77,12 @@ with_seconds() {
     done
 }
 
-# Notes every five seconds which checks of this run are under way, and how many seconds of processor
-# time each has taken, until the run ends. The checks of another run on this machine lack the word
-# GATE_ROOM of this one.
+# Notes every fifteen seconds which checks of this run are under way, and how many seconds of
+# processor time each has taken, until the run ends. The checks of another run on this machine lack
+# the word GATE_ROOM of this one.
 watch_checks() {
     local pid times words
-    while command -v ps > /dev/null && [ -d "$room" ] && sleep 5; do
+    while command -v ps > /dev/null && [ -d "$room" ] && sleep 15; do
         while read -r pid times words; do
             ! grep -qzxF "GATE_ROOM=$room" "/proc/$pid/environ" 2> /dev/null || echo "$pid $times $words"
         done < <(ps -ww -eo pid=,times=,args= | awk '$3 ~ /\/rattle$/ && /--crate-name/ { for (i = 4; i < NF; i++) if ($i == "--crate-name") print $1, $2, $(i + 1), $4 }')

@@ -5,8 +5,8 @@
   run_parts.py quick [PART..]             without `proofs` and `wrong_bodies`, with programs that
                                           are built unproved
 
-What is built unproved is kept in `out/quick`, and for the proved programs beside it in
-`out/installed`, since it is then built as `tools/install.sh` builds programs.
+What is built unproved is kept in `out/quick`, and for the proved programs beside it in `out/gate`,
+so that the gate takes nothing of a quick test.
 
 Without names all parts run. Those that may run beside others do so, as many at once as there are
 cores. Each runs, whatever failed before it. At the end stand the time and the counts of each part,
@@ -27,8 +27,7 @@ import time
 
 ROOT = os.path.dirname(os.path.dirname(os.path.realpath(__file__)))
 LIST = f"{ROOT}/tests/parts"
-KEPT = {"quick": f"{ROOT}/out/quick", "proved": f"{ROOT}/out/installed"}
-LEVEL = {"quick": "-O2", "proved": ""}
+KEPT = {"quick": f"{ROOT}/out/quick", "proved": f"{ROOT}/out/gate"}
 # The programs that commands name, the folder of the examples in Rattle, and that of all that is
 # built without proofs.
 NAMES = {"logos": "logos", "logos_cli": "logos_cli", "logos_show": "logos_show", "calls": "calls", "evidence": "evidence", "edits": "edits", "examples": "examples", "built": "."}
@@ -95,7 +94,7 @@ def with_programs(parts, how):
     if all(it in PROVED and how == "proved" for part in parts for it in part.programs):
         return parts
     at = next((number for number, part in enumerate(parts, 1) if part.name == "proofs"), 0)
-    return [*parts[:at], Part(BUILD, 1, "-", False, f"python3 tests/programs.py {LEVEL[how]} {KEPT[how]}", []), *parts[at:]]
+    return [*parts[:at], Part(BUILD, 1, "-", False, f"python3 tests/programs.py {KEPT[how]}", []), *parts[at:]]
 
 
 def words(part, paths):
