@@ -5,4 +5,4 @@ use Rattle.logos_automaton.specs.declared.dfa.Dfa.{Dfa}
 
 -- The automaton that a `Dfa` is.
 abbrev pub dfa_of : Dfa → Automaton
-dfa_of dfa = automaton_of 0 dfa.states.keys dfa.rows.items dfa.ends.items
+dfa_of dfa = automaton_of 0 dfa.states.items dfa.rows.items dfa.ends.items

@@ -10,7 +10,6 @@ pub mod walks;
 
 use crate::key::Key;
 pub use crate::row::Row;
-use indexmap::IndexSet;
 pub use walks::{Children, DfaStates, Matches, StateId};
 
 /// An automaton that reads bytes and the end of the input. A state lists the leaves that match all
@@ -18,14 +17,14 @@ pub use walks::{Children, DfaStates, Matches, StateId};
 /// byte and by the end.
 #[derive(Drop)]
 pub struct Dfa {
-    states: IndexSet<Key>,
+    states: Vec<Key>,
     rows: Vec<Row>,
     ends: Vec<u32>,
-    ghost rows_there: { vec_len rows ≡ length states.keys },
-    ghost ends_there: { vec_len ends ≡ length states.keys },
-    ghost start_there: { 0 < length states.keys },
+    ghost rows_there: { vec_len rows ≡ length states.items },
+    ghost ends_there: { vec_len ends ≡ length states.items },
+    ghost start_there: { 0 < length states.items },
     ghost wide: { AreByteRows rows.items },
-    ghost leads: { LeadWithin rows.items (length states.keys) },
-    ghost ends_within: { EndWithin ends.items (length states.keys) },
-    ghost reached: { AreReachable (automaton_of 0 states.keys rows.items ends.items) },
+    ghost leads: { LeadWithin rows.items (length states.items) },
+    ghost ends_within: { EndWithin ends.items (length states.items) },
+    ghost reached: { AreReachable (automaton_of 0 states.items rows.items ends.items) },
 }

@@ -5,8 +5,8 @@ ghost use Rattle.std.specs.Prelude.{◌≡◌, ◌≢◌, ℕ, ◌<◌, ◌≤�
 ghost use Rattle.logos_reduce.specs.Rows.{AreSame, AreWide, HasOnly, target_by};
 
 use crate::row_hash::row_hash;
-use indexmap::IndexMap;
 use std::alloc::{AllocError, Global};
+use std::collections::HashMap;
 
 /// The number of symbols: the bytes, and the end.
 pub const WIDTH: usize = 257;
@@ -24,7 +24,7 @@ pub struct DistinctRows {
     /// The rows, each once where it was found again.
     pub(crate) keys: Vec<Row>,
     /// For the hash that a row had when it was added its index.
-    found: IndexMap<u64, usize>,
+    found: HashMap<u64, usize>,
 }
 
 /// A list of rows.
@@ -50,7 +50,7 @@ impl Rows {
             places: Vec::new(alloc),
             distinct: DistinctRows {
                 keys: Vec::new(alloc),
-                found: IndexMap::new(alloc),
+                found: HashMap::new(alloc),
             },
         }
     }

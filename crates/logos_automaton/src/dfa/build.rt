@@ -36,6 +36,18 @@ fn only_start(alloc: Global) -> Result<IndexSet<Key>, AllocError>
     Ok(states)
 }
 
+/// Returns states in the order of their numbers. A `Dfa` has them without what finds their numbers,
+/// which nobody asks for once it is built.
+///
+/// # Errors
+///
+/// Returns `AllocError` if memory runs out.
+fn in_order(alloc: Global, states: IndexSet<Key>) -> Result<Vec<Key>, AllocError>
+    ensures { IfOk result (λ list. list.items ≡ states.keys) }
+{
+    states.into_iter().collect(alloc)
+}
+
 /// Adds the targets of the first state that has none yet.
 ///
 /// # Errors
@@ -82,11 +94,11 @@ fn build_nodes(alloc: Global, nodes: &[Node], looks: bool) -> Result<Dfa, BuildE
     requires measured { AreMeasured nodes.now }
     requires free { looks ≡ false → AreFree (map core_of nodes.now) }
     ensures built { IfOk result (λ dfa.
-        IsBuilt (map core_of nodes.now) looks 0 dfa.states.keys dfa.rows.items dfa.ends.items) }
-    ensures distinct { IfOk result (λ dfa. AreDistinct dfa.states.keys) }
+        IsBuilt (map core_of nodes.now) looks 0 dfa.states.items dfa.rows.items dfa.ends.items) }
+    ensures distinct { IfOk result (λ dfa. AreDistinct dfa.states.items) }
     ensures reached { IfOk result (λ dfa.
-        AreReached (map core_of nodes.now) looks dfa.states.keys) }
-    ensures few { IfOk result (λ dfa. length dfa.states.keys ≤ MAX_STATES) }
+        AreReached (map core_of nodes.now) looks dfa.states.items) }
+    ensures few { IfOk result (λ dfa. length dfa.states.items ≤ MAX_STATES) }
     ensures fails { IfErr result (FailsOn (map core_of nodes.now) looks) }
 {
     let starts = starts_of(alloc, nodes)?;
@@ -105,7 +117,12 @@ fn build_nodes(alloc: Global, nodes: &[Node], looks: bool) -> Result<Dfa, BuildE
     while rows.len() < states.len() {
         fill_next(&trees, &mut cache, &mut states, &mut rows, &mut ends)?;
     }
-    Ok(Dfa { states, rows, ends })
+    let ordered = in_order(alloc, states)?;
+    Ok(Dfa {
+        states: ordered,
+        rows,
+        ends,
+    })
 }
 
 /// Builds the automaton of rules. The size of their trees must be within the limit.

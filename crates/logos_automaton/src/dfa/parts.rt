@@ -18,10 +18,7 @@ pub fn leaves_at(dfa: &Dfa, state: usize) -> &[usize]
     requires { state < length (dfa_of dfa.now).matches }
     ensures { slice_get (dfa_of dfa.now).matches state ≡ Some result.now }
 {
-    match dfa.states.get_index(state) {
-        Some(key) => &key.matches,
-        None => unreachable!(),
-    }
+    &dfa.states[state].matches
 }
 
 /// Returns the targets of a state by bytes.

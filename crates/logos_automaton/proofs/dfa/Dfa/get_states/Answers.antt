@@ -22,14 +22,14 @@ range_has n s lt =
     let at = get_or-range_with_len 0 n s s lt in
     (s, omega (arith, len, lt), omega (arith, at))
 
-exact : (dfa : Dfa) (m : ℕ) → m ≡ length dfa.states.keys → (s : ℕ) → Contains (range_with_len 0 m) s ↔ IsReachable (dfa_of dfa) s
+exact : (dfa : Dfa) (m : ℕ) → m ≡ length dfa.states.items → (s : ℕ) → Contains (range_with_len 0 m) s ↔ IsReachable (dfa_of dfa) s
 exact dfa m e s = (
   λ h. dfa.reached s (let l = in_range m s h in omega (arith, l, e, count)),
-  λ r. range_has m s (let l = reachable_within dfa.states.keys dfa.rows.items dfa.ends.items dfa.start_there (omega (arith, dfa.rows_there)) (omega (arith, dfa.ends_there)) dfa.leads dfa.ends_within s r in omega (arith, l, e)),
+  λ r. range_has m s (let l = reachable_within dfa.states.items dfa.rows.items dfa.ends.items dfa.start_there (omega (arith, dfa.rows_there)) (omega (arith, dfa.ends_there)) dfa.leads dfa.ends_within s r in omega (arith, l, e)),
 )
   where
-    count : length (dfa_of dfa).matches ≡ length dfa.states.keys
-    count = length-map dfa.states.keys (λ (k : Key). k.matches.items)
+    count : length (dfa_of dfa).matches ≡ length dfa.states.items
+    count = length-map dfa.states.items (λ (k : Key). k.matches.items)
 
 pub returns-clause-reached : goal.returns-clause-reached
 returns-clause-reached c = exact c.args.self.now _ (omega arith)

@@ -22,14 +22,14 @@ module _ (rules : List Rule) (ts : List Core) (looks : Bool) (are : AreRuleCores
   free : looks ≡ false → AreFree ts
   free e = rules_free rules ts are (sym looks_is ∙ e)
 
-  late : (result : Result Dfa BuildError) → IfOk result (λ dfa. IsBuilt ts looks 0 dfa.states.keys dfa.rows.items dfa.ends.items) → IfOk result (λ dfa. ReadsOneByteLate rules (dfa_of dfa))
-  late (Ok dfa) built = reads_late ts looks 0 dfa.states.keys dfa.rows.items dfa.ends.items built rules are free
+  late : (result : Result Dfa BuildError) → IfOk result (λ dfa. IsBuilt ts looks 0 dfa.states.items dfa.rows.items dfa.ends.items) → IfOk result (λ dfa. ReadsOneByteLate rules (dfa_of dfa))
+  late (Ok dfa) built = reads_late ts looks 0 dfa.states.items dfa.rows.items dfa.ends.items built rules are free
   late (Err e) built = tt
 
-  total : AllStart rules → (result : Result Dfa BuildError) → IfOk result (λ dfa. IsBuilt ts looks 0 dfa.states.keys dfa.rows.items dfa.ends.items) →
-      IfOk result (λ dfa. AreDistinct dfa.states.keys) → IfOk result (λ dfa. AreReached ts looks dfa.states.keys) → IfOk result (λ dfa. IsTotal (dfa_of dfa))
+  total : AllStart rules → (result : Result Dfa BuildError) → IfOk result (λ dfa. IsBuilt ts looks 0 dfa.states.items dfa.rows.items dfa.ends.items) →
+      IfOk result (λ dfa. AreDistinct dfa.states.items) → IfOk result (λ dfa. AreReached ts looks dfa.states.items) → IfOk result (λ dfa. IsTotal (dfa_of dfa))
   total start (Ok dfa) built distinct reached =
-      is_total ts looks dfa.states.keys dfa.rows.items dfa.ends.items built distinct reached (dead_at_once rules ts are looks looks_is free start)
+      is_total ts looks dfa.states.items dfa.rows.items dfa.ends.items built distinct reached (dead_at_once rules ts are looks looks_is free start)
   total start (Err e) built distinct reached = tt
 
   fails : AllStart rules → (result : Result Dfa BuildError) → IfErr result (FailsOn ts looks) → IfErr result (FailsFor rules)

@@ -29,12 +29,13 @@ invariant_of-result c =
     let ks = c.loop-trees.states.keys in
     let rows = c.loop-trees.rows.items in
     let ends = c.loop-trees.ends.items in
+    let e = c.in_ok-ordered.ensures in
     record {
-      rows_there = omega (arith, u.within);
-      ends_there = omega (arith, u.within, u.ends_count);
-      start_there = start_there ts c.args.looks ks rows ends u;
+      rows_there = rw e (omega (arith, u.within));
+      ends_there = rw e (omega (arith, u.within, u.ends_count));
+      start_there = rw e (start_there ts c.args.looks ks rows ends u);
       wide = rows_wide ts c.args.looks ks rows ends u;
-      leads = rows_within ts c.args.looks ks rows ends u;
-      ends_within = ends_within ts c.args.looks ks rows ends u;
-      reached = all_reachable ts c.args.looks ks rows ends (built ts c.args.looks ks rows ends u (omega (arith, u.within))) u.distinct u.reached;
+      leads = rw e (rows_within ts c.args.looks ks rows ends u);
+      ends_within = rw e (ends_within ts c.args.looks ks rows ends u);
+      reached = rw e (all_reachable ts c.args.looks ks rows ends (built ts c.args.looks ks rows ends u (omega (arith, u.within))) u.distinct u.reached);
     }
