@@ -11,7 +11,7 @@
 set -euo pipefail
 
 root=$(cd "$(dirname "${BASH_SOURCE[0]}")/.." && pwd)
-LOGOS_CLI=$(realpath "${1:-${LOGOS_CLI:-$root/crates/logos_cli/out/logos_cli}}")
+LOGOS_CLI=$(realpath "${1:-${LOGOS_CLI:-$root/out/programs/logos_cli}}")
 export LOGOS_CLI
 unset LOGOS_SHAPE CARGO_TARGET_DIR
 lexers=(css pythonic rusty sql)

@@ -144,15 +144,14 @@ compile() {
 
 lexer=${LEXER:-$copy/crates/lexer_bench/out/lexer_bench}
 installed=${INSTALLED:-$copy/installed}
-logos=${LOGOS:-$copy/crates/logos_program/out/logos_program}
-cli=${CLI:-$copy/crates/logos_cli/out/logos_cli}
+logos=${LOGOS:-$copy/out/programs/logos}
+cli=${CLI:-$copy/out/programs/logos_cli}
 if [ -z "${LEXER:-}" ] || [ -z "${INSTALLED:-}" ] || [ -z "${LOGOS:-}" ] || [ -z "${CLI:-}" ]; then
     copy_crates
     add_crate lexer "logos_code logos_codegen logos_fold logos_generator logos_machine logos_pattern logos_scan logos_walk"
     [ -n "${LEXER:-}" ] || build "$crate" "$bench/lexer/rules/json.rs" "$bench/lexer/rules/json.rs"
     [ -n "${INSTALLED:-}" ] || build_as_installed lexer_bench "$installed"
-    [ -n "${LOGOS:-}" ] || build "$copy/crates/logos_program" gen "$bench/lexer/rules/json.rs"
-    [ -n "${CLI:-}" ] || build "$copy/crates/logos_cli" "$bench/lexer/rules/json.rs"
+    [ -n "${LOGOS:-}" ] && [ -n "${CLI:-}" ] || build_programs
 fi
 
 here=()

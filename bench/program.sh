@@ -77,6 +77,16 @@ build() {
     fi
 }
 
+# Builds the program of the repository, and puts it under its names into $copy/out/programs.
+build_programs() {
+    local name
+    build "$copy/crates/logos_program" gen "$bench/lexer/rules/json.rs"
+    mkdir -p "$copy/out/programs"
+    for name in logos logos_cli logos_show; do
+        cp "$copy/crates/logos_program/out/logos_program" "$copy/out/programs/$name"
+    done
+}
+
 # CRATE OUT: builds the program of a crate that was added, as `tools/install.sh` builds programs.
 # Its own sources count as proved there, so that its checks at run time are left out where those of
 # the crates below are.

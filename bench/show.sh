@@ -6,13 +6,13 @@
 # The input is examples/lexers/json.input, repeated, and the lexer is the enum of
 # examples/lexers/json.rs. Each program runs three times, in turns, and its fastest run counts. The
 # script fails if `logos_show` needs more than the input and 16 MiB of memory, or more than twice
-# the processor time of `logos lex`. The programs are those in crates/logos_show/out and
-# crates/logos_program/out, if they are not given.
+# the processor time of `logos lex`. The programs are those in out/programs, if they
+# are not given.
 set -euo pipefail
 
 root=$(cd "$(dirname "${BASH_SOURCE[0]}")/.." && pwd)
-show=$(realpath "${1:-$root/crates/logos_show/out/logos_show}")
-logos=$(realpath "${2:-$root/crates/logos_program/out/logos_program}")
+show=$(realpath "${1:-$root/out/programs/logos_show}")
+logos=$(realpath "${2:-$root/out/programs/logos}")
 for program in "$show" "$logos"; do
     [ -x "$program" ] || { echo "show: the program $program is missing" >&2; exit 1; }
 done

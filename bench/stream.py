@@ -4,7 +4,7 @@ fast it was.
 
   python3 bench/stream.py [LOGOS_SHOW] [GB] [--torn]
 
-Without words it feeds 10 GB to crates/logos_show/out/logos_show. With `--torn` the middle is a byte
+Without words it feeds 10 GB to out/programs/logos_show. With `--torn` the middle is a byte
 that is not UTF-8: then the items before it and the message are compared with what they have to be,
 and without it the counts. It fails if they differ, or if more than 64 MiB are in memory.
 """
@@ -91,4 +91,4 @@ def main(program, gigabytes, torn):
 
 if __name__ == '__main__':
     words = [word for word in sys.argv[1:] if word != '--torn']
-    sys.exit(main(words[0] if words else f'{TOP}/crates/logos_show/out/logos_show', float(words[1]) if words[1:] else 10, '--torn' in sys.argv))
+    sys.exit(main(words[0] if words else f'{TOP}/out/programs/logos_show', float(words[1]) if words[1:] else 10, '--torn' in sys.argv))

@@ -21,12 +21,11 @@ for tool in rustc python3; do
     command -v "$tool" > /dev/null || { echo "needs $tool" >&2; exit 2; }
 done
 
-logos=${LOGOS:-$copy/crates/logos_program/out/logos_program}
-cli=${CLI:-$copy/crates/logos_cli/out/logos_cli}
+logos=${LOGOS:-$copy/out/programs/logos}
+cli=${CLI:-$copy/out/programs/logos_cli}
 if [ -z "${LOGOS:-}" ] || [ -z "${CLI:-}" ]; then
     copy_crates
-    build "$copy/crates/logos_program" gen "$bench/lexer/rules/json.rs"
-    build "$copy/crates/logos_cli" "$bench/lexer/rules/json.rs"
+    build_programs
 fi
 
 # the rules of a lexer

@@ -9,7 +9,7 @@
 set -uo pipefail
 
 root=$(cd "$(dirname "${BASH_SOURCE[0]}")/.." && pwd)
-LOGOS_CLI=${1:-$root/crates/logos_cli/out/logos_cli}
+LOGOS_CLI=${1:-$root/out/programs/logos_cli}
 if [ ! -x "$LOGOS_CLI" ]; then
     echo "examples: the program $LOGOS_CLI is missing"
     echo "examples: 0 passed, 1 failed"

@@ -7,15 +7,14 @@
 # and where other numbers of blocks and commands ran than are stated here. The enum of the guide has
 # to be that of the tokenizer.
 #
-# `logos`, `logos_cli` and `logos_show` are the programs as `rt ci` or `rt run` leaves them in
-# crates/logos_program/out, crates/logos_cli/out and crates/logos_show/out, or the first three
-# arguments.
+# `logos`, `logos_cli` and `logos_show` are the programs as the gate leaves them in out/programs, or
+# the first three arguments.
 set -euo pipefail
 
 root=$(cd "$(dirname "${BASH_SOURCE[0]}")/.." && pwd)
-program=$(realpath -m "${1:-$root/crates/logos_program/out/logos_program}")
-cli=$(realpath -m "${2:-$root/crates/logos_cli/out/logos_cli}")
-show=$(realpath -m "${3:-$root/crates/logos_show/out/logos_show}")
+program=$(realpath -m "${1:-$root/out/programs/logos}")
+cli=$(realpath -m "${2:-$root/out/programs/logos_cli}")
+show=$(realpath -m "${3:-$root/out/programs/logos_show}")
 room=$(mktemp -d)
 trap 'rm -rf "$room"' EXIT
 cd "$root"

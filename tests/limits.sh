@@ -3,11 +3,10 @@
 # limit is accepted, what is beyond it is refused with that limit at its place. Then it cuts a
 # source off at each byte: each proper beginning is refused with one fault, by `lex` and by `strip`.
 #
-# It needs the program as `rt ci` or `rt run` leaves it in crates/logos_program/out, or the first
-# argument.
+# It needs the program as the gate leaves it in out/programs, or the first argument.
 set -euo pipefail
 
-program=$(realpath "${1:-$(dirname "${BASH_SOURCE[0]}")/../crates/logos_program/out/logos_program}")
+program=$(realpath "${1:-$(dirname "${BASH_SOURCE[0]}")/../out/programs/logos}")
 room=$(mktemp -d)
 trap 'rm -rf "$room"' EXIT
 cd "$room"

@@ -1,5 +1,5 @@
 #!/usr/bin/env bash
-# Proves every crate, and builds the programs.
+# Proves every crate, and builds the program. Under its three names it lies in out/programs then.
 #
 #   bash tests/proofs.sh            proves what has changed since the last run
 #   bash tests/proofs.sh --anew     proves everything
@@ -51,11 +51,18 @@ inputs() {
     } | sha256sum
 }
 
+# Puts the program that is built under its names into out/programs.
+put_programs() {
+    local name
+    mkdir -p out/programs
+    for name in logos logos_cli logos_show; do
+        cp crates/logos_program/out/logos_program "out/programs/$name.part" && mv "out/programs/$name.part" "out/programs/$name" || return
+    done
+}
+
 # Prints the sums of the programs that are built.
 programs() {
-    for name in logos_program logos_cli logos_show; do
-        sha256sum "crates/$name/out/$name"
-    done
+    sha256sum out/programs/{logos,logos_cli,logos_show}
 }
 
 # Prints what an earlier run proved, if it proved just these files and its programs are still there.
@@ -125,6 +132,7 @@ status=0
 rt ci "${words[@]}" | with_seconds | tee "$room/proofs" || status=1
 { kill "$watch"; wait "$watch"; } 2> /dev/null
 print_checks
+[ "$status" != 0 ] || put_programs || status=1
 [ "$status" != 0 ] || python3 tools/proved_sums.py || status=1
 if [ "$status" = 0 ] && [ "$sum" = "$(inputs)" ]; then
     mkdir -p "$gate"

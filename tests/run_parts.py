@@ -32,7 +32,7 @@ KEPT = {"quick": f"{ROOT}/out/quick", "proved": f"{ROOT}/out/gate"}
 # built without proofs.
 NAMES = {"logos": "logos", "logos_cli": "logos_cli", "logos_show": "logos_show", "calls": "calls", "evidence": "evidence", "edits": "edits", "examples": "examples", "built": "."}
 # Where `proofs` leaves programs.
-PROVED = {name: f"{ROOT}/crates/{crate}/out/{crate}" for name, crate in (("logos", "logos_program"), ("logos_cli", "logos_cli"), ("logos_show", "logos_show"))}
+PROVED = {name: f"{ROOT}/out/programs/{name}" for name in ("logos", "logos_cli", "logos_show")}
 BUILD = "programs"
 # The parts that the quick test leaves out: the proofs, and what needs the libraries that they
 # leave.

@@ -1,11 +1,11 @@
 #!/usr/bin/env bash
 # Puts the programs `logos_cli`, `logos_show` and `logos` into a folder: `--help` says which words
-# it takes.
+# it takes. They are one program, which does what its name asks for.
 #
-# Without --proved they are built without checks at run time where the crates are those of
-# proved.sums, which the gate compares with what it proved, and with checks else. With --proved they
-# are those that the gate builds. Where they are built from a clone without changes, a line after
-# their bytes names its commit, which `--version` of logos_cli and logos_show prints.
+# Without --proved it is built without checks at run time where the crates are those of proved.sums,
+# which the gate compares with what it proved, and with checks else. With --proved it is the one
+# that the gate builds. Where it is built from a clone without changes, a line after its bytes names
+# the commit, which `--version` of logos_cli and logos_show prints.
 set -euo pipefail
 
 root=$(cd "$(dirname "${BASH_SOURCE[0]}")/.." && pwd)
@@ -40,7 +40,11 @@ while [[ ${1-} = -* ]]; do
             built=$(realpath -m "${1-}") ;;
         --only)
             shift
-            names=("${1-}") ;;
+            if [[ " ${names[*]} " != *" ${1-} "* ]]; then
+                echo "install: no program has the name ${1-}" >&2
+                exit 2
+            fi
+            names=("$1") ;;
         *)
             echo "$usage" >&2
             exit 2 ;;
@@ -49,43 +53,27 @@ while [[ ${1-} = -* ]]; do
 done
 bin=${1:-$HOME/.local}/bin
 
-# Builds the program with this name.
+# Builds the program, which is all three, or takes them from the folder. Under their names they lie
+# in `$room` then.
 build() {
-    local name=$1 crate=$1 words=(--version)
-    case $name in
-        logos_cli | logos_show) ;;
-        logos) crate=logos_program words=(lex data/t.rs data/input) ;;
-        *)
-            echo "install: no program has the name $name" >&2
-            return 1 ;;
-    esac
+    local name
     if [ -n "$built" ]; then
-        cp "$built/$name" "$room/$name"
-    elif [ "$proved" = yes ]; then
-        (cd "$root/crates/$crate" && rt run -- "${words[@]}") > /dev/null
-        cp "$root/crates/$crate/out/$crate" "$room/$name"
-    elif ! python3 "$root/tools/build.py" "$room/$name" "$crate" > "$room/$name.said"; then
-        echo "install: this toolchain does not build $name without proofs as this script knows it." >&2
-        echo 'Build the proved programs in their place: bash tools/install.sh --proved' >&2
+        for name in "${names[@]}"; do
+            cp "$built/$name" "$room/$name" || return
+        done
+        return
+    fi
+    if [ "$proved" = yes ]; then
+        (cd "$root/crates/logos_program" && rt run -- lex data/t.rs data/input) > /dev/null || return
+        cp "$root/crates/logos_program/out/logos_program" "$room/program"
+    elif ! python3 "$root/tools/build.py" "$room/program" > "$room/said"; then
+        echo 'install: this toolchain does not build the program without proofs as this script knows it.' >&2
+        echo 'Build the proved program in its place: bash tools/install.sh --proved' >&2
         return 1
     fi
-}
-
-# Builds the programs: those without proofs side by side.
-build_all() {
-    local name job jobs=() status=0
     for name in "${names[@]}"; do
-        if [ "$proved" = yes ]; then
-            build "$name" || return 1
-        else
-            build "$name" &
-            jobs+=($!)
-        fi
+        cp "$room/program" "$room/$name"
     done
-    for job in "${jobs[@]}"; do
-        wait "$job" || status=1
-    done
-    return "$status"
 }
 
 # Prints the line that names the commit of this clone, if no file has changed since.
@@ -97,8 +85,8 @@ commit_line() {
 
 room=$(mktemp -d)
 trap 'rm -rf "$room"' EXIT
-[ "$proved" = yes ] || [ -n "$built" ] || echo "Building ${names[*]}: about 8 minutes of processor time" >&2
-build_all || exit 1
+[ "$proved" = yes ] || [ -n "$built" ] || echo "Building ${names[*]}: about MINUTES minutes of processor time" >&2
+build || exit 1
 commit_line > "$room/commit"
 mkdir -p "$bin"
 for name in "${names[@]}"; do
@@ -117,8 +105,6 @@ elif [ -n "$built" ]; then
     echo "Installed in $bin, as built in $built: ${names[*]}"
 else
     echo "Installed in $bin: ${names[*]}. This build itself proved nothing: --proved does."
-    for name in "${names[@]}"; do
-        echo "  $name: $(tail -n 1 "$room/$name.said")"
-    done
+    echo "It $(tail -n 1 "$room/said")."
 fi
 case :$PATH: in *:$bin:*) ;; *) echo "$bin is not on your PATH: export PATH=\"$bin:\$PATH\" adds it. The derive macro looks into ~/.local/bin in any case." ;; esac

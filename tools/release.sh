@@ -35,12 +35,10 @@ refuse() {
 
 # Prints the path of the program with this name.
 program() {
-    local crate=$1
-    [ "$1" != logos ] || crate=logos_program
     if [ -n "$built" ]; then
         echo "$built/$1"
     else
-        echo "$root/crates/$crate/out/$crate"
+        echo "$root/out/programs/$1"
     fi
 }
 

@@ -35,7 +35,7 @@ scripted=5
 root=$(cd "$(dirname "${BASH_SOURCE[0]}")/../.." && pwd)
 here=$root/tests/derive
 . "$root/tests/kept.sh"
-LOGOS_CLI=$(realpath "${1:-${LOGOS_CLI:-$root/crates/logos_cli/out/logos_cli}}")
+LOGOS_CLI=$(realpath "${1:-${LOGOS_CLI:-$root/out/programs/logos_cli}}")
 export LOGOS_CLI PYTHONDONTWRITEBYTECODE=1
 unset LOGOS_SHAPE
 room=$(mktemp -d)

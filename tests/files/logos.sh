@@ -5,11 +5,10 @@
 # are missing or whose files cannot be made, or not whole: then what was there stays. Each time the
 # status and every byte that is written must be as stated here.
 #
-# It needs the program as `rt ci` or `rt run` leaves it in crates/logos_program/out, or the first
-# argument.
+# It needs the program as the gate leaves it in out/programs, or the first argument.
 set -euo pipefail
 
-program=$(realpath "${1:-$(dirname "${BASH_SOURCE[0]}")/../../crates/logos_program/out/logos_program}")
+program=$(realpath "${1:-$(dirname "${BASH_SOURCE[0]}")/../../out/programs/logos}")
 room=$(mktemp -d)
 trap 'rm -rf "$room"' EXIT
 cd "$room"

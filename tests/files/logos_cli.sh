@@ -4,11 +4,10 @@
 # written whole or not at all: what stood in its place stays, and no other file is left. Links,
 # permissions and devices stay what they are.
 #
-# It needs the program as `rt ci` or `rt run` leaves it in crates/logos_cli/out, or the first
-# argument.
+# It needs the program as the gate leaves it in out/programs, or the first argument.
 set -euo pipefail
 
-program=$(realpath -m "${1:-$(dirname "${BASH_SOURCE[0]}")/../../crates/logos_cli/out/logos_cli}")
+program=$(realpath -m "${1:-$(dirname "${BASH_SOURCE[0]}")/../../out/programs/logos_cli}")
 room=$(mktemp -d)
 trap 'rm -rf "$room"' EXIT
 cd "$room"
@@ -346,6 +345,28 @@ for line in "commit: $digits" "commit: ${digits%7}"$'\n' "commit: ${digits}8"$'\
     "commit: ${digits%7}:"$'\n' "commit: ${digits%7}/"$'\n' "commit: ${digits%7}\`"$'\n' "Commit: $digits"$'\n' "commit:  $digits"$'\n' "commit: $digits "$'\n'; do
     named "$line" ''
 done
+
+# The name of the program's file says which program it is, however the name goes on and whatever its
+# folders are called. By any other name it is `logos`, which has no version.
+called() {
+    mkdir -p "$(dirname "names/$1")"
+    cp "$program" "names/$1"
+    printf '%s' "$3" > wanted
+    status=0
+    "names/$1" --version > out 2> err || status=$?
+    wants "$status" "$2" "${4-}"
+    same out wanted
+}
+version=$'logos_cli 0.1.0 (for logos 0.16)\n'
+called logos_cli-0.1.0 0 "$version"
+called logos_show.d/logos_cli.old 0 "$version"
+called logos_cli.d/logos_show2 0 "${version/cli/show}"
+for name in logos lexer cli logos_sho my_logos_cli logos_cli.d/logos; do
+    called "$name" 2 '' 'usage: logos gen|lex|strip|mermaid|export FILE ..'
+done
+(PATH=$PWD/names:$PATH && logos_cli-0.1.0 --version > out 2> err && ln -s logos names/logos_show && logos_show --version >> out)
+printf '%s%s' "$version" "${version/cli/show}" > wanted
+same out wanted
 
 # Messages have colors on a terminal.
 if command -v script > /dev/null; then

@@ -27,13 +27,13 @@
 # patterns it must give the leaves that they list after all words of three bytes, and after these
 # and the end; and the tokens of some hundred expressions.
 #
-# It needs Python 3 without packages, and the program and the program of calls in
-# crates/logos_program/out and out/quick, where `tests/quick.sh` leaves it, or the first and the
-# second argument. Seeds after them ask for those sources alone.
+# It needs Python 3 without packages, the program as the gate leaves it in out/programs, and the
+# program of calls in out/quick, where `tests/quick.sh` leaves it, or the first and the second
+# argument. Seeds after them ask for those sources alone.
 set -euo pipefail
 
 here=$(cd "$(dirname "${BASH_SOURCE[0]}")" && pwd)
-program=$(realpath "${1:-$here/../../crates/logos_program/out/logos_program}")
+program=$(realpath "${1:-$here/../../out/programs/logos}")
 calls=$(realpath "${2:-$here/../../out/quick/calls}")
 shift $(($# < 2 ? $# : 2))
 export PYTHONDONTWRITEBYTECODE=1

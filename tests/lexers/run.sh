@@ -18,8 +18,8 @@ set -euo pipefail
 
 root=$(cd "$(dirname "${BASH_SOURCE[0]}")/../.." && pwd)
 here=$root/tests/lexers
-cli=$(realpath -m "${1:-$root/crates/logos_cli/out/logos_cli}")
-show=$(realpath -m "${2:-$root/crates/logos_show/out/logos_show}")
+cli=$(realpath -m "${1:-$root/out/programs/logos_cli}")
+show=$(realpath -m "${2:-$root/out/programs/logos_show}")
 lexers=40
 settled=39
 scanning=8

@@ -17,7 +17,7 @@ Looked up are
 - each other name in backticks: it is a path, or its words stand somewhere in the crates.
 
 A public function is a `pub fn` of a module that is public or that another public one hands names on
-from; all functions of a program's crate count. The last line is
+from; all functions count of the crates that do what a program does. The last line is
 `definitions: N passed, M failed`."""
 import pathlib
 import re
@@ -35,6 +35,8 @@ FILE = re.compile(r"(\w+/)?[A-Z]\w*")
 USE = re.compile(r"^(?:pub )?use Rattle\.(logos_\w+)\.specs\.([\w.]+)\.\{([^}]*)\}", re.M)
 GHOST_USE = re.compile(r"^ *(?:pub(?:\([^)]*\))? )?ghost use Rattle\.(logos_\w+)\.specs\.([\w.]+?)(?:\.\{([^}]*)\}| as (\w+));", re.M)
 HEAD = re.compile(r"^( *)(?:abbrev |unfoldable )?(?:pub )?(record |data )?(?:pub )?([A-Za-z_][\w-]*)(?: [({].*)? :")
+# The crates that do what a program does.
+PROGRAMS = ("logos_cli", "logos_program", "logos_show")
 CONTRACT = re.compile(r"^ *(pub )?(?:const )?fn (\w+).*?(?=^ *\{|\n\{)", re.M | re.S)
 CLAUSE = re.compile(r"(?:requires|ensures)[^{]*\{(.*?)\}\s*(?=requires|ensures|decreases|\Z)", re.S)
 
@@ -142,8 +144,8 @@ class Definitions:
 
 def public_files(crate):
     """The source files of a crate's public modules, and of those that names are handed on from; all
-    of a program."""
-    if not (crate / "src/lib.rt").is_file():
+    of what does what a program does."""
+    if crate.name in PROGRAMS:
         return sorted((crate / "src").rglob("*.rt"))
     found, todo = [], [(crate / "src/lib.rt", crate / "src")]
     while todo:
@@ -257,8 +259,7 @@ def main():
     page.look_up(definitions)
     for crate in sorted(CRATES.glob("logos_*")):
         for path in public_files(crate):
-            every = not (crate / "src/lib.rt").is_file()
-            for found, function in definitions.cited(path.read_text(encoding="utf-8"), every):
+            for found, function in definitions.cited(path.read_text(encoding="utf-8"), crate.name in PROGRAMS):
                 cited.setdefault(found, f"{path.relative_to(CRATES)}: {function}")
     for (path, name), place in sorted(cited.items()):
         page.count(definitions.of(path).has_comment(name), 0, f"no comment says what {name} of {path} means, which {place} cites")

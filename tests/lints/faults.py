@@ -134,7 +134,7 @@ def help_faults(page):
 
 
 def main():
-    program = os.path.realpath((sys.argv[1:] or [f"{ROOT}/crates/logos_program/out/logos_program"])[0])
+    program = os.path.realpath((sys.argv[1:] or [f"{ROOT}/out/programs/logos"])[0])
     if not os.access(program, os.X_OK):
         print(f"faults: the program {program} is missing\nfaults: 0 passed, 1 failed")
         sys.exit(1)

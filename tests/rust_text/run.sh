@@ -32,8 +32,7 @@
 # compared no further. Which inputs and sources these are, and how many comparisons and refusals
 # there have to be, is stated here.
 #
-# It needs rustc, and the programs as `rt ci` leaves them in crates/logos_program/out and
-# crates/logos_cli/out, or the two arguments.
+# It needs rustc, and the programs as the gate leaves them in out/programs, or the two arguments.
 set -euo pipefail
 
 comparisons=768
@@ -48,8 +47,8 @@ of_bytes=' bytes marks program records '
 placed=' marks notes '
 root=$(cd "$(dirname "${BASH_SOURCE[0]}")/../.." && pwd)
 here=$root/tests/rust_text
-logos=$(realpath "${1:-$root/crates/logos_program/out/logos_program}")
-cli=$(realpath "${2:-$root/crates/logos_cli/out/logos_cli}")
+logos=$(realpath "${1:-$root/out/programs/logos}")
+cli=$(realpath "${2:-$root/out/programs/logos_cli}")
 shapes=(state_machine tailcall tables derived)
 . "$root/tests/kept.sh"
 room=$(mktemp -d)

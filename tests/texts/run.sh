@@ -8,13 +8,13 @@
 # and ends its last line. The script fails where a file of the list is missing, and where another
 # one stands.
 #
-# It needs the program as `rt ci` leaves it in crates/logos_program/out, or the first argument.
+# It needs the program as the gate leaves it in out/programs, or the first argument.
 set -euo pipefail
 
 sources='callbacks comments comparisons generics jumps letters marks nothing shared tables unsaid'
 shapes='state_machine tailcall'
 texts=$(cd "$(dirname "${BASH_SOURCE[0]}")" && pwd)
-program=$(realpath "${1:-$texts/../../crates/logos_program/out/logos_program}")
+program=$(realpath "${1:-$texts/../../out/programs/logos}")
 room=$(mktemp -d)
 trap 'rm -rf "$room"' EXIT
 compared=0

@@ -78,6 +78,14 @@ def kit():
     return os.path.dirname(os.path.realpath(page))
 
 
+def link_or_copy(file, to):
+    """Links a file that nobody changes, or copies it where it lies on another disk."""
+    try:
+        os.link(file, to)
+    except OSError:
+        shutil.copy2(file, to)
+
+
 class Repository:
     """A copy of the checkout's texts of some crates and of those below them, without wrong bodies,
     and with the libraries that `rt ci` builds there."""
@@ -104,7 +112,7 @@ class Repository:
         for crate in (self.room / 'crates').iterdir():
             built = self.root / 'crates' / crate.name / 'out' / 'rlib'
             if built.is_dir():
-                shutil.copytree(built, crate / 'out' / 'rlib')
+                shutil.copytree(built, crate / 'out' / 'rlib', copy_function=link_or_copy)
 
     def prove(self, is_proved):
         """Whether all crates are proved as they stand, and what was said. Where they are, as the

@@ -1,4 +1,5 @@
-//! The program `logos_show`: it shows the lexers of a Rust file, and lexes other files by them.
+//! What the program `logos_show` does: it shows the lexers of a Rust file, and lexes other files by
+//! them.
 
 #![tactic(auto)]
 
@@ -12,18 +13,16 @@ mod streaming;
 
 use logos_host::{Disk, refuse_words, words};
 use running::{Host, USAGE, run};
-use std::io;
-use std::process::ExitCode;
 
-fn main(rt: HostRuntime) -> io::Result<ExitCode> {
+/// Does what the words ask for with which the program was called. Returns the exit status.
+pub fn run_logos_show(rt: &HostRuntime) -> u8 {
     let mut host = Host {
-        files: &mut Disk { rt: &rt },
-        clock: &rt,
+        files: &mut Disk { rt },
+        clock: rt,
         err: &mut rt.stderr(),
     };
-    let status = match words(&rt) {
+    match words(rt) {
         Ok(words) => run(rt.alloc(), words.as_slice(), &mut host, &mut rt.stdout()),
         Err(error) => refuse_words(error.kind(), USAGE, host.err),
-    };
-    Ok(ExitCode::from(status))
+    }
 }

@@ -1,4 +1,4 @@
-//! The program `logos_cli`: it expands the derive of the lexers in a Rust file.
+//! What the program `logos_cli` does: it expands the derive of the lexers in a Rust file.
 
 #![tactic(auto)]
 
@@ -11,12 +11,11 @@ mod running;
 
 use logos_host::{SourceDisk, refuse_words, words};
 use running::{USAGE, run};
-use std::io;
-use std::process::ExitCode;
 
-fn main(rt: HostRuntime) -> io::Result<ExitCode> {
-    let mut files = SourceDisk { rt: &rt };
-    let status = match words(&rt) {
+/// Does what the words ask for with which the program was called. Returns the exit status.
+pub fn run_logos_cli(rt: &HostRuntime) -> u8 {
+    let mut files = SourceDisk { rt };
+    match words(rt) {
         Ok(words) => {
             run(
                 rt.alloc(),
@@ -28,6 +27,5 @@ fn main(rt: HostRuntime) -> io::Result<ExitCode> {
             .status
         }
         Err(error) => refuse_words(error.kind(), USAGE, &mut rt.stderr()),
-    };
-    Ok(ExitCode::from(status))
+    }
 }
