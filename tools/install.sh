@@ -85,7 +85,7 @@ commit_line() {
 
 room=$(mktemp -d)
 trap 'rm -rf "$room"' EXIT
-[ "$proved" = yes ] || [ -n "$built" ] || echo "Building ${names[*]}: about MINUTES minutes of processor time" >&2
+[ "$proved" = yes ] || [ -n "$built" ] || echo "Building ${names[*]}: about 3 minutes of processor time" >&2
 build || exit 1
 commit_line > "$room/commit"
 mkdir -p "$bin"
