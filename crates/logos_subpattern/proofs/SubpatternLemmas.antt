@@ -1,9 +1,9 @@
 -- Subpatterns among others.
-use Rattle.std.proofs.Common.{◌≡◌, ℕ, List, [], ◌∷◌, ◌++◌, map, Bool, true, false, Option, Some, None, option_map, refl, sym, ap, subst, append_assoc, ◌∙◌, string_bytes}
+use Rattle.std.proofs.Common.{◌≡◌, ℕ, zero, suc, ◌<◌, List, [], ◌∷◌, ◌++◌, map, length, get_or, set, Bool, true, false, cond, if◌then◌else◌, Option, Some, None, option_map, Result, Ok, Err, IsOk, is_ok, refl, sym, ap, subst, append_assoc, ◌∙◌, arith}
 use denote.Ref.{Bor}
-use Rattle.std.specs.Str.{bytes_eq}
 use Rattle.std.specs.Map.{lookup}
-use Rattle.std.proofs.lemmas.List.{append-nil}
+use Rattle.std.specs.Str.{bytes_eq}
+use Rattle.std.proofs.lemmas.List.{append-nil, length-map, map-set, map_push, get_or-map}
 use Rattle.std.proofs.lemmas.Slice.Eq.{bytes_eq-Decides}
 use Rattle.logos_lexeme.specs.declared.lexeme.Span.{Span}
 use Rattle.logos_token.specs.Faults.{Fault}
@@ -17,78 +17,164 @@ use Rattle.logos_attribute.specs.Slices.{Slice}
 use Rattle.logos_attribute.specs.Literals.{NamedLiteral}
 use Rattle.logos_subpattern.specs.declared.subpattern.Subpattern.{Subpattern}
 use Rattle.logos_subpattern.specs.PatternFaults.{IsRead, Reads, spelled, broken, too_deep}
-use Rattle.logos_subpattern.specs.Substitution.{Stored, stored_at, text_of}
-use Rattle.logos_subpattern.specs.SubpatternViews.{stored_of}
+use Rattle.logos_subpattern.specs.Substitution.{Stored, stored_at}
+use Rattle.logos_subpattern.specs.StoredViews.{stored_of}
 use Rattle.logos_subpattern.specs.Subpatterns.{put_stored, twice_faults, subpattern_twice, subpattern_report, IsAdded, AreAdded, ended, further}
 use Rattle.logos_subpattern.specs.inside.Errors.{ReportsError}
-use Rattle.indexmap.specs.IndexMap.{insert_entry}
+use Rattle.logos_subpattern.specs.inside.Places.{FindPlaces, place_in}
 
-abbrev pub Entries : Type 0
-Entries = List (Bor (List ℕ) × Subpattern)
+-- ---- subpatterns by their indices
 
--- ---- look-ups by name
+fresh-one : (b : Bool) (r : Option ℕ) → (if b then Some 0 else option_map suc r) ≡ None → (b ≡ false) × (r ≡ None)
+fresh-one true r e = cc
+fresh-one false None e = (refl, refl)
+fresh-one false (Some j) e = cc
 
--- a subpattern as it is stored under a name
-abbrev pub value_of : List ℕ → Subpattern → Stored
-value_of name s = record { name = name; span = s.name.span; text = string_bytes s.pattern }
+within-one : (n i : ℕ) (b : Bool) (r : Option ℕ) → ((j : ℕ) → r ≡ Some j → j < n) → (if b then Some 0 else option_map suc r) ≡ Some i → i < suc n
+within-one n i true r h e = let z : 0 ≡ i = cc in omega (arith, z)
+within-one n i false None h e = cc
+within-one n i false (Some j) h e =
+    let z : suc j ≡ i = cc in
+    let l = h j refl in
+    omega (arith, z, l)
 
-abbrev found_in : List ℕ → Entries → Option Subpattern
-found_in name entries = lookup (λ (k : Bor (List ℕ)). bytes_eq name k.now) entries
+within : (names : List Stored) (name : List ℕ) (i : ℕ) → place_in names name ≡ Some i → i < length names
+within [] name i e = cc
+within (x ∷ rest) name i e = within-one (length rest) i (bytes_eq name x.name) (place_in rest name) (within rest name) e
 
-text-one : (name : List ℕ) (e : Bor (List ℕ) × Subpattern) (rest : Entries) (b : Bool) → bytes_eq name e.0.now ≡ b →
-    option_map (λ (s : Subpattern). string_bytes s.pattern) (found_in name rest) ≡ text_of (map stored_of rest) name →
-    option_map (λ (s : Subpattern). string_bytes s.pattern) (found_in name (e ∷ rest)) ≡ text_of (map stored_of (e ∷ rest)) name
-text-one name e rest true t h = rw t refl
-text-one name e rest false f h = rw f h
+-- the index of a name is one of the list
+pub place_within : (subpatterns : List Subpattern) (name : List ℕ) (i : ℕ) → place_in (map stored_of subpatterns) name ≡ Some i → i < length subpatterns
+place_within subpatterns name i e =
+    let l = within (map stored_of subpatterns) name i e in
+    let m = length-map subpatterns stored_of in
+    omega (arith, l, m)
 
-pub found_text : (name : List ℕ) (entries : Entries) → option_map (λ (s : Subpattern). string_bytes s.pattern) (lookup (λ (k : Bor (List ℕ)). bytes_eq name k.now) entries) ≡ text_of (map stored_of entries) name
-found_text name [] = refl
-found_text name (e ∷ rest) = text-one name e rest (bytes_eq name e.0.now) refl (found_text name rest)
+nowhere-one : (x : Stored) (at : Option Stored) (b : Bool) (r : Option ℕ) → (r ≡ None → at ≡ None) → (if b then Some 0 else option_map suc r) ≡ None → (if b then Some x else at) ≡ None
+nowhere-one x at true r h e = cc
+nowhere-one x at false None h e = h refl
+nowhere-one x at false (Some j) h e = cc
 
-span-one : (name : List ℕ) (e : Bor (List ℕ) × Subpattern) (rest : Entries) (b : Bool) → bytes_eq name e.0.now ≡ b →
-    option_map (λ (s : Subpattern). s.name.span) (found_in name rest) ≡ option_map (λ (s : Stored). s.span) (stored_at (map stored_of rest) name) →
-    option_map (λ (s : Subpattern). s.name.span) (found_in name (e ∷ rest)) ≡ option_map (λ (s : Stored). s.span) (stored_at (map stored_of (e ∷ rest)) name)
-span-one name e rest true t h = rw t refl
-span-one name e rest false f h = rw f h
+-- a name without an index has no subpattern
+pub stored_nowhere : (names : List Stored) (name : List ℕ) → place_in names name ≡ None → stored_at names name ≡ None
+stored_nowhere [] name e = refl
+stored_nowhere (x ∷ rest) name e = nowhere-one x (stored_at rest name) (bytes_eq name x.name) (place_in rest name) (stored_nowhere rest name) e
 
-found_span : (name : List ℕ) (entries : Entries) → option_map (λ (s : Subpattern). s.name.span) (found_in name entries) ≡ option_map (λ (s : Stored). s.span) (stored_at (map stored_of entries) name)
-found_span name [] = refl
-found_span name (e ∷ rest) = span-one name e rest (bytes_eq name e.0.now) refl (found_span name rest)
+there-one : (x d : Stored) (rest : List Stored) (at : Option Stored) (i : ℕ) (b : Bool) (r : Option ℕ) → ((j : ℕ) → r ≡ Some j → at ≡ Some (get_or rest j d)) →
+    (if b then Some 0 else option_map suc r) ≡ Some i → (if b then Some x else at) ≡ Some (get_or (x ∷ rest) i d)
+there-one x d rest at i true r h e = let z : i ≡ 0 = cc in rw z refl
+there-one x d rest at i false None h e = cc
+there-one x d rest at i false (Some j) h e = let z : i ≡ suc j = cc in rw z (h j refl)
+
+there : (names : List Stored) (name : List ℕ) (i : ℕ) (d : Stored) → place_in names name ≡ Some i → stored_at names name ≡ Some (get_or names i d)
+there [] name i d e = cc
+there (x ∷ rest) name i d e = there-one x d rest (stored_at rest name) i (bytes_eq name x.name) (place_in rest name) (λ j. there rest name j d) e
+
+-- the subpattern of a name is the one at its index
+pub stored_there : (subpatterns : List Subpattern) (name : List ℕ) (i : ℕ) (d : Subpattern) → place_in (map stored_of subpatterns) name ≡ Some i →
+    stored_at (map stored_of subpatterns) name ≡ Some (stored_of (get_or subpatterns i d))
+stored_there subpatterns name i d e =
+    there (map stored_of subpatterns) name i (stored_of d) e ∙ ap (λ (s : Stored). Some s) (get_or-map stored_of subpatterns i d (stored_of d) (place_within subpatterns name i e))
 
 -- ---- a subpattern that is put among others
 
-abbrev put_in : Bor (List ℕ) → Subpattern → Entries → Entries
-put_in key s entries = insert_entry (λ (a b : Bor (List ℕ)). bytes_eq a.now b.now) entries key s
+end-one : (s x : Stored) (rest after : List Stored) (b : Bool) (r : Option ℕ) → (r ≡ None → after ≡ rest ++ s ∷ []) → (if b then Some 0 else option_map suc r) ≡ None →
+    (if b then s ∷ rest else x ∷ after) ≡ x ∷ rest ++ s ∷ []
+end-one s x rest after true r h e = cc
+end-one s x rest after false None h e = ap (λ (xs : List Stored). x ∷ xs) (h refl)
+end-one s x rest after false (Some j) h e = cc
 
-put-one : (key : Bor (List ℕ)) (s : Subpattern) (e : Bor (List ℕ) × Subpattern) (rest : Entries) (b : Bool) → bytes_eq key.now e.0.now ≡ b →
-    map stored_of (put_in key s rest) ≡ put_stored (value_of key.now s) (map stored_of rest) →
-    map stored_of (put_in key s (e ∷ rest)) ≡ put_stored (value_of key.now s) (map stored_of (e ∷ rest))
-put-one key s e rest true t h = rw t (ap (λ n. value_of n s ∷ map stored_of rest) (sym ((bytes_eq-Decides key.now e.0.now).0 t)))
-put-one key s e rest false f h = rw f (ap (λ (xs : List Stored). stored_of e ∷ xs) h)
+-- one with a new name comes after all others
+pub put_at_end : (s : Stored) (names : List Stored) → place_in names s.name ≡ None → put_stored s names ≡ names ++ s ∷ []
+put_at_end s [] e = refl
+put_at_end s (x ∷ rest) e = end-one s x rest (put_stored s rest) (bytes_eq s.name x.name) (place_in rest s.name) (put_at_end s rest) e
 
-pub put_entries : (key : Bor (List ℕ)) (s : Subpattern) (entries : Entries) → map stored_of (insert_entry (λ (a b : Bor (List ℕ)). bytes_eq a.now b.now) entries key s) ≡ put_stored (value_of key.now s) (map stored_of entries)
-put_entries key s [] = refl
-put_entries key s (e ∷ rest) = put-one key s e rest (bytes_eq key.now e.0.now) refl (put_entries key s rest)
+put-one : (s x : Stored) (rest after : List Stored) (i : ℕ) (b : Bool) (r : Option ℕ) → ((j : ℕ) → r ≡ Some j → after ≡ set rest j s) → (if b then Some 0 else option_map suc r) ≡ Some i →
+    (if b then s ∷ rest else x ∷ after) ≡ set (x ∷ rest) i s
+put-one s x rest after i true r h e = let z : i ≡ 0 = cc in rw z refl
+put-one s x rest after i false None h e = cc
+put-one s x rest after i false (Some j) h e = let z : i ≡ suc j = cc in rw z (ap (λ (xs : List Stored). x ∷ xs) (h j refl))
 
-spans_twice : (name : Slice) (there : Span) (former : Option Stored) → Some there ≡ option_map (λ (s : Stored). s.span) former → twice_faults name former ≡ subpattern_twice name ∷ previous there ∷ []
-spans_twice name there None e = cc
-spans_twice name there (Some s) e = let same : there ≡ s.span = cc in rw same refl
+put : (s : Stored) (names : List Stored) (i : ℕ) → place_in names s.name ≡ Some i → put_stored s names ≡ set names i s
+put s [] i e = cc
+put s (x ∷ rest) i e = put-one s x rest (put_stored s rest) i (bytes_eq s.name x.name) (place_in rest s.name) (put s rest) e
 
-spans_once : (name : Slice) (former : Option Stored) → None ≡ option_map (λ (s : Stored). s.span) former → twice_faults name former ≡ []
-spans_once name None e = refl
-spans_once name (Some s) e = cc
+-- one with a name that is there replaces the subpattern at its index
+pub put_there : (s : Subpattern) (subpatterns : List Subpattern) (i : ℕ) → place_in (map stored_of subpatterns) s.name.text.now ≡ Some i →
+    map stored_of (set subpatterns i s) ≡ put_stored (stored_of s) (map stored_of subpatterns)
+put_there s subpatterns i e = map-set stored_of subpatterns i s ∙ sym (put (stored_of s) (map stored_of subpatterns) i e)
+
+kept-one : (s x : Stored) (rest : List Stored) (i : ℕ) (q : List ℕ) (b : Bool) (r : Option ℕ) → (b ≡ true → s.name ≡ x.name) →
+    ((j : ℕ) → r ≡ Some j → place_in (set rest j s) q ≡ place_in rest q) → (if b then Some 0 else option_map suc r) ≡ Some i →
+    place_in (set (x ∷ rest) i s) q ≡ place_in (x ∷ rest) q
+kept-one s x rest i q true r same h e =
+    let z : i ≡ 0 = cc in
+    rw z (ap (λ (n : List ℕ). if bytes_eq q n then Some 0 else option_map suc (place_in rest q)) (same refl))
+kept-one s x rest i q false None same h e = cc
+kept-one s x rest i q false (Some j) same h e =
+    let z : i ≡ suc j = cc in
+    rw z (ap (λ (o : Option ℕ). if bytes_eq q x.name then Some 0 else option_map suc o) (h j refl))
+
+-- every name keeps its index then
+pub places_kept : (s : Stored) (names : List Stored) (i : ℕ) → place_in names s.name ≡ Some i → (q : List ℕ) → place_in (set names i s) q ≡ place_in names q
+places_kept s [] i e q = cc
+places_kept s (x ∷ rest) i e q =
+    kept-one s x rest i q (bytes_eq s.name x.name) (place_in rest s.name) (bytes_eq-Decides s.name x.name).0 (λ j f. places_kept s rest j f q) e
+
+more-one : (n : ℕ) (b c : Bool) (r after : Option ℕ) → (c ≡ true → b ≡ false) → after ≡ cond c (Some n) r →
+    (if b then Some 0 else option_map suc after) ≡ cond c (Some (suc n)) (if b then Some 0 else option_map suc r)
+more-one n true true r after h e = let f : true ≡ false = h refl in cc
+more-one n false true r after h e = ap (option_map suc) e
+more-one n b false r after h e = ap (λ (o : Option ℕ). if b then Some 0 else option_map suc o) e
+
+alone-one : (b c : Bool) → (b ≡ true → c ≡ true) → (c ≡ true → b ≡ true) → cond b (Some zero) None ≡ cond c (Some zero) None
+alone-one true true h g = refl
+alone-one true false h g = let f : false ≡ true = h refl in cc
+alone-one false true h g = let f : false ≡ true = g refl in cc
+alone-one false false h g = refl
+
+-- after one is added at the end, its name has the last index, and every other name keeps its own
+pub places_more : (s : Stored) (names : List Stored) → place_in names s.name ≡ None → (q : List ℕ) → place_in (names ++ s ∷ []) q ≡ cond (bytes_eq s.name q) (Some (length names)) (place_in names q)
+places_more s [] e q = alone-one (bytes_eq q s.name) (bytes_eq s.name q)
+    (λ t. (bytes_eq-Decides s.name q).1 (sym ((bytes_eq-Decides q s.name).0 t))) (λ t. (bytes_eq-Decides q s.name).1 (sym ((bytes_eq-Decides s.name q).0 t)))
+places_more s (x ∷ rest) e q =
+    let fresh = fresh-one (bytes_eq s.name x.name) (place_in rest s.name) e in
+    more-one (length rest) (bytes_eq q x.name) (bytes_eq s.name q) (place_in rest q) (place_in (rest ++ s ∷ []) q)
+    (λ t. subst (λ (n : List ℕ). bytes_eq n x.name ≡ false) ((bytes_eq-Decides s.name q).0 t) fresh.0) (places_more s rest fresh.1 q)
+
+-- the indices are right after one is added at the end
+pub found_more : (s : Subpattern) (subpatterns more : List Subpattern) (entries : List (Bor (List ℕ) × ℕ)) (last : ℕ) → last ≡ length subpatterns → FindPlaces (map stored_of subpatterns) entries →
+    place_in (map stored_of subpatterns) s.name.text.now ≡ None → more ≡ subpatterns ++ s ∷ [] → (q : List ℕ) →
+    cond (bytes_eq s.name.text.now q) (Some last) (lookup (λ (k : Bor (List ℕ)). bytes_eq q k.now) entries) ≡ place_in (map stored_of more) q
+found_more s subpatterns more entries last l found e m q =
+    let there : last ≡ length (map stored_of subpatterns) = l ∙ sym (length-map subpatterns stored_of) in
+    ap (λ (n : ℕ). cond (bytes_eq s.name.text.now q) (Some n) (lookup (λ (k : Bor (List ℕ)). bytes_eq q k.now) entries)) there
+    ∙ ap (λ (o : Option ℕ). cond (bytes_eq s.name.text.now q) (Some (length (map stored_of subpatterns))) o) (found q) ∙ sym (places_more (stored_of s) (map stored_of subpatterns) e q)
+    ∙ sym (ap (λ (names : List Stored). place_in names q) (ap (map stored_of) m ∙ map_push stored_of subpatterns s))
+
+-- the indices are right after one replaces the subpattern of its name
+pub found_there : (s : Subpattern) (subpatterns : List Subpattern) (i : ℕ) → place_in (map stored_of subpatterns) s.name.text.now ≡ Some i → (q : List ℕ) →
+    place_in (map stored_of subpatterns) q ≡ place_in (map stored_of (set subpatterns i s)) q
+found_there s subpatterns i e q = sym (ap (λ (names : List Stored). place_in names q) (map-set stored_of subpatterns i s) ∙ places_kept (stored_of s) (map stored_of subpatterns) i e q)
+
+-- a list after a call that cannot fail, as the choice by its result tells it
+pub if_ok_is : {X E : Type 0} {Y : Type 0} (result : Result X E) (now more old : Y) → IsOk result → now ≡ (if is_ok result then more else old) → now ≡ more
+if_ok_is (Ok x) now more old ok e = e
+if_ok_is (Err x) now more old ok e = let f : false ≡ true = ok in cc
+
+-- ---- faults of a second subpattern of a name
 
 -- a former one of this name is there
-pub put_twice : (name : Slice) (entries : Entries) (former : Subpattern) (found : Option Subpattern) → found ≡ lookup (λ (k : Bor (List ℕ)). bytes_eq name.text k.now) entries → found ≡ Some former →
-    twice_faults name (stored_at (map stored_of entries) name.text) ≡ subpattern_twice name ∷ previous former.name.span ∷ []
-put_twice name entries former found l f =
-    spans_twice name former.name.span (stored_at (map stored_of entries) name.text) (ap (option_map (λ (s : Subpattern). s.name.span)) (sym f ∙ l) ∙ found_span name.text entries)
+pub put_twice : (name : Slice) (former : Subpattern) (found : Option Subpattern) (stored : Option Stored) → found ≡ Some former → option_map stored_of found ≡ stored →
+    twice_faults name stored ≡ subpattern_twice name ∷ previous former.name.span ∷ []
+put_twice name former found stored f e =
+    let is : Some (stored_of former) ≡ stored = ap (option_map stored_of) (sym f) ∙ e in
+    subst (λ (o : Option Stored). twice_faults name o ≡ subpattern_twice name ∷ previous former.name.span ∷ []) is refl
 
 -- no former one is there
-pub put_once : (name : Slice) (entries : Entries) (found : Option Subpattern) → found ≡ lookup (λ (k : Bor (List ℕ)). bytes_eq name.text k.now) entries → found ≡ None →
-    twice_faults name (stored_at (map stored_of entries) name.text) ≡ []
-put_once name entries found l f =
-    spans_once name (stored_at (map stored_of entries) name.text) (ap (option_map (λ (s : Subpattern). s.name.span)) (sym f ∙ l) ∙ found_span name.text entries)
+pub put_once : (name : Slice) (found : Option Subpattern) (stored : Option Stored) → found ≡ None → option_map stored_of found ≡ stored → twice_faults name stored ≡ []
+put_once name found stored f e =
+    let is : None ≡ stored = ap (option_map stored_of) (sym f) ∙ e in
+    subst (λ (o : Option Stored). twice_faults name o ≡ []) is refl
 
 -- ---- reading a pattern
 

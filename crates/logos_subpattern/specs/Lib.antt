@@ -1,4 +1,5 @@
 pub mod PatternFaults
+pub mod StoredViews
 pub mod SubpatternViews
 pub mod Subpatterns
 pub mod Substitution

@@ -1,3 +1,4 @@
 pub mod Errors
 pub mod Parts
+pub mod Places
 pub mod Tests

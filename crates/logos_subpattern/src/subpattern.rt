@@ -1,18 +1,20 @@
 //! The subpatterns of a lexer, with their texts. `logos_leaf` makes them once, after all attributes
 //! of the enum are read.
 
-ghost use Rattle.std.specs.Prelude.{◌≡◌, ◌++◌, ◌∷◌, [], IfOk, OnOk, string_bytes, ℕ, List, map, option_map, OnErr, chars};
-ghost use Rattle.logos_subpattern.specs.Views.{list_all, previous, ident_slice, literal_view, named_literal_view, AddsFault, is_word, is_name, flags_of, pattern_text, wrapped, subpattern_name, subpattern_twice, utf8_subpattern, utf8_text, Bor, IsReport, text_of, subst_report, stored_report, tested_report, IsAdded, AreAdded, IsTested, names_of};
+ghost use Rattle.std.specs.Prelude.{◌≡◌, ◌++◌, ◌∷◌, [], ◌<◌, IfOk, IfSome, OnOk, string_bytes, ℕ, List, map, option_map, OnErr, chars, vec_len, None};
+ghost use Rattle.logos_subpattern.specs.Words.{list_all, previous, ident_slice, literal_view, named_literal_view, AddsFault, is_word, is_name, flags_of, pattern_text, wrapped, subpattern_name, subpattern_twice, utf8_subpattern, utf8_text, Bor, IsReport, text_of, subst_report, stored_report, tested_report, IsAdded, AreAdded, IsTested, put_stored, stored_at, place_in, FindPlaces};
+ghost use Rattle.logos_subpattern.specs.StoredViews.{stored_of};
 
 use crate::fault::{ReadingMode, read_pattern};
 use crate::substitution::substituted;
-use indexmap::IndexMap;
 use logos_attribute::reporting::report_named;
 use logos_pattern::pattern::Literal;
 use logos_token::error::{Errors, FaultCode, Memory};
 use logos_token::token::{Ident, Span};
 use logos_type_params::reporting::report_previous;
 use std::alloc::Global;
+use std::collections::HashMap;
+use std::mem;
 
 /// A pattern with a name, by which other patterns use it.
 #[derive(Drop)]
@@ -26,7 +28,11 @@ pub struct Subpattern<'s> {
 /// The subpatterns of a lexer.
 #[derive(Drop)]
 pub struct Subpatterns<'s> {
-    map: IndexMap<&'s str, Subpattern<'s>>,
+    /// The subpatterns, in the order in which their names came first.
+    list: Vec<Subpattern<'s>>,
+    /// For each name its index in the list.
+    places: HashMap<&'s str, usize>,
+    ghost found: { FindPlaces (map stored_of list.items) places.entries },
 }
 
 /// The flags by which the text of a subpattern is tested. The text sets its own.
@@ -163,13 +169,53 @@ fn report_utf8(named: &(Ident<'_>, Literal<'_>), errors: &mut Errors) -> Result<
 }
 
 impl<'s> Subpatterns<'s> {
+    ghost use Rattle.logos_subpattern.specs.SubpatternViews.{names_of};
+
+    /// Returns the index of the subpattern with this name, if there is one.
+    fn place(&self, name: &str) -> Option<usize>
+        ensures place { result ≡ place_in (names_of self.now) name.now }
+        ensures within { IfSome result (λ place. place < vec_len self.now.list) }
+    {
+        let place = self.places.get(name)?;
+        Some(*place)
+    }
+
     /// Returns the text of the subpattern with this name, if there is one.
     pub(crate) fn find(&self, name: &str) -> Option<&str>
         ensures { option_map (λ (text : Bor (List ℕ)). text.now) result
             ≡ text_of (names_of self.now) name.now }
     {
-        let subpattern = self.map.get(name)?;
-        Some(subpattern.pattern.as_str())
+        let place = self.place(name)?;
+        Some(self.list[place].pattern.as_str())
+    }
+
+    /// Adds a subpattern with a new name at the end. After an error the subpatterns are unchanged.
+    fn push(&mut self, subpattern: Subpattern<'s>) -> Result<(), Memory>
+        requires { place_in (names_of self.old) subpattern.name.text.now ≡ None }
+        ensures ok { OnOk result
+            (names_of self.new ≡ names_of self.old ++ stored_of subpattern.entry ∷ []) }
+        ensures err { OnErr result (names_of self.new ≡ names_of self.old) }
+    {
+        self.list.reserve(1)?;
+        self.places.insert(subpattern.name.text, self.list.len())?;
+        self.list.push(subpattern)?;
+        Ok(())
+    }
+
+    /// Puts a subpattern in place of the one that has its name, and returns that one. After an
+    /// error the subpatterns are unchanged.
+    fn put(&mut self, subpattern: Subpattern<'s>) -> Result<Option<Subpattern<'s>>, Memory>
+        ensures former { IfOk result (λ former. option_map stored_of former
+            ≡ stored_at (names_of self.old) subpattern.entry.name.text.now) }
+        ensures put { OnOk result
+            (names_of self.new ≡ put_stored (stored_of subpattern.entry) (names_of self.old)) }
+        ensures err { OnErr result (names_of self.new ≡ names_of self.old) }
+    {
+        let Some(place) = self.place(subpattern.name.text) else {
+            self.push(subpattern)?;
+            return Ok(None);
+        };
+        Ok(Some(mem::replace(&mut self.list[place], subpattern)))
     }
 
     /// Stores a subpattern in place of the one that has its name, and reports that one.
@@ -179,7 +225,7 @@ impl<'s> Subpatterns<'s> {
             (names_of self.new) errors.old errors.new) }
     {
         let subpattern = Subpattern { name, pattern };
-        if let Some(former) = self.map.insert(name.text, subpattern)? {
+        if let Some(former) = self.put(subpattern)? {
             report_twice(name, former.name.span, errors)?;
         }
         Ok(())
@@ -258,7 +304,8 @@ impl<'s> Subpatterns<'s> {
             errors.old errors.new) }
     {
         let mut subpatterns = Subpatterns {
-            map: IndexMap::new(errors.alloc()),
+            list: Vec::new(errors.alloc()),
+            places: HashMap::new(errors.alloc()),
         };
         for named in list {
             subpatterns.add(utf8_mode, named, errors)?;

@@ -1,15 +1,17 @@
-use Rattle.std.proofs.Common.{◌∙◌, List, ℕ, Some, option_map, ap, string_bytes}
+use Rattle.std.proofs.Common.{◌∙◌, Some, map, option_map, ap, sym, string_bytes}
 use Rattle.logos_subpattern.specs.declared.subpattern.Subpattern.{Subpattern}
-use Rattle.logos_subpattern.proofs.SubpatternLemmas.{found_text}
+use Rattle.logos_subpattern.specs.StoredViews.{stored_of}
+use Rattle.logos_subpattern.specs.Substitution.{Stored}
+use Rattle.logos_subpattern.proofs.SubpatternLemmas.{stored_nowhere, stored_there}
 use Rattle.logos_subpattern.proofs.subpattern.Subpatterns.find.Goals as goal
 
-pub returns-in_err-subpattern : goal.returns-in_err-subpattern
-returns-in_err-subpattern c =
+pub returns-in_err-place : goal.returns-in_err-place
+returns-in_err-place c =
     rw c.from_residual.ensures
-    (ap (option_map (λ (s : Subpattern). string_bytes s.pattern)) c.in_err-subpattern.ensures.value ∙ found_text c.args.name.now c.args.self.now.map.entries)
+    (sym (ap (option_map (λ (s : Stored). s.text)) (stored_nowhere (map stored_of c.args.self.now.list.items) c.args.name.now (sym c.in_err-place.ensures.place))))
 
 pub returns : goal.returns
 returns c =
-    ap (λ (t : List ℕ). Some t) c.as_str.ensures.value
-    ∙ ap (option_map (λ (s : Subpattern). string_bytes s.pattern)) c.in_ok-subpattern.ensures.value
-    ∙ found_text c.args.name.now c.args.self.now.map.entries
+    rw c.as_str.ensures.value
+    (ap (λ (s : Subpattern). Some (string_bytes s.pattern)) c.index.ensures
+    ∙ sym (ap (option_map (λ (s : Stored). s.text)) (stored_there c.args.self.now.list.items c.args.name.now c.in_ok-place.place c.index.result.now (sym c.in_ok-place.ensures.place))))
