@@ -34,5 +34,5 @@ param_values (x ∷ xs) = ap (λ values. param_value x ∷ values) (param_values
 -- parsers with equal views give equal types
 pub same_params : (p q : Parser) (held : List (List ℕ)) → parser_view p ≡ parser_view q → params_with p.types held ≡ params_with q.types held
 same_params p q held e =
-    let same : map param_of (map given_of p.types.types.entries) ≡ map param_of (map given_of q.types.types.entries) = ap (λ (v : OptionsView). map param_of v.types.types) e in
-    ap (λ (types : List ParamValue). record { types = types; held = held }) (sym (param_values p.types.types.entries) ∙ (same ∙ param_values q.types.types.entries))
+    let same : map param_of (map given_of p.types.types.entries.items) ≡ map param_of (map given_of q.types.types.entries.items) = ap (λ (v : OptionsView). map param_of v.types.types) e in
+    ap (λ (types : List ParamValue). record { types = types; held = held }) (sym (param_values p.types.types.entries.items) ∙ (same ∙ param_values q.types.types.entries.items))

@@ -5,7 +5,6 @@ ghost use Rattle.logos_leaf.specs.Words.{tokens_of, texts, params_with, paramete
 
 use crate::leaf::regex_leaf;
 use crate::variant::{add_variants, push_leaf};
-use indexmap::IndexSet;
 use logos_definition::definition::Definition;
 use logos_definition::parser::Parser;
 use logos_enum::{ItemEnum, Parameter, Variant, split_attribute};
@@ -13,6 +12,7 @@ use logos_pattern::leaf::{Leaf, VariantKind};
 use logos_subpattern::subpattern::Subpatterns;
 use logos_token::error::{Errors, Memory};
 use logos_token::token::Tokens;
+use std::collections::HashSet;
 use std::mem;
 
 /// Reads the generic parameters of an enum into a parser, in order.
@@ -64,7 +64,7 @@ fn add_skips<'s>(
 /// the parameters that hold themselves.
 fn leaves_with<'s>(
     variants: &[Variant<'_, 's>],
-    held: &IndexSet<&'s str>,
+    held: &HashSet<&'s str>,
     subpatterns: &Subpatterns<'s>,
     parser: &mut Parser<'s>,
 ) -> Result<Vec<Leaf<'s>>, Memory>

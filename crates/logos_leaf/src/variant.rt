@@ -10,7 +10,6 @@ use crate::variant::fault::{
     report_count, report_error_variant, report_named_fields, report_regex_form, report_token_form,
     report_variant_fields,
 };
-use indexmap::IndexSet;
 use logos_definition::meta::meta_of;
 use logos_definition::parser::Parser;
 use logos_enum::{Attribute, Field, Fields, Variant, split_attribute};
@@ -20,12 +19,13 @@ use logos_token::error::{Errors, Memory};
 use logos_token::token::{Ident, Span, Tokens};
 use logos_type_params::TypeParams;
 use std::alloc::AllocError;
+use std::collections::HashSet;
 
 /// The declared type parameters of an enum, and the names of those that hold themselves.
 #[derive(Clone, Copy)]
 pub struct Types<'p, 's> {
     pub params: &'p TypeParams<'s>,
-    pub held: &'p IndexSet<&'s str>,
+    pub held: &'p HashSet<&'s str>,
 }
 
 /// Returns the kind of a variant with this field.
@@ -195,7 +195,7 @@ fn add_attributes<'s>(
 /// Adds the leaves of a variant.
 fn add_variant<'s>(
     variant: &Variant<'_, 's>,
-    held: &IndexSet<&'s str>,
+    held: &HashSet<&'s str>,
     subpatterns: &Subpatterns<'s>,
     parser: &mut Parser<'s>,
     leaves: &mut Vec<Leaf<'s>>,
@@ -216,7 +216,7 @@ fn add_variant<'s>(
 /// Adds the leaves of all variants, in source order.
 pub(crate) fn add_variants<'s>(
     variants: &[Variant<'_, 's>],
-    held: &IndexSet<&'s str>,
+    held: &HashSet<&'s str>,
     subpatterns: &Subpatterns<'s>,
     parser: &mut Parser<'s>,
     leaves: &mut Vec<Leaf<'s>>,

@@ -1,15 +1,10 @@
 -- Chains of types, by the names and by the places of the types.
-use Rattle.std.proofs.Common.{◌≡◌, ℕ, zero, suc, ◌+◌, ◌<◌, ◌⊎◌, inl, inr, ⊎_elim, ◌↔◌, List, [], ◌∷◌, ◌++◌, ◌||◌, map, length, drop, get_or, Bool, true, false, IsTrue, Some, is_some, slice_get, slice_index_or, Contains, Bor, refl, sym, ap, ◌∙◌, arith, subst, append_assoc, true≢false}
+use Rattle.std.proofs.Common.{◌≡◌, ℕ, zero, suc, ◌+◌, ◌<◌, ◌⊎◌, inl, inr, ⊎_elim, ◌↔◌, List, [], ◌∷◌, ◌++◌, ◌||◌, map, length, drop, get_or, Bool, true, false, cond, IsTrue, slice_index_or, Contains, Bor, refl, sym, ap, ◌∙◌, arith, subst, append_assoc, true≢false}
 use Rattle.std.proofs.lemmas.List.{map_push, at_drop_more, length-map}
-use Rattle.std.proofs.lemmas.List.Quantifiers.{position-Some}
 use Rattle.std.proofs.lemmas.List.Elements.{Contains-push, Contains-push_cases, Contains-append_left}
-use Rattle.std.proofs.lemmas.List.Folds.{list_any-append}
-use Rattle.std.proofs.lemmas.Option.{slice_get_within, get_or_from_slice_get}
 use Rattle.std.proofs.lemmas.Slice.Eq.{bytes_eq-Decides}
 use Rattle.std.specs.Str.{bytes_eq}
-use Rattle.std.specs.List.{list_any, position}
-use Rattle.std.specs.Map.{lookup, keys_of}
-use Rattle.indexmap.specs.IndexSet.{insert_key}
+use Rattle.std.specs.List.{list_any}
 use Rattle.logos_cycles.specs.Cycles.{targets_of, Leads as Path, one as step, on as steps}
 use Rattle.logos_type.specs.declared.type_expr.TypePart.{TypePart}
 use Rattle.logos_type.specs.Parts.{name, trees, also, tree_of}
@@ -26,27 +21,10 @@ Entries = List (Bor Text × TypeParam)
 
 -- ---- lists of texts
 
-pub has_left : (a b : List Text) (t : Text) → Has a t → Has (a ++ b) t
-has_left [] b t h = absurd h
-has_left (x ∷ a) b t (inl e) = inl e
-has_left (x ∷ a) b t (inr h) = inr (has_left a b t h)
-
-pub has_last : (a : List Text) (t : Text) → Has (a ++ t ∷ []) t
-has_last [] t = inl refl
-has_last (x ∷ a) t = inr (has_last a t)
-
-pub has_either : (a b : List Text) (t : Text) → Has (a ++ b) t → Has a t ⊎ Has b t
-has_either [] b t h = inr h
-has_either (x ∷ a) b t (inl e) = inl (inl e)
-has_either (x ∷ a) b t (inr h) = ⊎_elim (λ k. inl (inr k)) (λ k. inr k) (has_either a b t h)
-
-pub has_cases : (a : List Text) (x t : Text) → Has (a ++ x ∷ []) t → Has a t ⊎ (x ≡ t)
-has_cases a x t h = ⊎_elim (λ k. inl k) (⊎_elim (λ e. inr e) (λ k. absurd k)) (has_either a (x ∷ []) t h)
-
 pub same_text : (a b : Text) → bytes_eq a b ≡ true → a ≡ b
 same_text a b e = (bytes_eq-Decides a b).0 e
 
-eq_text : (a b : Text) → a ≡ b → bytes_eq a b ≡ true
+pub eq_text : (a b : Text) → a ≡ b → bytes_eq a b ≡ true
 eq_text a b e = (bytes_eq-Decides a b).1 e
 
 other_text : (a b : Text) → bytes_eq a b ≡ false → a ≡ b → ⊥
@@ -83,41 +61,15 @@ any_from_has t (k ∷ keys) (inr h) = go (bytes_eq t k) (any_from_has t keys h)
     go true rest = refl
     go false rest = rest
 
--- a key is put among others
-pub with_key : (t : Bor Text) (keys : List (Bor Text)) →
-    (Has (texts keys) t.now × (insert_key (λ (a b : Bor Text). bytes_eq a.now b.now) keys t ≡ keys))
-    ⊎ ((list_any (bytes_eq t.now) (texts keys) ≡ false) × (texts (insert_key (λ (a b : Bor Text). bytes_eq a.now b.now) keys t) ≡ texts keys ++ t.now ∷ []))
-with_key t keys = go (list_any (λ (k : Bor Text). bytes_eq t.now k.now) keys) refl
-  where
-    go : (b : Bool) → list_any (λ (k : Bor Text). bytes_eq t.now k.now) keys ≡ b →
-        (Has (texts keys) t.now × (insert_key (λ (a b : Bor Text). bytes_eq a.now b.now) keys t ≡ keys))
-        ⊎ ((list_any (bytes_eq t.now) (texts keys) ≡ false) × (texts (insert_key (λ (a b : Bor Text). bytes_eq a.now b.now) keys t) ≡ texts keys ++ t.now ∷ []))
-    go true e = inl (any_has t.now (texts keys) (sym (any_texts t.now keys) ∙ e), rw e refl)
-    go false e = inr (sym (any_texts t.now keys) ∙ e, rw e (map_push (λ (k : Bor Text). k.now) keys t))
+-- a text is put among others
+abbrev pub PutsText : Bor Text → List (Bor Text) → List (Bor Text) → Type 0
+PutsText t keys keys' = (q : Bor Text) → list_any (λ (k : Bor Text). bytes_eq q.now k.now) keys' ≡ cond (bytes_eq t.now q.now) true (list_any (λ (k : Bor Text). bytes_eq q.now k.now) keys)
 
--- ---- names that are put behind others
-
-pub any_push : (t : Text) (keys : List Text) (d : Text) → list_any (bytes_eq d) (keys ++ t ∷ []) ≡ (list_any (bytes_eq d) keys || list_any (bytes_eq d) (t ∷ []))
-any_push t keys d = list_any-append (bytes_eq d) keys (t ∷ [])
+pub any_put : (t : Bor Text) (keys keys' : List (Bor Text)) → PutsText t keys keys' → (x : Text) → list_any (bytes_eq x) (texts keys') ≡ cond (bytes_eq t.now x) true (list_any (bytes_eq x) (texts keys))
+any_put t keys keys' put x =
+    sym (any_texts x keys') ∙ put (record { ref_ptr = (0, 0); now = x }) ∙ ap (λ (b : Bool). cond (bytes_eq t.now x) true b) (any_texts x keys)
 
 -- ---- the places of names
-
-no_key : Bor Text
-no_key = record { ref_ptr = (0, 0); now = [] }
-
-pub placed : (t : Text) (es : Entries) (i : ℕ) → position (λ (k : Bor Text). bytes_eq t k.now) (keys_of es) ≡ Some i → StandsAt (map param_value es) t i
-placed t es i h = let p = position-Some (λ (k : Bor Text). bytes_eq t k.now) (keys_of es) i no_key h in go es i p.0 p.1 p.2
-  where
-    go : (xs : Entries) (k : ℕ) → k < length (keys_of xs) → bytes_eq t (get_or (keys_of xs) k no_key).now ≡ true → ((l : ℕ) → l < k → bytes_eq t (get_or (keys_of xs) l no_key).now ≡ false) →
-        StandsAt (map param_value xs) t k
-    go [] k lt e f = absurd (omega (arith, lt))
-    go (x ∷ xs) zero lt e f = eq_sym x.0.now t ∙ e
-    go (x ∷ xs) (suc k) lt e f = (eq_sym x.0.now t ∙ f 0 (omega arith), go xs k (omega (arith, lt)) e (λ l m. f (suc l) (omega (arith, m))))
-
-pub unplaced : (t : Text) (es : Entries) → is_some (lookup (λ (k : Bor Text). bytes_eq t k.now) es) ≡ false → (i : ℕ) → StandsAt (map param_value es) t i → ⊥
-unplaced t [] h i s = s
-unplaced t (e ∷ es) h zero s = let q = eq_sym t e.0.now ∙ s in true≢false (rw q at h)
-unplaced t (e ∷ es) h (suc i) s = let q = eq_sym t e.0.now ∙ s.0 in unplaced t es (rw q at h) i s.1
 
 once : (ps : List ParamValue) (t : Text) (i j : ℕ) → StandsAt ps t i → StandsAt ps t j → i ≡ j
 once [] t i j s k = absurd s
@@ -210,17 +162,16 @@ reaches_on params Whole items k p old mid completes h e first new rest =
 
 -- each type has the list of the places to which it leads, where what completes the rest completes
 -- the whole
-pub reached_on : (params : List ParamValue) {L : Type 0} (items : L → List ℕ) (es : Entries) (k : ℕ) (key : Bor Text) (p : TypeParam) (old new : List L) (list : L) →
-    ((left : List (List ℕ)) → AreReached params (map param_value (drop k es)) left → AreReached params params (map items old ++ left)) → slice_get es k ≡ Some (key, p) →
-    Reaches params (names (tree_of p.part)) [] (items list) → new ≡ old ++ list ∷ [] →
+pub reached_on : (params : List ParamValue) {L : Type 0} (items : L → List ℕ) (es : Entries) (k : ℕ) (e : Bor Text × TypeParam) (old new : List L) (list : L) →
+    ((left : List (List ℕ)) → AreReached params (map param_value (drop k es)) left → AreReached params params (map items old ++ left)) → k < length es → e ≡ get_or es k e →
+    Reaches params (names (tree_of e.1.part)) [] (items list) → new ≡ old ++ list ∷ [] →
     (left : List (List ℕ)) → AreReached params (map param_value (drop (k + 1) es)) left → AreReached params params (map items new ++ left)
-reached_on params items es k key p old new list completes at first e left rest =
-    let front : map param_value (drop k es) ≡ param_value (key, p) ∷ map param_value (drop (k + 1) es) =
-    at_drop_more (map param_value) es k (key, p) (slice_get_within es k (key, p) at)
-    ∙ ap (λ (d : Bor Text × TypeParam). param_value d ∷ map param_value (drop (k + 1) es)) (get_or_from_slice_get es k (key, p) (key, p) at) in
+reached_on params items es k e old new list completes lt at first put left rest =
+    let front : map param_value (drop k es) ≡ param_value e ∷ map param_value (drop (k + 1) es) =
+    at_drop_more (map param_value) es k e lt ∙ ap (λ (d : Bor Text × TypeParam). param_value d ∷ map param_value (drop (k + 1) es)) (sym at) in
     let whole = completes (items list ∷ left) (rw front (first, rest)) in
     let same : map items new ++ left ≡ map items old ++ items list ∷ left =
-    ap (λ (l : List (List ℕ)). l ++ left) (ap (map items) e ∙ map_push items old list) ∙ append_assoc (map items old) (items list ∷ []) left in
+    ap (λ (l : List (List ℕ)). l ++ left) (ap (map items) put ∙ map_push items old list) ∙ append_assoc (map items old) (items list ∷ []) left in
     rw same whole
 
 reached_length : (whole ps : List ParamValue) (lists : List (List ℕ)) → AreReached whole ps lists → length lists ≡ length ps

@@ -1,16 +1,16 @@
 -- Types that are found by the names that they are given to.
-use Rattle.std.proofs.Common.{◌≡◌, List, [], ◌∷◌, map, Bool, true, false, Option, Some, None, Bor, refl, sym, ap, ◌∙◌, if◌then◌else◌}
+use Rattle.std.proofs.Common.{◌≡◌, List, [], ◌∷◌, map, Bool, true, false, Option, Some, None, Bor, refl, ap, ◌∙◌, if◌then◌else◌}
 use Rattle.std.specs.Str.{bytes_eq}
 use Rattle.std.specs.List.{list_any}
 use Rattle.std.specs.Map.{lookup}
-use Rattle.indexmap.specs.IndexMap.{insert_entry}
 use Rattle.logos_type.specs.Parts.{tree_of}
 use Rattle.logos_type_params.specs.declared.substitution.TypeParam.{TypeParam}
 use Rattle.logos_type_params.specs.Substitution.{nothing, given_type, given_first, is_among, param_value}
 use Rattle.logos_type_params.specs.SelfReference.{texts}
 use Rattle.logos_type_params.specs.TypeParams.{given_of, former, given_more, Given as Typed}
 use Rattle.logos_type_params.specs.Generics.{type_of}
-use Rattle.logos_type_params.proofs.ChainLemmas.{Text, Entries, eq_sym, same_text}
+use Rattle.logos_type_params.specs.inside.Places.{put_in}
+use Rattle.logos_type_params.proofs.ChainLemmas.{Text, Entries, eq_sym}
 
 pub among_keys : (t : Text) (keys : List (Bor Text)) → list_any (λ (k : Bor Text). bytes_eq t k.now) keys ≡ is_among (texts keys) t
 among_keys t [] = refl
@@ -60,11 +60,10 @@ pub former_none : (t : Text) (es : Entries) → lookup (λ (k : Bor Text). bytes
 former_none = meant_none None (λ p. Some p.span) (λ es t. former (map given_of es) t) (λ t. refl) (λ e es t. refl)
 
 -- one type more
-pub given_put : (key : Bor Text) (p : TypeParam) (es : Entries) → map given_of (insert_entry (λ (a b : Bor Text). bytes_eq a.now b.now) es key p) ≡ given_more (given_of (key, p)) (map given_of es)
-given_put key p [] = refl
-given_put key p (e ∷ es) = go (bytes_eq key.now e.0.now) refl (given_put key p es)
+pub given_put : (entry : Bor Text × TypeParam) (es : Entries) → map given_of (put_in entry es) ≡ given_more (given_of entry) (map given_of es)
+given_put entry [] = refl
+given_put entry (e ∷ es) = go (bytes_eq entry.0.now e.0.now) refl (given_put entry es)
   where
-    go : (b : Bool) → bytes_eq key.now e.0.now ≡ b → map given_of (insert_entry (λ (a b : Bor Text). bytes_eq a.now b.now) es key p) ≡ given_more (given_of (key, p)) (map given_of es) →
-        map given_of (insert_entry (λ (a b : Bor Text). bytes_eq a.now b.now) (e ∷ es) key p) ≡ given_more (given_of (key, p)) (map given_of (e ∷ es))
-    go true q rest = rw q (ap (λ (text : Text). (record { name = record { text = text; at = p.at }; type = tree_of p.part; at = p.span }) ∷ map given_of es) (sym (same_text key.now e.0.now q)))
+    go : (b : Bool) → bytes_eq entry.0.now e.0.now ≡ b → map given_of (put_in entry es) ≡ given_more (given_of entry) (map given_of es) → map given_of (put_in entry (e ∷ es)) ≡ given_more (given_of entry) (map given_of (e ∷ es))
+    go true q rest = rw q refl
     go false q rest = rw q (ap (λ (l : List Typed). given_of e ∷ l) rest)

@@ -1,7 +1,6 @@
 -- DeclaredNames that are asked one by one whether they hold themselves.
-use Rattle.std.proofs.Common.{◌≡◌, ℕ, ◌+◌, ◌⊎◌, inl, inr, ⊎_elim, List, [], ◌∷◌, map, drop, slice_get, Some, Bor, subst, sym, ap, ◌∙◌}
+use Rattle.std.proofs.Common.{◌≡◌, ℕ, ◌+◌, ◌⊎◌, inl, inr, ⊎_elim, List, [], ◌∷◌, map, drop, length, get_or, ◌<◌, Bor, subst, sym, ap, ◌∙◌}
 use Rattle.std.proofs.lemmas.List.{at_drop_more}
-use Rattle.std.proofs.lemmas.Option.{slice_get_within, get_or_from_slice_get}
 use Rattle.logos_type_params.specs.declared.substitution.TypeParam.{TypeParam}
 use Rattle.logos_type_params.specs.Substitution.{ParamValue, param_value}
 use Rattle.logos_type_params.specs.SelfReference.{Leads, one, on, Has}
@@ -51,8 +50,8 @@ module _ (params : List ParamValue) where
       none_left text r = absurd (let n : ⊥ = rw e at r in n)
 
 -- the first of the names that are left
-pub names_front : (entries : List (Bor Text × TypeParam)) (k : ℕ) (e : Bor Text × TypeParam) → slice_get entries k ≡ Some e →
+pub names_front : (entries : List (Bor Text × TypeParam)) (k : ℕ) (e : Bor Text × TypeParam) → k < length entries → e ≡ get_or entries k e →
     given_names (map param_value (drop k entries)) ≡ e.0.now ∷ given_names (map param_value (drop (k + 1) entries))
-names_front entries k e h =
-    at_drop_more (λ es. given_names (map param_value es)) entries k e (slice_get_within entries k e h)
-    ∙ ap (λ (d : Bor Text × TypeParam). d.0.now ∷ given_names (map param_value (drop (k + 1) entries))) (get_or_from_slice_get entries k e e h)
+names_front entries k e lt at =
+    at_drop_more (λ es. given_names (map param_value es)) entries k e lt
+    ∙ ap (λ (d : Bor Text × TypeParam). d.0.now ∷ given_names (map param_value (drop (k + 1) entries))) (sym at)

@@ -1,9 +1,8 @@
 -- DeclaredNames in front of others, and what follows for those that are checked, copied and asked.
-use Rattle.std.proofs.Common.{◌≡◌, ℕ, ◌⊎◌, ◌↔◌, inl, ⊎_elim, List, [], ◌∷◌, ◌++◌, ◌||◌, Bool, true, false, not, Option, Some, None, Bor, refl, sym, ap, ◌∙◌, subst, append_assoc, append-nil, true≢false, IsTrue, if◌then◌else◌, Result, Ok, Err}
-use Rattle.std.specs.Prelude.{IfOk, OnOk, IsOk}
+use Rattle.std.proofs.Common.{◌≡◌, ℕ, ◌⊎◌, ◌↔◌, inl, List, [], ◌∷◌, ◌++◌, ◌||◌, Bool, true, false, not, Option, Some, None, Bor, refl, sym, ap, ◌∙◌, subst, append_assoc, append-nil, true≢false, IsTrue, if◌then◌else◌, cond, inr, Result, Ok, Err}
+use Rattle.std.specs.Prelude.{OnOk, IsOk}
 use Rattle.std.specs.Str.{bytes_eq}
 use Rattle.std.specs.List.{list_any}
-use Rattle.indexmap.specs.IndexSet.{insert_key}
 use Rattle.logos_token.specs.Faults.{Fault}
 use Rattle.logos_type_params.specs.Substitution.{ParamValue}
 use Rattle.logos_type_params.specs.SelfReference.{Leads, Has, texts}
@@ -15,31 +14,30 @@ use Rattle.logos_type_params.specs.WrittenTypes.{is_held, is_free}
 use Rattle.logos_type_params.specs.inside.Chains.{AreMarked}
 use Rattle.logos_type_params.specs.inside.Fronts.{AreInFront}
 use Rattle.logos_type_params.specs.inside.Checks.{ChecksName, AsksName, CopiesName}
-use Rattle.logos_type_params.proofs.ChainLemmas.{Text, has_left, has_last, has_cases, any_texts, any_from_has, any_push, with_key, eq_sym, same_text}
+use Rattle.logos_type_params.proofs.ChainLemmas.{Text, any_texts, any_has, any_from_has, any_put, PutsText, eq_text, same_text}
 
 -- a text among those to which one was added
-has_key : (t : Bor Text) (keys keys' : List (Bor Text)) (x : Text) → keys' ≡ insert_key (λ (a b : Bor Text). bytes_eq a.now b.now) keys t → Has (texts keys') x → Has (texts keys) x ⊎ (t.now ≡ x)
-has_key t keys keys' x e h = ⊎_elim
-    (λ there. inl (let f = e ∙ there.1 in rw f at h))
-    (λ new. has_cases (texts keys) t.now x (let f = ap texts e ∙ new.1 in rw f at h))
-    (with_key t keys)
+has_key : (t : Bor Text) (keys keys' : List (Bor Text)) (x : Text) → PutsText t keys keys' → Has (texts keys') x → Has (texts keys) x ⊎ (t.now ≡ x)
+has_key t keys keys' x put h = go (bytes_eq t.now x) refl
+  where
+    go : (b : Bool) → bytes_eq t.now x ≡ b → Has (texts keys) x ⊎ (t.now ≡ x)
+    go true e = inr (same_text t.now x e)
+    go false e = inl (any_has x (texts keys) (let f = sym (any_put t keys keys' put x) ∙ any_from_has x (texts keys') h in rw e at f))
 
-key_has : (t : Bor Text) (keys keys' : List (Bor Text)) (x : Text) → keys' ≡ insert_key (λ (a b : Bor Text). bytes_eq a.now b.now) keys t → Has (texts keys) x → Has (texts keys') x
-key_has t keys keys' x e h = ⊎_elim
-    (λ there. let f = e ∙ there.1 in rw f h)
-    (λ new. let f = ap texts e ∙ new.1 in rw f (has_left (texts keys) (t.now ∷ []) x h))
-    (with_key t keys)
+key_has : (t : Bor Text) (keys keys' : List (Bor Text)) (x : Text) → PutsText t keys keys' → Has (texts keys) x → Has (texts keys') x
+key_has t keys keys' x put h = any_has x (texts keys') (any_put t keys keys' put x ∙ go (bytes_eq t.now x))
+  where
+    go : (b : Bool) → cond b true (list_any (bytes_eq x) (texts keys)) ≡ true
+    go true = refl
+    go false = any_from_has x (texts keys) h
 
-key_put : (t : Bor Text) (keys keys' : List (Bor Text)) → keys' ≡ insert_key (λ (a b : Bor Text). bytes_eq a.now b.now) keys t → Has (texts keys') t.now
-key_put t keys keys' e = ⊎_elim
-    (λ there. let f = e ∙ there.1 in rw f there.0)
-    (λ new. let f = ap texts e ∙ new.1 in rw f (has_last (texts keys) t.now))
-    (with_key t keys)
+key_put : (t : Bor Text) (keys keys' : List (Bor Text)) → PutsText t keys keys' → Has (texts keys') t.now
+key_put t keys keys' put = any_has t.now (texts keys') (any_put t keys keys' put t.now ∙ rw (eq_text t.now t.now refl) refl)
 
 -- what holds of a success that is one
-pub if_ok_is : {T E P : Type 0} (r : Result T E) → IsOk r → IfOk r (λ x. P) → P
-if_ok_is (Ok x) is p = p
-if_ok_is (Err e) is p = absurd (true≢false (sym is))
+pub on_ok_is : {T E P : Type 0} (r : Result T E) → IsOk r → OnOk r P → P
+on_ok_is (Ok x) is p = p
+on_ok_is (Err e) is p = absurd (true≢false (sym is))
 
 -- ---- names in front
 
@@ -56,29 +54,21 @@ in_front (n ∷ front) named t = go (bytes_eq n.text t) refl (in_front front nam
     go true e rest = rw e refl
     go false e rest = rw e rest
 
-or_false : (a b : Bool) → (b ≡ true → a ≡ true) → a ≡ (a || b)
-or_false true b h = refl
-or_false false true h = h refl
-or_false false false h = refl
+or_first : (b d : Bool) → cond b true d ≡ (d || b)
+or_first true true = refl
+or_first true false = refl
+or_first false true = refl
+or_first false false = refl
 
-pub fronts_on : (t : Bor Text) (named : Named) (keys keys' : List (Bor Text)) (front : List Named) → named.text ≡ t.now → keys' ≡ insert_key (λ (a b : Bor Text). bytes_eq a.now b.now) keys t →
-    AreInFront front keys → AreInFront (front ++ named ∷ []) keys'
-fronts_on t named keys keys' front is e are x = ⊎_elim there new (with_key t keys)
-  where
-    there : (Has (texts keys) t.now × (insert_key (λ (a b : Bor Text). bytes_eq a.now b.now) keys t ≡ keys)) → list_any (bytes_eq x) (texts keys') ≡ is_declared (front ++ named ∷ []) x
-    there h =
-        ap (λ ks. list_any (bytes_eq x) (texts ks)) (e ∙ h.1) ∙ are x
-        ∙ or_false (is_declared front x) (bytes_eq named.text x) (λ q. sym (are x) ∙ any_from_has x (texts keys) (subst (λ (y : Text). Has (texts keys) y) (sym is ∙ same_text named.text x q) h.0))
-        ∙ sym (in_front front named x)
+pub fronts_on : (t : Bor Text) (named : Named) (keys keys' : List (Bor Text)) (front : List Named) → named.text ≡ t.now → PutsText t keys keys' → AreInFront front keys → AreInFront (front ++ named ∷ []) keys'
+fronts_on t named keys keys' front is put are x =
+    any_put t keys keys' put x ∙ ap (λ (b : Bool). cond (bytes_eq t.now x) true b) (are x) ∙ or_first (bytes_eq t.now x) (is_declared front x)
+    ∙ ap (λ (y : Text). is_declared front x || bytes_eq y x) (sym is) ∙ sym (in_front front named x)
 
-    new : ((list_any (bytes_eq t.now) (texts keys) ≡ false) × (texts (insert_key (λ (a b : Bor Text). bytes_eq a.now b.now) keys t) ≡ texts keys ++ t.now ∷ [])) → list_any (bytes_eq x) (texts keys') ≡ is_declared (front ++ named ∷ []) x
-    new h =
-        ap (λ (ks : List Text). list_any (bytes_eq x) ks) (ap texts e ∙ h.1) ∙ any_push t.now (texts keys) x
-        ∙ rw (are x, sym is, eq_sym x named.text) (ap (λ b. is_declared front x || b) (or_none (bytes_eq named.text x))) ∙ sym (in_front front named x)
-      where
-        or_none : (b : Bool) → (b || false) ≡ b
-        or_none true = refl
-        or_none false = refl
+-- the same texts in another order
+pub fronts_same : (front : List Named) (keys keys' : List (Bor Text)) → AreInFront front keys →
+    ((q : Bor Text) → list_any (λ (k : Bor Text). bytes_eq q.now k.now) keys' ≡ list_any (λ (k : Bor Text). bytes_eq q.now k.now) keys) → AreInFront front keys'
+fronts_same front keys keys' are same x = sym (any_texts x keys') ∙ same (record { ref_ptr = (0, 0); now = x }) ∙ any_texts x keys ∙ are x
 
 pub among : (t : Bor Text) (keys : List (Bor Text)) (added b : Bool) → added ≡ not (list_any (λ (k : Bor Text). bytes_eq t.now k.now) keys) → added ≡ b → list_any (bytes_eq t.now) (texts keys) ≡ not b
 among t keys added b e f = sym (any_texts t.now keys) ∙ go (list_any (λ (k : Bor Text). bytes_eq t.now k.now) keys) b (sym f ∙ e)
@@ -89,7 +79,7 @@ among t keys added b e f = sym (any_texts t.now keys) ∙ go (list_any (λ (k : 
     go false true h = refl
     go false false h = absurd (true≢false (sym h))
 
-module _ (t : Bor Text) (named : Named) (is : named.text ≡ t.now) (keys keys' : List (Bor Text)) (put : keys' ≡ insert_key (λ (a b : Bor Text). bytes_eq a.now b.now) keys t) (params : List ParamValue) (marks : List Bool) (before after : List Fault) where
+module _ (t : Bor Text) (named : Named) (is : named.text ≡ t.now) (keys keys' : List (Bor Text)) (put : PutsText t keys keys') (params : List ParamValue) (marks : List Bool) (before after : List Fault) where
   declared_as : (front : List Named) → AreInFront front keys → (b : Bool) → list_any (bytes_eq t.now) (texts keys) ≡ b → is_declared front named.text ≡ b
   declared_as front are b e = rw is (sym (are t.now) ∙ e)
 
@@ -116,7 +106,7 @@ module _ (t : Bor Text) (named : Named) (is : named.text ≡ t.now) (keys keys' 
 
 -- ---- types that are copied
 
-module _ (types : List Given) (t : Bor Text) (named : Named) (is : named.text ≡ t.now) (keys keys' : List (Bor Text)) (put : keys' ≡ insert_key (λ (a b : Bor Text). bytes_eq a.now b.now) keys t) where
+module _ (types : List Given) (t : Bor Text) (named : Named) (is : named.text ≡ t.now) (keys keys' : List (Bor Text)) (put : PutsText t keys keys') where
   chosen : (front : List Named) → AreInFront front keys → (b : Bool) → list_any (bytes_eq t.now) (texts keys) ≡ b → is_declared front named.text ≡ b
   chosen front are b e = rw is (sym (are t.now) ∙ e)
 
@@ -172,7 +162,7 @@ on_ok_one (Ok x) f p = f p
 on_ok_one (Err e) f p = tt
 
 -- a name that is asked is held or not
-pub asks_held : (params : List ParamValue) (marks : List Bool) (t : Bor Text) (leads : Bool) (keys keys' : List (Bor Text)) → leads ≡ true → (AreMarked params marks → IsTrue leads ↔ Leads params t.now t.now) → keys' ≡ insert_key (λ (a b : Bor Text). bytes_eq a.now b.now) keys t →
+pub asks_held : (params : List ParamValue) (marks : List Bool) (t : Bor Text) (leads : Bool) (keys keys' : List (Bor Text)) → leads ≡ true → (AreMarked params marks → IsTrue leads ↔ Leads params t.now t.now) → PutsText t keys keys' →
     AsksName params marks t.now (texts keys) (texts keys')
 asks_held params marks t leads keys keys' l asked put are =
     is_held ((asked are).0 l) (λ other h. has_key t keys keys' other put h) (λ other h. key_has t keys keys' other put h) (key_put t keys keys' put)

@@ -33,7 +33,7 @@ pub record Value : Type 0 where
 
 -- The declared names, and what was given to them, as a value.
 abbrev pub value_of : TypeParams → Value
-value_of params = record { names = map named_of params.names.list.items; types = map given_of params.types.entries; lifetime = params.lifetime }
+value_of params = record { names = map named_of params.names.list.items; types = map given_of params.types.entries.items; lifetime = params.lifetime }
 
 abbrev mutual
   -- A type with the lifetimes of references, and of the angle arguments of paths that are types,

@@ -11,7 +11,7 @@ use Rattle.logos_type_params.specs.TypeParams.{limit_type_nesting}
 
 -- The types that are given.
 abbrev pub types_of : TypeParams → List ParamValue
-types_of params = map param_value params.types.entries
+types_of params = map param_value params.types.entries.items
 
 -- The types that are given, and the names that are left in place.
 abbrev pub params_with : TypeParams → List (List ℕ) → Params

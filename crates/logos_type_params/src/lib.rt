@@ -3,6 +3,7 @@
 
 #![tactic(auto)]
 
+mod given_types;
 mod lifetimes;
 mod names;
 pub mod reporting;
@@ -10,6 +11,7 @@ mod self_reference;
 mod substitution;
 mod type_params;
 
+pub use given_types::GivenTypes;
 pub use lifetimes::{replace_lifetime, replace_lifetimes};
 pub use self_reference::holds_itself;
 pub use substitution::{Replacing, TypeParam, at_most_one_after, type_after};

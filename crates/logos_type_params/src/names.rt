@@ -5,10 +5,10 @@ ghost use Rattle.logos_type_params.specs.Words.{is_declared};
 ghost use Rattle.logos_type_params.specs.NameLists.{named_of};
 ghost use Rattle.logos_type_params.specs.inside.Fronts.{AreInFront};
 
-use indexmap::IndexSet;
 use logos_token::error::Memory;
 use logos_token::token::Ident;
 use std::alloc::Global;
+use std::collections::HashSet;
 
 /// Declared names. A name can be declared more than once.
 #[derive(Drop)]
@@ -16,7 +16,7 @@ pub(crate) struct DeclaredNames<'s> {
     /// The names, in order of declaration.
     pub(crate) list: Vec<Ident<'s>>,
     /// Their texts, each once.
-    pub(crate) texts: IndexSet<&'s str>,
+    pub(crate) texts: HashSet<&'s str>,
     ghost same: { AreInFront (map named_of list.items) texts.keys },
 }
 
@@ -27,7 +27,7 @@ impl<'s> DeclaredNames<'s> {
     {
         DeclaredNames {
             list: Vec::new(alloc),
-            texts: IndexSet::new(alloc),
+            texts: HashSet::new(alloc),
         }
     }
 

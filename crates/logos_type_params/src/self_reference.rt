@@ -5,8 +5,7 @@ ghost use Rattle.std.specs.Prelude.{◌≡◌, ◌↔◌, [], length, map, IfOk,
 ghost use Rattle.logos_type_params.specs.Views.{name, tree_of, names, Leads, Reaches, AreReached};
 ghost use Rattle.logos_type_params.specs.SelfReference.{param_value};
 
-use crate::substitution::TypeParam;
-use indexmap::IndexMap;
+use crate::given_types::GivenTypes;
 use logos_cycles::on_cycles;
 use logos_type::TypePart;
 use std::alloc::{AllocError, Global};
@@ -15,22 +14,22 @@ use std::alloc::{AllocError, Global};
 #[derive(Drop)]
 pub(crate) struct Chains<'p, 's> {
     /// The type given to each name.
-    types: &'p IndexMap<&'s str, TypeParam<'s>>,
+    types: &'p GivenTypes<'s>,
     /// For each type, whether a chain leads from its name back to it.
     held: Vec<bool>,
-    ghost fits: { length held.items ≡ length types.now.entries },
+    ghost fits: { length held.items ≡ length types.now.entries.items },
 }
 
 /// Adds the index of the type that is given to a name, if one is.
 fn reach_name<'s>(
-    types: &IndexMap<&'s str, TypeParam<'s>>,
+    types: &GivenTypes<'s>,
     text: &str,
     reached: &mut Vec<usize>,
 ) -> Result<(), AllocError>
-    ensures { OnOk result (Reaches (map param_value types.now.entries)
+    ensures { OnOk result (Reaches (map param_value types.now.entries.items)
         (names (name text.now)) reached.old.items reached.new.items) }
 {
-    let Some(at) = types.get_index_of(text) else {
+    let Some(at) = types.place_of(text) else {
         return Ok(());
     };
     reached.push(at)?;
@@ -39,11 +38,11 @@ fn reach_name<'s>(
 
 /// Adds the indices of the types given to the names that a type has among its parts.
 fn reach<'s>(
-    types: &IndexMap<&'s str, TypeParam<'s>>,
+    types: &GivenTypes<'s>,
     part: &TypePart<'s>,
     reached: &mut Vec<usize>,
 ) -> Result<(), AllocError>
-    ensures { OnOk result (Reaches (map param_value types.now.entries)
+    ensures { OnOk result (Reaches (map param_value types.now.entries.items)
         (names (tree_of part.now)) reached.old.items reached.new.items) }
 {
     match part {
@@ -59,20 +58,14 @@ fn reach<'s>(
 }
 
 /// Returns for each type the indices of the types to which it leads.
-fn all_reached<'s>(
-    alloc: Global,
-    types: &IndexMap<&'s str, TypeParam<'s>>,
-) -> Result<Vec<Vec<usize>>, AllocError>
-    ensures { IfOk result (λ lists. AreReached (map param_value types.now.entries)
-        (map param_value types.now.entries) (map (λ list. list.items) lists.items)) }
+fn all_reached<'s>(alloc: Global, types: &GivenTypes<'s>) -> Result<Vec<Vec<usize>>, AllocError>
+    ensures { IfOk result (λ lists. AreReached (map param_value types.now.entries.items)
+        (map param_value types.now.entries.items) (map (λ list. list.items) lists.items)) }
 {
     let mut lists = Vec::new(alloc);
-    for at in 0..types.len() {
-        let Some((_, param)) = types.get_index(at) else {
-            unreachable!();
-        };
+    for at in 0..types.entries.len() {
         let mut reached = Vec::new(alloc);
-        reach(types, &param.part, &mut reached)?;
+        reach(types, &types.entries[at].1.part, &mut reached)?;
         lists.push(reached)?;
     }
     Ok(lists)
@@ -85,11 +78,12 @@ impl<'p, 's> Chains<'p, 's> {
     /// Finds the chains of these types. This takes time linear in the sizes of all types.
     pub(crate) fn new(
         alloc: Global,
-        types: &'p IndexMap<&'s str, TypeParam<'s>>,
+        types: &'p GivenTypes<'s>,
     ) -> Result<Chains<'p, 's>, AllocError>
-        ensures types { IfOk result (λ chains. chains.types.now.entries ≡ types.now.entries) }
+        ensures types { IfOk result (λ chains.
+            chains.types.now.entries.items ≡ types.now.entries.items) }
         ensures marks { IfOk result (λ chains.
-            AreMarked (map param_value types.now.entries) chains.held.items) }
+            AreMarked (map param_value types.now.entries.items) chains.held.items) }
     {
         let lists = all_reached(alloc, types)?;
         let held = on_cycles(alloc, lists.as_slice())?;
@@ -98,11 +92,11 @@ impl<'p, 's> Chains<'p, 's> {
 
     /// Returns whether a chain leads from this name back to it.
     pub(crate) fn lead_back(&self, text: &str) -> bool
-        ensures { AreMarked (map param_value self.now.types.now.entries) self.now.held.items →
+        ensures { AreMarked (map param_value self.now.types.now.entries.items) self.now.held.items →
             IsTrue result ↔
-            Leads (map param_value self.now.types.now.entries) text.now text.now }
+            Leads (map param_value self.now.types.now.entries.items) text.now text.now }
     {
-        let Some(at) = self.types.get_index_of(text) else {
+        let Some(at) = self.types.place_of(text) else {
             return false;
         };
         self.held[at]
@@ -117,11 +111,11 @@ impl<'p, 's> Chains<'p, 's> {
 /// Returns `Memory` if memory runs out.
 pub fn holds_itself<'s>(
     alloc: Global,
-    params: &IndexMap<&'s str, TypeParam<'s>>,
+    params: &GivenTypes<'s>,
     text: &'s str,
 ) -> Result<bool, AllocError>
     ensures { IfOk result (λ holds.
-        IsTrue holds ↔ Leads (map param_value params.now.entries) text.now text.now) }
+        IsTrue holds ↔ Leads (map param_value params.now.entries.items) text.now text.now) }
 {
     let chains = Chains::new(alloc, params)?;
     Ok(chains.lead_back(text))

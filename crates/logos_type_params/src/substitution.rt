@@ -4,11 +4,12 @@ ghost use Rattle.std.specs.Prelude.{◌≡◌, ◌<◌, ℕ, Bool, true, false, 
 ghost use Rattle.logos_type_params.specs.Views.{Tree, name, whole, trees, tree_of, sign_of, IfDeep, exceeds, Params, given, given_first, given_type, set_sign, param_value, After, AllAfter, Passes, SomePasses, params_of};
 ghost use Rattle.logos_type_params.specs.inside.Given.{given_of};
 
-use indexmap::{IndexMap, IndexSet};
+use crate::given_types::GivenTypes;
 use logos_token::token::Span;
 use logos_type::{TypePart, TypeToken, exceeds};
 use logos_type_reader::TypeFault;
 use std::alloc::Global;
+use std::collections::HashSet;
 
 /// A type that is given to a declared parameter.
 #[derive(Drop)]
@@ -23,8 +24,8 @@ pub struct TypeParam<'s> {
 /// The types that are given, by name, and the names of the parameters that hold themselves.
 #[derive(Clone, Copy)]
 pub struct Replacing<'p, 's> {
-    pub types: &'p IndexMap<&'s str, TypeParam<'s>>,
-    pub held: &'p IndexSet<&'s str>,
+    pub types: &'p GivenTypes<'s>,
+    pub held: &'p HashSet<&'s str>,
 }
 
 /// What replaces a name.
@@ -58,8 +59,8 @@ fn given_by<'p, 's>(part: &'p TypePart<'s>) -> GivenType<'p, 's>
 }
 
 /// Returns the shape of the type that is given to this name, if one is.
-fn given_first<'p, 's>(types: &'p IndexMap<&'s str, TypeParam<'s>>, text: &str) -> GivenType<'p, 's>
-    ensures { given_of result ≡ given_first (map param_value types.now.entries) text.now }
+fn given_first<'p, 's>(types: &'p GivenTypes<'s>, text: &str) -> GivenType<'p, 's>
+    ensures { given_of result ≡ given_first (map param_value types.now.entries.items) text.now }
 {
     match types.get(text) {
         Some(param) => given_by(&param.part),

@@ -6,25 +6,26 @@ ghost use Rattle.logos_type_params.specs.Views.{tokens_of, run_span, tree_of, If
 mod concrete;
 mod written;
 
+use crate::given_types::GivenTypes;
 use crate::lifetimes::set_lifetimes;
 use crate::names::DeclaredNames;
 use crate::reporting::{report_about, report_depth, report_previous};
 use crate::self_reference::Chains;
 use crate::substitution::TypeParam;
 pub use concrete::Generics;
-use indexmap::{IndexMap, IndexSet};
 use logos_token::error::{Errors, FaultCode, Memory};
 use logos_token::token::{Ident, Span, Tokens};
 use logos_type::TypeExpr;
 use logos_type_reader::{TypeFault, read_type};
 use std::alloc::Global;
+use std::collections::HashSet;
 
 /// The declared type parameters of an enum, and the types given to them.
 #[derive(Drop)]
 pub struct TypeParams<'s> {
     names: DeclaredNames<'s>,
     /// The types, by the names of the parameters to which they are given.
-    types: IndexMap<&'s str, TypeParam<'s>>,
+    types: GivenTypes<'s>,
     lifetime: bool,
     alloc: Global,
 }
@@ -119,8 +120,8 @@ fn report_second_lifetime(is_declared: bool, span: Span, errors: &mut Errors) ->
 }
 
 /// Returns the span of the type given to a name, or `None` if none is.
-fn former<'s>(types: &IndexMap<&'s str, TypeParam<'s>>, text: &str) -> Option<Span>
-    ensures { result ≡ former (map given_of types.now.entries) text.now }
+fn former<'s>(types: &GivenTypes<'s>, text: &str) -> Option<Span>
+    ensures { result ≡ former (map given_of types.now.entries.items) text.now }
 {
     match types.get(text) {
         Some(param) => Some(param.span),
@@ -163,16 +164,17 @@ fn report_given(name: Ident<'_>, former: Option<Span>, errors: &mut Errors) -> R
 /// Gives a type to a declared name, in place of a former one, which is reported. After an error
 /// everything is unchanged.
 fn give<'s>(
-    types: &mut IndexMap<&'s str, TypeParam<'s>>,
+    types: &mut GivenTypes<'s>,
     name: Ident<'s>,
     param: TypeParam<'s>,
     errors: &mut Errors,
 ) -> Result<(), Memory>
-    ensures types { OnOk result (map given_of types.new.entries
-        ≡ given_more (given_of (name.entry.text, param.entry)) (map given_of types.old.entries)) }
+    ensures types { OnOk result (map given_of types.new.entries.items ≡
+        given_more (given_of (name.entry.text, param.entry))
+        (map given_of types.old.entries.items)) }
     ensures faults { OnOk result (errors.new ≡ errors.old ++ given_faults
-        (former (map given_of types.old.entries) name.entry.text.now) (named_of name.entry)) }
-    ensures unchanged { OnErr result (types.new.entries ≡ types.old.entries) }
+        (former (map given_of types.old.entries.items) name.entry.text.now) (named_of name.entry)) }
+    ensures unchanged { OnErr result (types.new.entries.items ≡ types.old.entries.items) }
     ensures unreported { OnErr result (errors.new ≡ errors.old) }
 {
     let span = former(types, name.text);
@@ -183,12 +185,12 @@ fn give<'s>(
 
 /// Reports a declared name that holds itself, unless it is in `front`, and adds it to `front`.
 fn check_name<'s>(
-    front: &mut IndexSet<&'s str>,
+    front: &mut HashSet<&'s str>,
     chains: &Chains<'_, 's>,
     name: Ident<'s>,
     errors: &mut Errors,
 ) -> Result<(), Memory>
-    ensures { OnOk result (ChecksName (map param_value chains.now.types.now.entries)
+    ensures { OnOk result (ChecksName (map param_value chains.now.types.now.entries.items)
         chains.now.held.items front.old.keys (named_of name.entry) errors.old
         front.new.keys errors.new) }
 {
@@ -214,7 +216,7 @@ impl<'s> TypeParams<'s> {
     {
         TypeParams {
             names: DeclaredNames::new(alloc),
-            types: IndexMap::new(alloc),
+            types: GivenTypes::new(alloc),
             lifetime: false,
             alloc,
         }
@@ -329,7 +331,7 @@ impl<'s> TypeParams<'s> {
             (value_of self.now).names errors.old errors.new) }
     {
         let chains = Chains::new(self.alloc, &self.types)?;
-        let mut front = IndexSet::new(self.alloc);
+        let mut front = HashSet::new(self.alloc);
         for name in &self.names.list {
             check_name(&mut front, &chains, *name, errors)?;
         }

@@ -14,4 +14,4 @@ given_of (Parts parts) = a_type (trees (map tree_of parts.now))
 
 -- The types that are given and the names that hold themselves, as the code has them.
 abbrev pub params_of : Replacing → Params
-params_of replacing = record { types = map param_value replacing.types.now.entries; held = texts replacing.held.now.keys }
+params_of replacing = record { types = map param_value replacing.types.now.entries.items; held = texts replacing.held.now.keys }

@@ -5,13 +5,13 @@ ghost use Rattle.std.specs.Prelude.{◌≡◌, ◌++◌, ◌∷◌, [], map, IfO
 ghost use Rattle.logos_type_params.specs.Views.{type_tree, named_of, given_of, type_of, generics_of, no_concrete_type, and_type, and_fault, concrete_types, missing_types, between_brackets, CopiesName, value_of, type_at, generics};
 
 use super::TypeParams;
+use crate::given_types::GivenTypes;
 use crate::reporting::report_about;
-use crate::substitution::TypeParam;
-use indexmap::{IndexMap, IndexSet};
 use logos_token::error::{Errors, FaultCode, Memory};
 use logos_token::token::Ident;
 use logos_type::{TypeExpr, TypePart};
 use std::alloc::Global;
+use std::collections::HashSet;
 
 /// The generic arguments that follow the enum's name, in angle brackets.
 #[derive(Drop)]
@@ -23,12 +23,9 @@ pub struct Generics<'s> {
 }
 
 /// Copies the type given to a name. `None` if none is.
-fn copy_given<'s>(
-    types: &IndexMap<&'s str, TypeParam<'s>>,
-    text: &str,
-) -> Result<Option<TypeExpr<'s>>, Memory>
+fn copy_given<'s>(types: &GivenTypes<'s>, text: &str) -> Result<Option<TypeExpr<'s>>, Memory>
     ensures { IfOk result (λ copy. option_map type_tree copy ≡
-        type_of (map given_of types.now.entries) text.now) }
+        type_of (map given_of types.now.entries.items) text.now) }
 {
     let Some(param) = types.get(text) else {
         return Ok(None);
@@ -40,11 +37,11 @@ fn copy_given<'s>(
 /// Copies the type given to a declared name, unless the name is in `front`, and adds the name to
 /// `front`.
 fn copy_concrete<'s>(
-    front: &mut IndexSet<&'s str>,
-    types: &IndexMap<&'s str, TypeParam<'s>>,
+    front: &mut HashSet<&'s str>,
+    types: &GivenTypes<'s>,
     name: Ident<'s>,
 ) -> Result<Option<TypeExpr<'s>>, Memory>
-    ensures { IfOk result (λ copy. CopiesName (map given_of types.now.entries) front.old.keys
+    ensures { IfOk result (λ copy. CopiesName (map given_of types.now.entries.items) front.old.keys
         (named_of name.entry) (option_map type_tree copy) front.new.keys) }
 {
     if !front.insert(name.text)? {
@@ -88,16 +85,16 @@ fn add_or_report<'s>(
 /// Copies the types of declared names in order, and reports each name that has none.
 fn copy_types<'s>(
     names: &[Ident<'s>],
-    types: &IndexMap<&'s str, TypeParam<'s>>,
+    types: &GivenTypes<'s>,
     errors: &mut Errors,
 ) -> Result<Vec<TypeExpr<'s>>, Memory>
     ensures types { IfOk result (λ copies. map type_tree copies.items ≡
-        concrete_types (map given_of types.now.entries) [] (map named_of names.now)) }
+        concrete_types (map given_of types.now.entries.items) [] (map named_of names.now)) }
     ensures faults { OnOk result (errors.new ≡ errors.old
-        ++ missing_types (map given_of types.now.entries) [] (map named_of names.now)) }
+        ++ missing_types (map given_of types.now.entries.items) [] (map named_of names.now)) }
 {
     let alloc = errors.alloc();
-    let mut front = IndexSet::new(alloc);
+    let mut front = HashSet::new(alloc);
     let mut copies = Vec::new(alloc);
     for name in names {
         let found = copy_concrete(&mut front, types, *name)?;

@@ -8,19 +8,19 @@ use super::TypeParams;
 use crate::reporting::report_depth;
 use crate::self_reference::Chains;
 use crate::substitution::{Replacing, type_after};
-use indexmap::IndexSet;
 use logos_token::error::{Errors, Memory};
 use logos_token::token::Span;
 use logos_type::TypeExpr;
 use logos_type_reader::{TYPE_NESTING, TypeFault};
+use std::collections::HashSet;
 
 /// Adds a name if it holds itself.
 fn add_held<'s>(
     chains: &Chains<'_, 's>,
     text: &'s str,
-    held: &mut IndexSet<&'s str>,
+    held: &mut HashSet<&'s str>,
 ) -> Result<(), Memory>
-    ensures { OnOk result (AsksName (map param_value chains.now.types.now.entries)
+    ensures { OnOk result (AsksName (map param_value chains.now.types.now.entries.items)
         chains.now.held.items text.now (texts held.old.keys) (texts held.new.keys)) }
 {
     if chains.lead_back(text) {
@@ -52,16 +52,13 @@ impl<'s> TypeParams<'s> {
     /// # Errors
     ///
     /// Returns `Memory` if memory runs out.
-    pub fn held_names(&self) -> Result<IndexSet<&'s str>, Memory>
+    pub fn held_names(&self) -> Result<HashSet<&'s str>, Memory>
         ensures { IfOk result (λ held. AreHeld (types_of self.now) (texts held.keys)) }
     {
         let chains = Chains::new(self.alloc, &self.types)?;
-        let mut held = IndexSet::new(self.alloc);
-        for at in 0..self.types.len() {
-            let Some((text, _)) = self.types.get_index(at) else {
-                unreachable!();
-            };
-            add_held(&chains, text, &mut held)?;
+        let mut held = HashSet::new(self.alloc);
+        for at in 0..self.types.entries.len() {
+            add_held(&chains, self.types.entries[at].0, &mut held)?;
         }
         Ok(held)
     }
@@ -76,7 +73,7 @@ impl<'s> TypeParams<'s> {
     /// Returns `Memory` if memory runs out. The faults are then unchanged.
     pub fn get_type(
         &self,
-        held: &IndexSet<&'s str>,
+        held: &HashSet<&'s str>,
         written: &TypeExpr<'s>,
         span: Span,
         errors: &mut Errors,

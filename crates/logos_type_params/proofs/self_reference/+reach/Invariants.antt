@@ -8,5 +8,5 @@ use Rattle.logos_type_params.proofs.self_reference.+reach.Given as goal
 -- what completes the rest completes the whole
 abbrev pub invariant-loop-part : goal.invariant-loop-part
 invariant-loop-part l = (new : List ℕ) →
-    Reaches (map param_value l.types.entries) (some_names (trees (map tree_of (drop l.part-index l.part-items)))) l.reached.items new →
-    Reaches (map param_value l.types.entries) (names (tree_of l.part)) l.fn.reached.items new
+    Reaches (map param_value l.types.entries.items) (some_names (trees (map tree_of (drop l.part-index l.part-items)))) l.reached.items new →
+    Reaches (map param_value l.types.entries.items) (names (tree_of l.part)) l.fn.reached.items new

@@ -6,5 +6,5 @@ use Rattle.logos_type_params.proofs.self_reference.all_reached.Given as goal
 -- what completes the rest completes the whole
 abbrev pub invariant-loop-at : goal.invariant-loop-at
 invariant-loop-at l = (left : List (List ℕ)) →
-    AreReached (map param_value l.types.entries) (map param_value (drop l.at l.types.entries)) left →
-    AreReached (map param_value l.types.entries) (map param_value l.types.entries) (map (λ list. list.items) l.lists.items ++ left)
+    AreReached (map param_value l.types.entries.items) (map param_value (drop l.at l.types.entries.items)) left →
+    AreReached (map param_value l.types.entries.items) (map param_value l.types.entries.items) (map (λ list. list.items) l.lists.items ++ left)

@@ -3,7 +3,7 @@ use Rattle.logos_type_params.proofs.GivenLemmas.{former_found, former_none}
 use Rattle.logos_type_params.proofs.type_params.former.Goals as goal
 
 pub returns-in-Some : goal.returns-in-Some
-returns-in-Some c = sym (former_found c.args.text.now c.args.types.now.entries c.in-Some.param.now (sym c.in-Some.ensures.value))
+returns-in-Some c = sym (former_found c.args.text.now c.args.types.now.entries.items c.in-Some.param.now (sym c.in-Some.ensures))
 
 pub returns-in-None : goal.returns-in-None
-returns-in-None c = sym (former_none c.args.text.now c.args.types.now.entries (sym c.in-None.ensures.value))
+returns-in-None c = sym (former_none c.args.text.now c.args.types.now.entries.items (sym c.in-None.ensures))

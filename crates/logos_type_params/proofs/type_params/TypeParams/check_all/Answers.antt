@@ -17,7 +17,7 @@ loop-name-init c = record {
 pub loop-name-preserved : goal.loop-name-preserved
 loop-name-preserved c =
     let first = at_drop_more (map named_of) c.deref-name-items.result.now c.loop-name.name-index (record { text = record { ref_ptr = (0, 0); now = [] }; span = record { from = 0; to = 0 } }) c.loop-name-test.true in
-    check_on (map param_value c.args.self.now.types.entries) c.in_ok-chains.chains.held.items (λ (faults : List Fault). AreChecked (map param_value c.args.self.now.types.entries) [] (map named_of c.deref-name-items.result.now) c.args.errors.now faults)
+    check_on (map param_value c.args.self.now.types.entries.items) c.in_ok-chains.chains.held.items (λ (faults : List Fault). AreChecked (map param_value c.args.self.now.types.entries.items) [] (map named_of c.deref-name-items.result.now) c.args.errors.now faults)
     _ _ _ c.loop-name.front.keys c.check_name.new.front.keys c.loop-name.errors c.check_name.new.errors
     c.loop-name.invariant first (rw c.in_ok-chains.ensures.types at c.in_ok-check_name.ensures) c.in_ok-chains.ensures.marks
 

@@ -8,5 +8,5 @@ use Rattle.logos_type_params.proofs.type_params.TypeParams.check_all.Given as go
 
 abbrev pub invariant-loop-name : goal.invariant-loop-name
 invariant-loop-name l =
-    Checking (map param_value l.fn.self.types.entries) (λ (faults : List Fault). AreChecked (map param_value l.fn.self.types.entries) [] (map named_of l.name-items) l.fn.errors faults)
+    Checking (map param_value l.fn.self.types.entries.items) (λ (faults : List Fault). AreChecked (map param_value l.fn.self.types.entries.items) [] (map named_of l.name-items) l.fn.errors faults)
     (map named_of (drop l.name-index l.name-items)) l.front.keys l.errors

@@ -1,4 +1,4 @@
-use Rattle.std.proofs.Common.{map, sym}
+use Rattle.std.proofs.Common.{map, arith}
 use Rattle.std.proofs.lemmas.List.{at_drop_all}
 use Rattle.logos_type_params.specs.Substitution.{param_value}
 use Rattle.logos_type_params.specs.SelfReference.{texts}
@@ -8,11 +8,11 @@ use Rattle.logos_type_params.proofs.type_params.TypeParams.held_names.Goals as g
 
 pub loop-at-preserved : goal.loop-at-preserved
 loop-at-preserved c =
-    let first = names_front c.args.self.now.types.entries c.loop-at.at (c.in-Some.text.now, c.in-Some.field-0-1.now) (sym c.in-Some.ensures.entry) in
+    let first = names_front c.args.self.now.types.entries.items c.loop-at.at c.index.result.now (omega (arith, c.loop-at-test.true, c.len-at-end.ensures)) c.index.ensures in
     let asked = rw c.in_ok-chains.ensures.types at c.in_ok-add_held.ensures in
-    asked_on (map param_value c.args.self.now.types.entries) c.in-Some.text.now.now _ _ (texts c.loop-at.held.keys) (texts c.add_held.new.held.keys) c.loop-at.invariant first (asked c.in_ok-chains.ensures.marks)
+    asked_on (map param_value c.args.self.now.types.entries.items) c.index.result.now.0.now _ _ (texts c.loop-at.held.keys) (texts c.add_held.new.held.keys) c.loop-at.invariant first (asked c.in_ok-chains.ensures.marks)
 
 pub returns : goal.returns
 returns c =
-    let none = at_drop_all (λ es. given_names (map param_value es)) c.args.self.now.types.entries c.loop-at.at (rw (sym c.len-at-end.ensures.len) c.loop-at-test.false) in
-    asked_all (map param_value c.args.self.now.types.entries) _ (texts c.loop-at.held.keys) c.loop-at.invariant none
+    let none = at_drop_all (λ es. given_names (map param_value es)) c.args.self.now.types.entries.items c.loop-at.at (omega (arith, c.loop-at-test.false, c.len-at-end.ensures)) in
+    asked_all (map param_value c.args.self.now.types.entries.items) _ (texts c.loop-at.held.keys) c.loop-at.invariant none

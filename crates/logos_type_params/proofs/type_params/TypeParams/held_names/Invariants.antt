@@ -6,4 +6,4 @@ use Rattle.logos_type_params.proofs.HeldLemmas.{Asking}
 use Rattle.logos_type_params.proofs.type_params.TypeParams.held_names.Given as goal
 
 abbrev pub invariant-loop-at : goal.invariant-loop-at
-invariant-loop-at l = Asking (map param_value l.fn.self.types.entries) (given_names (map param_value (drop l.at l.fn.self.types.entries))) (texts l.held.keys)
+invariant-loop-at l = Asking (map param_value l.fn.self.types.entries.items) (given_names (map param_value (drop l.at l.fn.self.types.entries.items))) (texts l.held.keys)

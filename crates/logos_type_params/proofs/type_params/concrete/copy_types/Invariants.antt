@@ -7,5 +7,5 @@ use Rattle.logos_type_params.proofs.type_params.concrete.copy_types.Given as goa
 
 abbrev pub invariant-loop-name : goal.invariant-loop-name
 invariant-loop-name l =
-    Copying (map given_of l.types.entries) (concrete_types (map given_of l.types.entries) [] (map named_of l.names)) (l.fn.errors ++ missing_types (map given_of l.types.entries) [] (map named_of l.names))
+    Copying (map given_of l.types.entries.items) (concrete_types (map given_of l.types.entries.items) [] (map named_of l.names)) (l.fn.errors ++ missing_types (map given_of l.types.entries.items) [] (map named_of l.names))
     (map named_of (drop l.name-index l.names)) l.front.keys (map type_tree l.copies.items) l.errors

@@ -6,8 +6,8 @@ use Rattle.logos_type_params.proofs.type_params.written.add_held.Goals as goal
 
 pub returns-in_ok-insert : goal.returns-in_ok-insert
 returns-in_ok-insert c =
-    asks_held (map param_value c.args.chains.now.types.now.entries) c.args.chains.now.held.items c.args.text c.lead_back.result c.args.held.now.keys c.insert.new.self.keys c.if-lead_back.true c.lead_back.ensures c.in_ok-insert.ensures.keys
+    asks_held (map param_value c.args.chains.now.types.now.entries.items) c.args.chains.now.held.items c.args.text c.lead_back.result c.args.held.now.keys c.insert.new.self.keys c.if-lead_back.true c.lead_back.ensures c.in_ok-insert.ensures.updates.0
 
 pub returns-else-lead_back : goal.returns-else-lead_back
 returns-else-lead_back c =
-    asks_free (map param_value c.args.chains.now.types.now.entries) c.args.chains.now.held.items c.args.text.now c.lead_back.result (texts c.args.held.now.keys) c.if-lead_back.false c.lead_back.ensures
+    asks_free (map param_value c.args.chains.now.types.now.entries.items) c.args.chains.now.held.items c.args.text.now c.lead_back.result (texts c.args.held.now.keys) c.if-lead_back.false c.lead_back.ensures

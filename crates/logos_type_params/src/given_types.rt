@@ -1,0 +1,96 @@
+//! Holds the types given to the parameters, and finds them by name.
+
+ghost use Rattle.std.specs.Prelude.{◌≡◌, ◌++◌, ◌∷◌, [], ◌<◌, None, Some, length, option_copied, IfSome, OnOk, OnErr};
+ghost use Rattle.std.specs.Map.{lookup};
+ghost use Rattle.std.specs.Str.{bytes_eq};
+ghost use Rattle.logos_type_params.specs.inside.Places.{ArePlaced, place_in, put_in};
+
+use crate::substitution::TypeParam;
+use logos_token::error::Memory;
+use std::alloc::Global;
+use std::collections::HashMap;
+
+/// The types given to the parameters, at most one to each name.
+#[derive(Drop)]
+pub struct GivenTypes<'s> {
+    /// The types with the names to which they are given, in the order in which the names first got
+    /// one.
+    pub(crate) entries: Vec<(&'s str, TypeParam<'s>)>,
+    /// For each name the index of its type.
+    places: HashMap<&'s str, usize>,
+    ghost placed: { ArePlaced entries.items places.entries },
+}
+
+impl<'s> GivenTypes<'s> {
+    /// Returns an empty list of types, which takes its memory from `alloc`.
+    pub fn new(alloc: Global) -> GivenTypes<'s>
+        ensures { result.entries.items ≡ [] }
+    {
+        GivenTypes {
+            entries: Vec::new(alloc),
+            places: HashMap::new(alloc),
+        }
+    }
+
+    /// Returns the index of the type given to a name, or `None` if none is.
+    pub(crate) fn place_of(&self, text: &str) -> Option<usize>
+        ensures place { result ≡ place_in self.now.entries.items text.now }
+        ensures within { IfSome result (λ at. at < length self.now.entries.items) }
+    {
+        self.places.get(text).copied()
+    }
+
+    /// Returns the type given to a name, or `None` if none is.
+    pub fn get(&self, text: &str) -> Option<&TypeParam<'s>>
+        ensures { option_copied result ≡
+            lookup (λ k. bytes_eq text.now k.now) self.now.entries.items }
+    {
+        match self.place_of(text) {
+            Some(at) => Some(&self.entries[at].1),
+            None => None,
+        }
+    }
+
+    /// Returns the types with the names to which they are given, in the order in which the names
+    /// first got one.
+    pub fn list(&self) -> &[(&'s str, TypeParam<'s>)]
+        ensures { result.now ≡ self.now.entries.items }
+    {
+        self.entries.as_slice()
+    }
+
+    /// Gives a type to a name, in place of a former one, whose index it gets.
+    ///
+    /// # Errors
+    ///
+    /// Returns `Memory` if memory runs out. The types are then unchanged.
+    pub fn insert(&mut self, text: &'s str, param: TypeParam<'s>) -> Result<(), Memory>
+        ensures ok { OnOk result
+            (self.new.entries.items ≡ put_in (text.entry, param.entry) self.old.entries.items) }
+        ensures err { OnErr result (self.new.entries.items ≡ self.old.entries.items) }
+        ensures absent { OnErr result
+            (lookup (λ k. bytes_eq text.now k.now) self.old.entries.items ≡ None) }
+    {
+        match self.place_of(text) {
+            Some(at) => {
+                self.entries[at] = (text, param);
+                Ok(())
+            }
+            None => self.add(text, param),
+        }
+    }
+
+    /// Adds a name that has no type, and its type. After an error the types are unchanged.
+    fn add(&mut self, text: &'s str, param: TypeParam<'s>) -> Result<(), Memory>
+        requires { place_in self.old.entries.items text.now ≡ None }
+        ensures ok { OnOk result
+            (self.new.entries.items ≡ self.old.entries.items ++ (text.entry, param.entry) ∷ []) }
+        ensures err { OnErr result (self.new.entries.items ≡ self.old.entries.items) }
+    {
+        let at = self.entries.len();
+        self.places.reserve(1)?;
+        self.entries.push((text, param))?;
+        self.places.insert(text, at)?;
+        Ok(())
+    }
+}
