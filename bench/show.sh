@@ -6,8 +6,7 @@
 # The input is examples/lexers/json.input, repeated, and the lexer is the enum of
 # examples/lexers/json.rs. Each program runs three times, in turns, and its fastest run counts. The
 # script fails if `logos_show` needs more than the input and 16 MiB of memory, or more than twice
-# the processor time of `logos lex`. The programs are those in out/programs, if they
-# are not given.
+# the processor time of `logos lex`. The programs are those in out/programs, if they are not given.
 set -euo pipefail
 
 root=$(cd "$(dirname "${BASH_SOURCE[0]}")/.." && pwd)

@@ -22,7 +22,10 @@ import run_parts
 
 STAND_IN = """#!/usr/bin/env bash
 case $1 in
-    ci) echo "$(($(grep -c ':' crates.txt) - $(grep -c '^#.*:' crates.txt))) passed, 0 failed" ;;
+    ci)
+        mkdir -p crates/logos_program/out
+        echo nothing > crates/logos_program/out/logos_program
+        echo "$(($(grep -c ':' crates.txt) - $(grep -c '^#.*:' crates.txt))) passed, 0 failed" ;;
     doc) echo START-HERE.md ;;
     *) echo a toolchain that proves nothing ;;
 esac
