@@ -168,7 +168,7 @@ others=(flex re2c)
 if command -v rustc > /dev/null; then
     others+=(tailcall state_machine tables scan loop)
     { cat "$bench"/../runtime/rust/src/*.rs; rustc --version; } > "$copy/runtime"
-    rustc --edition 2021 -C opt-level=3 --crate-type rlib --crate-name logos --cfg 'feature="std"' -o "$copy/liblogos.rlib" "$bench/../runtime/rust/src/lib.rs"
+    LOGOS_VECTORS=1 rustc --edition 2021 -C opt-level=3 --crate-type rlib --crate-name logos --cfg 'feature="std"' -o "$copy/liblogos.rlib" "$bench/../runtime/rust/src/lib.rs"
 fi
 for name in "${enums[@]}"; do
     [ "$(jobs -rp | wc -l)" -lt "$(nproc)" ] || wait -n

@@ -131,8 +131,9 @@ lexer_text() {
 # Has rustc compile the program.
 compile() {
     rustc --edition 2021 --crate-type proc-macro --crate-name logos_derive --extern proc_macro -o "$room/liblogos_derive.so" "$root/runtime/derive/src/lib.rs"
-    # (most of the time goes into what `scan` finds, so its library is optimised, with all checks)
-    rustc --edition 2021 --crate-type rlib --crate-name logos --cfg 'feature="export_derive"' --extern "logos_derive=$room/liblogos_derive.so" \
+    # (most of the time goes into what `scan` finds, so its library is optimised, with all checks; it
+    # says what its build script says to it at a higher level)
+    LOGOS_VECTORS=1 rustc --edition 2021 --crate-type rlib --crate-name logos --cfg 'feature="export_derive"' --extern "logos_derive=$room/liblogos_derive.so" \
         -C opt-level=1 -C debug-assertions=on -o "$room/liblogos.rlib" "$root/runtime/rust/src/lib.rs"
     rustc --edition 2021 --crate-type proc-macro --crate-name serde -o "$room/libserde.so" "$here/serde.rs"
     rustc --edition 2021 -L "$room" --extern "logos=$room/liblogos.rlib" --extern "serde=$room/libserde.so" -o "$room/rust_text" "$room/main.rs"

@@ -5,6 +5,7 @@
 mod classes;
 mod fixed;
 mod lexer;
+mod made;
 mod marks;
 mod parts;
 mod printing;

@@ -4,6 +4,7 @@ ghost use Rattle.std.specs.Prelude.{OnOk, string_bytes};
 ghost use Rattle.logos_tables.specs.Words.{Grows};
 
 use crate::fixed::{BODY, STEPS};
+use crate::made::MADE;
 use crate::printing::push;
 use crate::scanned::{ACTIONS, OPENING, SCANNED};
 use logos_code::code::{Code, CodeLeaf};
@@ -43,10 +44,12 @@ fn names_in(front: &str) -> Option<(&str, &str)> {
     Some((path, this))
 }
 
-/// Appends what follows the tables: the steps of the loop, what `scan` reads, and the loop.
+/// Appends what follows the tables: what is made of them, the steps of the loop, what `scan` reads,
+/// and the loop.
 pub(crate) fn push_rest(text: &mut String, head: &str, code: &Code<'_>) -> Result<(), Memory>
     ensures { OnOk result (Grows (string_bytes text.old) (string_bytes text.new)) }
 {
+    push(text, MADE)?;
     push(text, STEPS)?;
     push_scanned(text, head, code)?;
     push(text, BODY)
