@@ -83,8 +83,8 @@ compile() {
         && compile_plainly)
 }
 
-# Has rustc check the expanded files over a runtime that lacks the names which `scan` reads, and says
-# nothing of vectors.
+# Has rustc check the expanded files over a runtime that lacks the names which `scan` reads, and
+# says nothing of vectors.
 compile_plainly() {
     mkdir -p plain
     cp -R "$root/runtime/rust/src" plain/src
