@@ -18,6 +18,9 @@
 # `logos lex` beside programs in Rust that print the same lines through a `BufWriter`, on texts of
 # 64 MiB.
 #
+# All are compiled so that no jump crosses 32 bytes: where one does is luck, which is a tenth and
+# more of the speed on many processors. The runtime in Rust says what its build script has it say.
+#
 # It needs flex, re2c, gcc and python3, as in `apt-get install flex re2c gcc python3`, and uses
 # rustc where it is found. `bench/program.sh` builds the programs. The variables LEXER, INSTALLED,
 # LOGOS and CLI name programs to measure in their place, which can be ones that are not proved, KEEP
@@ -29,6 +32,7 @@ set -euo pipefail
 runs=${1:-10}
 size=33554432
 limit=100
+inside=(-C llvm-args=-x86-branches-within-32B-boundaries)
 read -ra before <<< "${BEFORE:-}"
 keep=$(realpath -m "${KEEP:-$copy/kept}")
 mkdir -p "$keep"
@@ -80,7 +84,7 @@ compile_c() {
     re2c "${encoding[@]}" -o "$copy/$1.re2c.c" "$bench/lexer/re2c/$1.re"
     for scanner in flex re2c; do
         path="$keep/$1.$scanner.$(sum "$copy/$1.$scanner.c" "$bench"/lexer/*.h)"
-        [ -e "$path" ] || gcc -O2 -I "$bench/lexer" -o "$path" "$copy/$1.$scanner.c"
+        [ -e "$path" ] || gcc -O2 -Wa,-mbranches-within-32B-boundaries -I "$bench/lexer" -o "$path" "$copy/$1.$scanner.c"
         ln -s "$path" "$copy/$1.$scanner"
     done
 }
@@ -89,7 +93,7 @@ compile_c() {
 # is there afterwards, and no OUT.
 compile_within() {
     local status=0
-    (ulimit -t "$limit" && exec rustc --edition 2021 -C opt-level=3 --crate-name lexer \
+    (ulimit -t "$limit" && exec rustc --edition 2021 -C opt-level=3 "${inside[@]}" --crate-name lexer \
         --extern "logos=$copy/liblogos.rlib" -o "$2/part" "${@:3}" 2> "$2/said") || status=$?
     if [ "$status" -gt 128 ]; then
         touch "$1.slow"
@@ -168,7 +172,7 @@ others=(flex re2c)
 if command -v rustc > /dev/null; then
     others+=(tailcall state_machine tables scan loop)
     { cat "$bench"/../runtime/rust/src/*.rs; rustc --version; } > "$copy/runtime"
-    LOGOS_VECTORS=1 rustc --edition 2021 -C opt-level=3 --crate-type rlib --crate-name logos --cfg 'feature="std"' -o "$copy/liblogos.rlib" "$bench/../runtime/rust/src/lib.rs"
+    LOGOS_VECTORS=1 rustc --edition 2021 -C opt-level=3 "${inside[@]}" --crate-type rlib --crate-name logos --cfg 'feature="std"' -o "$copy/liblogos.rlib" "$bench/../runtime/rust/src/lib.rs"
 fi
 for name in "${enums[@]}"; do
     [ "$(jobs -rp | wc -l)" -lt "$(nproc)" ] || wait -n
