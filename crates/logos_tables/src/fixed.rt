@@ -172,7 +172,7 @@ fn _walk(bytes: &[u8], from: usize, first: _Entry) -> (_Entry, usize, _Entry) {
             if next & _SINGLY == 0 {
                 at = _stop(number, bytes, at);
             } else if let _Option::Some(block) = bytes.get(at..).and_then(|rest| rest.first_chunk::<11>()) {
-                // What follows need not wait to know how many of these stay. Eleven were the fastest on most texts.
+                // What follows need not wait to know how many of these stay. Which number is the fastest differs from text to text.
                 for (n, byte) in block.iter().enumerate() {
                     if _MASKS[number][*byte as usize][0] != 0 {
                         next = _step(state, *byte);
