@@ -46,7 +46,7 @@ inputs() {
     {
         rt version
         find crates -path 'crates/*/out' -prune -o -type f -print0 | sort -z | xargs -0 sha256sum
-        sha256sum crates.txt HANDLES proved.sums .ci/run tests/proofs.sh tools/proved_sums.py
+        sha256sum crates.txt HANDLES proved.sums .ci/run tests/proofs.sh tests/large_pages.{c,sh} tools/proved_sums.py
         sha256sum "$at/KIT-ID" "$at/bin/rattle" "$at/bin/rt" "$at/bin/rtlib.py"
     } | sha256sum
 }
@@ -117,6 +117,8 @@ fi
 RT_JOBS=${RT_JOBS:-$(jobs_that_fit)}
 export RT_JOBS
 echo "cores: $(nproc), checks at once: $RT_JOBS"
+. tests/large_pages.sh
+use_large_pages "$room"
 words=()
 if [[ $(rt help 2>&1) == *--anew* ]]; then
     words=("$@")

@@ -30,4 +30,8 @@ set -euo pipefail
 
 here=$(cd "$(dirname "${BASH_SOURCE[0]}")" && pwd)
 export PYTHONDONTWRITEBYTECODE=1
-exec python3 "$here/main.py" "$@"
+room=$(mktemp -d)
+trap 'rm -rf "$room"' EXIT
+. "$here/../large_pages.sh"
+use_large_pages "$room"
+python3 "$here/main.py" "$@"
