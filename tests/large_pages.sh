@@ -1,5 +1,5 @@
 # Read by the scripts that run many checks. It compiles tests/large_pages.c, and has each program
-# that they start load it: checks take 5 percent less time so.
+# that they start load it: the checks of two crates took 5 percent less processor time so.
 
 # FOLDER: compiles it into a folder. Where this fails, nothing is loaded, and nothing else changes.
 use_large_pages() {
