@@ -2,7 +2,8 @@
 
    A check reads its memory, gigabytes of it, in no order. With pages of 4 KiB the processor spends a
    part of its time on finding them. So each map of memory that is large, and of no file, is named to
-   the system as one for pages of 2 MiB. Where the system gives none, nothing changes. */
+   the system as one for pages of 2 MiB. Where the system gives none, nothing changes. A check takes
+   about half a GB more so. */
 #define _GNU_SOURCE
 #include <dlfcn.h>
 #include <stddef.h>

@@ -6,7 +6,7 @@ use_large_pages() {
     local at
     at=$(cd "$(dirname "${BASH_SOURCE[0]}")" && pwd)
     # the name of what is loaded ends at a space or a colon
-    if [[ $1 != *[\ :]* ]] && gcc -O2 -shared -fPIC -o "$1/large_pages.so" "$at/large_pages.c" 2> /dev/null; then
+    if [[ $1 != *[\ :]* ]] && gcc -O2 -shared -fPIC -o "$1/large_pages.so" "$at/large_pages.c" -ldl 2> /dev/null; then
         export LD_PRELOAD="$1/large_pages.so"
     fi
 }
