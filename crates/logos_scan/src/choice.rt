@@ -177,7 +177,7 @@ impl SampleCounts {
     fn suit_runs(self) -> bool {
         let entered = self.states.wrapping_mul(10) / 3;
         let long = self.items <= SAMPLED / 3;
-        let few = self.errors.wrapping_mul(3 * SAMPLED) <= self.items.wrapping_mul(self.items);
+        let few = self.errors.wrapping_mul(2 * SAMPLED) <= self.items.wrapping_mul(self.items);
         long & few & (entered > self.tries.wrapping_add(SAMPLED))
     }
 }

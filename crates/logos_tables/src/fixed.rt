@@ -171,7 +171,7 @@ fn _walk(bytes: &[u8], from: usize, first: _Entry) -> (_Entry, usize, _Entry) {
             let number = next as usize & (_LOOPS - 1);
             if next & _SINGLY == 0 {
                 at = _stop(number, bytes, at);
-            } else if let _Option::Some(block) = bytes.get(at..).and_then(|rest| rest.first_chunk::<11>()) {
+            } else if let _Option::Some(block) = bytes.get(at..).and_then(|rest| rest.first_chunk::<14>()) {
                 // What follows need not wait to know how many of these stay. Which number is the fastest differs from text to text.
                 for (n, byte) in block.iter().enumerate() {
                     if _MASKS[number][*byte as usize][0] != 0 {
@@ -184,7 +184,7 @@ fn _walk(bytes: &[u8], from: usize, first: _Entry) -> (_Entry, usize, _Entry) {
                         continue 'walk;
                     }
                 }
-                at = _stop_far(number, bytes, at + 11);
+                at = _stop_far(number, bytes, at + 14);
             } else {
                 at = _stop_late(&_MASKS[number], bytes, at);
             }
