@@ -3,9 +3,9 @@
 # and as `tools/install.sh` builds programs, beside scanners of the same rules: those that flex and
 # re2c make, and, where rustc is found, what it makes of the Rust text of these rules, over
 # `runtime/rust`: in both shapes of `logos gen`, and as tables. Their `scan` is measured by
-# `for_each` and, as `loop`, by a loop. Of the runs, taken in turns, the fastest of each counts; the
-# first argument says how many, ten without it. Further arguments name the texts that are measured,
-# instead of all.
+# `for_each` and, as `loop`, by a loop. A run lexes a text three times, and a short one very often.
+# Of the runs, taken in turns, the fastest of each counts; the first argument says how many, ten
+# without it. Further arguments name the texts that are measured, instead of all.
 #
 # bench/lexer/text.py makes sixteen of the texts, bench/lexer/files.py those of files on this
 # machine. A text of which it has too few files is left out, and a shape for which rustc takes more
