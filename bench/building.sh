@@ -60,7 +60,7 @@ measure "20 rules of class sets" class_sets 20 7.5
 measure "80 rules of class sets" class_sets 80 7.5
 measure "200 regexes that begin alike" beginnings 200 0.5
 measure "what stands in log lines" log_lines 0 0.2
-measure "249 groups around 520000 branches" groups 520000 2.5
+measure "249 groups around 520000 branches" groups 520000 1.2
 measure "\`(?:\w?){300}!\`" optional_words 300 19
 measure "\`(?:a?){4000}b\`" optional_letters 4000 7
 measure "10 leaves of overlapping sets" overlapping 10 0.2

@@ -32,8 +32,9 @@ static double now(void)
     return (double)time.tv_sec + (double)time.tv_nsec / 1e9;
 }
 
-/* Scans a text as often as the second argument says, and three times without it. Prints the seconds,
- * without the argument the least of the three, and the tokens and the errors that one scan finds. */
+/* Scans a text as often as the second argument says, and three times without it. Prints the
+ * seconds, without the argument the least of the three, and the tokens and the errors that one scan
+ * finds. */
 static int measure(int argc, char **argv, void (*scan)(char *, size_t))
 {
     size_t size;
