@@ -60,8 +60,8 @@ rest_there input base j h = get_or-take (length input - base) (drop base input) 
 pub rest_long : (input : List ℕ) (base : ℕ) → length (take (length input - base) (drop base input)) ≡ length input - base
 rest_long input base = omega (arith, length-take (length input - base) (drop base input), length-drop base input)
 
-pub part_there : (input : List ℕ) (base j : ℕ) → base + 4096 ≤ length input → j < 4096 → slice_index (take 4096 (take (length input - base) (drop base input))) j ≡ slice_index (drop base input) j
-part_there input base j long h = get_or-take 4096 (take (length input - base) (drop base input)) j 0 h ∙ rest_there input base j (omega (arith, long, h))
+pub part_there : (input : List ℕ) (base j : ℕ) → base + 4608 ≤ length input → j < 4608 → slice_index (take 4608 (take (length input - base) (drop base input))) j ≡ slice_index (drop base input) j
+part_there input base j long h = get_or-take 4608 (take (length input - base) (drop base input)) j 0 h ∙ rest_there input base j (omega (arith, long, h))
 
 -- the place of the root
 pub root_is_place : (code : CodeValue) (rows : List ℕ) → AreFolded code rows → IsPlace rows (272 * code.root)
@@ -219,7 +219,7 @@ module _ (code : CodeValue) (rows : List ℕ) (folded : AreFolded code rows) (in
         (inside, l.0, l.1)
 
     -- the end of the chunk
-    pub over_found : (start now : ℕ) → IsRun code rows input run start (point_of run) → NoToken entries run.cursor.from 4096 → StartsAt base entries run.cursor.from start 4096 now →
+    pub over_found : (start now : ℕ) → IsRun code rows input run start (point_of run) → NoToken entries run.cursor.from 4608 → StartsAt base entries run.cursor.from start 4608 now →
         IsRun code rows input (moved run cur) now run.count × SkipsTo code input start now
     over_found start now r none starts =
         let c = r.in_chunk in

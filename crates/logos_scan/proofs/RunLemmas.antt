@@ -159,7 +159,7 @@ module _ (code : CodeValue) (rows : List ℕ) (folded : AreFolded code rows) (in
       subst (λ (k : ℕ). Later from start k) e (later_up n from start place (omega (arith, e, inside)) (λ k f l. none k f (omega (arith, l, e))) h)
 
   -- the end of the bytes, where no flag stands after them
-  pub starts_short : (from start now : ℕ) → count ≤ 4096 → ((k : ℕ) → count ≤ k → k < 4096 → slice_index entries k ≡ 0) → StartsAt base entries from start 4096 now →
+  pub starts_short : (from start now : ℕ) → count ≤ 4608 → ((k : ℕ) → count ≤ k → k < 4608 → slice_index entries k ≡ 0) → StartsAt base entries from start 4608 now →
       StartsAt base entries from start count now
   starts_short from start now few none s = elim s [
     | inl m ↦ inl (m.0, λ k f h. m.1 k f (omega (arith, h, few)))

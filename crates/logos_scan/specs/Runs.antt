@@ -36,13 +36,13 @@ with_chunk chunk run = record { chunk = chunk; cursor = run.cursor; count = run.
 
 -- No flag stands after the bytes of a chunk.
 abbrev pub IsEmptyFrom : ℕ → List ℕ → Type 0
-IsEmptyFrom count entries = (k : ℕ) → count ≤ k → k < 4096 → slice_index entries k ≡ 0
+IsEmptyFrom count entries = (k : ℕ) → count ≤ k → k < 4608 → slice_index entries k ≡ 0
 
 -- Entries of the bytes of an input from the base on, which begin in the row.
 pub record IsLoaded (rows input : List ℕ) (base place : ℕ) (entries : List ℕ) (loaded : Loaded) : Type 0 where
   pub within : base + loaded.count ≤ length input
-  pub few : loaded.count ≤ 4096
-  pub full : base + loaded.count < length input → loaded.count ≡ 4096
+  pub few : loaded.count ≤ 4608
+  pub full : base + loaded.count < length input → loaded.count ≡ 4608
   pub walked : Walked rows (drop base input) place entries 0 loaded.count loaded.place
   pub stays : IsPlace rows loaded.place
   pub rest : IsEmptyFrom loaded.count entries
@@ -51,8 +51,8 @@ pub record IsLoaded (rows input : List ℕ) (base place : ℕ) (entries : List �
 -- walk.
 pub record IsChunk (rows input : List ℕ) (run : WithChunk) : Type 0 where
   pub within : run.cursor.base + run.count ≤ length input
-  pub few : run.count ≤ 4096
-  pub full : run.cursor.base + run.count < length input → run.count ≡ 4096
+  pub few : run.count ≤ 4608
+  pub full : run.cursor.base + run.count < length input → run.count ≡ 4608
   pub stays : IsPlace rows run.place
   pub rest : IsEmptyFrom run.count run.chunk.entries
   pub marked : IsMarked run.chunk
@@ -99,7 +99,7 @@ pub record IsFlagged (reading : Reading) (start : ℕ) (run : WithChunk) (at : �
 pub record IsOver (reading : Reading) (start : ℕ) (run : WithChunk) : Type 0 where
   pub stands : IsRun reading.code.now reading.rows.now reading.input.now run run.cursor.word_start run.count
   pub last : run.cursor.base + run.count ≡ length reading.input.now
-  pub after : run.cursor.from ≡ 4096
+  pub after : run.cursor.from ≡ 4608
   pub skips : SkipsTo reading.code.now reading.input.now start run.cursor.word_start
 
 -- What is taken: after matches that are skipped, what a try finds, and where the next one begins.

@@ -67,21 +67,21 @@ fn are_bytes(input: &[u8])
 {}
 
 /// Steps over the next bytes of the input, a chunk if there are as many, from a row on.
-fn step_over(reading: &Reading, base: usize, place: usize, entries: &mut [u32; 4096]) -> Loaded
+fn step_over(reading: &Reading, base: usize, place: usize, entries: &mut [u32; 4608]) -> Loaded
     requires reading { IsReading reading.now }
     requires base { base ≤ length reading.now.input.now }
     requires place { IsPlace reading.now.rows.now place }
     ensures { IsLoaded reading.now.rows.now reading.now.input.now base place entries.new result }
 {
     let rest = &reading.input[base..];
-    if rest.len() >= 4096 {
+    if rest.len() >= 4608 {
         let root = reading.code.root_place();
         return Loaded {
-            count: 4096,
-            place: walk_chunk(reading.rows, &rest[..4096], root, place, entries),
+            count: 4608,
+            place: walk_chunk(reading.rows, &rest[..4608], root, place, entries),
         };
     }
-    *entries = [0; 4096];
+    *entries = [0; 4608];
     Loaded {
         count: rest.len(),
         place: walk(reading.rows, rest, place, entries),
@@ -99,7 +99,7 @@ fn load(reading: &Reading, base: usize, place: usize, chunk: &mut ChunkEntries) 
     ensures marked { IsMarked chunk.new }
 {
     let loaded = step_over(reading, base, place, &mut chunk.entries);
-    chunk.mark(0, 64);
+    chunk.mark(0, 72);
     loaded
 }
 

@@ -257,7 +257,7 @@ none_left trace word bits from none near left k f h =
     ap (token_bit trace) (sym back) ∙ sym (left.ahead i (omega (arith, back, h)) (omega (arith, back, f))) ∙ ap (λ b. bit_at b i) none ∙ bit_at-zero i
 
 -- the lowest bit is the next one
-pub next_lowest : (trace : List ℕ) (word bits from : ℕ) → word < 64 → 0 < bits → bits < 2 ^ 64 → 64 * word ≤ from → IsLeft 30 trace word bits from
+pub next_lowest : (trace : List ℕ) (word bits from : ℕ) → word < 72 → 0 < bits → bits < 2 ^ 64 → 64 * word ≤ from → IsLeft 30 trace word bits from
     → IsNext trace from (64 * word + trailing_zeros w64 bits)
 next_lowest trace word bits from within pos fits near left =
     let z = bit_at-trailing_zeros w64 bits pos fits in

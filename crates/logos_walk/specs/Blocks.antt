@@ -1,19 +1,16 @@
--- Walks of the four blocks of a chunk.
-use Rattle.std.specs.Prelude.{ℕ, ◌+◌, List}
-use Rattle.logos_walk.specs.declared.blocks.Places.{Places}
+-- Walks of the six blocks of a chunk.
+use Rattle.std.specs.Prelude.{ℕ, ◌+◌, ◌*◌, ◌<◌, List, slice_index}
 use Rattle.logos_walk.specs.Walk.{IsPlace, Walked}
 
--- A whole row begins at each of the offsets.
-pub record ArePlaces (rows : List ℕ) (places : Places) : Type 0 where
-  pub first : IsPlace rows places.first
-  pub second : IsPlace rows places.second
-  pub third : IsPlace rows places.third
-  pub fourth : IsPlace rows places.fourth
+-- A whole row begins at the offset of each block.
+abbrev pub ArePlaces : List ℕ → List ℕ → Type 0
+ArePlaces rows places = (b : ℕ) → b < 6 → IsPlace rows (slice_index places b)
 
--- The trace holds a walk over the first `count` bytes of each block, from the one rows to the
--- others.
-pub record AreWalked (rows text : List ℕ) (from : Places) (trace : List ℕ) (count : ℕ) (to : Places) : Type 0 where
-  pub first : Walked rows text from.first trace 0 count to.first
-  pub second : Walked rows text from.second trace 1024 (count + 1024) to.second
-  pub third : Walked rows text from.third trace 2048 (count + 2048) to.third
-  pub fourth : Walked rows text from.fourth trace 3072 (count + 3072) to.fourth
+-- The trace holds a walk over the first `count` bytes of the block, from its row among the one to
+-- that among the others.
+abbrev pub IsWalked : List ℕ → List ℕ → List ℕ → List ℕ → ℕ → List ℕ → ℕ → Type 0
+IsWalked rows text from trace count to b = Walked rows text (slice_index from b) trace (768 * b) (count + 768 * b) (slice_index to b)
+
+-- It holds such a walk over each block.
+abbrev pub AreWalked : List ℕ → List ℕ → List ℕ → List ℕ → ℕ → List ℕ → Type 0
+AreWalked rows text from trace count to = (b : ℕ) → b < 6 → IsWalked rows text from trace count to b

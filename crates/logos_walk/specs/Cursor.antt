@@ -22,7 +22,7 @@ NoEnd trace from to = (k : ℕ) → from ≤ k → k < to → end_bit trace k �
 -- The first entry from `from` on at which there is something to do.
 pub record IsNext (trace : List ℕ) (from at : ℕ) : Type 0 where
   pub after : from ≤ at
-  pub within : at < 4096
+  pub within : at < 4608
   pub token : token_bit trace at ≡ 1
   pub first : NoToken trace from at
 
@@ -40,7 +40,7 @@ StartsAt base trace from start at now = ((now ≡ start) × NoEnd trace from at)
 
 -- A chunk at the base ends where numbers do not.
 abbrev pub HasRoom : ℕ → Type 0
-HasRoom base = base + 4096 < 2 ^ 64
+HasRoom base = base + 4608 < 2 ^ 64
 
 -- Of the bits of a word, those of entries before `from` are 0, and the others are a flag of the
 -- entries.
@@ -65,7 +65,7 @@ start_by here start (suc bits) = here + (63 - count_leading_zeros 64 (suc bits))
 -- The flags of a word: of the tokens those that are left from an entry of the word on, of the ends
 -- those from an earlier one on.
 pub record Awaits (trace : List ℕ) (word tokens ends from : ℕ) : Type 0 where
-  pub within : word < 64
+  pub within : word < 72
   pub far : from ≤ 64 * word + 64
   pub tokens_left : IsLeft 30 trace word tokens from
   pub first : ℕ

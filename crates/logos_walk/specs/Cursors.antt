@@ -7,13 +7,13 @@ use Rattle.logos_walk.specs.Cursor.{Awaits, IsNext, NoToken, StartsAt, end_bit, 
 
 -- The words hold the flags of all entries.
 pub record IsMarked (chunk : ChunkEntries) : Type 0 where
-  pub ends : Marks 31 chunk.entries 64 chunk.ends
-  pub tokens : Marks 30 chunk.entries 64 chunk.tokens
+  pub ends : Marks 31 chunk.entries 72 chunk.ends
+  pub tokens : Marks 30 chunk.entries 72 chunk.tokens
 
 -- The words but those from `from` up to `to` do.
 pub record IsMarkedBeside (from to : ℕ) (chunk : ChunkEntries) : Type 0 where
-  pub ends : (w : ℕ) → w < 64 → (w < from) ⊎ (to ≤ w) → MarksFrom 31 chunk.entries (64 * w) (slice_index chunk.ends w)
-  pub tokens : (w : ℕ) → w < 64 → (w < from) ⊎ (to ≤ w) → MarksFrom 30 chunk.entries (64 * w) (slice_index chunk.tokens w)
+  pub ends : (w : ℕ) → w < 72 → (w < from) ⊎ (to ≤ w) → MarksFrom 31 chunk.entries (64 * w) (slice_index chunk.ends w)
+  pub tokens : (w : ℕ) → w < 72 → (w < from) ⊎ (to ≤ w) → MarksFrom 30 chunk.entries (64 * w) (slice_index chunk.tokens w)
 
 -- The cursor has the flags that are left.
 abbrev pub Stands : List ℕ → ChunkCursor → Type 0
@@ -49,7 +49,7 @@ pub record Finds (trace : List ℕ) (old new : ChunkCursor) (at : ℕ) : Type 0 
 
 -- There is none, and the cursor has passed all entries.
 pub record Finishes (trace : List ℕ) (old new : ChunkCursor) : Type 0 where
-  pub none : NoToken trace old.from 4096
-  pub after : new.from ≡ 4096
+  pub none : NoToken trace old.from 4608
+  pub after : new.from ≡ 4608
   pub start : start_of new ≡ new.word_start
-  pub starts : StartsAt old.base trace old.from (start_of old) 4096 new.word_start
+  pub starts : StartsAt old.base trace old.from (start_of old) 4608 new.word_start

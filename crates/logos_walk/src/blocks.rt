@@ -1,72 +1,77 @@
-//! Four blocks of a chunk at once.
+//! The blocks of a chunk at once.
 
-ghost use Rattle.std.specs.Prelude.{◌≡◌, ◌<◌, ◌≤◌, ◌+◌, length};
+ghost use Rattle.std.specs.Prelude.{◌≡◌, ◌<◌, ◌+◌, List, ℕ, length, slice_index};
 ghost use Rattle.logos_walk.specs.Views.{IsClosed, IsPlace, IsSameBeside, Walked, ArePlaces, AreWalked, HoldsStretch};
 
 use crate::guess::guess;
 use crate::repair::{Stretch, repair};
 use crate::walk::step;
 
+/// The blocks of a chunk. Each is walked beside the others: a step waits for the one before it, so
+/// that one walk alone would leave a processor idle.
+pub const BLOCKS: usize = 6;
+
 /// The bytes of a block.
-pub const BLOCK: usize = 1024;
+pub const BLOCK: usize = 768;
 
-/// The bytes of a chunk: four blocks.
-pub const CHUNK: usize = 4096;
+/// The bytes of a chunk.
+pub const CHUNK: usize = 4608;
 
-/// The offset of a row for each block.
-#[derive(Clone, Copy, Drop)]
-pub struct Places {
-    pub first: usize,
-    pub second: usize,
-    pub third: usize,
-    pub fourth: usize,
-}
-
-/// Steps over one byte of each block: that at `at` in the first.
+/// Steps over one byte of each block, from its row on: that at `at` in the first.
 #[inline(always)]
-fn column(rows: &[u32], text: &[u8], from: Places, trace: &mut [u32], at: usize) -> Places
+fn column(rows: &[u32], text: &[u8], places: &mut [usize; 6], trace: &mut [u32], at: usize)
     requires closed { IsClosed rows.now }
-    requires places { ArePlaces rows.now from }
+    requires places { ArePlaces rows.now places.old }
     requires text { length text.now ≡ CHUNK }
     requires trace { length trace.old ≡ CHUNK }
     requires at { at < BLOCK }
     // Walks of the blocks up to here are walks of one byte more.
-    ensures walked { (origin : Places)
-        → AreWalked rows.now text.now origin trace.old at from
-        → AreWalked rows.now text.now origin trace.new (at + 1) result }
-    ensures places { ArePlaces rows.now result }
+    ensures walked { (origin : List ℕ)
+        → AreWalked rows.now text.now origin trace.old at places.old
+        → AreWalked rows.now text.now origin trace.new (at + 1) places.new }
+    ensures places { ArePlaces rows.now places.new }
 {
-    let first = step(rows, text, from.first, trace, at);
-    let second = step(rows, text, from.second, trace, at + 1024);
-    let third = step(rows, text, from.third, trace, at + 2048);
-    let fourth = step(rows, text, from.fourth, trace, at + 3072);
-    Places {
-        first,
-        second,
-        third,
-        fourth,
+    for block in 0..BLOCKS {
+        places[block] = step(rows, text, places[block], trace, at + BLOCK * block);
     }
 }
 
-/// Steps over the four blocks in turns, each from its own row on. Returns the rows after them.
-fn walk_blocks(rows: &[u32], text: &[u8], from: Places, trace: &mut [u32]) -> Places
+/// Steps over the blocks in turns, each from its own row on, up to the rows after them.
+fn walk_blocks(rows: &[u32], text: &[u8], places: &mut [usize; 6], trace: &mut [u32])
     requires closed { IsClosed rows.now }
-    requires places { ArePlaces rows.now from }
+    requires places { ArePlaces rows.now places.old }
     requires text { length text.now ≡ CHUNK }
     requires trace { length trace.old ≡ CHUNK }
-    ensures walked { AreWalked rows.now text.now from trace.new BLOCK result }
-    ensures places { ArePlaces rows.now result }
+    ensures walked { AreWalked rows.now text.now places.old trace.new BLOCK places.new }
+    ensures places { ArePlaces rows.now places.new }
 {
-    let mut now = from;
+    let mut now = *places;
     for at in 0..BLOCK {
-        now = column(rows, text, now, trace, at);
+        column(rows, text, &mut now, trace, at);
     }
-    now
+    *places = now;
+}
+
+/// Returns the rows in which blocks begin: that of the first, and guesses for the others, from the
+/// bytes before them, in a walk from the root.
+#[inline(always)]
+fn guess_places(rows: &[u32], text: &[u8], root: usize, first: usize) -> [usize; 6]
+    requires closed { IsClosed rows.now }
+    requires root { IsPlace rows.now root }
+    requires first { IsPlace rows.now first }
+    requires text { length text.now ≡ CHUNK }
+    ensures places { ArePlaces rows.now result }
+    ensures first { slice_index result 0 ≡ first }
+{
+    let mut places = [first; 6];
+    for block in 1..BLOCKS {
+        places[block] = guess(rows, text, root, BLOCK * block);
+    }
+    places
 }
 
 /// Steps over a chunk from a row on, and returns the row after it. The blocks but the first begin
-/// in rows that are guessed from the bytes before them, in a walk from the root. Where a
-/// guess was wrong, the block is repaired.
+/// in rows that are guessed. Where a guess was wrong, the block is repaired.
 pub fn walk_chunk(rows: &[u32], text: &[u8], root: usize, place: usize, trace: &mut [u32]) -> usize
     requires closed { IsClosed rows.now }
     requires root { IsPlace rows.now root }
@@ -76,47 +81,20 @@ pub fn walk_chunk(rows: &[u32], text: &[u8], root: usize, place: usize, trace: &
     ensures walked { Walked rows.now text.now place trace.new 0 CHUNK result }
     ensures stays { IsPlace rows.now result }
 {
-    let from = Places {
-        first: place,
-        second: guess(rows, text, root, 1024),
-        third: guess(rows, text, root, 2048),
-        fourth: guess(rows, text, root, 3072),
-    };
-    walk_from(rows, text, from, trace)
-}
-
-/// Steps over a chunk from the row of its first block on, with guesses for the others. Returns the
-/// row after it.
-fn walk_from(rows: &[u32], text: &[u8], from: Places, trace: &mut [u32]) -> usize
-    requires closed { IsClosed rows.now }
-    requires places { ArePlaces rows.now from }
-    requires text { length text.now ≡ CHUNK }
-    requires trace { length trace.old ≡ CHUNK }
-    ensures walked { Walked rows.now text.now from.first trace.new 0 CHUNK result }
-    ensures stays { IsPlace rows.now result }
-{
-    let ends = walk_blocks(rows, text, from, trace);
-    let second = Stretch {
-        from: 1024,
-        to: 2048,
-        begin: from.second,
-        end: ends.second,
-    };
-    let after_second = mended(rows, text, ends.first, trace, second);
-    let third = Stretch {
-        from: 2048,
-        to: 3072,
-        begin: from.third,
-        end: ends.third,
-    };
-    let after_third = mended(rows, text, after_second, trace, third);
-    let fourth = Stretch {
-        from: 3072,
-        to: 4096,
-        begin: from.fourth,
-        end: ends.fourth,
-    };
-    mended(rows, text, after_third, trace, fourth)
+    let from = guess_places(rows, text, root, place);
+    let mut ends = from;
+    walk_blocks(rows, text, &mut ends, trace);
+    let mut now = ends[0];
+    for block in 1..BLOCKS {
+        let stretch = Stretch {
+            from: BLOCK * block,
+            to: BLOCK * block + BLOCK,
+            begin: from[block],
+            end: ends[block],
+        };
+        now = mended(rows, text, now, trace, stretch);
+    }
+    now
 }
 
 /// Steps again over a block that began in a guess, if that was not its row. Returns the row

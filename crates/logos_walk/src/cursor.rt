@@ -50,7 +50,7 @@ impl ChunkCursor {
     #[inline(always)]
     fn start_after(self, bits: u64) -> usize
         requires room { HasRoom self.base }
-        requires word { self.word < 64 }
+        requires word { self.word < 72 }
         ensures { result ≡ start_by (self.base + 64 * self.word) self.word_start bits }
     {
         if bits == 0 {
@@ -78,7 +78,7 @@ impl ChunkCursor {
         requires room { HasRoom self.base }
         requires stands { Stands chunk.now.entries self }
         requires none { self.tokens ≡ 0 }
-        requires last { self.word < 63 }
+        requires last { self.word < 71 }
         ensures stands { Stands chunk.now.entries result }
         ensures passes { Passes chunk.now.entries self result }
         ensures word { result.word ≡ self.word + 1 }
@@ -102,11 +102,11 @@ impl ChunkCursor {
         requires stands { Stands chunk.now.entries self }
         ensures stands { Stands chunk.now.entries result }
         ensures passes { Passes chunk.now.entries self result }
-        ensures filled { result.tokens ≡ 0 → result.word ≡ 63 }
+        ensures filled { result.tokens ≡ 0 → result.word ≡ 71 }
     {
         let mut cursor = self;
         while cursor.tokens == 0 {
-            if cursor.word == 63 {
+            if cursor.word == 71 {
                 return cursor;
             }
             cursor = cursor.moved(chunk);
@@ -131,7 +131,7 @@ impl ChunkCursor {
         if cursor.tokens == 0 {
             *self = ChunkCursor {
                 base: cursor.base,
-                from: 4096,
+                from: 4608,
                 word_start: cursor.start_after(cursor.ends),
                 word: cursor.word,
                 tokens: 0,

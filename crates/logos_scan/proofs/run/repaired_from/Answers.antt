@@ -13,7 +13,7 @@ repair-repaired-requires-clause-holds c =
     let within = ch.within in
     let few = ch.few in
     let inside = c.requires.inside in
-    let long : length run.chunk.entries ≡ 4096 = search rules in
+    let long : length run.chunk.entries ≡ 4608 = search rules in
     record {
       order = omega (arith, inside);
       in_text = omega (arith, rest_long input base, within);

@@ -3,6 +3,6 @@ use Rattle.logos_walk.proofs.blocks.walk_blocks.Given as goal
 
 abbrev pub invariant-loop-at : goal.invariant-loop-at
 invariant-loop-at l = record {
-  walked : AreWalked l.rows l.text l.fn.from l.trace l.at l.now;
+  walked : AreWalked l.rows l.text l.initial.places l.trace l.at l.now;
   places : ArePlaces l.rows l.now;
 }

@@ -9,4 +9,4 @@ invariant-loop-cursor l = record {
 }
 
 abbrev pub decreases-loop-cursor : goal.decreases-loop-cursor
-decreases-loop-cursor l = 64 - l.cursor.word
+decreases-loop-cursor l = 72 - l.cursor.word

@@ -6,7 +6,7 @@ abbrev pub returns-clause-stands : goal.returns-clause-stands
 returns-clause-stands c =
     let trace = c.args.chunk.now.entries in
     let w = c.args.self.word + 1 in
-    let small : w < 64 = omega (arith, c.requires.last) in
+    let small : w < 72 = omega (arith, c.requires.last) in
     let m = c.requires.marked in
     record {
       within = small;

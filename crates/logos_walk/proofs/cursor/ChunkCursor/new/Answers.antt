@@ -6,7 +6,7 @@ abbrev pub returns-clause-stands : goal.returns-clause-stands
 returns-clause-stands c =
     let w = c.args.from / 64 in
     let r = c.args.from % 64 in
-    let small : w < 64 = omega (arith, c.requires.from) in
+    let small : w < 72 = omega (arith, c.requires.from) in
     let m = c.requires.marked in
     record {
       within = small;

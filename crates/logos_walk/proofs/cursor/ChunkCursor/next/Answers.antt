@@ -10,15 +10,15 @@ abbrev pub returns-then-cursor-eq0-clause-stands : goal.returns-then-cursor-eq0-
 returns-then-cursor-eq0-clause-stands c =
     let n = c.filled-cursor.result in
     let e = c.filled-cursor.ensures in
-    let last : 64 * n.word + 64 ≡ 4096 = omega (arith, e.filled c.if-cursor-eq0.true) in
+    let last : 64 * n.word + 64 ≡ 4608 = omega (arith, e.filled c.if-cursor-eq0.true) in
     record {
       within = e.stands.within;
       far = omega (arith, last);
-      tokens_left = left_none 30 c.args.chunk.now.entries n.word 4096 (omega (arith, last));
-      first = 4096;
+      tokens_left = left_none 30 c.args.chunk.now.entries n.word 4608 (omega (arith, last));
+      first = 4608;
       near = omega (arith, last);
       order = omega arith;
-      ends_left = left_none 31 c.args.chunk.now.entries n.word 4096 (omega (arith, last));
+      ends_left = left_none 31 c.args.chunk.now.entries n.word 4608 (omega (arith, last));
     }
 
 pub returns-then-cursor-eq0-clause-next : goal.returns-then-cursor-eq0-clause-next
@@ -29,17 +29,17 @@ returns-then-cursor-eq0-clause-next c =
     let e = c.filled-cursor.ensures in
     let p = e.passes in
     let s = e.stands in
-    let last : 64 * n.word + 64 ≡ 4096 = omega (arith, e.filled c.if-cursor-eq0.true) in
+    let last : 64 * n.word + 64 ≡ 4608 = omega (arith, e.filled c.if-cursor-eq0.true) in
     let near : 64 * n.word ≤ n.from = omega (arith, s.near, s.order) in
-    let far : n.from ≤ 4096 = omega (arith, s.far, last) in
+    let far : n.from ≤ 4608 = omega (arith, s.far, last) in
     let none = none_left trace n.word n.tokens n.from c.if-cursor-eq0.true near s.tokens_left in
     record {
-      none = none_later trace old.from n.from 4096 p.none (λ k f h. none k f (omega (arith, h, last)));
+      none = none_later trace old.from n.from 4608 p.none (λ k f h. none k f (omega (arith, h, last)));
       after = refl;
-      start = start_first trace (record { base = n.base; from = 4096; word_start = c.start_after.result; word = n.word; tokens = 0; ends = 0 }) (returns-then-cursor-eq0-clause-stands c) refl;
-      starts = starts_join old.base trace old.from (start_of old) n.from (start_of n) 4096 c.start_after.result p.order far p.starts
-          (starts_from n.base old.base trace n.from (start_of n) 4096 c.start_after.result p.base
-          (starts_eq n.base trace n.from (start_of n) (64 * n.word + 64) (start_by (n.base + 64 * n.word) n.word_start n.ends) 4096 c.start_after.result last (sym c.start_after.ensures)
+      start = start_first trace (record { base = n.base; from = 4608; word_start = c.start_after.result; word = n.word; tokens = 0; ends = 0 }) (returns-then-cursor-eq0-clause-stands c) refl;
+      starts = starts_join old.base trace old.from (start_of old) n.from (start_of n) 4608 c.start_after.result p.order far p.starts
+          (starts_from n.base old.base trace n.from (start_of n) 4608 c.start_after.result p.base
+          (starts_eq n.base trace n.from (start_of n) (64 * n.word + 64) (start_by (n.base + 64 * n.word) n.word_start n.ends) 4608 c.start_after.result last (sym c.start_after.ensures)
           (starts_whole trace n s (omega arith))));
     }
 
