@@ -71,8 +71,23 @@ fn _stop(number: usize, bytes: &[u8], from: usize) -> usize {
     }
     from + bits.trailing_zeros() as usize
 }
+// The first loops have a function each: a branch says which one it is, so that the search need not wait for the tables to say it.
 #[inline(never)]
 fn _stop_far(number: usize, bytes: &[u8], from: usize) -> usize {
+    match number {
+        0 => _stop_by::<0>(bytes, from),
+        1 => _stop_by::<{ 1 & (_LOOPS - 1) }>(bytes, from),
+        2 => _stop_by::<{ 2 & (_LOOPS - 1) }>(bytes, from),
+        3 => _stop_by::<{ 3 & (_LOOPS - 1) }>(bytes, from),
+        _ => _stop_by_loop(number, bytes, from),
+    }
+}
+#[inline(never)]
+fn _stop_by<const NUMBER: usize>(bytes: &[u8], from: usize) -> usize {
+    _stop_by_loop(NUMBER, bytes, from)
+}
+#[inline(always)]
+fn _stop_by_loop(number: usize, bytes: &[u8], from: usize) -> usize {
     let _Option::Some(mut rest) = bytes.get(from..) else { return from };
     if !_VECTORS || _IS_WIDE[number] {
         return _stop_by_masks(&_MASKS[number], bytes, from);

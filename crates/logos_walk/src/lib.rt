@@ -1,4 +1,4 @@
-//! Walks over folded rows: a chunk of bytes at once, in four blocks side by side and without a
+//! Walks over folded rows: a chunk of bytes at once, in six blocks side by side and without a
 //! branch for each byte, and the bits that say where its tries end.
 
 #![tactic(auto)]

@@ -19,7 +19,7 @@ const ENDED_TOP: u8 = (ENDED >> 24) as u8;
 
 const TOKEN_TOP: u8 = (TOKEN >> 24) as u8;
 
-/// Returns the highest bytes of the 16 entries from `at` on. They are taken by their places: of a
+/// Returns the highest bytes of the 16 entries from `at` on. They are picked from all bytes: of a
 /// shift the compiler makes more instructions.
 #[inline(always)]
 fn tops_of_16(trace: &[u32], at: usize) -> u8x16
