@@ -3,7 +3,7 @@
 ghost use Rattle.std.specs.Prelude.{◌≡◌, ◌<◌, ◌+◌, List, ℕ, length, slice_index};
 ghost use Rattle.logos_walk.specs.Views.{IsClosed, IsPlace, IsSameBeside, Walked, ArePlaces, AreWalked, HoldsStretch};
 
-use crate::guess::guess;
+use crate::guess::guess_places;
 use crate::repair::{Stretch, repair};
 use crate::walk::step;
 
@@ -36,7 +36,9 @@ fn column(rows: &[u32], text: &[u8], places: &mut [usize; 6], trace: &mut [u32],
     }
 }
 
-/// Steps over the blocks in turns, each from its own row on, up to the rows after them.
+/// Steps over the blocks in turns, each from its own row on, up to the rows after them. It is
+/// called out of line, so that it has the registers for itself.
+#[inline(never)]
 fn walk_blocks(rows: &[u32], text: &[u8], places: &mut [usize; 6], trace: &mut [u32])
     requires closed { IsClosed rows.now }
     requires places { ArePlaces rows.now places.old }
@@ -52,24 +54,6 @@ fn walk_blocks(rows: &[u32], text: &[u8], places: &mut [usize; 6], trace: &mut [
     *places = now;
 }
 
-/// Returns the rows in which blocks begin: that of the first, and guesses for the others, from the
-/// bytes before them, in a walk from the root.
-#[inline(always)]
-fn guess_places(rows: &[u32], text: &[u8], root: usize, first: usize) -> [usize; 6]
-    requires closed { IsClosed rows.now }
-    requires root { IsPlace rows.now root }
-    requires first { IsPlace rows.now first }
-    requires text { length text.now ≡ CHUNK }
-    ensures places { ArePlaces rows.now result }
-    ensures first { slice_index result 0 ≡ first }
-{
-    let mut places = [first; 6];
-    for block in 1..BLOCKS {
-        places[block] = guess(rows, text, root, BLOCK * block);
-    }
-    places
-}
-
 /// Steps over a chunk from a row on, and returns the row after it. The blocks but the first begin
 /// in rows that are guessed. Where a guess was wrong, the block is repaired.
 pub fn walk_chunk(rows: &[u32], text: &[u8], root: usize, place: usize, trace: &mut [u32]) -> usize
@@ -81,7 +65,8 @@ pub fn walk_chunk(rows: &[u32], text: &[u8], root: usize, place: usize, trace: &
     ensures walked { Walked rows.now text.now place trace.new 0 CHUNK result }
     ensures stays { IsPlace rows.now result }
 {
-    let from = guess_places(rows, text, root, place);
+    let mut from = guess_places(rows, text, root);
+    from[0] = place;
     let mut ends = from;
     walk_blocks(rows, text, &mut ends, trace);
     let mut now = ends[0];

@@ -1,38 +1,55 @@
 //! Guesses at the rows in which blocks begin.
 
-ghost use Rattle.std.specs.Prelude.{◌≤◌, length};
-ghost use Rattle.logos_walk.specs.Words.{IsClosed, IsPlace};
+ghost use Rattle.std.specs.Prelude.{◌≡◌, ◌<◌, length};
+ghost use Rattle.logos_walk.specs.Views.{IsClosed, IsPlace, ArePlaces};
 
+use crate::blocks::{BLOCK, BLOCKS, CHUNK};
 use crate::walk::{PLACE, entry_of};
-use std::simd::prelude::*;
 
-/// Returns a guess at the row at `end`: the one to which the bytes after the last line end among
-/// the 64 before lead from the root, or all 64 if there is no line end. Any row is right, a good
-/// guess is fast.
-#[inline(always)]
-pub fn guess(rows: &[u32], text: &[u8], root: usize, end: usize) -> usize
-    requires closed { IsClosed rows.now }
-    requires place { IsPlace rows.now root }
-    requires low { 64 ≤ end }
-    requires text { end ≤ length text.now }
-    ensures { IsPlace rows.now result }
-{
-    let before = u8x64::from_slice(&text[end - 64..]);
-    let lines = before.simd_eq(u8x64::splat(b'\n')).to_bitmask();
-    let back = lines.leading_zeros() as usize;
-    run(rows, &text[end - back.min(64)..end], root)
-}
+/// How many bytes before a block a guess looks at.
+const WINDOW: usize = 48;
 
-/// Returns the row after the bytes.
+/// Returns the row after a byte: the root after a line end.
 #[inline(always)]
-fn run(rows: &[u32], text: &[u8], place: usize) -> usize
+fn after(rows: &[u32], byte: u8, place: usize, root: usize) -> usize
     requires closed { IsClosed rows.now }
     requires place { IsPlace rows.now place }
+    requires root { IsPlace rows.now root }
     ensures { IsPlace rows.now result }
 {
-    let mut now = place;
-    for byte in text {
-        now = (entry_of(rows, *byte, now) & PLACE) as usize;
+    let next = (entry_of(rows, byte, place) & PLACE) as usize;
+    if byte == b'\n' { root } else { next }
+}
+
+/// Steps over one byte before each block but the first: that at `at` of those that are looked at.
+#[inline(always)]
+fn step_before(rows: &[u32], text: &[u8], root: usize, places: &mut [usize; 6], at: usize)
+    requires closed { IsClosed rows.now }
+    requires root { IsPlace rows.now root }
+    requires text { length text.now ≡ CHUNK }
+    requires places { ArePlaces rows.now places.old }
+    requires at { at < WINDOW }
+    ensures places { ArePlaces rows.now places.new }
+{
+    for block in 1..BLOCKS {
+        let byte = text[BLOCK * block - WINDOW + at];
+        places[block] = after(rows, byte, places[block], root);
     }
-    now
+}
+
+/// Returns guesses at the rows in which blocks begin: those to which the bytes after the last line
+/// end lead from the root, of few bytes before each block. Any row is right, a good guess is fast.
+/// All are made at once, as blocks are walked.
+#[inline(always)]
+pub fn guess_places(rows: &[u32], text: &[u8], root: usize) -> [usize; 6]
+    requires closed { IsClosed rows.now }
+    requires root { IsPlace rows.now root }
+    requires text { length text.now ≡ CHUNK }
+    ensures { ArePlaces rows.now result }
+{
+    let mut places = [root; 6];
+    for at in 0..WINDOW {
+        step_before(rows, text, root, &mut places, at);
+    }
+    places
 }
