@@ -171,11 +171,11 @@ impl SampleCounts {
     /// Returns whether a run by chunks likely takes less time than a lexer where these are the
     /// counts of all samples.
     ///
-    /// The numbers are measured: a lexer takes about as long for a state as a run for four bytes or
-    /// tries. An error costs a run more where items are longer, since it steps again over what
-    /// comes after it.
+    /// The numbers are measured: a lexer takes about as long for three states as a run for ten
+    /// bytes or tries. An error costs a run more where items are longer, since it steps again over
+    /// what comes after it.
     fn suit_runs(self) -> bool {
-        let entered = self.states.wrapping_mul(4);
+        let entered = self.states.wrapping_mul(10) / 3;
         let long = self.items <= SAMPLED / 3;
         let few = self.errors.wrapping_mul(2 * SAMPLED) <= self.items.wrapping_mul(self.items);
         long & few & (entered > self.tries.wrapping_add(SAMPLED))
