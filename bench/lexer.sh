@@ -21,6 +21,10 @@
 # All are compiled so that no jump crosses 32 bytes: where one does is luck, which is a tenth and
 # more of the speed on many processors. The runtime in Rust says what its build script has it say.
 #
+# The variable SCANNERS names the scanners that are measured, instead of all, so that more runs fit
+# into the same time: SCANNERS='lexer chunks installed installed_chunks' has the installed program
+# beside the proved one. The last table is left out then.
+#
 # It needs flex, re2c, gcc and python3, as in `apt-get install flex re2c gcc python3`, and uses
 # rustc where it is found. `bench/program.sh` builds the programs. The variables LEXER, INSTALLED,
 # LOGOS and CLI name programs to measure in their place, which can be ones that are not proved, KEEP
@@ -187,6 +191,7 @@ done
 # or so many times. Prints nothing where there is no such scanner.
 measure() {
     local name=${rules[$1]:-$1} program=$lexer command
+    [[ " ${SCANNERS:-$2} " = *" $2 "* ]] || return 0
     [[ $2 != installed* ]] || program=$installed
     case "$2" in
         lexer | installed) command=("$program" "$bench/lexer/rules/$name.rs" "${@:3}") ;;
@@ -201,7 +206,8 @@ for text in "${texts[@]}"; do
 done > "$copy/choices"
 for ((run = 0; run < runs; run++)); do
     for text in "${texts[@]}"; do
-        for scanner in lexer chunks installed installed_chunks "${others[@]}"; do
+        # in an order of chance: a program gets the memory that the one before it gave back
+        for scanner in $(shuf -e lexer chunks installed installed_chunks "${others[@]}"); do
             measure "$text" "$scanner" "$copy/$text.text"
         done
     done
@@ -224,6 +230,7 @@ for text in "${texts[@]}"; do
 done > "$copy/short"
 python3 "$bench/lexer/table.py" short 6000000 "$copy/short"
 
+[ -z "${SCANNERS:-}" ] || lines=()
 if [ "${#lines[@]}" != 0 ] && command -v rustc > /dev/null; then
     echo
     echo "| Text | Lines | logos lex | MiB | tailcall | MiB | state_machine | MiB | logos lex by the fastest other |"
