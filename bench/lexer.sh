@@ -206,7 +206,7 @@ for text in "${texts[@]}"; do
 done > "$copy/choices"
 for ((run = 0; run < runs; run++)); do
     for text in "${texts[@]}"; do
-        # in an order of chance: a program gets the memory that the one before it gave back
+        # in an order of chance, so that none has the same one before it each time
         for scanner in $(shuf -e lexer chunks installed installed_chunks "${others[@]}"); do
             measure "$text" "$scanner" "$copy/$text.text"
         done
