@@ -3,9 +3,10 @@
 # and as `tools/install.sh` builds programs, beside scanners of the same rules: those that flex and
 # re2c make, and, where rustc is found, what it makes of the Rust text of these rules, over
 # `runtime/rust`: in both shapes of `logos gen`, and as tables. Their `scan` is measured by
-# `for_each` and, as `loop`, by a loop. A run lexes a text three times, and a short one very often.
-# Of the runs, taken in turns, the fastest of each counts; the first argument says how many, ten
-# without it. Further arguments name the texts that are measured, instead of all.
+# `for_each` and, as `loop`, by a loop. A run lexes a text three times and until that took a quarter
+# of a second, and a short one very often. Of the runs, taken in turns, the fastest of each counts;
+# the first argument says how many, ten without it. Further arguments name the texts that are
+# measured, instead of all.
 #
 # bench/lexer/text.py makes sixteen of the texts, bench/lexer/files.py those of files on this
 # machine. A text of which it has too few files is left out, and a shape for which rustc takes more
@@ -23,7 +24,9 @@
 #
 # The variable SCANNERS names the scanners that are measured, instead of all, so that more runs fit
 # into the same time: SCANNERS='lexer chunks installed installed_chunks' has the installed program
-# beside the proved one. The last table is left out then.
+# beside the proved one. The last table is left out then. The variable SIZE says how many bytes the
+# texts have, instead of 32 MiB: where others use the processor too, short texts are lexed while
+# these rest.
 #
 # It needs flex, re2c, gcc and python3, as in `apt-get install flex re2c gcc python3`, and uses
 # rustc where it is found. `bench/program.sh` builds the programs. The variables LEXER, INSTALLED,
@@ -34,7 +37,7 @@ set -euo pipefail
 
 . "$(dirname "${BASH_SOURCE[0]}")/program.sh"
 runs=${1:-10}
-size=33554432
+size=${SIZE:-33554432}
 limit=100
 inside=(-C llvm-args=-x86-branches-within-32B-boundaries)
 read -ra before <<< "${BEFORE:-}"
@@ -72,7 +75,7 @@ make_text() {
     elif [ "$1" = asm ]; then
         sources+=("$bench"/lexer/re2c/*.re)
     fi
-    path="$keep/$1.$(sum "${sources[@]}")"
+    path="$keep/$1.$size.$(sum "${sources[@]}")"
     if [ ! -e "$path" ]; then
         python3 "$bench/lexer/$script" "$size" "$1" > "$path.part" || return 1
         mv "$path.part" "$path"

@@ -32,22 +32,26 @@ static double now(void)
     return (double)time.tv_sec + (double)time.tv_nsec / 1e9;
 }
 
-/* Scans a text as often as the second argument says, and three times without it. Prints the
- * seconds, without the argument the least of the three, and the tokens and the errors that one scan
- * finds. */
+/* Scans a text as often as the second argument says. Without it, scans three times and until that
+ * took a quarter of a second. Prints the seconds, without the argument the least of one scan, and
+ * the tokens and the errors that one scan finds. */
 static int measure(int argc, char **argv, void (*scan)(char *, size_t))
 {
     size_t size;
     char *text = read_text(argc, argv, &size);
     unsigned long times = argc > 2 ? strtoul(argv[2], NULL, 10) : 1;
-    unsigned long rounds = argc > 2 ? 1 : 3;
+    unsigned long most = argc > 2 ? 1 : 1000;
+    unsigned long rounds = 0;
+    double spent = 0;
     double least = 1e9;
-    for (unsigned long round = 0; round < rounds; round++) {
+    while (rounds < most && (rounds < 3 || spent < 0.25)) {
         double start = now();
         for (unsigned long time = 0; time < times; time++) {
             scan(text, size);
         }
         double seconds = now() - start;
+        rounds++;
+        spent += seconds;
         least = seconds < least ? seconds : least;
     }
     printf("%.6f %lu %lu\n", least, tokens / (times * rounds), errors / (times * rounds));

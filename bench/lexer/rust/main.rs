@@ -1,7 +1,7 @@
 //! Measures the lexer that the text beside this file says: `rules.rs` is the enum without its
 //! attributes, `lexer.rs` the text. Lexes the file that the first argument names, as often as the
 //! second one says, and prints the seconds, and the tokens and errors of one time. Without it, it
-//! lexes three times, and prints the least seconds.
+//! lexes three times and until that took a quarter of a second, and prints the least seconds.
 //! With `--cfg scan` the items are those of `Scan::scan`, by `for_each`, and with `--cfg looped` by
 //! a loop.
 
@@ -13,11 +13,14 @@ include!("lexer.rs");
 fn main() {
     let path = std::env::args().nth(1).expect("a file");
     let times = std::env::args().nth(2).map(|word| word.parse().expect("a number"));
-    let rounds = if times.is_some() { 1 } else { 3 };
+    let most = if times.is_some() { 1 } else { 1000 };
     let input = std::fs::read(path).expect("a file that can be read");
     let source = <<Rules as logos::Logos>::Source as Read>::read(&input);
-    let (mut tokens, mut errors, mut seconds) = (0, 0, f64::MAX);
-    for _ in 0..rounds {
+    let (mut tokens, mut errors, mut seconds, mut spent) = (0, 0, f64::MAX, 0.0);
+    for round in 0..most {
+        if round >= 3 && spent >= 0.25 {
+            break;
+        }
         let start = std::time::Instant::now();
         for _ in 0..times.unwrap_or(1) {
             #[cfg(not(scan))]
@@ -26,7 +29,9 @@ fn main() {
             let items = <Rules as logos::Scan>::scan(source);
             (tokens, errors) = count(items);
         }
-        seconds = start.elapsed().as_secs_f64().min(seconds);
+        let elapsed = start.elapsed().as_secs_f64();
+        spent += elapsed;
+        seconds = seconds.min(elapsed);
     }
     println!("{seconds:.6} {tokens} {errors}");
 }
