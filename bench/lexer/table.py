@@ -34,11 +34,20 @@ def read_runs(runs):
     return best, found
 
 
-def differences(found):
-    """Yields what scanners find that is not what `lexer` finds."""
+def first_found(found):
+    """Returns of each text what the first scanner found in it, and which one that was."""
+    firsts = {}
     for (text, scanner), numbers in found.items():
-        if numbers != found[text, "lexer"]:
-            yield f"{text}: {scanner} finds {numbers}, lexer {found[text, 'lexer']}"
+        firsts.setdefault(text, (numbers, scanner))
+    return firsts
+
+
+def differences(found):
+    """Yields what scanners find that is not what the first one finds."""
+    firsts = first_found(found)
+    for (text, scanner), numbers in found.items():
+        if numbers != firsts[text][0]:
+            yield f"{text}: {scanner} finds {numbers}, {firsts[text][1]} {firsts[text][0]}"
 
 
 def fastest(best, text, scanners):
@@ -83,14 +92,15 @@ def main_table(size, choices, best, found):
     """Prints MB/s of all scanners, and the ratios."""
     scanners = [it for it in OWN + OTHERS + TABLES if any(scanner == it for _, scanner in best)]
     kinds = {"ours by the fastest other": {}, "tables by the faster shape": {}, "scan by it": {}, "loop by it": {}}
+    firsts = first_found(found)
     rows = []
     for text, choice in choices:
-        ours, shape = best[text, choice], fastest(best, text, SHAPES)
+        ours, shape = best.get((text, choice)), fastest(best, text, SHAPES)
         ratios = [by(fastest(best, text, OTHERS), ours), *(by(shape, best.get((text, way))) for way in TABLES)]
         for kind, ratio in zip(kinds.values(), ratios):
             kind[text] = ratio
         speeds = [shown(by(size / 1e6, best.get((text, scanner))), ".0f") for scanner in scanners]
-        rows.append([text, found[text, "lexer"].split()[0], choice, *speeds, *(shown(ratio, ".2f") for ratio in ratios)])
+        rows.append([text, firsts[text][0].split()[0], choice, *speeds, *(shown(ratio, ".2f") for ratio in ratios)])
     print_rows(["Text", "Tokens", "ours", *scanners, *kinds], rows)
     print_means(kinds)
 
@@ -99,9 +109,9 @@ def installed_table(size, choices, best):
     """Prints the installed program beside the proved one."""
     rows = []
     for text, choice in choices:
-        pairs = [(best[text, own], best[text, installed]) for own, installed in zip(OWN, INSTALLED)]
-        chosen = pairs[OWN.index(choice)]
-        rows.append([text, *(f"{size / 1e6 / seconds:.0f}" for pair in pairs for seconds in pair), f"{by(*chosen):.2f}"])
+        pairs = [(best.get((text, own)), best.get((text, installed))) for own, installed in zip(OWN, INSTALLED)]
+        speeds = [shown(by(size / 1e6, seconds), ".0f") for pair in pairs for seconds in pair]
+        rows.append([text, *speeds, shown(by(*pairs[OWN.index(choice)]), ".2f")])
     print_rows(["Text", "lexer", "installed", "chunks", "installed chunks", "installed ours by ours"], rows)
 
 
@@ -112,7 +122,7 @@ def short_table(size, best):
     for text in dict.fromkeys(text for text, _ in best):
         name, length = text.split()
         times = size // int(length)
-        own, other = best[text, "lexer"], fastest(best, text, OTHERS)
+        own, other = best.get((text, "lexer")), fastest(best, text, OTHERS)
         cells = [shown(best.get((text, scanner)) and best[text, scanner] / times * 1e9, ".0f") for scanner in scanners]
         rows.append([name, length, *cells, shown(by(other, own), ".2f")])
     if rows:
