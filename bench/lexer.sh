@@ -3,10 +3,11 @@
 # and as `tools/install.sh` builds programs, beside scanners of the same rules: those that flex and
 # re2c make, and, where rustc is found, what it makes of the Rust text of these rules, over
 # `runtime/rust`: in both shapes of `logos gen`, and as tables. Their `scan` is measured by
-# `for_each` and, as `loop`, by a loop. A run lexes a text three times and until that took a quarter
-# of a second, and a short one very often. Of the runs, taken in turns, the fastest of each counts;
-# the first argument says how many, ten without it. Further arguments name the texts that are
-# measured, instead of all.
+# `for_each` and, as `loop`, by a loop. What has `.placed` in its name reads the places of the
+# items too: without, rustc leaves out what finds them. A run lexes a text three times and until
+# that took a quarter of a second, and a short one very often. Of the runs, taken in turns, the
+# fastest of each counts; the first argument says how many, ten without it. Further arguments name
+# the texts that are measured, instead of all.
 #
 # bench/lexer/text.py makes sixteen of the texts, bench/lexer/files.py those of files on this
 # machine. A text of which it has too few files is left out, and a shape for which rustc takes more
@@ -14,10 +15,10 @@
 #
 # bench/lexer/table.py prints the tables: MB/s of all; the speed of `ours`, which is `chunks` or
 # `lexer` as the programs choose, by that of the fastest other, and of the tables, their `scan` and
-# `loop` by the faster other shape; the means of these; the installed program beside the proved one;
-# and nanoseconds for inputs of 64 bytes and 1 KiB. Where rustc is found the last table is of
-# `logos lex` beside programs in Rust that print the same lines through a `BufWriter`, on texts of
-# 64 MiB.
+# `loop` by the faster other shape; the means of these; the same for what reads places; the
+# installed program beside the proved one; and nanoseconds for inputs of 64 bytes and 1 KiB. Where
+# rustc is found the last table is of `logos lex` beside programs in Rust that print the same lines
+# through a `BufWriter`, on texts of 64 MiB.
 #
 # All are compiled so that no jump crosses 32 bytes: where one does is luck, which is a tenth and
 # more of the speed on many processors. The runtime in Rust says what its build script has it say.
@@ -147,10 +148,14 @@ compile() {
           sed -n 's/^enum \([A-Za-z]*\) {$/type Rules = \1;/p' "$bench/lexer/rules/$1.rs"; } > "$folder/rules.rs"
         shape "$1" "$shape" > "$folder/lexer.rs"
         compile_rust "$1" "$shape" "$shape" main.rs
-        [[ $shape = tables || " ${lines[*]} " != *" $1 "* ]] || compile_rust "$1" "$shape" "$shape.lines" lines.rs
+        [ "$shape" != tables ] || continue
+        compile_rust "$1" "$shape" "$shape.placed" main.rs --cfg placed
+        [[ " ${lines[*]} " != *" $1 "* ]] || compile_rust "$1" "$shape" "$shape.lines" lines.rs
     done
     compile_rust "$1" tables scan main.rs --cfg scan
     compile_rust "$1" tables loop main.rs --cfg scan --cfg looped
+    compile_rust "$1" tables scan.placed main.rs --cfg scan --cfg placed
+    compile_rust "$1" tables loop.placed main.rs --cfg scan --cfg looped --cfg placed
 }
 
 lexer=${LEXER:-$copy/crates/lexer_bench/out/lexer_bench}
@@ -177,7 +182,7 @@ texts=("${here[@]}")
 mapfile -t enums < <(for text in "${texts[@]}"; do echo "${rules[$text]:-$text}"; done | sort -u)
 others=(flex re2c)
 if command -v rustc > /dev/null; then
-    others+=(tailcall state_machine tables scan loop)
+    others+=(tailcall state_machine tables scan loop {tailcall,state_machine,scan,loop}.placed)
     { cat "$bench"/../runtime/rust/src/*.rs; rustc --version; } > "$copy/runtime"
     LOGOS_VECTORS=1 rustc --edition 2021 -C opt-level=3 "${inside[@]}" --crate-type rlib --crate-name logos --cfg 'feature="std"' -o "$copy/liblogos.rlib" "$bench/../runtime/rust/src/lib.rs"
 fi

@@ -13,6 +13,7 @@ OWN = ["lexer", "chunks"]
 OTHERS = ["flex", "re2c", "tailcall", "state_machine"]
 SHAPES = ["tailcall", "state_machine"]
 TABLES = ["tables", "scan", "loop"]
+PLACED = ["scan.placed", "loop.placed"]
 INSTALLED = ["installed", "installed_chunks"]
 # the texts of languages, data and logs, over which the means are
 USUAL = """json_files rust python css_files c asm iplog xml program log json prose sql css
@@ -105,6 +106,21 @@ def main_table(size, choices, best, found):
     print_means(kinds)
 
 
+def placed_table(size, choices, best):
+    """Prints MB/s of what reads the places of the items, and the ratios."""
+    shapes = [f"{shape}.placed" for shape in SHAPES]
+    kinds = {"scan by the faster shape": {}, "loop by it": {}}
+    rows = []
+    for text, _ in choices:
+        shape = fastest(best, text, shapes)
+        for kind, way in zip(kinds.values(), PLACED):
+            kind[text] = by(shape, best.get((text, way)))
+        speeds = [shown(by(size / 1e6, best.get((text, scanner))), ".0f") for scanner in shapes + PLACED]
+        rows.append([text, *speeds, *(shown(kind[text], ".2f") for kind in kinds.values())])
+    print_rows(["Text", *shapes, *PLACED, *kinds], rows)
+    print_means(kinds)
+
+
 def installed_table(size, choices, best):
     """Prints the installed program beside the proved one."""
     rows = []
@@ -136,6 +152,7 @@ def main():
     else:
         choices = words_of(sys.argv[2])
         main_table(int(sys.argv[1]), choices, best, found)
+        placed_table(int(sys.argv[1]), choices, best)
         installed_table(int(sys.argv[1]), choices, best)
     faults = list(differences(found))
     for fault in faults:

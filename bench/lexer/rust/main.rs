@@ -3,7 +3,8 @@
 //! second one says, and prints the seconds, and the tokens and errors of one time. Without it, it
 //! lexes three times and until that took a quarter of a second, and prints the least seconds.
 //! With `--cfg scan` the items are those of `Scan::scan`, by `for_each`, and with `--cfg looped` by
-//! a loop.
+//! a loop. With `--cfg placed` the items have their places, also those of a lexer, and the lengths
+//! of all are added up: else the compiler leaves out what finds the places.
 
 #![allow(warnings)]
 
@@ -25,6 +26,8 @@ fn main() {
         for _ in 0..times.unwrap_or(1) {
             #[cfg(not(scan))]
             let items = logos::Lexer::<Rules>::new(std::hint::black_box(source));
+            #[cfg(all(placed, not(scan)))]
+            let items = items.spanned();
             #[cfg(scan)]
             let items = <Rules as logos::Scan>::scan(source);
             (tokens, errors) = count(items);
@@ -38,7 +41,7 @@ fn main() {
 
 /// Returns how many tokens and errors there are. It is a function of its own, so that the counts
 /// stay in registers.
-#[cfg(not(scan))]
+#[cfg(not(any(scan, placed)))]
 #[inline(never)]
 fn count<Error>(items: impl Iterator<Item = Result<Rules, Error>>) -> (u64, u64) {
     let (mut tokens, mut errors) = (0, 0);
@@ -52,13 +55,17 @@ fn count<Error>(items: impl Iterator<Item = Result<Rules, Error>>) -> (u64, u64)
 }
 
 /// The same for items with their places.
-#[cfg(scan)]
+#[cfg(any(scan, placed))]
 #[inline(never)]
 fn count<Error>(items: impl Iterator<Item = (Result<Rules, Error>, logos::Span)>) -> (u64, u64) {
-    let (mut tokens, mut errors) = (0, 0);
-    let mut add = |(item, _): (Result<Rules, Error>, _)| match item {
-        Ok(_) => tokens += 1,
-        Err(_) => errors += 1,
+    let (mut tokens, mut errors, mut bytes) = (0, 0, 0);
+    let mut add = |(item, place): (Result<Rules, Error>, logos::Span)| {
+        match item {
+            Ok(_) => tokens += 1,
+            Err(_) => errors += 1,
+        }
+        #[cfg(placed)]
+        (bytes += place.len())
     };
     #[cfg(not(looped))]
     items.for_each(add);
@@ -66,6 +73,7 @@ fn count<Error>(items: impl Iterator<Item = (Result<Rules, Error>, logos::Span)>
     for item in items {
         add(item);
     }
+    std::hint::black_box(bytes);
     (tokens, errors)
 }
 

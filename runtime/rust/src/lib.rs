@@ -23,6 +23,7 @@
 #[cfg(feature = "std")]
 extern crate std;
 
+mod chunk;
 mod folded;
 #[allow(missing_docs)]
 pub mod internal;

@@ -1,8 +1,9 @@
 //! Lexing by chunks of the input: [`Scan::scan`], for lexers that are tables.
 
-use crate::folded::Rows;
+use crate::chunk::{FEWEST, WORD};
+use crate::folded::{leaf_of, Rows};
 use crate::internal::Tables;
-use crate::walk::{Walk, ASK, CHUNK, FEWEST};
+use crate::walk::{new_room, Room, Word};
 use crate::{Lexer, Logos, Span};
 use core::fmt;
 use core::ops::{Deref, DerefMut};
@@ -50,7 +51,10 @@ impl<'source, T: Tables<'source>> Scan<'source> for T {}
 /// faster than a loop.
 pub struct Scanner<'source, Token: Scan<'source>> {
     lexer: Lexer<'source, Token>,
-    walk: Walk,
+    word: Word,
+    /// Up to here `Logos::lex` finds the items.
+    plain_to: usize,
+    walk: Option<Room>,
     /// More of the input may follow.
     is_part: bool,
     /// The lexer may have been moved.
@@ -61,10 +65,11 @@ type Item<'source, Token> = (Result<Token, <Token as Logos<'source>>::Error>, Sp
 
 impl<'source, Token: Scan<'source>> Scanner<'source, Token> {
     pub(crate) fn new(lexer: Lexer<'source, Token>, is_part: bool) -> Self {
-        let walk = Walk::new(lexer.span().end);
         Scanner {
+            word: Word::empty(lexer.span().end),
             lexer,
-            walk,
+            plain_to: 0,
+            walk: None,
             is_part,
             is_moved: true,
         }
@@ -75,111 +80,161 @@ impl<'source, Token: Scan<'source>> Scanner<'source, Token> {
         self.lexer
     }
 
-    /// Returns what becomes of a match.
-    #[inline(always)]
-    fn item_of(&mut self, leaf: usize, span: Span) -> Option<Item<'source, Token>> {
-        self.lexer.set_span(span.clone());
-        if let Some(token) = Token::plain(leaf) {
-            return Some((Ok(token), span));
-        }
-        self.item_of_call(leaf, span.end)
-    }
-
-    /// Returns what becomes of a match for which something is called, or that has a value.
-    fn item_of_call(&mut self, leaf: usize, end: usize) -> Option<Item<'source, Token>> {
-        let source = self.lexer.source();
-        let item = Token::act(&mut self.lexer, leaf, end);
-        self.follow(source, end);
-        Some((item?, self.lexer.span()))
-    }
-
-    /// Goes on from where the lexer stands, if that is not this byte offset of the source.
-    #[inline]
-    fn follow(&mut self, source: &'source Token::Source, end: usize) {
-        if !core::ptr::eq(self.lexer.source(), source) {
-            self.is_moved = true;
-            self.walk.forget();
-        } else if self.lexer.span().end != end {
-            self.begin_at(self.lexer.span().end);
-        }
-    }
-
-    #[cold]
-    fn begin_at(&mut self, start: usize) {
-        self.walk
-            .begin_at::<Token>(Token::bytes(self.lexer.source()), start);
-    }
-
     /// Returns whether `Logos::lex` finds the next item.
     #[inline(always)]
     fn is_plain(&self) -> bool {
-        self.walk.tokens == 0 && self.walk.start < self.walk.plain_to
+        self.word.tokens == 0 && self.word.start < self.plain_to
     }
 
-    /// Finds what comes next in the word, the next word, or an item in another way.
+    /// Takes the next token of the word, if there is one for which nothing is called. It is made
+    /// before its place is found, so that few values outlive the call.
+    #[inline(always)]
+    fn take_plain(&mut self) -> Option<Item<'source, Token>> {
+        let tokens = self.word.tokens;
+        if tokens == 0 {
+            return None;
+        }
+        let leaf = self.walk.as_ref()?.leaf_of(&self.word, tokens)?;
+        let token = Token::plain(leaf)?;
+        let span = self.word.span_of(tokens);
+        self.word.tokens = tokens & (tokens - 1);
+        self.lexer.set_span(span.clone());
+        Some((Ok(token), span))
+    }
+
+    /// Finds what comes next where the word does not begin with a token for which nothing is
+    /// called: the next word, or an item in another way.
     #[inline(always)]
     fn find(&mut self) -> Next<Item<'source, Token>> {
-        if let Some((leaf, span)) = self.walk.take() {
-            return match self.item_of(leaf, span) {
-                Some(item) => Next::Item(item),
-                None => Next::Again,
-            };
-        }
-        if self.walk.load_next() {
-            return Next::Again;
+        let tokens = self.word.tokens;
+        if let Some(walk) = &mut self.walk {
+            if tokens == 0 {
+                if let Some(word) = walk.next_word(&self.word) {
+                    self.word = word;
+                    return Next::Again;
+                }
+            } else {
+                let leaf = walk.leaf_of(&self.word, tokens).unwrap_or(usize::MAX);
+                let span = self.word.span_of(tokens);
+                self.word.tokens = tokens & (tokens - 1);
+                let end = span.end;
+                return self.item_of((leaf, end), span.start, end);
+            }
         }
         self.refill()
     }
 
-    /// Finds the next word, or an item in another way.
-    #[cold]
-    #[inline(never)]
-    fn refill(&mut self) -> Next<Item<'source, Token>> {
-        if self.is_moved {
-            self.is_moved = false;
-            self.walk
-                .begin_anew(self.lexer.span().end, Token::ROWS.root());
-        }
-        let bytes = Token::bytes(self.lexer.source());
-        let start = self.walk.start;
-        if let Some(cut) = self.walk.cut {
-            let found = self.walk.found_at::<Token>(bytes, cut);
-            return self.item_of_try(found, start);
-        }
-        // From here on the lexer goes on by itself, if no walk does.
-        self.lexer.set_span(start..start);
-        let next = self.walk.base + self.walk.len;
-        let left = bytes.len().saturating_sub(next);
-        if self.is_part && (left == 0 || !Token::Rows::ARE_THERE) {
-            return Next::End;
-        }
-        if !self.is_part && (left < FEWEST || !Token::Rows::ARE_THERE) {
-            self.walk.plain_to = usize::MAX;
-        } else if self.is_part || self.walk.len == 0 {
-            self.walk.walk::<Token>(bytes);
-        } else if self.walk.pays() {
-            self.walk.plain /= 2;
-            self.walk.walk::<Token>(bytes);
-        } else {
-            self.walk.plain = (2 * self.walk.plain).clamp(4, 64);
-            self.walk.plain_to = next + self.walk.plain * CHUNK;
-        }
-        Next::Again
-    }
-
-    /// Returns what becomes of a try whose entry asks.
-    fn item_of_try(&mut self, found: (usize, usize), start: usize) -> Next<Item<'source, Token>> {
+    /// Returns what becomes of a leaf and the end of its match, which begins at a byte offset. The
+    /// walk goes on from another one.
+    #[inline(always)]
+    fn item_of(
+        &mut self,
+        found: (usize, usize),
+        start: usize,
+        next: usize,
+    ) -> Next<Item<'source, Token>> {
         let (leaf, end) = found;
         self.lexer.set_span(start..end);
         let source = self.lexer.source();
         let item = Token::act(&mut self.lexer, leaf, end);
         let span = self.lexer.span();
-        self.walk.cost += ASK;
-        self.follow(source, usize::MAX);
+        self.follow(source, next);
         match item {
             Some(item) => Next::Item((item, span)),
             None => Next::Again,
         }
+    }
+
+    /// Goes on from where the lexer stands, if that is not this byte offset of the source.
+    #[inline]
+    fn follow(&mut self, source: &'source Token::Source, end: usize) {
+        let start = self.lexer.span().end;
+        if !core::ptr::eq(self.lexer.source(), source) {
+            self.is_moved = true;
+            self.forget();
+        } else if start != end {
+            self.begin_at(start);
+        }
+    }
+
+    #[cold]
+    fn begin_at(&mut self, start: usize) {
+        self.plain_to = 0;
+        self.word = match &mut self.walk {
+            Some(walk) => walk.begin_at::<Token>(Token::bytes(self.lexer.source()), start),
+            None => Word::empty(start),
+        };
+    }
+
+    /// Forgets what was found.
+    fn forget(&mut self) {
+        self.plain_to = 0;
+        let start = self.word.start;
+        self.word = match &mut self.walk {
+            Some(walk) => walk.begin_anew(start, Token::ROWS.root()),
+            None => Word::empty(start),
+        };
+    }
+
+    /// Finds the next word, or an item in another way, after the last word of a chunk.
+    #[cold]
+    #[inline(never)]
+    fn refill(&mut self) -> Next<Item<'source, Token>> {
+        if self.is_moved {
+            self.is_moved = false;
+            self.word.start = self.lexer.span().end;
+            self.forget();
+        }
+        let bytes = Token::bytes(self.lexer.source());
+        let start = self.word.last_end();
+        self.word = self.word.passed();
+        let mut next = start;
+        if let Some(walk) = &mut self.walk {
+            if let Some(cut) = walk.cut() {
+                let found = walk.found_at::<Token>(bytes, cut, start);
+                return self.item_of(found, start, usize::MAX);
+            }
+            next = walk.end();
+        }
+        // From here on the lexer goes on by itself, if no walk does.
+        self.lexer.set_span(start..start);
+        let left = bytes.len().saturating_sub(next);
+        if self.is_part && (left == 0 || !Token::Rows::ARE_THERE) {
+            return Next::End;
+        }
+        if !self.is_part && (left < FEWEST || !Token::Rows::ARE_THERE) {
+            self.plain_to = usize::MAX;
+        } else {
+            self.walk_on(bytes, start);
+        }
+        Next::Again
+    }
+
+    /// Walks over the next chunk, or has `Logos::lex` find items where walks are not worth their
+    /// time.
+    fn walk_on(&mut self, bytes: &[u8], start: usize) {
+        let is_part = self.is_part;
+        let room = || new_room(start, Token::ROWS.root());
+        let walk = self.walk.get_or_insert_with(room);
+        match walk.plain_to() {
+            Some(to) if !is_part => self.plain_to = to,
+            _ => self.word = walk.walk::<Token>(bytes, start),
+        }
+    }
+
+    /// Finds an item by `Logos::lex`.
+    #[inline]
+    fn plain_item(&mut self) -> Option<Item<'source, Token>> {
+        let source = self.lexer.source();
+        // The compiler is kept from looking into the item: it would make a jump for each leaf of
+        // what is else a look into a table.
+        let item = core::hint::black_box(self.lexer.next());
+        let span = self.lexer.span();
+        self.word.start = span.end;
+        if span.end >= self.plain_to || !core::ptr::eq(self.lexer.source(), source) {
+            self.follow(source, usize::MAX);
+        }
+        Some((item?, span))
     }
 
     /// Folds the items of words, up to one for which something is called, or the last word.
@@ -189,29 +244,21 @@ impl<'source, Token: Scan<'source>> Scanner<'source, Token> {
         F: FnMut(B, Item<'source, Token>) -> B,
     {
         let mut folded = init;
+        let Some(walk) = &mut self.walk else {
+            return folded;
+        };
+        let mut word = self.word;
         loop {
-            folded = self.fold_word(folded, f);
-            if self.walk.tokens != 0 || !self.walk.load_next() {
-                return folded;
+            (folded, word.tokens) = fold_word(walk.entries(&word), &word, folded, f);
+            if word.tokens != 0 {
+                break;
             }
-        }
-    }
-
-    /// Folds the items of a word, up to one for which something is called.
-    #[inline(always)]
-    fn fold_word<B, F>(&mut self, init: B, f: &mut F) -> B
-    where
-        F: FnMut(B, Item<'source, Token>) -> B,
-    {
-        let (mut folded, mut tokens) = (init, self.walk.tokens);
-        while let Some((leaf, span)) = self.walk.first_of(tokens) {
-            let Some(token) = Token::plain(leaf) else {
+            let Some(next) = walk.next_word(&word) else {
                 break;
             };
-            tokens &= tokens - 1;
-            folded = f(folded, (Ok(token), span));
+            word = next;
         }
-        self.walk.tokens = tokens;
+        self.word = word;
         folded
     }
 
@@ -223,7 +270,9 @@ impl<'source, Token: Scan<'source>> Scanner<'source, Token> {
         F: FnMut(B, Item<'source, Token>) -> B,
     {
         let Scanner {
-            mut lexer, walk, ..
+            mut lexer,
+            plain_to,
+            ..
         } = self;
         let (source, mut folded) = (lexer.source(), init);
         loop {
@@ -233,32 +282,39 @@ impl<'source, Token: Scan<'source>> Scanner<'source, Token> {
             let span = lexer.span();
             let end = span.end;
             folded = f(folded, (item, span));
-            if end >= walk.plain_to || !core::ptr::eq(lexer.source(), source) {
+            if end >= plain_to || !core::ptr::eq(lexer.source(), source) {
                 break;
             }
         }
-        let mut rest = Scanner {
-            lexer,
-            walk,
-            ..self
-        };
-        rest.walk.start = rest.lexer.span().end;
+        let mut rest = Scanner { lexer, ..self };
+        rest.word.start = rest.lexer.span().end;
         rest.follow(source, usize::MAX);
         (Some(rest), folded)
     }
+}
 
-    /// Finds an item by `Logos::lex`.
-    #[inline]
-    fn plain_item(&mut self) -> Option<Item<'source, Token>> {
-        let source = self.lexer.source();
-        let item = self.lexer.next();
-        let span = self.lexer.span();
-        self.walk.start = span.end;
-        if span.end >= self.walk.plain_to || !core::ptr::eq(self.lexer.source(), source) {
-            self.follow(source, usize::MAX);
-        }
-        Some((item?, span))
+/// Folds the items of a word, up to one for which something is called. Returns also the tokens that
+/// are left. As in `take_plain`, a token is made first.
+#[inline(always)]
+fn fold_word<'source, Token, B, F>(entries: &[u32], word: &Word, init: B, f: &mut F) -> (B, u64)
+where
+    Token: Scan<'source>,
+    F: FnMut(B, Item<'source, Token>) -> B,
+{
+    let (mut folded, mut tokens) = (init, word.tokens);
+    let Some(entries) = entries.first_chunk::<WORD>() else {
+        return (folded, tokens);
+    };
+    while tokens != 0 {
+        let entry = entries[tokens.trailing_zeros() as usize % WORD];
+        let Some(token) = Token::plain(leaf_of(entry)) else {
+            break;
+        };
+        let span = word.span_of(tokens);
+        tokens &= tokens - 1;
+        folded = f(folded, (Ok(token), span));
     }
+    (folded, tokens)
 }
 
 impl<'source, Token: Scan<'source>> Iterator for Scanner<'source, Token> {
@@ -289,6 +345,9 @@ impl<'source, Token: Scan<'source>> Iterator for Scanner<'source, Token> {
     #[inline(always)]
     fn next(&mut self) -> Option<Self::Item> {
         loop {
+            if let Some(item) = self.take_plain() {
+                return Some(item);
+            }
             if self.is_plain() {
                 return self.plain_item();
             }
@@ -337,7 +396,7 @@ impl<'source, Token: Scan<'source>> Deref for Scanner<'source, Token> {
 impl<'source, Token: Scan<'source>> DerefMut for Scanner<'source, Token> {
     fn deref_mut(&mut self) -> &mut Self::Target {
         self.is_moved = true;
-        self.walk.forget();
+        self.forget();
         &mut self.lexer
     }
 }

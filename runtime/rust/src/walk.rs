@@ -1,341 +1,235 @@
-//! The walk over chunks of an input, by folded tables. `scan` takes its tokens.
+//! The walk over an input, chunk by chunk. `scan` takes its tokens.
 
-use crate::folded::{leaf_of, Last, Rows, PLACE};
+use crate::chunk::{Chunk, CHUNK, WORD};
+use crate::folded::{Last, Rows};
 use crate::internal::Tables;
 use crate::Span;
 
-/// The bytes of a block, and those of a chunk: as many blocks are walked at once.
-const BLOCK: usize = 1024;
-const BLOCKS: usize = 4;
-pub(crate) const CHUNK: usize = BLOCKS * BLOCK;
-/// The bytes of a word, which has a bit for each of them, and the words of a chunk.
-const WORD: usize = 64;
-const WORDS: usize = CHUNK / WORD;
-/// So many bytes before a block are looked at to guess its state.
-const WINDOW: usize = 384;
-/// Fewer bytes than these are not worth a walk.
-pub(crate) const FEWEST: usize = 256;
-/// What an entry that asks costs, and what another try does, in bytes of a walk.
-pub(crate) const ASK: usize = 10;
-const TRY: usize = 20;
-/// One of so many words is looked at to tell whether a walk is worth its time. Matches of more or
-/// fewer bytes in the mean are not.
-const SAMPLED: usize = 4;
-const LONGEST: usize = 8;
+/// What things cost, in about a quarter of a cycle: for a walk each byte, each byte that is walked
+/// over again, each that a guess by lines looks at, each entry that asks, and each try again; for
+/// `Logos::lex` each match and each state that it enters. The numbers are such that they tell apart
+/// measured texts on which walks win and lose.
+const STEP: usize = 6;
+const AGAIN: usize = 15;
+const LOOK: usize = 6;
+const ASK: usize = 250;
+const TRY: usize = 250;
+const MATCH: usize = 36;
+const ENTER: usize = 10;
+/// Walks lose where matches have fewer bytes in the mean.
 const SHORTEST: usize = 2;
+/// One of so many words is looked at to tell whether walks are worth their time.
+const SAMPLED: usize = 16;
 
-#[cfg(feature = "std")]
-type Room = std::boxed::Box<Chunk>;
-#[cfg(not(feature = "std"))]
-type Room = Chunk;
-
-/// What the walk over a chunk has found.
-#[derive(Clone)]
-struct Chunk {
-    /// The entry of each byte.
-    trace: [u32; CHUNK],
-    /// A bit for each byte before which a match ends, and for each before which a token does. A bit
-    /// in `tokens` alone is that of a byte which needs a try by itself.
-    ends: [u64; WORDS],
-    tokens: [u64; WORDS],
-}
-
-impl Chunk {
-    const NEW: Chunk = Chunk {
-        trace: [0; CHUNK],
-        ends: [0; WORDS],
-        tokens: [0; WORDS],
-    };
-
-    /// Sets the bits of the words from one byte to another.
-    fn set_bits(&mut self, from: usize, to: usize) {
-        for word in from / WORD..to.div_ceil(WORD).min(WORDS) {
-            let trace = self.trace[WORD * word..]
-                .first_chunk()
-                .expect("the entries of a word");
-            (self.ends[word], self.tokens[word]) = bits_of(trace);
-        }
-    }
-}
-
-/// Returns the bits of the entries of a word.
-fn bits_of(trace: &[u32; WORD]) -> (u64, u64) {
-    let flags = trace.map(|entry| (entry >> 24) as u8);
-    let (mut ends, mut tokens) = (0, 0);
-    for (n, eight) in flags.chunks_exact(8).enumerate() {
-        let eight = u64::from_le_bytes([
-            eight[0], eight[1], eight[2], eight[3], eight[4], eight[5], eight[6], eight[7],
-        ]);
-        ends |= upper_bits(eight) << (8 * n);
-        tokens |= upper_bits(eight << 1) << (8 * n);
-    }
-    (ends, tokens)
-}
-
-/// Returns the upper bits of eight bytes.
-#[inline(always)]
-fn upper_bits(eight: u64) -> u64 {
-    (eight & 0x8080_8080_8080_8080).wrapping_mul(0x0002_0408_1020_4081) >> 56
-}
-
-/// Returns the entry of a byte in the row at a place, or at the place of an entry.
-#[inline(always)]
-fn step<'s, T: Tables<'s>>(byte: u8, place: u32) -> u32 {
-    let column = if T::BY_BYTES {
-        byte
-    } else {
-        T::ROWS.column(byte)
-    };
-    T::ROWS.entry(column as usize, place)
-}
-
-/// Walks over all blocks at once, each from its place, and returns the places after them.
-#[inline(never)]
-fn walk_blocks<'s, T: Tables<'s>>(
-    input: &[u8; CHUNK],
-    trace: &mut [u32; CHUNK],
-    places: [u32; BLOCKS],
-) -> [u32; BLOCKS] {
-    let mut places = places;
-    let blocks: [&[u8; BLOCK]; BLOCKS] =
-        core::array::from_fn(|k| input[k * BLOCK..].first_chunk().expect("a block"));
-    let (one, rest) = trace.split_at_mut(BLOCK);
-    let (two, rest) = rest.split_at_mut(BLOCK);
-    let (three, four) = rest.split_at_mut(BLOCK);
-    let traces: [&mut [u32; BLOCK]; BLOCKS] =
-        [one, two, three, four].map(|part| part.first_chunk_mut().expect("a block"));
-    for at in 0..BLOCK {
-        for k in 0..BLOCKS {
-            let entry = step::<T>(blocks[k][at], places[k]);
-            traces[k][at] = entry;
-            places[k] = entry;
-        }
-    }
-    places.map(|place| place & PLACE)
-}
-
-/// Returns which of eight bytes are line ends: their upper bits.
-fn line_ends(eight: &[u8]) -> u64 {
-    const ONES: u64 = 0x7F7F_7F7F_7F7F_7F7F;
-    let eight = u64::from_le_bytes([
-        eight[0], eight[1], eight[2], eight[3], eight[4], eight[5], eight[6], eight[7],
-    ]);
-    let other = eight ^ 0x0A0A_0A0A_0A0A_0A0A;
-    !(((other & ONES) + ONES) | other | ONES)
-}
-
-/// Walks over some bytes again from a place, until the trace has the same place. Returns where, and
-/// the place there.
-fn walk_again<'s, T: Tables<'s>>(
-    input: &[u8],
-    trace: &mut [u32; CHUNK],
-    range: Span,
-    place: u32,
-) -> (usize, u32) {
-    let mut place = place;
-    for at in range.clone() {
-        let entry = step::<T>(input[at], place);
-        place = entry & PLACE;
-        let same = trace[at] & PLACE == place;
-        trace[at] = entry;
-        if same {
-            return (at + 1, place);
-        }
-    }
-    (range.end, place)
-}
-
-/// Guesses the place after some bytes: that to which the bytes after the last line end lead.
-fn guess_place<'s, T: Tables<'s>>(window: &[u8; WINDOW], place: u32) -> u32 {
-    let mut from = WINDOW - WORD / 2;
-    for (n, eight) in window.chunks_exact(8).enumerate().rev() {
-        let ends = line_ends(eight);
-        if ends != 0 {
-            from = 8 * n + 7 - ends.leading_zeros() as usize / 8;
-            break;
-        }
-    }
-    window[from..]
-        .iter()
-        .fold(place, |place, byte| step::<T>(*byte, place) & PLACE)
-}
-
-/// A walk over an input, chunk by chunk.
-#[derive(Clone)]
-pub(crate) struct Walk {
-    /// What is left of the bits of a word.
+/// What is left of a word of a chunk.
+#[derive(Clone, Copy)]
+pub(crate) struct Word {
     ends: u64,
     pub(crate) tokens: u64,
-    /// Where the word begins, and its number in the chunk.
+    /// Where the word begins, in the input and in the chunk.
     here: usize,
-    word: usize,
-    /// Where the last match ended that is not among those bits.
+    pub(crate) at: usize,
+    /// Where the last match ended that is not among `ends`.
     pub(crate) start: usize,
-    /// The byte of the chunk before which the word is cut, since its entry asks.
-    pub(crate) cut: Option<usize>,
-    /// Where the chunk begins and how many bytes it has, and the places before and after it.
-    pub(crate) base: usize,
-    pub(crate) len: usize,
-    first: u32,
-    place: u32,
-    /// Up to here `Logos::lex` finds the items; how many chunks these were; the chunk's cost.
-    pub(crate) plain_to: usize,
-    pub(crate) plain: usize,
-    pub(crate) cost: usize,
-    /// A guess has failed to the end of its block.
-    missed: bool,
-    chunk: Option<Room>,
 }
 
-#[cfg(feature = "std")]
-fn new_room() -> Room {
-    std::boxed::Box::new(Chunk::NEW)
-}
-#[cfg(not(feature = "std"))]
-fn new_room() -> Room {
-    Chunk::NEW
-}
-
-impl Walk {
-    pub(crate) const fn new(start: usize) -> Walk {
-        Walk {
+impl Word {
+    /// Returns the word in which nothing is left, where the next match begins at a byte offset.
+    pub(crate) const fn empty(start: usize) -> Word {
+        Word {
             ends: 0,
             tokens: 0,
             here: start,
-            word: 0,
+            at: 0,
             start,
-            cut: None,
-            base: start,
-            len: 0,
-            first: 0,
-            place: 0,
-            plain_to: 0,
-            plain: 0,
-            cost: 0,
-            missed: false,
-            chunk: None,
         }
     }
 
-    /// Returns the leaf and the place of the first of some tokens of the word.
+    /// Returns the place of the first of some tokens, of which there is one.
     #[inline(always)]
-    pub(crate) fn first_of(&self, tokens: u64) -> Option<(usize, Span)> {
-        if tokens == 0 {
+    pub(crate) fn span_of(&self, tokens: u64) -> Span {
+        let end = self.here + tokens.trailing_zeros() as usize;
+        self.after(self.ends & !tokens & tokens.wrapping_sub(1))..end
+    }
+
+    /// Returns where the last match ended.
+    pub(crate) fn last_end(&self) -> usize {
+        self.after(self.ends)
+    }
+
+    /// Returns the word in which nothing is left.
+    pub(crate) fn passed(&self) -> Word {
+        Word {
+            ends: 0,
+            tokens: 0,
+            start: self.last_end(),
+            ..*self
+        }
+    }
+
+    /// Returns where the last match ended, after some of the ends.
+    #[inline(always)]
+    fn after(&self, ends: u64) -> usize {
+        if ends == 0 {
+            return self.start;
+        }
+        self.here + (63 - ends.leading_zeros() as usize)
+    }
+}
+
+/// A walk over an input.
+#[derive(Clone)]
+pub(crate) struct Walk {
+    chunk: Chunk,
+    /// The byte of the chunk before which the word is cut, since its entry asks.
+    cut: Option<usize>,
+    /// Where the chunk begins and how many bytes it has, and the places before and after it.
+    base: usize,
+    len: usize,
+    first: u32,
+    place: u32,
+    /// What was to be done twice in the chunk, and what the last walks gained.
+    cost: usize,
+    gain: isize,
+    /// How many chunks are not walked where walks are not worth their time.
+    plain: usize,
+    /// A guess was wrong to the end of its block.
+    missed: bool,
+    /// What guesses by few bytes cost of late in a chunk, and guesses by lines.
+    guesses: [usize; 2],
+}
+
+#[cfg(feature = "std")]
+pub(crate) type Room = std::boxed::Box<Walk>;
+#[cfg(not(feature = "std"))]
+pub(crate) type Room = Walk;
+
+/// Returns a walk from a byte offset on.
+#[cold]
+pub(crate) fn new_room(start: usize, root: u32) -> Room {
+    const NEW: Walk = Walk {
+        chunk: Chunk::NEW,
+        cut: None,
+        base: 0,
+        len: 0,
+        first: 0,
+        place: 0,
+        cost: 0,
+        gain: 0,
+        plain: 0,
+        missed: false,
+        guesses: [0; 2],
+    };
+    #[cfg(feature = "std")]
+    let mut room = std::boxed::Box::new(NEW);
+    #[cfg(not(feature = "std"))]
+    let mut room = NEW;
+    (room.base, room.place, room.guesses[1]) = (start, root, LOOK * 500);
+    room
+}
+
+impl Walk {
+    /// Returns the entries of a word.
+    #[inline(always)]
+    pub(crate) fn entries(&self, word: &Word) -> &[u32] {
+        self.chunk.entries(word.at)
+    }
+
+    /// Returns the leaf of the first of some tokens of a word.
+    #[inline(always)]
+    pub(crate) fn leaf_of(&self, word: &Word, tokens: u64) -> Option<usize> {
+        self.chunk.leaf(word.at + tokens.trailing_zeros() as usize)
+    }
+
+    /// Returns the next word of the chunk, if there is one.
+    #[inline(always)]
+    pub(crate) fn next_word(&mut self, word: &Word) -> Option<Word> {
+        let at = word.at + WORD;
+        if self.cut.is_some() || at >= self.len {
             return None;
         }
-        let chunk = self.chunk.as_ref()?;
-        let bit = tokens.trailing_zeros();
-        let before = self.ends & ((1 << bit) - 1);
-        let end = self.here + bit as usize;
-        let start = if before != 0 {
-            self.here + (63 - before.leading_zeros() as usize)
-        } else {
-            self.start
-        };
-        let entry = chunk.trace[(WORD * self.word + bit as usize) & (CHUNK - 1)];
-        Some((leaf_of(entry), start..end))
+        Some(self.word(at, word.after(word.ends)))
     }
 
-    /// Returns the leaf and the place of the next token of the word.
+    /// Returns the word of a byte, from that byte on.
     #[inline(always)]
-    pub(crate) fn take(&mut self) -> Option<(usize, Span)> {
-        let token = self.first_of(self.tokens)?;
-        self.tokens &= self.tokens - 1;
-        Some(token)
-    }
-
-    /// Forgets the word, but not where its last match ended.
-    #[inline(always)]
-    fn pass_word(&mut self) {
-        if self.ends != 0 {
-            self.start = self.here + (63 - self.ends.leading_zeros() as usize);
-        }
-        (self.ends, self.tokens) = (0, 0);
-    }
-
-    /// Begins to take a word, from a byte on.
-    #[inline(always)]
-    fn load(&mut self, at: usize) {
-        let Some(chunk) = &self.chunk else { return };
-        self.word = at / WORD;
-        self.here = self.base + WORD * self.word;
-        let word = self.word & (WORDS - 1);
+    fn word(&mut self, at: usize, start: usize) -> Word {
         let from = !0 << (at % WORD);
-        let (ends, tokens) = (chunk.ends[word] & from, chunk.tokens[word] & from);
-        let asks = tokens & !ends;
-        let before = if asks == 0 {
-            !0
-        } else {
-            (asks & asks.wrapping_neg()) - 1
+        let at = at / WORD * WORD;
+        let (ends, tokens) = self.chunk.bits(at);
+        let asks = tokens & !ends & from;
+        let before = match asks {
+            0 => from,
+            _ => from & (asks - 1) & !asks,
         };
-        (self.ends, self.tokens) = (ends & before, tokens & before);
-        self.cut = (asks != 0).then(|| WORD * self.word + asks.trailing_zeros() as usize);
+        self.cut = (asks != 0).then(|| at + asks.trailing_zeros() as usize);
+        Word {
+            ends: ends & before,
+            tokens: tokens & before,
+            here: self.base + at,
+            at,
+            start,
+        }
     }
 
-    /// Walks over the next chunk.
-    pub(crate) fn walk<'s, T: Tables<'s>>(&mut self, bytes: &[u8]) {
+    /// Returns where the bytes begin that are not walked over.
+    pub(crate) fn end(&self) -> usize {
+        self.base + self.len
+    }
+
+    /// Returns the byte before which the word is cut.
+    pub(crate) fn cut(&self) -> Option<usize> {
+        self.cut
+    }
+
+    /// Walks over the next chunk, after the match that ended at a byte offset.
+    pub(crate) fn walk<'s, T: Tables<'s>>(&mut self, bytes: &[u8], start: usize) -> Word {
         self.base += self.len;
         self.first = self.place;
-        self.cost = 0;
         let rest = bytes.get(self.base..).unwrap_or_default();
-        let chunk = self.chunk.get_or_insert_with(new_room);
         if let Some(input) = rest.first_chunk::<CHUNK>() {
-            let start = if self.missed {
-                self.place
-            } else {
-                T::ROWS.root()
-            };
-            let mut guesses = [self.place; BLOCKS];
-            for (k, guess) in guesses.iter_mut().enumerate().skip(1) {
-                let window = input[k * BLOCK - WINDOW..].first_chunk().expect("a window");
-                *guess = guess_place::<T>(window, start);
-            }
-            let mut places = walk_blocks::<T>(input, &mut chunk.trace, guesses);
-            self.missed = false;
-            for k in 1..BLOCKS {
-                if places[k - 1] != guesses[k] {
-                    let (from, to) = (k * BLOCK, (k + 1) * BLOCK);
-                    let (at, place) =
-                        walk_again::<T>(input, &mut chunk.trace, from..to, places[k - 1]);
-                    self.cost += at - from;
-                    if at == to {
-                        places[k] = place;
-                        self.missed = true;
-                    }
-                }
-            }
-            (self.len, self.place) = (CHUNK, places[BLOCKS - 1]);
+            self.walk_chunk::<T>(input);
         } else {
             self.len = rest.len();
-            for (entry, byte) in chunk.trace.iter_mut().zip(rest) {
-                *entry = step::<T>(*byte, self.place);
-                self.place = *entry & PLACE;
-            }
-            let end = self.len.next_multiple_of(WORD);
-            chunk.trace[self.len..end].fill(0);
+            self.place = self.chunk.walk_rest::<T>(rest, self.place);
         }
-        chunk.set_bits(0, self.len);
-        self.load(0);
+        self.word(0, start)
     }
 
-    /// Returns the leaf of the try that is over at a byte of the chunk, and where its match ends;
-    /// or a number that no leaf has, and where the try is over.
+    /// Walks over a whole chunk. Of both kinds of guesses the one is made that costs less. What is
+    /// known of the other gets less, so that it is made again at times.
+    fn walk_chunk<'s, T: Tables<'s>>(&mut self, input: &[u8; CHUNK]) {
+        let start = if self.missed {
+            self.place
+        } else {
+            T::ROWS.root()
+        };
+        let by_lines = self.guesses[1] < self.guesses[0];
+        let walked = self.chunk.walk::<T>(input, self.place, start, by_lines);
+        (self.len, self.place, self.missed) = (CHUNK, walked.place, walked.missed);
+        self.cost = AGAIN * walked.again + LOOK * walked.looked;
+        let (this, other) = (by_lines as usize, !by_lines as usize);
+        self.guesses[this] = (3 * self.guesses[this] + self.cost) / 4;
+        self.guesses[other] -= self.guesses[other] / 16;
+    }
+
+    /// Returns the leaf of the try that is over at a byte of the chunk and began at a byte offset,
+    /// and where its match ends; or a number that no leaf has, and where the try is over.
     pub(crate) fn found_at<'s, T: Tables<'s>>(
         &mut self,
         bytes: &[u8],
         cut: usize,
+        start: usize,
     ) -> (usize, usize) {
-        let Some(chunk) = &self.chunk else {
-            return T::again(bytes, self.start);
-        };
+        self.cost += ASK;
         let end = self.base + cut;
-        let leaf = leaf_of(chunk.trace[cut & (CHUNK - 1)]);
+        let leaf = self.chunk.leaf(cut).unwrap_or_default();
         if leaf != 0 {
             return (leaf - 1, end);
         }
         let place = match cut.checked_sub(1) {
-            _ if end == self.start => T::ROWS.root(),
-            Some(before) => chunk.trace[before & (CHUNK - 1)] & PLACE,
+            _ if end == start => T::ROWS.root(),
+            Some(before) => self.chunk.place(before),
             None => self.first,
         };
         match T::ROWS.last(place) {
@@ -343,68 +237,53 @@ impl Walk {
             Last::Back(leaf, bytes) => (leaf, end - bytes),
             Last::Varies => {
                 self.cost += TRY;
-                T::again(bytes, self.start)
+                T::again(bytes, start)
             }
         }
     }
 
     /// Lets the next match begin at a byte offset.
-    pub(crate) fn begin_at<'s, T: Tables<'s>>(&mut self, bytes: &[u8], start: usize) {
-        (self.ends, self.tokens, self.cut, self.start) = (0, 0, None, start);
+    pub(crate) fn begin_at<'s, T: Tables<'s>>(&mut self, bytes: &[u8], start: usize) -> Word {
         let root = T::ROWS.root();
         let at = start.wrapping_sub(self.base);
-        let chunk = match &mut self.chunk {
-            Some(chunk) if at < self.len => chunk,
-            _ => {
-                self.forget();
-                (self.here, self.base, self.place) = (start, start, root);
-                return;
-            }
-        };
+        if at >= self.len {
+            return self.begin_anew(start, root);
+        }
         let input = &bytes[self.base..];
-        let (to, place) = walk_again::<T>(input, &mut chunk.trace, at..self.len, root);
+        let (to, place) = self.chunk.walk_again::<T>(input, at..self.len, root);
         if to == self.len {
             self.place = place;
         }
-        self.cost += to - at;
-        chunk.set_bits(at, to);
-        self.load(at);
+        self.cost += AGAIN * (to - at);
+        self.chunk.set_bits(at, to);
+        self.word(at, start)
     }
 
-    /// Forgets the chunk.
-    pub(crate) fn forget(&mut self) {
-        (self.ends, self.tokens, self.cut, self.len, self.word) = (0, 0, None, 0, 0);
-        self.plain_to = 0;
+    /// Forgets the chunk, and lets the next match begin at a byte offset.
+    pub(crate) fn begin_anew(&mut self, start: usize, root: u32) -> Word {
+        (self.cut, self.len, self.base, self.place) = (None, 0, start, root);
+        Word::empty(start)
     }
 
-    /// Forgets what there was, and lets the next match begin at a byte offset.
-    pub(crate) fn begin_anew(&mut self, start: usize, root: u32) {
-        self.forget();
-        (self.start, self.here, self.base, self.place) = (start, start, start, root);
-        self.cost = 0;
-    }
-
-    /// Returns whether the walk over the chunk was worth its time: few bytes were stepped on again,
-    /// few entries asked, and matches are neither of a byte each nor long.
-    pub(crate) fn pays(&self) -> bool {
-        let Some(chunk) = self.chunk.as_ref() else {
-            return true;
-        };
-        let words = chunk.ends[..self.len / WORD].iter().step_by(SAMPLED);
-        let bytes = WORD * words.len();
-        let ends = words.map(|ends| ends.count_ones() as usize).sum();
-        self.cost <= self.len && (bytes / LONGEST..=bytes / SHORTEST).contains(&ends)
-    }
-
-    /// Goes on with the next word of the chunk. Returns whether there is one.
-    #[inline(always)]
-    pub(crate) fn load_next(&mut self) -> bool {
-        self.pass_word();
-        let at = WORD * (self.word + 1);
-        if self.cut.is_some() || at >= self.len {
-            return false;
+    /// Tells by the walk over the chunk, and by those before, whether walks are worth their time.
+    /// If not, returns up to which byte offset `Logos::lex` is to find the items.
+    pub(crate) fn plain_to(&mut self) -> Option<usize> {
+        if self.len == 0 {
+            return None;
         }
-        self.load(at);
-        true
+        let [bytes, ends, entered] = self.chunk.sample(self.len, SAMPLED);
+        let lexer = match ends {
+            _ if ends > bytes / SHORTEST => 0,
+            _ => SAMPLED * (MATCH * ends + ENTER * entered),
+        };
+        let walk = SAMPLED * STEP * bytes + self.cost;
+        self.gain = self.gain / 8 * 7 + lexer as isize - walk as isize;
+        if self.gain > 0 {
+            self.plain /= 2;
+            return None;
+        }
+        self.gain = 0;
+        self.plain = (2 * self.plain).clamp(2, 64);
+        Some(self.end() + self.plain * CHUNK)
     }
 }

@@ -1,0 +1,314 @@
+//! A chunk of an input, walked over by folded tables.
+
+use crate::folded::{leaf_of, Rows, ENDED, PLACE};
+use crate::internal::Tables;
+use crate::Span;
+
+/// The bytes of a block, and those of a chunk: as many blocks are walked at once.
+const BLOCK: usize = 768;
+const BLOCKS: usize = 6;
+pub(crate) const CHUNK: usize = BLOCKS * BLOCK;
+/// The bytes of a word, which has a bit for each of them, and the words of a chunk.
+pub(crate) const WORD: usize = 64;
+const WORDS: usize = CHUNK / WORD;
+/// Fewer bytes than these are not worth a walk.
+pub(crate) const FEWEST: usize = 256;
+/// So many bytes before a block are looked at to guess its place, and so many for a line end.
+const NEAR: usize = 48;
+const FAR: usize = 384;
+
+/// What the walk over a chunk has found.
+#[derive(Clone)]
+pub(crate) struct Chunk {
+    /// The entry of each byte.
+    trace: [u32; CHUNK],
+    /// A bit for each byte before which a match ends, and for each before which a token does. A bit
+    /// in `tokens` alone is that of a byte which needs a try by itself.
+    ends: [u64; WORDS],
+    tokens: [u64; WORDS],
+}
+
+/// What a walk over a whole chunk comes to.
+pub(crate) struct Walked {
+    /// The place after the chunk.
+    pub(crate) place: u32,
+    /// How many bytes were walked over again.
+    pub(crate) again: usize,
+    /// How many bytes guesses by lines looked at.
+    pub(crate) looked: usize,
+    /// A guess was wrong to the end of its block.
+    pub(crate) missed: bool,
+}
+
+/// Guesses at the places of blocks, and how many bytes were looked at by lines.
+type Guesses = ([u32; BLOCKS], usize);
+
+impl Chunk {
+    pub(crate) const NEW: Chunk = Chunk {
+        trace: [0; CHUNK],
+        ends: [0; WORDS],
+        tokens: [0; WORDS],
+    };
+
+    /// Returns the entries from a byte on.
+    #[inline(always)]
+    pub(crate) fn entries(&self, at: usize) -> &[u32] {
+        self.trace.get(at..).unwrap_or_default()
+    }
+
+    /// Returns the leaf of the entry of a byte.
+    #[inline(always)]
+    pub(crate) fn leaf(&self, at: usize) -> Option<usize> {
+        Some(leaf_of(*self.trace.get(at)?))
+    }
+
+    /// Returns the place after a byte.
+    pub(crate) fn place(&self, at: usize) -> u32 {
+        self.trace[at] & PLACE
+    }
+
+    /// Returns the bits of the word that begins at a byte: those of ends, and those of tokens.
+    #[inline(always)]
+    pub(crate) fn bits(&self, at: usize) -> (u64, u64) {
+        let word = at / WORD;
+        match (self.ends.get(word), self.tokens.get(word)) {
+            (Some(ends), Some(tokens)) => (*ends, *tokens),
+            _ => (0, 0),
+        }
+    }
+
+    /// Sets the bits of the words from one byte to another.
+    pub(crate) fn set_bits(&mut self, from: usize, to: usize) {
+        for word in from / WORD..to.div_ceil(WORD).min(WORDS) {
+            let trace = self.trace[WORD * word..].first_chunk();
+            let mut flags = [0; 8];
+            gather(trace.expect("the entries of a word"), &mut flags);
+            (self.ends[word], self.tokens[word]) = bits_of(&flags);
+        }
+    }
+
+    /// Walks over all bytes of a chunk from a place on. The blocks but the first begin where it is
+    /// guessed: by lines or by few bytes, and from `start` on after a line end.
+    pub(crate) fn walk<'s, T: Tables<'s>>(
+        &mut self,
+        input: &[u8; CHUNK],
+        place: u32,
+        start: u32,
+        by_lines: bool,
+    ) -> Walked {
+        let (mut guesses, looked) = if by_lines {
+            guess_by_lines::<T>(input, start)
+        } else {
+            (guess_places::<T>(input, BLOCK - NEAR, start), 0)
+        };
+        guesses[0] = place;
+        let places = walk_blocks::<T>(input, &mut self.trace, guesses);
+        let walked = self.repair::<T>(input, guesses, places);
+        self.set_bits(0, CHUNK);
+        Walked { looked, ..walked }
+    }
+
+    /// Walks again over the blocks whose places were not guessed, as far as that changes something.
+    fn repair<'s, T: Tables<'s>>(
+        &mut self,
+        input: &[u8; CHUNK],
+        guesses: [u32; BLOCKS],
+        places: [u32; BLOCKS],
+    ) -> Walked {
+        let mut walked = Walked {
+            place: places[0],
+            again: 0,
+            looked: 0,
+            missed: false,
+        };
+        for k in 1..BLOCKS {
+            let (from, to) = (k * BLOCK, (k + 1) * BLOCK);
+            let mut place = places[k];
+            if walked.place != guesses[k] {
+                let (at, there) = self.walk_again::<T>(input, from..to, walked.place);
+                walked.again += at - from;
+                if at == to {
+                    place = there;
+                    walked.missed = true;
+                }
+            }
+            walked.place = place;
+        }
+        walked
+    }
+
+    /// Walks over the last bytes of an input, fewer than a chunk has, and returns the place after
+    /// them.
+    pub(crate) fn walk_rest<'s, T: Tables<'s>>(&mut self, rest: &[u8], place: u32) -> u32 {
+        let mut place = place;
+        for (entry, byte) in self.trace.iter_mut().zip(rest) {
+            *entry = step::<T>(*byte, place);
+            place = *entry & PLACE;
+        }
+        let end = rest.len().next_multiple_of(WORD).min(CHUNK);
+        self.trace[rest.len().min(end)..end].fill(0);
+        self.set_bits(0, rest.len());
+        place
+    }
+
+    /// Walks over some bytes again from a place, until the trace has the same place. Returns where,
+    /// and the place there.
+    pub(crate) fn walk_again<'s, T: Tables<'s>>(
+        &mut self,
+        input: &[u8],
+        range: Span,
+        place: u32,
+    ) -> (usize, u32) {
+        let mut place = place;
+        for at in range.clone() {
+            let entry = step::<T>(input[at], place);
+            place = entry & PLACE;
+            let same = self.trace[at] & PLACE == place;
+            self.trace[at] = entry;
+            if same {
+                return (at + 1, place);
+            }
+        }
+        (range.end, place)
+    }
+
+    /// Counts, in one of so many words up to a byte: the bytes of these words, the matches that end
+    /// there, and the states that are entered.
+    pub(crate) fn sample(&self, to: usize, one_of: usize) -> [usize; 3] {
+        let mut sums = [0; 3];
+        for word in (0..(to / WORD).min(WORDS)).step_by(one_of) {
+            let trace = self.trace[WORD * word..].first_chunk();
+            sums[0] += WORD;
+            sums[1] += self.ends[word].count_ones() as usize;
+            sums[2] += entered(trace.expect("the entries of a word"));
+        }
+        sums
+    }
+}
+
+/// Returns how often a state is entered in a word, but for its first byte.
+fn entered(trace: &[u32; WORD]) -> usize {
+    let mut entered = 0;
+    for at in 1..WORD {
+        let other = (trace[at - 1] ^ trace[at]) & PLACE | trace[at] & ENDED;
+        entered += (other != 0) as u32;
+    }
+    entered as usize
+}
+
+/// Gathers the flags of the entries of a word: of each half those of every fourth entry stand in a
+/// number, four bits apart. It is called and writes to memory, so that the compiler makes vectors.
+#[inline(never)]
+fn gather(trace: &[u32; WORD], to: &mut [u32; 8]) {
+    let (low, high) = trace.split_at(WORD / 2);
+    let mut flags = [0; 8];
+    for (low, high) in low.chunks_exact(4).zip(high.chunks_exact(4)).rev() {
+        for n in 0..4 {
+            flags[n] = flags[n] << 4 | low[n] >> 30;
+            flags[n + 4] = flags[n + 4] << 4 | high[n] >> 30;
+        }
+    }
+    *to = flags;
+}
+
+/// Returns the bits of the flags of a word.
+#[inline(always)]
+fn bits_of(flags: &[u32; 8]) -> (u64, u64) {
+    const FOURTHS: u64 = 0x1111_1111_1111_1111;
+    let (mut ends, mut tokens) = (0, 0);
+    for n in 0..4 {
+        let flags = flags[n] as u64 | (flags[n + 4] as u64) << 32;
+        tokens |= (flags & FOURTHS) << n;
+        ends |= (flags >> 1 & FOURTHS) << n;
+    }
+    (ends, tokens)
+}
+
+/// Returns the entry of a byte in the row at a place, or at the place of an entry.
+#[inline(always)]
+fn step<'s, T: Tables<'s>>(byte: u8, place: u32) -> u32 {
+    let column = if T::BY_BYTES {
+        byte
+    } else {
+        T::ROWS.column(byte)
+    };
+    T::ROWS.entry(column as usize, place)
+}
+
+/// Walks over all blocks at once, each from its place, and returns the places after them.
+#[inline(never)]
+fn walk_blocks<'s, T: Tables<'s>>(
+    input: &[u8; CHUNK],
+    trace: &mut [u32; CHUNK],
+    places: [u32; BLOCKS],
+) -> [u32; BLOCKS] {
+    let mut places = places;
+    let blocks: [&[u8; BLOCK]; BLOCKS] =
+        core::array::from_fn(|k| input[k * BLOCK..].first_chunk().expect("a block"));
+    let (one, rest) = trace.split_at_mut(BLOCK);
+    let (two, rest) = rest.split_at_mut(BLOCK);
+    let (three, rest) = rest.split_at_mut(BLOCK);
+    let (four, rest) = rest.split_at_mut(BLOCK);
+    let (five, six) = rest.split_at_mut(BLOCK);
+    let traces: [&mut [u32; BLOCK]; BLOCKS] =
+        [one, two, three, four, five, six].map(|part| part.first_chunk_mut().expect("a block"));
+    for at in 0..BLOCK {
+        for k in 0..BLOCKS {
+            let entry = step::<T>(blocks[k][at], places[k]);
+            traces[k][at] = entry;
+            places[k] = entry;
+        }
+    }
+    places.map(|place| place & PLACE)
+}
+
+/// Guesses the places of the blocks but the first: those to which the bytes after the last line end
+/// lead, of those before each block that are in a block from `from` on. All are guessed at once, as
+/// blocks are walked.
+#[inline(always)]
+fn guess_places<'s, T: Tables<'s>>(input: &[u8; CHUNK], from: usize, start: u32) -> [u32; BLOCKS] {
+    let mut places = [start; BLOCKS];
+    for at in from..BLOCK {
+        for k in 1..BLOCKS {
+            let byte = input[(k - 1) * BLOCK + at];
+            let entry = step::<T>(byte, places[k]);
+            places[k] = if byte == b'\n' { start } else { entry & PLACE };
+        }
+    }
+    places
+}
+
+/// Guesses those places by more bytes: from the last line end on before each block.
+#[cold]
+#[inline(never)]
+fn guess_by_lines<'s, T: Tables<'s>>(input: &[u8; CHUNK], start: u32) -> Guesses {
+    let mut from = BLOCK - NEAR;
+    for k in 1..BLOCKS {
+        let window = input[k * BLOCK - FAR..].first_chunk();
+        from = from.min(BLOCK - FAR + last_line_end(window.expect("a window")));
+    }
+    let looked = (BLOCKS - 1) * (BLOCK - from);
+    (guess_places::<T>(input, from, start), looked)
+}
+
+/// Returns which byte of a window is the last line end, or the first of the last few bytes if none
+/// is.
+fn last_line_end(window: &[u8; FAR]) -> usize {
+    for (n, eight) in window.chunks_exact(8).enumerate().rev() {
+        let ends = line_ends(eight);
+        if ends != 0 {
+            return 8 * n + 7 - ends.leading_zeros() as usize / 8;
+        }
+    }
+    FAR - NEAR
+}
+
+/// Returns which of eight bytes are line ends: their upper bits.
+fn line_ends(eight: &[u8]) -> u64 {
+    const ONES: u64 = 0x7F7F_7F7F_7F7F_7F7F;
+    let eight = u64::from_le_bytes([
+        eight[0], eight[1], eight[2], eight[3], eight[4], eight[5], eight[6], eight[7],
+    ]);
+    let other = eight ^ 0x0A0A_0A0A_0A0A_0A0A;
+    !(((other & ONES) + ONES) | other | ONES)
+}
