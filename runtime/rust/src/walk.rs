@@ -5,9 +5,9 @@ use crate::folded::{Last, Rows};
 use crate::internal::Tables;
 use crate::Span;
 
-/// What things cost, in about a quarter of a cycle: for a walk each byte, each byte that is walked
-/// over again, each that a guess by lines looks at, each entry that asks, and each try again; for
-/// `Logos::lex` each match and each state that it enters. The numbers are such that they tell apart
+/// What things cost: for a walk each byte, each byte that is walked over again, each that a guess
+/// by lines looks at, each entry that asks, and each try again; for `Logos::lex` each match and
+/// each state that it enters. The numbers are no times: they were chosen so that they tell apart
 /// measured texts on which walks win and lose.
 const STEP: usize = 6;
 const AGAIN: usize = 15;
