@@ -7,6 +7,8 @@ use crate::Span;
 /// The bytes of a block, and those of a chunk: as many blocks are walked at once.
 const BLOCK: usize = 768;
 const BLOCKS: usize = 6;
+/// The bytes of a block that are walked over in one go.
+const STEPS: usize = 4;
 pub(crate) const CHUNK: usize = BLOCKS * BLOCK;
 /// The bytes of a word, which has a bit for each of them, and the words of a chunk.
 pub(crate) const WORD: usize = 64;
@@ -84,6 +86,16 @@ impl Chunk {
             let mut flags = [0; 8];
             gather(trace.expect("the entries of a word"), &mut flags);
             (self.ends[word], self.tokens[word]) = bits_of(&flags);
+        }
+    }
+
+    /// Sets the bits of some bytes, which are few.
+    pub(crate) fn set_few_bits(&mut self, from: usize, to: usize) {
+        for (at, entry) in self.trace[..to].iter().enumerate().skip(from) {
+            let (word, bit) = (at / WORD, at % WORD);
+            let (end, token) = ((entry >> 31) as u64, (entry >> 30) as u64 & 1);
+            self.ends[word] = self.ends[word] & !(1 << bit) | end << bit;
+            self.tokens[word] = self.tokens[word] & !(1 << bit) | token << bit;
         }
     }
 
@@ -245,18 +257,17 @@ fn walk_blocks<'s, T: Tables<'s>>(
     let mut places = places;
     let blocks: [&[u8; BLOCK]; BLOCKS] =
         core::array::from_fn(|k| input[k * BLOCK..].first_chunk().expect("a block"));
-    let (one, rest) = trace.split_at_mut(BLOCK);
-    let (two, rest) = rest.split_at_mut(BLOCK);
-    let (three, rest) = rest.split_at_mut(BLOCK);
-    let (four, rest) = rest.split_at_mut(BLOCK);
-    let (five, six) = rest.split_at_mut(BLOCK);
-    let traces: [&mut [u32; BLOCK]; BLOCKS] =
-        [one, two, three, four, five, six].map(|part| part.first_chunk_mut().expect("a block"));
-    for at in 0..BLOCK {
-        for k in 0..BLOCKS {
-            let entry = step::<T>(blocks[k][at], places[k]);
-            traces[k][at] = entry;
-            places[k] = entry;
+    for at in (0..BLOCK).step_by(STEPS) {
+        let part: Option<&mut [u32; CHUNK - BLOCK + STEPS]> = trace[at..].first_chunk_mut();
+        // Where the compiler does not see where the part begins, it stores to places at fixed
+        // distances from it, as more units of many processors can do than to others.
+        let part = core::hint::black_box(part.expect("a part"));
+        for n in 0..STEPS {
+            for k in 0..BLOCKS {
+                let entry = step::<T>(blocks[k][at + n], places[k]);
+                part[k * BLOCK + n] = entry;
+                places[k] = entry;
+            }
         }
     }
     places.map(|place| place & PLACE)
@@ -272,10 +283,10 @@ fn guess_places<'s, T: Tables<'s>>(input: &[u8; CHUNK], from: usize, start: u32)
         for k in 1..BLOCKS {
             let byte = input[(k - 1) * BLOCK + at];
             let entry = step::<T>(byte, places[k]);
-            places[k] = if byte == b'\n' { start } else { entry & PLACE };
+            places[k] = if byte == b'\n' { start } else { entry };
         }
     }
-    places
+    places.map(|place| place & PLACE)
 }
 
 /// Guesses those places by more bytes: from the last line end on before each block.

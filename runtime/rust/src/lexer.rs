@@ -121,6 +121,10 @@ impl<'source, Token: Logos<'source>> Lexer<'source, Token> {
         self.start
     }
 
+    pub(crate) fn end(&self) -> usize {
+        self.end
+    }
+
     pub(crate) fn set_span(&mut self, span: Span) {
         (self.start, self.end) = (span.start, span.end);
     }

@@ -45,6 +45,34 @@ pub trait Scan<'source>: Tables<'source> {
 
 impl<'source, T: Tables<'source>> Scan<'source> for T {}
 
+/// What `next` calls where it cannot take a token of the word. The items are without their places,
+/// which the lexer has. These are functions of the enum, so that the compiler puts them beside its
+/// `lex`, which becomes a part of the one that calls it: those of a type of this library would be
+/// compiled apart from it.
+trait Apart<'source>: Scan<'source> {
+    /// See [`Scanner::act_on_token`].
+    fn act_on_token(
+        scanner: &mut Scanner<'source, Self>,
+    ) -> Option<Result<Self, <Self as Logos<'source>>::Error>>;
+
+    /// See [`Scanner::find_item`].
+    fn find_item(
+        scanner: &mut Scanner<'source, Self>,
+    ) -> Option<Result<Self, <Self as Logos<'source>>::Error>>;
+}
+
+impl<'source, T: Scan<'source>> Apart<'source> for T {
+    #[inline(never)]
+    fn act_on_token(scanner: &mut Scanner<'source, T>) -> Option<Result<T, T::Error>> {
+        scanner.act_on_token()
+    }
+
+    #[inline(never)]
+    fn find_item(scanner: &mut Scanner<'source, T>) -> Option<Result<T, T::Error>> {
+        scanner.find_item()
+    }
+}
+
 /// An iterator over tokens with their places, by chunks of the input.
 ///
 /// It dereferences to the lexer, which stands behind the last token. `fold`, and so `for_each`, is
@@ -59,9 +87,12 @@ pub struct Scanner<'source, Token: Scan<'source>> {
     is_part: bool,
     /// The lexer may have been moved.
     is_moved: bool,
+    /// The items are folded.
+    folds: bool,
 }
 
-type Item<'source, Token> = (Result<Token, <Token as Logos<'source>>::Error>, Span);
+type Found<'source, Token> = Result<Token, <Token as Logos<'source>>::Error>;
+type Item<'source, Token> = (Found<'source, Token>, Span);
 
 impl<'source, Token: Scan<'source>> Scanner<'source, Token> {
     pub(crate) fn new(lexer: Lexer<'source, Token>, is_part: bool) -> Self {
@@ -72,6 +103,7 @@ impl<'source, Token: Scan<'source>> Scanner<'source, Token> {
             walk: None,
             is_part,
             is_moved: true,
+            folds: false,
         }
     }
 
@@ -80,10 +112,10 @@ impl<'source, Token: Scan<'source>> Scanner<'source, Token> {
         self.lexer
     }
 
-    /// Returns whether `Logos::lex` finds the next item.
+    /// Returns whether `Logos::lex` finds the next item. Then the word is empty.
     #[inline(always)]
     fn is_plain(&self) -> bool {
-        self.word.tokens == 0 && self.word.start < self.plain_to
+        self.lexer.end() < self.plain_to
     }
 
     /// Takes the next token of the word, if there is one for which nothing is called. It is made
@@ -102,47 +134,69 @@ impl<'source, Token: Scan<'source>> Scanner<'source, Token> {
         Some((Ok(token), span))
     }
 
-    /// Finds what comes next where the word does not begin with a token for which nothing is
-    /// called: the next word, or an item in another way.
+    /// Goes on to the next word of the walk, if there is one.
+    #[inline(never)]
+    fn next_word(&mut self) -> bool {
+        match &mut self.walk {
+            Some(walk) => walk.next_word(&mut self.word),
+            None => false,
+        }
+    }
+
+    /// Takes the next token of the word, for which something is called. Returns nothing if nothing
+    /// becomes of it.
     #[inline(always)]
-    fn find(&mut self) -> Next<Item<'source, Token>> {
+    fn act_on_token(&mut self) -> Option<Found<'source, Token>> {
         let tokens = self.word.tokens;
-        if let Some(walk) = &mut self.walk {
-            if tokens == 0 {
-                if let Some(word) = walk.next_word(&self.word) {
-                    self.word = word;
-                    return Next::Again;
+        let leaf = self.walk.as_ref()?.leaf_of(&self.word, tokens)?;
+        let span = self.word.span_of(tokens);
+        self.word.tokens = tokens & (tokens - 1);
+        self.act((leaf, span.end), span.start, span.end)
+    }
+
+    /// Finds an item after the last word of the walk, or one of `Logos::lex`. Returns nothing at
+    /// the end.
+    #[inline(always)]
+    fn find_item(&mut self) -> Option<Found<'source, Token>> {
+        loop {
+            if self.is_plain() {
+                return self.lexer.next();
+            }
+            match self.go_on() {
+                Next::Again => {}
+                Next::Item(item) => return Some(item),
+                Next::End => return None,
+            }
+            while self.plain_to == 0 {
+                if let Some((item, _)) = self.take_plain() {
+                    return Some(item);
                 }
-            } else {
-                let leaf = walk.leaf_of(&self.word, tokens).unwrap_or(usize::MAX);
-                let span = self.word.span_of(tokens);
-                self.word.tokens = tokens & (tokens - 1);
-                let end = span.end;
-                return self.item_of((leaf, end), span.start, end);
+                if self.word.tokens != 0 {
+                    if let Some(item) = Token::act_on_token(self) {
+                        return Some(item);
+                    }
+                } else if !self.next_word() {
+                    break;
+                }
             }
         }
-        self.refill()
     }
 
     /// Returns what becomes of a leaf and the end of its match, which begins at a byte offset. The
     /// walk goes on from another one.
     #[inline(always)]
-    fn item_of(
+    fn act(
         &mut self,
         found: (usize, usize),
         start: usize,
         next: usize,
-    ) -> Next<Item<'source, Token>> {
+    ) -> Option<Found<'source, Token>> {
         let (leaf, end) = found;
         self.lexer.set_span(start..end);
         let source = self.lexer.source();
         let item = Token::act(&mut self.lexer, leaf, end);
-        let span = self.lexer.span();
         self.follow(source, next);
-        match item {
-            Some(item) => Next::Item((item, span)),
-            None => Next::Again,
-        }
+        item
     }
 
     /// Goes on from where the lexer stands, if that is not this byte offset of the source.
@@ -176,11 +230,31 @@ impl<'source, Token: Scan<'source>> Scanner<'source, Token> {
         };
     }
 
-    /// Finds the next word, or an item in another way, after the last word of a chunk.
+    /// Finds the item of the entry before which the word is cut, or walks on after the last word.
+    #[inline(always)]
+    fn go_on(&mut self) -> Next<Found<'source, Token>> {
+        match self.walk.as_ref().and_then(|walk| walk.cut()) {
+            Some(cut) => self.answer(cut).map_or(Next::Again, Next::Item),
+            None => self.refill(),
+        }
+    }
+
+    /// Finds the item of an entry that asks.
+    #[inline(never)]
+    fn answer(&mut self, cut: usize) -> Option<Found<'source, Token>> {
+        let start = self.word.last_end();
+        self.word = self.word.passed();
+        let bytes = Token::bytes(self.lexer.source());
+        let found = self.walk.as_mut()?.found_at::<Token>(bytes, cut, start);
+        self.act(found, start, usize::MAX)
+    }
+
+    /// Finds the first word of the next chunk, or has `Logos::lex` find items. Returns whether the
+    /// items may go on.
     #[cold]
     #[inline(never)]
-    fn refill(&mut self) -> Next<Item<'source, Token>> {
-        if self.is_moved {
+    fn refill(&mut self) -> Next<Found<'source, Token>> {
+        if self.is_moved || self.plain_to != 0 {
             self.is_moved = false;
             self.word.start = self.lexer.span().end;
             self.forget();
@@ -188,14 +262,7 @@ impl<'source, Token: Scan<'source>> Scanner<'source, Token> {
         let bytes = Token::bytes(self.lexer.source());
         let start = self.word.last_end();
         self.word = self.word.passed();
-        let mut next = start;
-        if let Some(walk) = &mut self.walk {
-            if let Some(cut) = walk.cut() {
-                let found = walk.found_at::<Token>(bytes, cut, start);
-                return self.item_of(found, start, usize::MAX);
-            }
-            next = walk.end();
-        }
+        let next = self.walk.as_ref().map_or(start, |walk| walk.end());
         // From here on the lexer goes on by itself, if no walk does.
         self.lexer.set_span(start..start);
         let left = bytes.len().saturating_sub(next);
@@ -216,25 +283,10 @@ impl<'source, Token: Scan<'source>> Scanner<'source, Token> {
         let is_part = self.is_part;
         let room = || new_room(start, Token::ROWS.root());
         let walk = self.walk.get_or_insert_with(room);
-        match walk.plain_to() {
+        match walk.plain_to(self.folds) {
             Some(to) if !is_part => self.plain_to = to,
             _ => self.word = walk.walk::<Token>(bytes, start),
         }
-    }
-
-    /// Finds an item by `Logos::lex`.
-    #[inline]
-    fn plain_item(&mut self) -> Option<Item<'source, Token>> {
-        let source = self.lexer.source();
-        // The compiler is kept from looking into the item: it would make a jump for each leaf of
-        // what is else a look into a table.
-        let item = core::hint::black_box(self.lexer.next());
-        let span = self.lexer.span();
-        self.word.start = span.end;
-        if span.end >= self.plain_to || !core::ptr::eq(self.lexer.source(), source) {
-            self.follow(source, usize::MAX);
-        }
-        Some((item?, span))
     }
 
     /// Folds the items of words, up to one for which something is called, or the last word.
@@ -253,10 +305,9 @@ impl<'source, Token: Scan<'source>> Scanner<'source, Token> {
             if word.tokens != 0 {
                 break;
             }
-            let Some(next) = walk.next_word(&word) else {
+            if !walk.next_word(&mut word) {
                 break;
-            };
-            word = next;
+            }
         }
         self.word = word;
         folded
@@ -274,7 +325,7 @@ impl<'source, Token: Scan<'source>> Scanner<'source, Token> {
             plain_to,
             ..
         } = self;
-        let (source, mut folded) = (lexer.source(), init);
+        let mut folded = init;
         loop {
             let Some(item) = lexer.next() else {
                 return (None, folded);
@@ -282,14 +333,10 @@ impl<'source, Token: Scan<'source>> Scanner<'source, Token> {
             let span = lexer.span();
             let end = span.end;
             folded = f(folded, (item, span));
-            if end >= plain_to || !core::ptr::eq(lexer.source(), source) {
-                break;
+            if end >= plain_to {
+                return (Some(Scanner { lexer, ..self }), folded);
             }
         }
-        let mut rest = Scanner { lexer, ..self };
-        rest.word.start = rest.lexer.span().end;
-        rest.follow(source, usize::MAX);
-        (Some(rest), folded)
     }
 }
 
@@ -326,6 +373,7 @@ impl<'source, Token: Scan<'source>> Iterator for Scanner<'source, Token> {
     where
         F: FnMut(B, Self::Item) -> B,
     {
+        self.folds = true;
         let mut folded = init;
         loop {
             if self.is_plain() {
@@ -334,27 +382,34 @@ impl<'source, Token: Scan<'source>> Iterator for Scanner<'source, Token> {
                 (self, folded) = (rest, after);
             }
             folded = self.fold_words(folded, &mut f);
-            match self.find() {
+            let next = match self.word.tokens {
+                0 => self.go_on(),
+                _ => self.act_on_token().map_or(Next::Again, Next::Item),
+            };
+            match next {
                 Next::Again => {}
-                Next::Item(item) => folded = f(folded, item),
+                Next::Item(item) => folded = f(folded, (item, self.lexer.span())),
                 Next::End => return folded,
             }
         }
     }
 
+    // What is called has no argument but the scanner, so that the caller's values stay in registers.
     #[inline(always)]
     fn next(&mut self) -> Option<Self::Item> {
         loop {
             if let Some(item) = self.take_plain() {
                 return Some(item);
             }
-            if self.is_plain() {
-                return self.plain_item();
-            }
-            match self.find() {
-                Next::Again => {}
-                Next::Item(item) => return Some(item),
-                Next::End => return None,
+            let item = if self.word.tokens != 0 {
+                Token::act_on_token(self)
+            } else if self.plain_to == 0 && self.next_word() {
+                None
+            } else {
+                Some(Token::find_item(self)?)
+            };
+            if let Some(item) = item {
+                return Some((item, self.lexer.span()));
             }
         }
     }

@@ -10,16 +10,18 @@ use crate::Span;
 /// each state that it enters. The numbers are no times: they were chosen so that they tell apart
 /// measured texts on which walks win and lose.
 const STEP: usize = 6;
-const AGAIN: usize = 15;
-const LOOK: usize = 6;
-const ASK: usize = 250;
-const TRY: usize = 250;
-const MATCH: usize = 36;
-const ENTER: usize = 10;
+const AGAIN: usize = 24;
+const LOOK: usize = 10;
+const ASK: usize = 400;
+const TRY: usize = 400;
+const MATCH: usize = 39;
+const ENTER: usize = 19;
 /// Walks lose where matches have fewer bytes in the mean.
 const SHORTEST: usize = 2;
+/// The bits of so many bytes are set one by one.
+const FEW: usize = 6;
 /// One of so many words is looked at to tell whether walks are worth their time.
-const SAMPLED: usize = 16;
+const SAMPLED: usize = 18;
 
 /// What is left of a word of a chunk.
 #[derive(Clone, Copy)]
@@ -53,6 +55,7 @@ impl Word {
     }
 
     /// Returns where the last match ended.
+    #[inline(always)]
     pub(crate) fn last_end(&self) -> usize {
         self.after(self.ends)
     }
@@ -141,32 +144,32 @@ impl Walk {
         self.chunk.leaf(word.at + tokens.trailing_zeros() as usize)
     }
 
-    /// Returns the next word of the chunk, if there is one.
+    /// Goes on to the next word of the chunk, if there is one.
     #[inline(always)]
-    pub(crate) fn next_word(&mut self, word: &Word) -> Option<Word> {
+    pub(crate) fn next_word(&mut self, word: &mut Word) -> bool {
         let at = word.at + WORD;
         if self.cut.is_some() || at >= self.len {
-            return None;
+            return false;
         }
-        Some(self.word(at, word.after(word.ends)))
+        *word = self.word(at, word.here + WORD, !0, word.last_end());
+        true
     }
 
-    /// Returns the word of a byte, from that byte on.
+    /// Returns what is left in the word that begins at a byte of the chunk, and of the input: the
+    /// bits `from`, up to an entry that asks.
     #[inline(always)]
-    fn word(&mut self, at: usize, start: usize) -> Word {
-        let from = !0 << (at % WORD);
-        let at = at / WORD * WORD;
+    fn word(&mut self, at: usize, here: usize, from: u64, start: usize) -> Word {
         let (ends, tokens) = self.chunk.bits(at);
         let asks = tokens & !ends & from;
-        let before = match asks {
-            0 => from,
-            _ => from & (asks - 1) & !asks,
-        };
-        self.cut = (asks != 0).then(|| at + asks.trailing_zeros() as usize);
+        let mut left = from;
+        if asks != 0 {
+            left &= (asks - 1) & !asks;
+            self.cut = Some(at + asks.trailing_zeros() as usize);
+        }
         Word {
-            ends: ends & before,
-            tokens: tokens & before,
-            here: self.base + at,
+            ends: ends & left,
+            tokens: tokens & left,
+            here,
             at,
             start,
         }
@@ -193,7 +196,7 @@ impl Walk {
             self.len = rest.len();
             self.place = self.chunk.walk_rest::<T>(rest, self.place);
         }
-        self.word(0, start)
+        self.word(0, self.base, !0, start)
     }
 
     /// Walks over a whole chunk. Of both kinds of guesses the one is made that costs less. What is
@@ -255,8 +258,14 @@ impl Walk {
             self.place = place;
         }
         self.cost += AGAIN * (to - at);
-        self.chunk.set_bits(at, to);
-        self.word(at, start)
+        if to - at <= FEW {
+            self.chunk.set_few_bits(at, to);
+        } else {
+            self.chunk.set_bits(at, to);
+        }
+        self.cut = None;
+        let begun = at % WORD;
+        self.word(at - begun, start - begun, !0 << begun, start)
     }
 
     /// Forgets the chunk, and lets the next match begin at a byte offset.
@@ -267,13 +276,14 @@ impl Walk {
 
     /// Tells by the walk over the chunk, and by those before, whether walks are worth their time.
     /// If not, returns up to which byte offset `Logos::lex` is to find the items.
-    pub(crate) fn plain_to(&mut self) -> Option<usize> {
+    /// Where matches are short, walks lose if the items are folded.
+    pub(crate) fn plain_to(&mut self, folds: bool) -> Option<usize> {
         if self.len == 0 {
             return None;
         }
         let [bytes, ends, entered] = self.chunk.sample(self.len, SAMPLED);
         let lexer = match ends {
-            _ if ends > bytes / SHORTEST => 0,
+            _ if folds && ends > bytes / SHORTEST => 0,
             _ => SAMPLED * (MATCH * ends + ENTER * entered),
         };
         let walk = SAMPLED * STEP * bytes + self.cost;
