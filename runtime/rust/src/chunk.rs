@@ -8,7 +8,8 @@ use crate::Span;
 const BLOCK: usize = 768;
 const BLOCKS: usize = 6;
 /// The bytes of a block that are walked over in one go.
-const STEPS: usize = 4;
+const STEPS: usize = 6;
+const _: () = assert!(BLOCK % STEPS == 0);
 pub(crate) const CHUNK: usize = BLOCKS * BLOCK;
 /// The bytes of a word, which has a bit for each of them, and the words of a chunk.
 pub(crate) const WORD: usize = 64;
@@ -16,7 +17,7 @@ const WORDS: usize = CHUNK / WORD;
 /// Fewer bytes than these are not worth a walk.
 pub(crate) const FEWEST: usize = 256;
 /// So many bytes before a block are looked at to guess its place, and so many for a line end.
-const NEAR: usize = 48;
+const NEAR: usize = 32;
 const FAR: usize = 384;
 
 /// What the walk over a chunk has found.
