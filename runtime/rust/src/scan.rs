@@ -45,30 +45,28 @@ pub trait Scan<'source>: Tables<'source> {
 
 impl<'source, T: Tables<'source>> Scan<'source> for T {}
 
-/// What `next` calls where it cannot take a token of the word. The items are without their places,
-/// which the lexer has. These are functions of the enum, so that the compiler puts them beside its
-/// `lex`, which becomes a part of the one that calls it: those of a type of this library would be
-/// compiled apart from it.
+type Found<'source, Token> = Result<Token, <Token as Logos<'source>>::Error>;
+type Item<'source, Token> = (Found<'source, Token>, Span);
+
+/// What `next` calls where it cannot take a token of the word. The places of the items are those of
+/// the lexer. These are functions of the enum: so the compiler puts them beside its `lex`, which can
+/// then be part of the one that calls it.
 trait Apart<'source>: Scan<'source> {
     /// See [`Scanner::act_on_token`].
-    fn act_on_token(
-        scanner: &mut Scanner<'source, Self>,
-    ) -> Option<Result<Self, <Self as Logos<'source>>::Error>>;
+    fn act_on_token(scanner: &mut Scanner<'source, Self>) -> Option<Found<'source, Self>>;
 
     /// See [`Scanner::find_item`].
-    fn find_item(
-        scanner: &mut Scanner<'source, Self>,
-    ) -> Option<Result<Self, <Self as Logos<'source>>::Error>>;
+    fn find_item(scanner: &mut Scanner<'source, Self>) -> Option<Found<'source, Self>>;
 }
 
 impl<'source, T: Scan<'source>> Apart<'source> for T {
     #[inline(never)]
-    fn act_on_token(scanner: &mut Scanner<'source, T>) -> Option<Result<T, T::Error>> {
+    fn act_on_token(scanner: &mut Scanner<'source, T>) -> Option<Found<'source, T>> {
         scanner.act_on_token()
     }
 
     #[inline(never)]
-    fn find_item(scanner: &mut Scanner<'source, T>) -> Option<Result<T, T::Error>> {
+    fn find_item(scanner: &mut Scanner<'source, T>) -> Option<Found<'source, T>> {
         scanner.find_item()
     }
 }
@@ -90,9 +88,6 @@ pub struct Scanner<'source, Token: Scan<'source>> {
     /// The items are folded.
     folds: bool,
 }
-
-type Found<'source, Token> = Result<Token, <Token as Logos<'source>>::Error>;
-type Item<'source, Token> = (Found<'source, Token>, Span);
 
 impl<'source, Token: Scan<'source>> Scanner<'source, Token> {
     pub(crate) fn new(lexer: Lexer<'source, Token>, is_part: bool) -> Self {
@@ -148,9 +143,9 @@ impl<'source, Token: Scan<'source>> Scanner<'source, Token> {
     #[inline(always)]
     fn act_on_token(&mut self) -> Option<Found<'source, Token>> {
         let tokens = self.word.tokens;
-        let leaf = self.walk.as_ref()?.leaf_of(&self.word, tokens)?;
         let span = self.word.span_of(tokens);
         self.word.tokens = tokens & (tokens - 1);
+        let leaf = self.walk.as_ref()?.leaf_of(&self.word, tokens)?;
         self.act((leaf, span.end), span.start, span.end)
     }
 
@@ -235,7 +230,8 @@ impl<'source, Token: Scan<'source>> Scanner<'source, Token> {
     fn go_on(&mut self) -> Next<Found<'source, Token>> {
         match self.walk.as_ref().and_then(|walk| walk.cut()) {
             Some(cut) => self.answer(cut).map_or(Next::Again, Next::Item),
-            None => self.refill(),
+            None if self.refill() => Next::Again,
+            None => Next::End,
         }
     }
 
@@ -249,11 +245,11 @@ impl<'source, Token: Scan<'source>> Scanner<'source, Token> {
         self.act(found, start, usize::MAX)
     }
 
-    /// Finds the first word of the next chunk, or has `Logos::lex` find items. Returns whether the
-    /// items may go on.
+    /// Finds the first word of the next chunk, or has `Logos::lex` find items. Returns whether there
+    /// is more of the input.
     #[cold]
     #[inline(never)]
-    fn refill(&mut self) -> Next<Found<'source, Token>> {
+    fn refill(&mut self) -> bool {
         if self.is_moved || self.plain_to != 0 {
             self.is_moved = false;
             self.word.start = self.lexer.span().end;
@@ -267,14 +263,14 @@ impl<'source, Token: Scan<'source>> Scanner<'source, Token> {
         self.lexer.set_span(start..start);
         let left = bytes.len().saturating_sub(next);
         if self.is_part && (left == 0 || !Token::Rows::ARE_THERE) {
-            return Next::End;
+            return false;
         }
         if !self.is_part && (left < FEWEST || !Token::Rows::ARE_THERE) {
             self.plain_to = usize::MAX;
         } else {
             self.walk_on(bytes, start);
         }
-        Next::Again
+        true
     }
 
     /// Walks over the next chunk, or has `Logos::lex` find items where walks are not worth their
