@@ -16,7 +16,7 @@ const ASK: usize = 400;
 const TRY: usize = 400;
 const MATCH: usize = 39;
 const ENTER: usize = 19;
-/// Walks lose where matches have fewer bytes in the mean.
+/// Walks whose items are folded lose where matches have fewer bytes in the mean.
 const SHORTEST: usize = 2;
 /// The bits of so many bytes are set one by one.
 const FEW: usize = 6;
@@ -274,9 +274,9 @@ impl Walk {
         Word::empty(start)
     }
 
-    /// Tells by the walk over the chunk, and by those before, whether walks are worth their time.
-    /// If not, returns up to which byte offset `Logos::lex` is to find the items.
-    /// Where matches are short, walks lose if the items are folded.
+    /// Tells by the walk over the chunk, and by those before, whether walks are worth their time,
+    /// where the items are folded or not. If they are not, returns up to which byte offset
+    /// `Logos::lex` is to find the items.
     pub(crate) fn plain_to(&mut self, folds: bool) -> Option<usize> {
         if self.len == 0 {
             return None;
