@@ -49,8 +49,8 @@ type Found<'source, Token> = Result<Token, <Token as Logos<'source>>::Error>;
 type Item<'source, Token> = (Found<'source, Token>, Span);
 
 /// What `next` calls where it cannot take a token of the word. The places of the items are those of
-/// the lexer. These are functions of the enum: so the compiler puts them beside its `lex`, which can
-/// then be part of the one that calls it.
+/// the lexer. These are functions of the enum: so the compiler puts them beside its `lex`, and can
+/// make that a part of the one which calls it.
 trait Apart<'source>: Scan<'source> {
     /// See [`Scanner::act_on_token`].
     fn act_on_token(scanner: &mut Scanner<'source, Self>) -> Option<Found<'source, Self>>;
@@ -245,8 +245,8 @@ impl<'source, Token: Scan<'source>> Scanner<'source, Token> {
         self.act(found, start, usize::MAX)
     }
 
-    /// Finds the first word of the next chunk, or has `Logos::lex` find items. Returns whether there
-    /// is more of the input.
+    /// Finds the first word of the next chunk, or has `Logos::lex` find items. Returns whether more
+    /// of the input is there.
     #[cold]
     #[inline(never)]
     fn refill(&mut self) -> bool {
@@ -390,7 +390,7 @@ impl<'source, Token: Scan<'source>> Iterator for Scanner<'source, Token> {
         }
     }
 
-    // What is called has no argument but the scanner, so that the caller's values stay in registers.
+    // What is called has no argument but the scanner: so the caller's values stay in registers.
     #[inline(always)]
     fn next(&mut self) -> Option<Self::Item> {
         loop {
