@@ -260,8 +260,8 @@ fn walk_blocks<'s, T: Tables<'s>>(
         core::array::from_fn(|k| input[k * BLOCK..].first_chunk().expect("a block"));
     for at in (0..BLOCK).step_by(STEPS) {
         let part: Option<&mut [u32; CHUNK - BLOCK + STEPS]> = trace[at..].first_chunk_mut();
-        // The compiler does not see where the part begins: so each store is at a fixed distance from
-        // it, and many processors have more units for these than for stores with an index.
+        // The compiler does not see where the part begins: so each store is at a fixed distance
+        // from it. Many processors have more units for these than for stores with an index.
         let part = core::hint::black_box(part.expect("a part"));
         for n in 0..STEPS {
             for k in 0..BLOCKS {
