@@ -92,8 +92,8 @@ impl<'source, Token: Logos<'source>> Lexer<'source, Token> {
     }
 
     /// Returns an iterator over the tokens that follow, with their places, by chunks of the input:
-    /// the items of [`Lexer::spanned`]. [`Iterator::for_each`] and [`Iterator::fold`] are faster
-    /// than calls of `next`.
+    /// the items of [`Lexer::spanned`]. [`Iterator::for_each`] and [`Iterator::fold`] are mostly
+    /// faster than calls of `next`.
     pub fn scan(self) -> Scanner<'source, Token>
     where
         Token: Scan<'source>,

@@ -74,7 +74,8 @@ impl<'source, T: Scan<'source>> Apart<'source> for T {
 /// An iterator over tokens with their places, by chunks of the input.
 ///
 /// It dereferences to the lexer, which stands behind the last token. `fold`, and so `for_each`, is
-/// faster than a loop, which can be slower than a lexer where tokens are long or of one byte.
+/// mostly faster than a loop, and that can be slower than a lexer where tokens are long, or of one
+/// byte.
 pub struct Scanner<'source, Token: Scan<'source>> {
     lexer: Lexer<'source, Token>,
     word: Word,
