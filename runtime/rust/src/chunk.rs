@@ -324,3 +324,27 @@ fn line_ends(eight: &[u8]) -> u64 {
     let other = eight ^ 0x0A0A_0A0A_0A0A_0A0A;
     !(((other & ONES) + ONES) | other | ONES)
 }
+
+#[cfg(test)]
+mod tests {
+    use super::{Chunk, CHUNK};
+
+    #[test]
+    fn few_bits_are_set_as_all_are() {
+        let (mut chunk, mut seed) = (Chunk::NEW, 1u32);
+        for entry in &mut chunk.trace {
+            seed = seed.wrapping_mul(1664525).wrapping_add(1013904223);
+            *entry = seed;
+        }
+        chunk.set_bits(0, CHUNK);
+        for from in (0..CHUNK - 5).step_by(61) {
+            for entry in &mut chunk.trace[from..from + 5] {
+                *entry = !*entry;
+            }
+            chunk.set_few_bits(from, from + 5);
+        }
+        let few = (chunk.ends, chunk.tokens);
+        chunk.set_bits(0, CHUNK);
+        assert_eq!(few, (chunk.ends, chunk.tokens));
+    }
+}

@@ -267,6 +267,7 @@ fn long_runs_and_errors_are_found() {
         " ".repeat(70_000),
         "é".repeat(70_000),
         "1.".repeat(35_000),
+        "a1".repeat(35_000),
     ];
     for text in texts
         .iter()
@@ -310,8 +311,13 @@ fn a_scanner_goes_on_from_where_it_is_moved_to() {
 
 #[test]
 fn a_callback_can_take_another_text() {
-    for at in [0, 300, 1500] {
-        let text = format!("{}<{}", text(at, 7).replace('<', ""), text(3000, 8));
+    let starts = [0, 300, 1500].map(|pieces| text(pieces, 7).replace('<', ""));
+    // After a long run `Logos::lex` finds the items of some chunks.
+    for start in starts
+        .iter()
+        .chain([&"a".repeat(70_000), &"a".repeat(90_000)])
+    {
+        let text = format!("{start}<{}", text(3000, 8));
         let lexer = ByBytes::lexer_with_extras(&text, 7);
         let mut plain = lexer.clone();
         // Nothing in front of the first `<` changes the extras.
