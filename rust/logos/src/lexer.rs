@@ -62,14 +62,16 @@ impl<'source, Token: Logos<'source>> Lexer<'source, Token> {
         self.part(self.end..self.source.len())
     }
 
-    /// Takes so many more bytes into the last token.
+    /// Makes the last token `n` bytes longer.
     ///
     /// # Panics
     ///
-    /// Panics where the token would end after the input, or inside a character.
+    /// Panics if the token would end after the input, or inside a character. The lexer is then as
+    /// it was before the call.
     pub fn bump(&mut self, n: usize) {
-        self.end += n;
-        assert!(self.source.is_boundary(self.end), "Invalid Lexer bump");
+        let end = self.end.checked_add(n);
+        let is_end = |end: &usize| *end <= self.source.len() && self.source.is_boundary(*end);
+        self.end = end.filter(is_end).expect("Invalid Lexer bump");
     }
 
     /// Returns a lexer for another enum at the same place of the same input.

@@ -126,6 +126,18 @@ fn a_bump_into_a_character_panics() {
     lexer.bump(1);
 }
 
+#[test]
+fn a_bump_that_panics_leaves_the_lexer_as_it_was() {
+    for bytes in [1, 2, 3, usize::MAX, usize::MAX - 1, usize::MAX - 4] {
+        let mut lexer = Word::lexer("aé");
+        lexer.next();
+        let bump = std::panic::AssertUnwindSafe(|| lexer.bump(bytes));
+        assert_eq!(std::panic::catch_unwind(bump).is_ok(), bytes == 2);
+        let end = if bytes == 2 { 3 } else { 1 };
+        assert_eq!((lexer.span(), lexer.remainder()), (0..end, &"aé"[end..]));
+    }
+}
+
 /// Any byte is a token.
 #[derive(Debug, PartialEq)]
 struct Byte;

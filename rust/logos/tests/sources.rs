@@ -87,6 +87,12 @@ impl Source for Nibbles {
 }
 
 #[test]
+fn an_error_ends_where_a_source_of_the_program_says() {
+    let source = Nibbles(vec![0x31, 0x32, 0x33]);
+    assert_eq!([1, 2, 9].map(|index| source.find_boundary(index)), [1, 2, 9]);
+}
+
+#[test]
 fn a_type_of_the_program_is_an_input() {
     let source = Nibbles(vec![0x31, 0x32, 0x33, 0x34, 0x35]);
     let mut lexer = Pair::lexer(&source);
