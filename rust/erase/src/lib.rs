@@ -1,0 +1,87 @@
+//! Takes the contracts out of Rattle sources. What is left is Rust.
+//!
+//! Build scripts of the packages beside this one call it: each erases some of the crates below
+//! `crates/` and compiles them as modules of one Rust crate.
+//!
+//! - Ghost items, clauses and what else is for proofs alone become blanks. A few names become others
+//!   of the same width. So each token that is left keeps its line and its column, and an error of
+//!   the compiler or a panic names the line of the `.rt` file.
+//! - Lines are only added after the last one: the `use` declarations by which the paths of the
+//!   file lead to modules, and copies that Rust cannot derive.
+//! - What this library does not know it refuses, by file, line and column.
+#![forbid(unsafe_code)]
+
+mod attributes;
+mod build;
+mod crates;
+mod ghosts;
+mod output;
+mod package;
+mod rules;
+mod source;
+mod tokens;
+
+pub use build::build;
+pub use crates::Crates;
+pub use package::{Failure, Package, Program};
+
+use std::fmt;
+
+/// Where the paths of an erased file lead.
+#[derive(Clone, Debug, Default)]
+pub struct Paths {
+    /// The module that holds the file's crate, such as `crate::logos_hir`.
+    pub module: String,
+    /// The crates that the file may name, and the modules that hold them, such as `logos_token` and
+    /// `crate`.
+    pub libraries: Vec<(String, String)>,
+    /// Lines to add at the end.
+    pub added: String,
+}
+
+/// Why a source was not erased.
+#[derive(Clone, Debug, PartialEq, Eq)]
+pub struct Refusal {
+    /// The offset in bytes.
+    at: usize,
+    /// The line, from 1.
+    pub line: usize,
+    /// The column in characters, from 1.
+    pub column: usize,
+    /// What is not known there.
+    pub message: &'static str,
+}
+
+impl Refusal {
+    fn new(at: usize, message: &'static str) -> Refusal {
+        Refusal { at, line: 0, column: 0, message }
+    }
+
+    /// Returns the refusal with its line and column in the text.
+    fn in_text(self, text: &str) -> Refusal {
+        let before = &text[..text.floor_char_boundary(self.at)];
+        let line = before.matches('\n').count() + 1;
+        let start = before.rfind('\n').map_or(0, |newline| newline + 1);
+        Refusal { line, column: before[start..].chars().count() + 1, ..self }
+    }
+}
+
+impl fmt::Display for Refusal {
+    fn fmt(&self, f: &mut fmt::Formatter<'_>) -> fmt::Result {
+        write!(f, "{}:{}: {}", self.line, self.column, self.message)
+    }
+}
+
+/// Returns the Rust text of a Rattle source.
+///
+/// # Errors
+///
+/// Refuses a source with a form that this library does not know.
+pub fn erase(text: &str, paths: &Paths) -> Result<String, Refusal> {
+    let in_text = |refusal: Refusal| refusal.in_text(text);
+    let mut source = source::Source::new(text).map_err(in_text)?;
+    let found = rules::apply(&mut source, paths).map_err(in_text)?;
+    let mut erased = output::edited(text, source.tokens());
+    output::add_lines(&mut erased, &found, paths);
+    Ok(erased)
+}
