@@ -1,17 +1,22 @@
 //! Erases the crates of the library into `OUT_DIR`, as modules that `src/lib.rs` includes.
 
-use rattle_erase::Package;
-use std::path::Path;
+use rattle_erase::{Failure, LIBRARY, Package, repository};
 use std::process::ExitCode;
 
-/// The crates that users of the library and the derive macro call. Those below them come along.
-const ROOTS: [&str; 3] = ["logos_codegen", "logos_tables", "logos_derive"];
+fn erase() -> Result<(), Failure> {
+    let (folder, crates) = repository()?;
+    let names = crates.closure(&LIBRARY).into_iter();
+    let modules = names.map(|name| crates.module(&folder, name)).collect();
+    Package { modules, below: Vec::new() }.build()
+}
 
 fn main() -> ExitCode {
-    rattle_erase::build(|repository, crates| Package {
-        repository,
-        crates,
-        modules: crates.closure(&ROOTS),
-        below: Vec::new(),
-    })
+    println!("cargo::rustc-check-cfg=cfg(logos_tested_only)");
+    match erase() {
+        Ok(()) => ExitCode::SUCCESS,
+        Err(failure) => {
+            println!("cargo::error={failure}");
+            ExitCode::FAILURE
+        }
+    }
 }

@@ -1,5 +1,8 @@
 //! The list of the crates of a repository.
 
+use crate::Module;
+use std::path::Path;
+
 /// The crates of a repository, and the libraries that each uses, as its `crates.txt` lists them.
 #[derive(Clone, Debug)]
 pub struct Crates {
@@ -38,5 +41,12 @@ impl Crates {
         }
         let names = self.rows.iter().map(|(name, _)| name.as_str());
         names.filter(|name| needed.contains(name)).collect()
+    }
+
+    /// Returns a crate in the folder `crates/` of a repository as a module.
+    pub fn module<'a>(&'a self, repository: &Path, name: &'a str) -> Module<'a> {
+        let libraries = self.libraries(name).unwrap_or(&[]).iter().map(String::as_str).collect();
+        let source = repository.join("crates").join(name).join("src");
+        Module { name, source, libraries, added: "" }
     }
 }

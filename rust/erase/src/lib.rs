@@ -12,7 +12,6 @@
 #![forbid(unsafe_code)]
 
 mod attributes;
-mod build;
 mod crates;
 mod ghosts;
 mod output;
@@ -21,9 +20,8 @@ mod rules;
 mod source;
 mod tokens;
 
-pub use build::build;
 pub use crates::Crates;
-pub use package::{Failure, Package, Program};
+pub use package::{Failure, LIBRARY, Module, Package, repository};
 
 use std::fmt;
 

@@ -13,12 +13,11 @@ fn main() -> ExitCode {
         return ExitCode::from(2);
     };
     let repository = Path::new(repository);
-    let list = fs::read_to_string(repository.join("crates.txt")).unwrap_or_default();
-    let crates = Crates::parse(&list);
+    let crates = Crates::parse(&fs::read_to_string(repository.join("crates.txt")).unwrap_or_default());
     let roots: Vec<&str> = roots.iter().map(String::as_str).collect();
-    let modules = crates.closure(&roots);
-    let package = Package { repository, crates: &crates, modules, below: Vec::new() };
-    match package.write(Path::new(folder)) {
+    let names = crates.closure(&roots).into_iter();
+    let modules = names.map(|name| crates.module(repository, name)).collect();
+    match (Package { modules, below: Vec::new() }).write(Path::new(folder)) {
         Ok(()) => ExitCode::SUCCESS,
         Err(failure) => {
             eprintln!("{failure}");

@@ -1,0 +1,12 @@
+//! The programs of the tests and the examples in Rattle, each as a module, without its contracts.
+
+#![no_std]
+#![forbid(unsafe_code)]
+// Some parameters, imports, labels and braces are there for the contracts alone.
+#![allow(dead_code, unused_braces, unused_imports, unused_labels, unused_parens, unused_variables)]
+// The sources follow the rules of Rattle.
+#![allow(clippy::all, clippy::pedantic)]
+
+extern crate rattle_std as std;
+
+include!(concat!(env!("OUT_DIR"), "/crates.rs"));
