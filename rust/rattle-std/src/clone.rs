@@ -3,6 +3,8 @@
 //! A derive of `Clone` in an erased file is Rust's, and stands beside one of `Copy`.
 
 use crate::alloc::AllocError;
+use crate::rt::HostRuntime;
+use core::ops::RangeInclusive;
 
 /// A value that can be copied where there is memory.
 pub trait Clone: Sized {
@@ -14,10 +16,35 @@ pub trait Clone: Sized {
     fn clone(&self) -> Result<Self, AllocError>;
 }
 
-impl<T: Copy> Clone for T {
+macro_rules! copied {
+    ($($name:ty)*) => {
+        $(impl Clone for $name {
+            #[inline]
+            fn clone(&self) -> Result<$name, AllocError> {
+                Ok(*self)
+            }
+        })*
+    };
+}
+
+copied!(bool char u8 u16 u32 u64 usize HostRuntime);
+
+impl<T: ?Sized> Clone for &T {
     #[inline]
-    fn clone(&self) -> Result<T, AllocError> {
-        Ok(*self)
+    fn clone(&self) -> Result<Self, AllocError> {
+        Ok(self)
+    }
+}
+
+impl<T: Clone> Clone for Option<T> {
+    fn clone(&self) -> Result<Option<T>, AllocError> {
+        self.as_ref().clones()
+    }
+}
+
+impl<T: Copy> Clone for RangeInclusive<T> {
+    fn clone(&self) -> Result<RangeInclusive<T>, AllocError> {
+        Ok(*self.start()..=*self.end())
     }
 }
 

@@ -10,6 +10,7 @@ use crate::io::{self, Error, ErrorKind, Read, Write};
 use crate::rt::HostRuntime;
 use crate::string::String;
 use crate::vec::Vec;
+use std::sync::OnceLock;
 
 pub use metadata::{Metadata, MetadataExt, Permissions, PermissionsExt, metadata, set_permissions};
 
@@ -18,6 +19,20 @@ const STANDARD_INPUT: &str = "/dev/stdin";
 
 /// The link by which the crates find the number of the process.
 const OWN_PROCESS: &str = "/proc/self";
+
+/// The path by which the crates read the program itself.
+const PROGRAM: &str = "/proc/self/exe";
+
+/// What is read as the program itself.
+static PROGRAM_BYTES: OnceLock<&'static [u8]> = OnceLock::new();
+
+/// Sets the bytes that are read in place of the file of the program, at `/proc/self/exe`.
+///
+/// The programs look there for the commit that they are built from. They call this first, and only
+/// the first call has an effect.
+pub fn set_program(bytes: &'static [u8]) {
+    let _ = PROGRAM_BYTES.set(bytes);
+}
 
 /// A system with files.
 pub trait Files {
@@ -179,6 +194,7 @@ pub struct File(Opened);
 enum Opened {
     File(std::fs::File),
     StandardInput(std::io::Stdin),
+    Program(&'static [u8]),
 }
 
 impl File {
@@ -188,6 +204,11 @@ impl File {
     ///
     /// Returns the error of the system.
     pub fn open<R: Files>(_rt: &R, path: &str) -> io::Result<File> {
+        if path == PROGRAM
+            && let Some(bytes) = PROGRAM_BYTES.get()
+        {
+            return Ok(File(Opened::Program(bytes)));
+        }
         match std::fs::File::open(path) {
             Ok(file) => Ok(File(Opened::File(file))),
             // Not each system has it as a file, and nowhere can it be opened where it is a socket.
@@ -210,7 +231,7 @@ impl File {
         const MOST: u64 = 1 << 26;
         match &self.0 {
             Opened::File(file) => file.metadata().map_or(0, |found| found.len().min(MOST) as usize),
-            Opened::StandardInput(_) => 0,
+            Opened::StandardInput(_) | Opened::Program(_) => 0,
         }
     }
 }
@@ -220,6 +241,7 @@ impl Read for File {
         Ok(match &mut self.0 {
             Opened::File(file) => std::io::Read::read(file, buf)?,
             Opened::StandardInput(input) => std::io::Read::read(input, buf)?,
+            Opened::Program(left) => std::io::Read::read(left, buf)?,
         })
     }
 }
@@ -228,14 +250,14 @@ impl Write for File {
     fn write(&mut self, buf: &[u8]) -> io::Result<usize> {
         match &mut self.0 {
             Opened::File(file) => Ok(std::io::Write::write(file, buf)?),
-            Opened::StandardInput(_) => Err(Error::from(ErrorKind::Unsupported)),
+            _ => Err(Error::from(ErrorKind::Unsupported)),
         }
     }
 
     fn flush(&mut self) -> io::Result<()> {
         match &mut self.0 {
             Opened::File(file) => Ok(std::io::Write::flush(file)?),
-            Opened::StandardInput(_) => Ok(()),
+            _ => Ok(()),
         }
     }
 }

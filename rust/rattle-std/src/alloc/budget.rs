@@ -32,13 +32,13 @@ pub fn set_budget(bytes: Option<usize>) {
 ///
 /// # Errors
 ///
-/// Returns an error if the variable names no number of bytes.
-pub fn set_budget_by_variable() -> Result<(), BudgetError> {
-    let bytes = match std::env::var_os(VARIABLE) {
-        None => DEFAULT_BUDGET,
-        Some(text) => text.to_str().and_then(budget_of).ok_or(BudgetError)?,
-    };
-    set_budget(Some(bytes));
+/// Returns an error if the variable names no number of bytes. Then the budget is [`DEFAULT_BUDGET`].
+pub fn set_budget_of_program() -> Result<(), BudgetError> {
+    set_budget(Some(DEFAULT_BUDGET));
+    if let Some(text) = std::env::var_os(VARIABLE) {
+        let bytes = text.to_str().and_then(budget_of).ok_or(BudgetError)?;
+        set_budget(Some(bytes));
+    }
     Ok(())
 }
 

@@ -127,6 +127,8 @@ kinds! {
     Interrupted,
     /// The call would have to wait.
     WouldBlock,
+    /// The call took too long.
+    TimedOut,
     /// A call to write wrote nothing.
     WriteZero,
     /// The data ends too early.
