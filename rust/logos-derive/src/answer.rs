@@ -1,172 +1,150 @@
-//! What the program answers, read from its lines of JSON.
+//! What the library answers about an enum, in types of Rust's own library.
 
-use crate::ask::Failure;
-use crate::json::Json;
+use crate::question::Question;
+use logos_codegen::logos_codegen::generator::Config;
+use logos_codegen::logos_derive as library;
+use logos_codegen::logos_tables::Shape;
+use logos_codegen::logos_token::token::Span;
+use rattle_std::alloc::{Global, set_budget_by_variable};
+use std::ops::Range;
+use std::panic::{AssertUnwindSafe, catch_unwind};
 
-/// The version of the protocol that this macro speaks.
-pub const PROTOCOL: usize = 1;
-
-/// What the program answers.
+/// What the library answers: the implementation, if the enum is accepted, and faults and warnings.
 pub struct Answer {
-    /// Whether the enum is accepted.
-    pub accepted: bool,
-    /// The implementation, with placeholders.
+    pub implementation: Option<Implementation>,
+    pub diagnostics: Vec<Diagnostic>,
+}
+
+/// The implementation of an enum, and the pieces of its source in it.
+pub struct Implementation {
     pub text: String,
     pub pieces: Vec<Piece>,
-    pub messages: Vec<Message>,
 }
 
-/// The byte range for which a placeholder stands.
+/// A piece of the source that the implementation repeats.
 pub struct Piece {
-    pub name: String,
-    pub from: usize,
-    pub to: usize,
-}
-
-/// Whether a message is a fault.
-#[derive(Clone, Copy, PartialEq)]
-pub enum Level {
-    Error,
-    Warning,
+    /// Where it is in the implementation, in bytes.
+    pub range: Range<usize>,
+    /// Where its tokens are in the source, in bytes.
+    pub source: Range<usize>,
 }
 
 /// A fault or a warning.
-pub struct Message {
-    pub level: Level,
-    pub text: String,
-    pub spans: Vec<Label>,
-    /// The lines after it: `note: ..` or `help: ..`.
-    pub lines: Vec<String>,
-    /// The message as the program shows it to a person: with a line of the question, and carets.
-    pub shown: Option<String>,
+pub struct Diagnostic {
+    pub is_error: bool,
+    /// The first line, after the code of a fault in brackets.
+    pub message: String,
+    /// What it is about, in bytes of the source.
+    pub span: Range<usize>,
+    /// The part of a literal that is at fault, if that is not all of `span`.
+    pub carets: Option<Range<usize>>,
+    pub labels: Vec<Label>,
+    /// Lines that begin with `note: ` or `help: `.
+    pub notes: Vec<String>,
 }
 
-/// A byte range of a message, with what it says of it.
+/// Another place of a diagnostic, with what is said of it.
 pub struct Label {
-    pub from: usize,
-    pub to: usize,
-    pub primary: bool,
-    pub text: Option<String>,
+    pub span: Range<usize>,
+    pub text: String,
 }
 
-impl Answer {
-    /// Returns the version of the protocol that the first line names.
-    pub fn protocol(messages: &str) -> Option<usize> {
-        let line = Json::read(messages.lines().next()?)?;
-        line.get("protocol")
-            .number()
-            .filter(|_| line.get("reason").text() == Some("version"))
-    }
+/// Why there is no answer, and what to do.
+pub struct Failure(pub String);
 
-    /// Reads the lines of standard error.
-    pub fn read(accepted: bool, text: String, messages: &str) -> Result<Answer, Failure> {
-        let mut answer = Answer {
-            accepted,
-            text,
-            pieces: Vec::new(),
-            messages: Vec::new(),
+/// The shape of an implementation, as the variable `LOGOS_SHAPE` names it.
+#[derive(Clone, Copy)]
+pub struct ShapeName(pub &'static str);
+
+impl ShapeName {
+    /// The names of all shapes.
+    pub const ALL: [&'static str; 3] = ["tables", "tailcall", "state_machine"];
+
+    fn shape(self) -> Shape {
+        let code = |use_state_machine_codegen| {
+            Shape::Code(Config {
+                use_state_machine_codegen,
+            })
         };
-        for line in messages.lines() {
-            let value =
-                Json::read(line).ok_or_else(|| Failure::unreadable("a line is not JSON"))?;
-            if value.get("reason").text() == Some("pieces") {
-                answer.pieces = pieces(&value)
-                    .ok_or_else(|| Failure::unreadable("a piece is not as it should be"))?;
-            }
-            if value.get("$message_type").text() == Some("diagnostic") {
-                add_message(&mut answer.messages, &value);
-            }
+        match self.0 {
+            "tailcall" => code(false),
+            "state_machine" => code(true),
+            _ => Shape::Tables,
         }
-        if accepted
-            == answer
-                .messages
-                .iter()
-                .any(|message| message.level == Level::Error)
-        {
-            return Err(Failure::unreadable("its status and its messages differ"));
-        }
-        Ok(answer)
     }
 }
 
-fn pieces(value: &Json) -> Option<Vec<Piece>> {
-    let piece = |piece: &Json| {
-        Some(Piece {
-            name: piece.get("name").text()?.into(),
-            from: piece.get("from").number()?,
-            to: piece.get("to").number()?,
-        })
+/// Asks the library for the implementation of an enum.
+///
+/// # Errors
+///
+/// Returns what to say if memory is refused, or if the library panics, which is a mistake in it.
+pub fn ask(question: &Question, shape: ShapeName) -> Result<Answer, Failure> {
+    set_budget_by_variable().map_err(|error| Failure(error.to_string()))?;
+    let derive = || library::derive(Global, &question.text, shape.shape());
+    match catch_unwind(AssertUnwindSafe(derive)) {
+        Ok(Ok(derivation)) => Ok(answer(&derivation)),
+        Ok(Err(_)) => Err(Failure(format!(
+            "there is not enough memory to make the lexer of {}\n\
+             help: the most that is used is 1 GiB, or what the variable LOGOS_MEMORY says, such as \
+             `LOGOS_MEMORY=4G`\n\
+             help: smaller counts, as in `{{0,20}}`, and smaller classes need less",
+            question.described()
+        ))),
+        Err(_) => Err(Failure(format!(
+            "the lexer of {} cannot be made: the library has panicked, which is a mistake in it",
+            question.described()
+        ))),
+    }
+}
+
+fn answer(derivation: &library::Derivation) -> Answer {
+    let implementation = derivation
+        .implementation
+        .as_ref()
+        .map(|found| Implementation {
+            text: found.text.as_str().into(),
+            pieces: found.pieces.iter().map(piece).collect(),
+        });
+    Answer {
+        implementation,
+        diagnostics: derivation.diagnostics.iter().map(diagnostic).collect(),
+    }
+}
+
+fn piece(piece: &library::Piece) -> Piece {
+    Piece {
+        range: piece.from..piece.to,
+        source: range(piece.span),
+    }
+}
+
+fn range(span: Span) -> Range<usize> {
+    span.from..span.to
+}
+
+fn diagnostic(found: &library::Diagnostic) -> Diagnostic {
+    let message = found.message.as_str();
+    let note = |note: &library::Note| {
+        let level = if note.is_help { "help" } else { "note" };
+        format!("{level}: {}", note.text.as_str())
     };
-    value.get("pieces").items().iter().map(piece).collect()
-}
-
-/// Adds a message of a level that is shown. A note becomes part of the message before it, and so
-/// does how many errors are left out.
-fn add_message(messages: &mut Vec<Message>, value: &Json) {
-    match (value.get("level").text(), messages.last_mut()) {
-        (Some("note"), Some(before)) => add_note(before, value),
-        (Some("failure-note"), Some(before)) => add_rest(before, value),
-        _ => messages.extend(message(value)),
+    Diagnostic {
+        is_error: matches!(found.level, library::Level::Error),
+        message: match &found.code {
+            Some(code) => format!("[{}] {message}", code.name()),
+            None => message.into(),
+        },
+        span: range(found.span),
+        carets: found.carets.map(range),
+        labels: found.labels.iter().map(label).collect(),
+        notes: found.notes.iter().map(note).collect(),
     }
 }
 
-/// Adds the spans of a note to a message.
-fn add_note(before: &mut Message, value: &Json) {
-    let spans = value.get("spans").items().iter().filter_map(label);
-    let text = value.get("message").text();
-    before.spans.extend(spans.map(|span| Label {
-        primary: false,
-        text: text.map(String::from),
-        ..span
-    }));
-}
-
-/// Adds how many errors are left out to a message.
-fn add_rest(before: &mut Message, value: &Json) {
-    if let Some(text) = value.get("rendered").text() {
-        before.lines.push(format!("note: {}", text.trim_end()));
+fn label(label: &library::Label) -> Label {
+    Label {
+        span: range(label.span),
+        text: label.text.as_str().into(),
     }
-}
-
-/// Returns a message of a level that is shown.
-fn message(value: &Json) -> Option<Message> {
-    let level = match value.get("level").text()? {
-        "error" => Level::Error,
-        "warning" => Level::Warning,
-        _ => return None,
-    };
-    Some(Message {
-        level,
-        text: value.get("message").text()?.into(),
-        spans: value
-            .get("spans")
-            .items()
-            .iter()
-            .filter_map(label)
-            .collect(),
-        lines: value
-            .get("children")
-            .items()
-            .iter()
-            .filter_map(child)
-            .collect(),
-        shown: value.get("rendered").text().map(String::from),
-    })
-}
-
-fn label(span: &Json) -> Option<Label> {
-    Some(Label {
-        from: span.get("byte_start").number()?,
-        to: span.get("byte_end").number()?,
-        primary: *span.get("is_primary") == Json::Bool(true),
-        text: span.get("label").text().map(String::from),
-    })
-}
-
-fn child(child: &Json) -> Option<String> {
-    Some(format!(
-        "{}: {}",
-        child.get("level").text()?,
-        child.get("message").text()?
-    ))
 }

@@ -1,110 +1,86 @@
 //! Faults as compile errors.
 
-use crate::answer::{Label, Message};
-use crate::ask::Failure;
+use crate::answer::{Diagnostic, Failure, Label};
 use crate::question::{Place, Question};
-use crate::shown;
 use proc_macro::{Delimiter, Group, Ident, Literal, Punct, Spacing, Span, TokenStream, TokenTree};
+use std::ops::Range;
 
-/// Returns the error for a failure, under the derive.
-pub fn failure(failure: &Failure) -> TokenStream {
-    compile_error(&failure.0, Span::call_site(), Span::call_site())
+/// Returns the error for a failure, at the name of the enum.
+pub fn failure(failure: &Failure, question: &Question) -> TokenStream {
+    error_at(&failure.0, question.name())
 }
 
 /// Returns the error for a fault, under the tokens that it is about.
-pub fn error(message: &Message, question: &Question) -> TokenStream {
-    let (first, last) = match place(message, question) {
-        Some(place) => (place.first, place.last),
-        None => (Span::call_site(), Span::call_site()),
-    };
-    compile_error(&text(message, question), first, last)
+pub fn error(fault: &Diagnostic, question: &Question) -> TokenStream {
+    error_at(&text(fault, question), question.place(&fault.span))
 }
 
-/// Returns the primary place of a message.
-pub fn place(message: &Message, question: &Question) -> Option<Place> {
-    primary(message).and_then(|label| question.place(label.from, label.to))
-}
-
-/// Returns the whole text of a message: its first line, and one for each note.
-pub fn text(message: &Message, question: &Question) -> String {
-    let mut lines = vec![message.text.clone()];
-    if let Some(label) = primary(message) {
-        lines.extend(label.text.iter().map(|text| format!("note: {text}")));
-        lines.extend(in_literal(label, question).or_else(|| in_pattern(message, label, question)));
+fn error_at(text: &str, place: Option<Place>) -> TokenStream {
+    match place {
+        Some(place) => compile_error(text, place.first, place.last),
+        None => compile_error(text, Span::call_site(), Span::call_site()),
     }
+}
+
+/// Returns the whole text of a fault or a warning: its first line, and then notes and helps.
+pub fn text(found: &Diagnostic, question: &Question) -> String {
+    let mut lines = vec![found.message.clone()];
+    lines.extend(in_literal(found, question));
     lines.extend(
-        message
-            .spans
+        found
+            .labels
             .iter()
-            .filter(|label| !label.primary)
             .filter_map(|label| other(label, question)),
     );
-    lines.extend(message.lines.iter().cloned());
+    lines.extend(found.notes.iter().cloned());
     lines.join("\n")
 }
 
-fn primary(message: &Message) -> Option<&Label> {
-    message.spans.iter().find(|label| label.primary)
-}
-
-/// Returns the note for a place that is not the primary one: what it says, and the tokens there.
+/// Returns the note for another place: what is said of it, and its tokens.
 fn other(label: &Label, question: &Question) -> Option<String> {
-    let tokens = question.text.get(label.from..label.to)?;
-    Some(format!(
-        "note: {}: `{}`",
-        label.text.as_ref()?,
-        shortened(tokens)
-    ))
+    let tokens = question.text.get(label.span.clone())?;
+    Some(format!("note: {}: `{}`", label.text, shortened(tokens)))
 }
 
-/// Returns the note for a place inside of a literal: the line of the literal with carets under it.
-fn in_literal(label: &Label, question: &Question) -> Option<String> {
-    let Place {
-        literal: Some((from, to)),
-        ..
-    } = question.place(label.from, label.to)?
-    else {
-        return None;
-    };
-    let before = question.text.get(from..label.from)?;
+/// Returns the note for a part of a literal: the line of the literal with carets under the part. A
+/// line that cannot be shown so is named by its number.
+fn in_literal(found: &Diagnostic, question: &Question) -> Option<String> {
+    let part = found.carets.as_ref().unwrap_or(&found.span);
+    let literal = question.place(part)?.literal?;
+    let before = question.text.get(literal.start..part.start)?;
     let start = before.rfind('\n').map_or(0, |end| end + 1);
-    let line = question.text.get(from + start..to)?.lines().next()?;
-    let (number, column) = (
-        before.matches('\n').count() + 1,
-        before[start..].chars().count(),
-    );
-    let marked = question
+    let line = question
         .text
-        .get(label.from..label.to)?
+        .get(literal.start + start..literal.end)?
         .lines()
-        .next()
-        .map_or(1, |text| text.chars().count().max(1));
-    let place = format!(
-        "note: in this literal, at line {number}, column {}",
-        column + 1
-    );
-    if line.chars().count() > LONG || line.chars().any(char::is_control) {
-        return Some(place);
+        .next()?;
+    let column = before[start..].chars().count();
+    if line.chars().count() > LONG || !line.chars().all(has_one_column) {
+        let number = before.matches('\n').count() + 1;
+        return Some(format!(
+            "note: in this literal, at line {number}, column {}",
+            column + 1
+        ));
     }
+    let carets = "^".repeat(marked(part, question));
     Some(format!(
-        "{place}\n{line}\n{}{}",
-        " ".repeat(column),
-        "^".repeat(marked)
+        "note: in this literal\n{line}\n{}{carets}",
+        " ".repeat(column)
     ))
 }
 
-/// Returns the notes for a place inside of a pattern, where the program says that the whole literal
-/// is faulty, and shows by carets where.
-fn in_pattern(message: &Message, label: &Label, question: &Question) -> Option<String> {
-    let shown = message.shown.as_deref()?;
-    let literal = question.text.get(label.from..label.to)?;
-    let put_in = shown::put_in(shown).map(|note| format!("note: the byte counts with {note}"));
-    let (line, column, marked) = match shown::carets(shown, literal) {
-        Some(place) if place.0.chars().count() <= LONG => place,
-        _ => return put_in,
-    };
-    let (blanks, carets) = (" ".repeat(column), "^".repeat(marked));
-    Some(format!("note: in this literal\n{line}\n{blanks}{carets}"))
+/// Returns how many characters of the first line of a part are marked.
+fn marked(part: &Range<usize>, question: &Question) -> usize {
+    let first = question
+        .text
+        .get(part.clone())
+        .and_then(|text| text.lines().next());
+    first.map_or(1, |text| text.chars().count().max(1))
+}
+
+/// Returns whether a character has one column in each terminal: whether carets below it are right.
+fn has_one_column(c: char) -> bool {
+    matches!(c, ' '..='~' | '\u{a1}'..='\u{2ff}' | '\u{370}'..='\u{52f}') && c != '\u{ad}'
 }
 
 /// The longest line that is shown as a whole, in characters.

@@ -1,113 +1,117 @@
 //! The macro `#[derive(Logos)]`.
 //!
-//! It hands the enum to the program `logos_cli` and puts the implementation that the program prints
-//! in its place. The program is the one that the variable `LOGOS_CLI` names, or the first on the
-//! path, or `~/.local/bin/logos_cli`. `PROTOCOL.md` says how the two speak.
+//! Programs use it by the crate `logos`, which hands it on. It calls the library `logos-codegen` in
+//! the same process, and puts the implementation that the library makes in the place of the derive.
 //!
 //! What you wrote in the enum keeps its places, so the compiler points into your callbacks and
-//! types where you wrote them. A fault of the enum is an error under the tokens that it is about.
-//! Stable Rust has no places inside of a literal, so the line and column there are part of the
-//! message. It has no warnings of macros either: they come as uses of a deprecated constant, and
-//! `#[allow(deprecated)]` on the enum silences them.
+//! types where you wrote them. A fault of the enum is an error under the tokens that it is about,
+//! with its code in brackets. Stable Rust has no places inside of a literal: there a copy of the
+//! line with carets is part of the message. It has no warnings of macros either: they come as uses
+//! of a deprecated constant named `logos`, and `#[allow(deprecated)]` on the enum silences them.
 //!
-//! The variable `LOGOS_SHAPE` chooses the shape of the implementation: `tables`, the default,
-//! `tailcall` or `state_machine`. With the feature `state_machine_codegen` that one is the default.
-//! Cargo builds a package anew where one of the two variables or the program itself has changed,
-//! but not where another program comes to stand before it on the path.
+//! # Variables of the environment
 //!
-//! Programs use this macro by the crate `logos`, which hands it on.
+//! - `LOGOS_SHAPE`: the shape of the implementation: `tables`, the default, `tailcall` or
+//!   `state_machine`. With the feature `state_machine_codegen` that one is the default. Cargo builds
+//!   a package anew if the variable has changed.
+//! - `LOGOS_MEMORY`: the most memory that the library uses, such as `500M` or `4G`. 1 GiB without it.
 
 #![forbid(unsafe_code)]
 #![warn(missing_docs)]
 
 mod answer;
-mod ask;
 mod fault;
 mod fill;
-mod input;
-mod json;
-mod program;
+mod generics;
+mod kept;
 mod question;
-mod shown;
+mod record;
 mod stub;
-mod tracked;
 mod type_syntax;
 mod warning;
 
-use answer::{Answer, Level};
-use ask::Failure;
+use answer::{Answer, Failure, ShapeName};
 use proc_macro::TokenStream;
 use question::Question;
 
 /// Implements the trait `Logos` for an enum whose variants carry patterns.
+///
+/// [The guide](https://github.com/maciejhirsz/logos) has more.
 #[proc_macro_derive(Logos, attributes(logos, extras, error, end, token, regex))]
 pub fn derive(item: TokenStream) -> TokenStream {
-    match implementation(&item) {
-        Ok((tokens, true)) => tokens,
-        Ok((tokens, false)) => with_stub(tokens, item),
-        Err(failure) => with_stub(fault::failure(&failure), item),
-    }
-}
-
-/// Returns the implementation and the warnings, or the faults of the enum, and whether the enum is
-/// accepted.
-fn implementation(item: &TokenStream) -> Result<(TokenStream, bool), Failure> {
     let question = Question::new(item.clone());
-    let program = program::find().map_err(Failure)?;
-    let shape = shape()?;
-    let answer = ask::ask(&program, shape, &question.text)?;
-    if cfg!(feature = "debug") {
-        eprintln!(
-            "[logos] {} --shape {shape}: {}",
-            program.display(),
-            answer.text
-        );
+    let made = shape().and_then(|shape| {
+        let answer = answer_to(&question, shape)?;
+        implementation(&answer, &question, &item)
+    });
+    let (mut tokens, is_refused) = match made {
+        Ok(made) => made,
+        Err(failure) => (fault::failure(&failure, &question), true),
+    };
+    tokens.extend(tracked());
+    if is_refused {
+        tokens.extend(stub::stub(item));
     }
-    let mut tokens = tracked::files(&program);
-    for message in &answer.messages {
-        match message.level {
-            Level::Error => tokens.extend(fault::error(message, &question)),
-            Level::Warning => tokens.extend(warning::warning(message, &question, item)),
+    tokens
+}
+
+/// Returns the answer about an enum: the one that is kept, or else the library's.
+fn answer_to(question: &Question, shape: ShapeName) -> Result<Answer, Failure> {
+    let place = kept::Place::new(&question.text, shape);
+    let answer = match place.find() {
+        Some(answer) => answer,
+        None => {
+            let answer = answer::ask(question, shape)?;
+            place.keep(&answer);
+            answer
         }
-    }
-    if answer.accepted {
-        tokens.extend(filled(&answer, &question)?);
-    }
-    Ok((tokens, answer.accepted))
-}
-
-/// Returns the implementation with the user's tokens.
-fn filled(answer: &Answer, question: &Question) -> Result<TokenStream, Failure> {
-    // What clippy says of the program's own text. The rest of it clippy sees to be a macro's.
-    let lints = "#[allow(clippy::manual_range_contains, clippy::question_mark)]";
-    let text = format!("{lints} {}", answer.text);
-    let text = text
-        .parse()
-        .map_err(|_| Failure::unreadable("the implementation is not Rust"))?;
-    fill::fill(text, &answer.pieces, question)
-}
-
-/// Adds an implementation that finds nothing, so that uses of the enum are no errors beside these.
-fn with_stub(mut errors: TokenStream, item: TokenStream) -> TokenStream {
-    errors.extend(stub::stub(item));
-    errors
-}
-
-const SHAPES: [&str; 3] = ["tables", "tailcall", "state_machine"];
-
-/// Returns the shape of the implementation.
-fn shape() -> Result<&'static str, Failure> {
-    let default = if cfg!(feature = "state_machine_codegen") {
-        "state_machine"
-    } else {
-        "tables"
     };
-    let Ok(word) = std::env::var("LOGOS_SHAPE") else {
-        return Ok(default);
-    };
-    let shape = SHAPES.into_iter().find(|shape| *shape == word);
-    shape.ok_or_else(|| {
+    if let (true, Some(found)) = (cfg!(feature = "debug"), &answer.implementation) {
+        eprintln!("[logos] {}: {}", shape.0, found.text);
+    }
+    Ok(answer)
+}
+
+/// Returns the implementation and the warnings, or the faults of the enum, and whether it is
+/// refused.
+fn implementation(
+    answer: &Answer,
+    question: &Question,
+    item: &TokenStream,
+) -> Result<(TokenStream, bool), Failure> {
+    let mut tokens = TokenStream::new();
+    for found in &answer.diagnostics {
+        tokens.extend(match found.is_error {
+            true => fault::error(found, question),
+            false => warning::warning(found, question, item),
+        });
+    }
+    match &answer.implementation {
+        Some(found) => tokens.extend(fill::tokens(found, question)?),
+        None => return Ok((tokens, true)),
+    }
+    Ok((tokens, false))
+}
+
+/// Returns the shape of the implementation. A variable without a text counts as not set.
+fn shape() -> Result<ShapeName, Failure> {
+    let word = std::env::var("LOGOS_SHAPE").unwrap_or_default();
+    if word.is_empty() {
+        let is_machine = cfg!(feature = "state_machine_codegen");
+        return Ok(ShapeName(ShapeName::ALL[if is_machine { 2 } else { 0 }]));
+    }
+    let shape = ShapeName::ALL.into_iter().find(|shape| *shape == word);
+    shape.map(ShapeName).ok_or_else(|| {
         let help = "help: write `tables`, `tailcall` or `state_machine`";
         Failure(format!("the variable LOGOS_SHAPE is `{word}`\n{help}"))
     })
+}
+
+/// Returns an item that reads the variable, so that Cargo builds the package anew where it has
+/// changed. A function that nobody calls leaves no trace in what the compiler writes.
+fn tracked() -> TokenStream {
+    "const _: () = { #[allow(dead_code)] fn tracked() { \
+     let _ = ::core::option_env!(\"LOGOS_SHAPE\"); } };"
+        .parse()
+        .unwrap_or_default()
 }

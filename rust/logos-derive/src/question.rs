@@ -1,6 +1,7 @@
 //! The enum as a text, and where its tokens stand there.
 
 use proc_macro::{Delimiter, Group, Ident, Literal, Spacing, Span, TokenStream, TokenTree};
+use std::ops::Range;
 
 /// The enum as a text, with its tokens.
 #[derive(Default)]
@@ -31,7 +32,7 @@ pub struct Place {
     pub first: Span,
     pub last: Span,
     /// The byte range of the literal in which the place lies, if it is a part of one.
-    pub literal: Option<(usize, usize)>,
+    pub literal: Option<Range<usize>>,
 }
 
 impl Question {
@@ -43,12 +44,24 @@ impl Question {
         question
     }
 
-    /// Returns the token trees between two byte offsets, if each of them lies there as a whole.
-    pub fn cut(&self, from: usize, to: usize) -> Option<TokenStream> {
-        if from == to {
-            return Some(TokenStream::new());
-        }
-        cut(&self.nodes, from, to)
+    /// Returns the token trees of a byte range, if each of them lies there as a whole.
+    pub fn cut(&self, range: &Range<usize>) -> Option<Vec<TokenTree>> {
+        cut(&self.nodes, range.start, range.end)
+    }
+
+    /// Returns the places of the first and the last token of the type of a field, if a variant with
+    /// one field has the name that ends at a byte offset.
+    pub fn field_after(&self, end: usize) -> Option<(Span, Span)> {
+        let variants = self.nodes.last()?;
+        let after = variants.inner.partition_point(|node| node.from < end);
+        let field = variants
+            .inner
+            .get(after)
+            .filter(|node| is_parenthesized(node))?;
+        let name = variants.inner.get(after.checked_sub(1)?)?;
+        let type_ = field.inner.get(field_start(&field.inner)..)?;
+        let (first, last) = (type_.first()?, type_.last()?);
+        (name.to == end).then_some((first.tree.span(), last.tree.span()))
     }
 
     /// Returns whether a byte offset lies in an attribute.
@@ -58,16 +71,29 @@ impl Question {
 
     /// Returns the place of the enum's name.
     pub fn name(&self) -> Option<Place> {
+        let name = self.name_node()?;
+        self.place(&(name.from..name.to))
+    }
+
+    /// Returns how the enum is called in a message.
+    pub fn described(&self) -> String {
+        match self.name_node() {
+            Some(name) => format!("the enum `{}`", name.tree),
+            None => "this item".into(),
+        }
+    }
+
+    fn name_node(&self) -> Option<&Node> {
         let is_enum = |node: &Node| {
             matches!(&node.tree, TokenTree::Ident(_)) && node.tree.to_string() == "enum"
         };
-        let name = self.nodes.get(self.nodes.iter().position(is_enum)? + 1)?;
-        self.place(name.from, name.to)
+        self.nodes.get(self.nodes.iter().position(is_enum)? + 1)
     }
 
     /// Returns the place of the tokens that a byte range meets.
-    pub fn place(&self, from: usize, to: usize) -> Option<Place> {
-        let to = to.max(from + 1);
+    pub fn place(&self, range: &Range<usize>) -> Option<Place> {
+        let from = range.start;
+        let to = range.end.max(from.saturating_add(1));
         let start = self.tokens.partition_point(|token| token.to <= from);
         let end = self.tokens.partition_point(|token| token.from < to);
         let met = self.tokens.get(start..end)?;
@@ -77,7 +103,7 @@ impl Question {
         Some(Place {
             first: first.span,
             last: last.span,
-            literal: is_part.then_some((first.from, first.to)),
+            literal: is_part.then_some(first.from..first.to),
         })
     }
 
@@ -166,7 +192,7 @@ fn delimiters(delimiter: Delimiter) -> Option<(&'static str, &'static str)> {
 }
 
 /// Returns the trees of a range that begins and ends where trees do, on one level.
-fn cut(nodes: &[Node], from: usize, to: usize) -> Option<TokenStream> {
+fn cut(nodes: &[Node], from: usize, to: usize) -> Option<Vec<TokenTree>> {
     let first = nodes.partition_point(|node| node.to <= from);
     let end = nodes.partition_point(|node| node.from < to);
     match nodes.get(first..end)? {
@@ -176,6 +202,16 @@ fn cut(nodes: &[Node], from: usize, to: usize) -> Option<TokenStream> {
         [node] => cut(&node.inner, from, to),
         _ => None,
     }
+}
+
+fn is_parenthesized(node: &Node) -> bool {
+    matches!(&node.tree, TokenTree::Group(group) if group.delimiter() == Delimiter::Parenthesis)
+}
+
+/// Returns how many trees precede the type of a field: its attributes.
+fn field_start(nodes: &[Node]) -> usize {
+    let is_hash = |node: &Node| matches!(&node.tree, TokenTree::Punct(p) if p.as_char() == '#');
+    2 * nodes.chunks(2).take_while(|pair| is_hash(&pair[0])).count()
 }
 
 fn is_in_attribute(nodes: &[Node], at: usize) -> bool {

@@ -1,16 +1,16 @@
 //! The implementation for an enum that is refused. It finds nothing; it is there so that the uses
 //! of the enum as a lexer are no errors beside the faults.
 
-use crate::fill::{replace, Filling};
+use crate::generics::{Generics, Types, read_generics, with_lifetime};
 use crate::type_syntax::{is_path, is_type};
-use proc_macro::{Delimiter, TokenStream, TokenTree};
+use proc_macro::{Delimiter, Group, TokenStream, TokenTree};
 use std::collections::HashMap;
 use std::iter::Peekable;
 
 /// What the implementation names.
 struct Head {
     name: TokenTree,
-    lifetime: bool,
+    generics: Generics,
     options: Options,
 }
 
@@ -20,41 +20,72 @@ struct Options {
     source: TokenStream,
     extras: TokenStream,
     error: TokenStream,
+    /// The types of type parameters, by their names.
+    types: Types,
 }
 
-type Trees = Peekable<proc_macro::token_stream::IntoIter>;
+/// The tokens of an item that are still to be read.
+pub type Trees = Peekable<proc_macro::token_stream::IntoIter>;
 
-/// Returns the implementation, if the item is an enum without type parameters.
+/// What is written in place of the words that begin with `logos_`.
+const TEXT: &str = "\
+impl<'s, logos_parameters> logos_path::Logos<'s> for logos_name<logos_arguments> logos_where {
+    type Error = logos_error;
+    type Extras = logos_extras;
+    type Source = logos_source;
+    fn lex(_: &mut logos_path::Lexer<'s, Self>)
+        -> ::core::option::Option<::core::result::Result<Self, logos_error>> { loop {} }
+}
+impl<'s, logos_parameters> logos_path::internal::Tables<'s> for logos_name<logos_arguments>
+logos_where {
+    const BY_BYTES: bool = false;
+    type Rows = [::core::primitive::u32; 0];
+    const ROWS: &'static [::core::primitive::u32; 0] = &[];
+    fn bytes(_: &'s logos_source) -> &'s [::core::primitive::u8] { &[] }
+    fn plain(_: ::core::primitive::usize) -> ::core::option::Option<Self> { loop {} }
+    fn act(
+        _: &mut logos_path::Lexer<'s, Self>,
+        _: ::core::primitive::usize,
+        _: ::core::primitive::usize,
+    ) -> ::core::option::Option<::core::result::Result<Self, logos_error>> { loop {} }
+    fn again(_: &[::core::primitive::u8], _: ::core::primitive::usize)
+        -> (::core::primitive::usize, ::core::primitive::usize) { loop {} }
+}";
+
+/// Returns the implementation, if the item is an enum.
 pub fn stub(item: TokenStream) -> Option<TokenStream> {
     let Head {
         name,
-        lifetime,
+        generics,
         options,
     } = head(item)?;
-    let generics = if lifetime { "<'s>" } else { "" };
-    let text = format!(
-        "impl<'s> logos_path::Logos<'s> for logos_name {generics} {{ type Error = logos_error; \
-         type Extras = logos_extras; type Source = logos_source; \
-         fn lex(_: &mut logos_path::Lexer<'s, Self>) -> \
-         ::core::option::Option<::core::result::Result<Self, logos_error>> {{ loop {{}} }} }}"
-    );
-    let tokens = [
+    let words = [
         ("logos_path", options.path),
         ("logos_name", name.into()),
-        ("logos_error", options.error),
-        ("logos_extras", options.extras),
+        ("logos_error", with_lifetime(options.error)),
+        ("logos_extras", with_lifetime(options.extras)),
         ("logos_source", options.source),
+        ("logos_parameters", generics.parameters),
+        ("logos_arguments", generics.arguments),
+        ("logos_where", generics.bounds),
     ];
-    let fillings = tokens.map(|(word, tokens)| {
-        (
-            word.to_string(),
-            Filling {
-                tokens,
-                anchor: None,
-            },
-        )
-    });
-    Some(replace(text.parse().ok()?, &HashMap::from(fillings)))
+    Some(replace(TEXT.parse().ok()?, &HashMap::from(words)))
+}
+
+/// Puts tokens in the place of words.
+fn replace(text: TokenStream, words: &HashMap<&str, TokenStream>) -> TokenStream {
+    let replaced = |tree| match &tree {
+        TokenTree::Ident(word) => match words.get(word.to_string().as_str()) {
+            Some(tokens) => tokens.clone(),
+            None => tree.into(),
+        },
+        TokenTree::Group(group) => {
+            let inner = replace(group.stream(), words);
+            TokenTree::from(Group::new(group.delimiter(), inner)).into()
+        }
+        _ => TokenStream::from(tree),
+    };
+    text.into_iter().map(replaced).collect()
 }
 
 /// Reads the attributes, the name and the generic parameters of an enum.
@@ -63,9 +94,10 @@ fn head(item: TokenStream) -> Option<Head> {
     let tokens = |text: &str| text.parse::<TokenStream>().ok();
     let mut options = Options {
         path: tokens("::logos")?,
-        source: tokens("str")?,
+        source: tokens("::core::primitive::str")?,
         extras: tokens("()")?,
         error: tokens("()")?,
+        types: Types::new(),
     };
     loop {
         match trees.next()? {
@@ -75,25 +107,15 @@ fn head(item: TokenStream) -> Option<Head> {
         }
     }
     let name = trees.next()?;
-    let lifetime = generics(&mut trees)?;
+    let generics = read_generics(&mut trees, &options.types);
     Some(Head {
         name,
-        lifetime,
+        generics,
         options,
     })
 }
 
-/// Reads generic parameters: none, or one lifetime.
-fn generics(trees: &mut Trees) -> Option<bool> {
-    if !is_punct(trees.peek(), '<') {
-        return Some(false);
-    }
-    trees.next();
-    let is_lifetime = is_punct(trees.next().as_ref(), '\'') && trees.next().is_some();
-    (is_lifetime && is_punct(trees.next().as_ref(), '>')).then_some(true)
-}
-
-fn is_punct(tree: Option<&TokenTree>, c: char) -> bool {
+pub fn is_punct(tree: Option<&TokenTree>, c: char) -> bool {
     matches!(tree, Some(TokenTree::Punct(punct)) if punct.as_char() == c)
 }
 
@@ -115,7 +137,8 @@ fn attribute(trees: &mut Trees, options: &mut Options) -> Option<()> {
     Some(())
 }
 
-/// Takes an option: `name = value`, or `error(type, ..)`. Faulty values are passed over.
+/// Takes an option: `name = value`, `error(type, ..)` or `type name = value`. Faulty values are
+/// passed over.
 fn take(option: &[TokenTree], options: &mut Options) {
     let [TokenTree::Ident(name), rest @ ..] = option else {
         return;
@@ -123,6 +146,9 @@ fn take(option: &[TokenTree], options: &mut Options) {
     let inner: Vec<TokenTree>;
     let value = match rest {
         [equals, value @ ..] if is_punct(Some(equals), '=') => value,
+        [TokenTree::Ident(parameter), equals, value @ ..] if is_punct(Some(equals), '=') => {
+            return take_type(&parameter.to_string(), value, options);
+        }
         [TokenTree::Group(group)] if group.delimiter() == Delimiter::Parenthesis => {
             inner = group
                 .stream()
@@ -139,8 +165,16 @@ fn take(option: &[TokenTree], options: &mut Options) {
         "extras" if is_type(value) => options.extras = text,
         "error" if is_type(value) => options.error = text,
         "utf8" if text.to_string() == "false" => {
-            options.source = "[u8]".parse().unwrap_or_default()
+            options.source = "[::core::primitive::u8]".parse().unwrap_or_default()
         }
         _ => (),
+    }
+}
+
+/// Takes the type of a type parameter.
+fn take_type(parameter: &str, value: &[TokenTree], options: &mut Options) {
+    if is_type(value) {
+        let tokens = value.iter().cloned().collect();
+        options.types.insert(parameter.into(), tokens);
     }
 }

@@ -1,7 +1,7 @@
 //! Warnings, as uses of a deprecated constant: stable Rust has none for macros.
 
-use crate::answer::Message;
-use crate::fault::{place, text};
+use crate::answer::Diagnostic;
+use crate::fault::text;
 use crate::question::Question;
 use proc_macro::{Delimiter, Group, Ident, Literal, Span, TokenStream, TokenTree};
 
@@ -9,9 +9,9 @@ use proc_macro::{Delimiter, Group, Ident, Literal, Span, TokenStream, TokenTree}
 /// the enum. It does not warn at the derive, which is no token of the user's.
 ///
 /// Lint levels of the enum that are `allow` hold for its warnings, too.
-pub fn warning(message: &Message, question: &Question, item: &TokenStream) -> TokenStream {
-    let note = Literal::string(&text(message, question));
-    let place = place(message, question).or_else(|| question.name());
+pub fn warning(found: &Diagnostic, question: &Question, item: &TokenStream) -> TokenStream {
+    let note = Literal::string(&text(found, question));
+    let place = question.place(&found.span).or_else(|| question.name());
     let span = place.map_or(Span::call_site(), |place| place.first);
     let constant = format!(
         "#[deprecated(note = {note})] #[allow(non_upper_case_globals)] const logos: () = ();"

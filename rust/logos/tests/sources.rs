@@ -89,7 +89,10 @@ impl Source for Nibbles {
 #[test]
 fn an_error_ends_where_a_source_of_the_program_says() {
     let source = Nibbles(vec![0x31, 0x32, 0x33]);
-    assert_eq!([1, 2, 9].map(|index| source.find_boundary(index)), [1, 2, 9]);
+    assert_eq!(
+        [1, 2, 9].map(|index| source.find_boundary(index)),
+        [1, 2, 9]
+    );
 }
 
 #[test]
