@@ -13,18 +13,13 @@ pub fn run_logos_program(rt: &HostRuntime) -> u8 { run_logos(rt) }
 ";
 
 fn erase() -> Result<(), Failure> {
-    let (folder, crates) = repository()?;
+    let crates = repository()?;
     let below = crates.closure(&LIBRARY);
-    let mut modules = Vec::new();
-    for name in crates.closure(&["logos_program"]) {
-        if !below.contains(&name) {
-            modules.push(crates.module(&folder, name));
-        }
-    }
-    for module in &mut modules {
-        if module.name == "logos_program" {
-            module.added = RUN_LOGOS;
-        }
+    let mut names = crates.closure(&["logos_program"]);
+    names.retain(|name| !below.contains(name));
+    let mut modules: Vec<_> = names.into_iter().map(|name| crates.module(name)).collect();
+    if let Some(program) = modules.iter_mut().find(|module| module.name == "logos_program") {
+        program.added = RUN_LOGOS;
     }
     Package { modules, below: vec![("logos_codegen", below)] }.build()
 }

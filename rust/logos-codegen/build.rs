@@ -4,9 +4,8 @@ use rattle_erase::{Failure, LIBRARY, Package, repository};
 use std::process::ExitCode;
 
 fn erase() -> Result<(), Failure> {
-    let (folder, crates) = repository()?;
-    let names = crates.closure(&LIBRARY).into_iter();
-    let modules = names.map(|name| crates.module(&folder, name)).collect();
+    let crates = repository()?;
+    let modules = crates.closure(&LIBRARY).into_iter().map(|name| crates.module(name)).collect();
     Package { modules, below: Vec::new() }.build()
 }
 

@@ -1,7 +1,6 @@
 //! Erases the programs of the tests and the examples into `OUT_DIR`, each as a module.
 
 use rattle_erase::{Failure, LIBRARY, Module, Package, repository};
-use std::path::Path;
 use std::process::ExitCode;
 
 /// The programs, and their sources in the repository.
@@ -26,14 +25,14 @@ pub fn start() -> std::process::ExitCode {
 ";
 
 fn erase() -> Result<(), Failure> {
-    let (folder, crates) = repository()?;
+    let crates = repository()?;
     let library = crates.closure(&LIBRARY);
     let mut tools = crates.closure(&["logos_program"]);
     tools.retain(|name| !library.contains(name));
     let libraries: Vec<&str> = library.iter().chain(&tools).chain(&["indexmap"]).copied().collect();
     let module = |(name, source)| Module {
         name,
-        source: Path::join(&folder, source),
+        source: crates.path(source),
         libraries: libraries.clone(),
         added: START,
     };

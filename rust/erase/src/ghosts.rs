@@ -2,7 +2,7 @@
 //! comments begin with `--`, and a quote is a letter.
 
 use crate::Refusal;
-use crate::tokens::{string_end, word_end};
+use crate::tokens::{line_end, string_end, word_end};
 
 /// Returns where the blanks and comments end that begin at `at`.
 fn skip_blanks(bytes: &[u8], mut at: usize) -> usize {
@@ -16,16 +16,13 @@ fn skip_blanks(bytes: &[u8], mut at: usize) -> usize {
     at
 }
 
-/// Returns where the line ends on which `at` is.
-fn line_end(bytes: &[u8], at: usize) -> usize {
-    let length = bytes[at..].iter().position(|byte| *byte == b'\n');
-    length.map_or(bytes.len(), |length| at + length)
-}
-
-/// Returns the end of the braces of antt that begin at `at`.
-fn braces_end(bytes: &[u8], at: usize) -> Result<usize, Refusal> {
-    let mut depth = 0;
-    let mut end = at;
+/// Returns the end of the braces of antt that come next after `at`, in the clause or item at `item`.
+fn braces_after(bytes: &[u8], item: usize, at: usize) -> Result<usize, Refusal> {
+    let open = skip_blanks(bytes, at);
+    if bytes.get(open) != Some(&b'{') {
+        return Err(Refusal::new(item, "a clause or a ghost item without braces"));
+    }
+    let (mut depth, mut end) = (0, open);
     while end < bytes.len() {
         match bytes[end] {
             b'{' => depth += 1,
@@ -37,16 +34,7 @@ fn braces_end(bytes: &[u8], at: usize) -> Result<usize, Refusal> {
         }
         end += 1;
     }
-    Err(Refusal::new(at, "a brace of a clause or a ghost item that is not closed"))
-}
-
-/// Returns the end of the braces that come next after `at`, in the clause or item at `item`.
-fn braces_after(bytes: &[u8], item: usize, at: usize) -> Result<usize, Refusal> {
-    let open = skip_blanks(bytes, at);
-    if bytes.get(open) != Some(&b'{') {
-        return Err(Refusal::new(item, "a clause or a ghost item without braces"));
-    }
-    braces_end(bytes, open)
+    Err(Refusal::new(open, "a brace of a clause or a ghost item that is not closed"))
 }
 
 /// Returns the end of a clause: `requires` or `ensures` at `at..word`, a name or none, and braces.
@@ -67,10 +55,8 @@ pub(crate) fn ghost_end(text: &str, at: usize, word: usize) -> Result<usize, Ref
     let name = skip_blanks(bytes, word);
     let name_end = word_end(bytes, name);
     if &text[name..name_end] == "use" {
-        return match text[name_end..].find(';') {
-            Some(length) => Ok(name_end + length + 1),
-            None => Err(Refusal::new(at, "a ghost use without a semicolon")),
-        };
+        let unending = Refusal::new(at, "a ghost use without a semicolon");
+        return text[name_end..].find(';').map(|length| name_end + length + 1).ok_or(unending);
     }
     let mark = skip_blanks(bytes, name_end);
     let unknown = Refusal::new(at, "an unknown form of a ghost item");

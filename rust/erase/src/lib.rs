@@ -1,6 +1,6 @@
 //! Takes the contracts out of Rattle sources. What is left is Rust.
 //!
-//! Build scripts of the packages beside this one call it: each erases some of the crates below
+//! Build scripts of the packages beside this one call it: each erases some of the crates in
 //! `crates/` and compiles them as modules of one Rust crate.
 //!
 //! - Ghost items, clauses and what else is for proofs alone become blanks. A few names become others
@@ -12,20 +12,17 @@
 #![forbid(unsafe_code)]
 
 mod attributes;
-mod crates;
 mod ghosts;
-mod output;
 mod package;
 mod rules;
 mod source;
 mod tokens;
 
-pub use crates::Crates;
-pub use package::{Failure, LIBRARY, Module, Package, repository};
+pub use package::{Crates, Failure, LIBRARY, Module, Package, repository};
 
 use std::fmt;
 
-/// Where the paths of an erased file lead.
+/// Where the paths of a file lead.
 #[derive(Clone, Debug, Default)]
 pub struct Paths {
     /// The module that holds the file's crate, such as `crate::logos_hir`.
@@ -33,8 +30,6 @@ pub struct Paths {
     /// The crates that the file may name, and the modules that hold them, such as `logos_token` and
     /// `crate`.
     pub libraries: Vec<(String, String)>,
-    /// Lines to add at the end.
-    pub added: String,
 }
 
 /// Why a source was not erased.
@@ -54,14 +49,6 @@ impl Refusal {
     fn new(at: usize, message: &'static str) -> Refusal {
         Refusal { at, line: 0, column: 0, message }
     }
-
-    /// Returns the refusal with its line and column in the text.
-    fn in_text(self, text: &str) -> Refusal {
-        let before = &text[..text.floor_char_boundary(self.at)];
-        let line = before.matches('\n').count() + 1;
-        let start = before.rfind('\n').map_or(0, |newline| newline + 1);
-        Refusal { line, column: before[start..].chars().count() + 1, ..self }
-    }
 }
 
 impl fmt::Display for Refusal {
@@ -76,10 +63,14 @@ impl fmt::Display for Refusal {
 ///
 /// Refuses a source with a form that this library does not know.
 pub fn erase(text: &str, paths: &Paths) -> Result<String, Refusal> {
-    let in_text = |refusal: Refusal| refusal.in_text(text);
-    let mut source = source::Source::new(text).map_err(in_text)?;
-    let found = rules::apply(&mut source, paths).map_err(in_text)?;
-    let mut erased = output::edited(text, source.tokens());
-    output::add_lines(&mut erased, &found, paths);
-    Ok(erased)
+    let erased = source::Source::new(text).and_then(|mut source| {
+        let added = rules::apply(&mut source, paths)?;
+        Ok(source.edited() + &added)
+    });
+    erased.map_err(|refusal| {
+        let before = &text[..text.floor_char_boundary(refusal.at)];
+        let line = before.split('\n').next_back().unwrap_or("");
+        let (lines, column) = (before.matches('\n').count(), line.chars().count());
+        Refusal { line: lines + 1, column: column + 1, ..refusal }
+    })
 }

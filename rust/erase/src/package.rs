@@ -1,8 +1,8 @@
 //! Erases the modules of one Rust package. Build scripts call it.
 
-use crate::{Crates, Paths, erase};
+use crate::{Paths, erase};
 use std::path::{Path, PathBuf};
-use std::{env, error, fmt, fs, io};
+use std::{env, fmt, fs, io};
 
 /// The roots of the crates that the package `logos-codegen` holds, with those below them. Packages
 /// above it hold the other crates.
@@ -28,6 +28,13 @@ pub struct Package<'a> {
     pub below: Vec<(&'a str, Vec<&'a str>)>,
 }
 
+/// The crates of a repository, and the libraries that each uses, as its `crates.txt` lists them.
+#[derive(Clone, Debug)]
+pub struct Crates {
+    folder: PathBuf,
+    rows: Vec<(String, Vec<String>)>,
+}
+
 /// Why a package was not erased.
 #[derive(Debug)]
 pub struct Failure {
@@ -43,30 +50,61 @@ impl fmt::Display for Failure {
     }
 }
 
-impl error::Error for Failure {}
-
-impl Failure {
-    /// Returns a function from an error to the failure at a path.
-    fn of(path: &Path) -> impl Fn(io::Error) -> Failure {
-        |error| Failure { path: path.to_path_buf(), message: format!(" {error}") }
-    }
+/// Returns a function from an error to the failure at a path.
+fn failed(path: &Path) -> impl Fn(io::Error) -> Failure {
+    |error| Failure { path: path.to_path_buf(), message: format!(" {error}") }
 }
 
-/// Returns the folder with `crates.txt` and `crates/` for a build script, and the list. It is the
-/// package itself, which holds both as symbolic links in a clone and as they are where it is
-/// vendored. Where a clone has no symbolic links it is two folders above.
+/// Returns the repository of the package whose build script calls this. The package itself holds
+/// `crates.txt` and `crates/`: as symbolic links in a clone, and as they are where it is vendored.
+/// In a clone without symbolic links they are two folders above.
 ///
 /// # Errors
 ///
 /// Fails if there is no list.
-pub fn repository() -> Result<(PathBuf, Crates), Failure> {
+pub fn repository() -> Result<Crates, Failure> {
     let package = PathBuf::from(env::var_os("CARGO_MANIFEST_DIR").unwrap_or_default());
     let is_whole = package.join("crates").is_dir();
     let folder = if is_whole { package } else { package.join("../..") };
     let list = folder.join("crates.txt");
-    let text = fs::read_to_string(&list).map_err(Failure::of(&list))?;
     println!("cargo::rerun-if-changed={}", list.display());
-    Ok((folder, Crates::parse(&text)))
+    let text = fs::read_to_string(&list).map_err(failed(&list))?;
+    let lines = text.lines().filter(|line| !line.starts_with('#'));
+    let rows = lines.filter_map(|line| line.split_once(':')).map(|(name, libraries)| {
+        (name.trim().to_string(), libraries.split_whitespace().map(String::from).collect())
+    });
+    Ok(Crates { rows: rows.collect(), folder })
+}
+
+impl Crates {
+    /// Returns the path of a file or a folder of the repository.
+    pub fn path(&self, name: &str) -> PathBuf {
+        self.folder.join(name)
+    }
+
+    /// Returns the libraries that a crate uses: none if the list has no such crate.
+    fn libraries(&self, name: &str) -> impl Iterator<Item = &str> {
+        let row = self.rows.iter().find(|(row, _)| row == name);
+        row.into_iter().flat_map(|(_, libraries)| libraries).map(String::as_str)
+    }
+
+    /// Returns the crates among `roots` and below them, in the order of the list.
+    pub fn closure(&self, roots: &[&str]) -> Vec<&str> {
+        let (mut needed, mut left) = (Vec::new(), roots.to_vec());
+        while let Some(name) = left.pop() {
+            if !needed.contains(&name) {
+                needed.push(name);
+                left.extend(self.libraries(name));
+            }
+        }
+        self.rows.iter().map(|(name, _)| name.as_str()).filter(|name| needed.contains(name)).collect()
+    }
+
+    /// Returns a crate as a module.
+    pub fn module<'a>(&'a self, name: &'a str) -> Module<'a> {
+        let source = self.path("crates").join(name).join("src");
+        Module { name, source, libraries: self.libraries(name).collect(), added: "" }
+    }
 }
 
 impl Package<'_> {
@@ -77,30 +115,15 @@ impl Package<'_> {
     ///
     /// Fails if a file cannot be read, erased or written.
     pub fn build(&self) -> Result<(), Failure> {
-        for module in &self.modules {
-            println!("cargo::rerun-if-changed={}", module.source.display());
-        }
-        self.write(Path::new(&env::var_os("OUT_DIR").unwrap_or_default()))
-    }
-
-    /// Does what [`build`](Self::build) does in a folder.
-    ///
-    /// # Errors
-    ///
-    /// Fails if a file cannot be read, erased or written.
-    pub fn write(&self, out: &Path) -> Result<(), Failure> {
+        let out = PathBuf::from(env::var_os("OUT_DIR").unwrap_or_default());
         let mut declarations = String::new();
         for module in &self.modules {
-            let (paths, target) = (self.paths(module), out.join(module.name));
-            if module.source.is_dir() {
-                erase_folder(&module.source, &target, &paths)?;
-            } else {
-                erase_file(&module.source, &target.with_extension("rs"), &paths)?;
-            }
+            println!("cargo::rerun-if-changed={}", module.source.display());
+            erase_module(module, &out.join(module.name), &self.paths(module))?;
             declarations += &format!("pub mod {};\n", module.name);
         }
         let list = out.join("crates.rs");
-        fs::write(&list, declarations).map_err(Failure::of(&list))
+        fs::write(&list, declarations).map_err(failed(&list))
     }
 
     /// Returns where the paths of a module lead. A library that no package holds is of the
@@ -112,29 +135,29 @@ impl Package<'_> {
             None => "std::crates",
         };
         let named = |name: &&str| (name.to_string(), place(name).to_string());
-        Paths {
-            module: format!("crate::{}", module.name),
-            libraries: module.libraries.iter().map(named).collect(),
-            added: module.added.to_string(),
-        }
+        let libraries = module.libraries.iter().map(named).collect();
+        Paths { module: format!("crate::{}", module.name), libraries }
     }
 }
 
-/// Erases the sources in a folder: the root into the file `target.rs`, others into the folder
+/// Erases the sources of a module: the root into the file `target.rs`, others into the folder
 /// `target`. Modules `laws` are left out.
-fn erase_folder(folder: &Path, target: &Path, paths: &Paths) -> Result<(), Failure> {
-    let inner = Paths { added: String::new(), ..paths.clone() };
-    let mut left = vec![(folder.to_path_buf(), target.to_path_buf())];
+fn erase_module(module: &Module<'_>, target: &Path, paths: &Paths) -> Result<(), Failure> {
+    let root = target.with_extension("rs");
+    if module.source.is_file() {
+        return erase_file(&module.source, &root, paths, module.added);
+    }
+    let mut left = vec![(module.source.clone(), target.to_path_buf())];
     while let Some((from, to)) = left.pop() {
-        for entry in fs::read_dir(&from).map_err(Failure::of(&from))? {
-            let path = entry.map_err(Failure::of(&from))?.path();
+        for entry in fs::read_dir(&from).map_err(failed(&from))? {
+            let path = entry.map_err(failed(&from))?.path();
             let name = path.file_name().and_then(|name| name.to_str()).unwrap_or("");
             match name.trim_end_matches(".in").strip_suffix(".rt") {
                 Some("laws") => {}
-                Some("lib" | "main") if from == *folder => {
-                    erase_file(&path, &target.with_extension("rs"), paths)?;
+                Some("lib" | "main") if from == module.source => {
+                    erase_file(&path, &root, paths, module.added)?;
                 }
-                Some(stem) => erase_file(&path, &to.join(stem).with_extension("rs"), &inner)?,
+                Some(stem) => erase_file(&path, &to.join(stem).with_extension("rs"), paths, "")?,
                 None if path.is_dir() && name != "laws" => left.push((path.clone(), to.join(name))),
                 None => {}
             }
@@ -143,12 +166,12 @@ fn erase_folder(folder: &Path, target: &Path, paths: &Paths) -> Result<(), Failu
     Ok(())
 }
 
-fn erase_file(path: &Path, target: &Path, paths: &Paths) -> Result<(), Failure> {
-    let text = fs::read_to_string(path).map_err(Failure::of(path))?;
-    let erased = erase(&text, paths)
-        .map_err(|refusal| Failure { path: path.to_path_buf(), message: refusal.to_string() })?;
+fn erase_file(path: &Path, target: &Path, paths: &Paths, added: &str) -> Result<(), Failure> {
+    let text = fs::read_to_string(path).map_err(failed(path))?;
+    let refused = |refusal| Failure { path: path.to_path_buf(), message: format!("{refusal}") };
+    let erased = erase(&text, paths).map_err(refused)?;
     if let Some(folder) = target.parent() {
-        fs::create_dir_all(folder).map_err(Failure::of(folder))?;
+        fs::create_dir_all(folder).map_err(failed(folder))?;
     }
-    fs::write(target, erased).map_err(Failure::of(target))
+    fs::write(target, erased + added).map_err(failed(target))
 }

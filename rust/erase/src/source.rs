@@ -1,157 +1,181 @@
 //! The tokens of a source, with what the rules need to look at them and to change them.
 
 use crate::Refusal;
-use crate::tokens::{Edit, Kind, Token, tokens_of};
+use crate::tokens::{Kind, token_at};
 
-/// A source and its tokens. Rules speak of *code*: all tokens but comments, ghost items and clauses,
-/// by their number.
+/// A token of code: its bytes are `from..to`.
+#[derive(Clone, Copy, Debug)]
+struct Token {
+    kind: Kind,
+    from: usize,
+    to: usize,
+    /// The number of the bracket that closes this one.
+    closing: usize,
+}
+
+/// A source, and the tokens of its code by number: all but comments, ghost items and clauses.
 pub(crate) struct Source<'t> {
     text: &'t str,
     tokens: Vec<Token>,
-    /// The index of each token of code.
-    code: Vec<usize>,
+    /// Where each comment begins and ends.
+    comments: Vec<(usize, usize)>,
+    /// The bytes to change, and the name that comes in their place: none for blanks.
+    edits: Vec<(usize, usize, &'static str)>,
 }
 
 impl<'t> Source<'t> {
+    /// Reads a source. Ghost items and clauses become blanks.
     pub(crate) fn new(text: &'t str) -> Result<Source<'t>, Refusal> {
-        let tokens = tokens_of(text)?;
-        let mut code = Vec::with_capacity(tokens.len());
-        for (index, token) in tokens.iter().enumerate() {
-            if !matches!(token.kind, Kind::Comment | Kind::InnerDoc | Kind::Ghost) {
-                code.push(index);
+        // A token has about five bytes with the blanks after it.
+        let tokens = Vec::with_capacity(text.len() / 4);
+        let mut source = Source { text, tokens, comments: Vec::new(), edits: Vec::new() };
+        let (mut at, mut open) = (0, Vec::new());
+        while at < text.len() {
+            if text.as_bytes()[at].is_ascii_whitespace() {
+                at += 1;
+                continue;
+            }
+            let (kind, to) = token_at(text, at)?;
+            match kind {
+                Kind::Comment => source.comments.push((at, to)),
+                Kind::Ghost => source.blank_text(at, to),
+                _ => source.push(Token { kind, from: at, to, closing: 0 }, &mut open)?,
+            }
+            at = to;
+        }
+        match open.pop() {
+            Some(n) => source.refusal(n, "a bracket that is not closed"),
+            None => Ok(source),
+        }
+    }
+
+    /// Adds a token, and pairs it with the last bracket that is open if it closes it.
+    fn push(&mut self, token: Token, open: &mut Vec<usize>) -> Result<(), Refusal> {
+        let n = self.tokens.len();
+        self.tokens.push(token);
+        if token.kind == Kind::Open {
+            open.push(n);
+        } else if token.kind == Kind::Close {
+            match open.pop().map(|last| (last, self.at(last), self.at(n))) {
+                Some((last, "(", ")") | (last, "[", "]") | (last, "{", "}")) => self.tokens[last].closing = n,
+                _ => return self.refusal(n, "a bracket that closes none"),
             }
         }
-        let mut source = Source { text, tokens, code };
-        source.check_brackets()?;
-        source.blank_comments_above_ghosts();
-        Ok(source)
+        Ok(())
     }
 
-    pub(crate) fn tokens(&self) -> &[Token] {
-        &self.tokens
-    }
-
-    /// Returns how many tokens of code there are.
+    /// Returns how many tokens there are.
     pub(crate) fn len(&self) -> usize {
-        self.code.len()
+        self.tokens.len()
     }
 
-    pub(crate) fn token(&self, n: usize) -> Token {
-        self.tokens[self.code[n]]
+    pub(crate) fn is_word(&self, n: usize) -> bool {
+        self.tokens[n].kind == Kind::Word
     }
 
-    /// Returns the text of a token of code, or an empty one past the ends.
+    /// Returns the text of a token, or an empty one past the last.
     pub(crate) fn at(&self, n: usize) -> &'t str {
-        match self.code.get(n) {
-            Some(&index) => &self.text[self.tokens[index].from..self.tokens[index].to],
-            None => "",
-        }
+        self.tokens.get(n).map_or("", |token| &self.text[token.from..token.to])
     }
 
-    /// Returns the text before a token of code, or an empty one before the first.
+    /// Returns the text of the token before one, or an empty one before the first.
     pub(crate) fn before(&self, n: usize) -> &'t str {
         n.checked_sub(1).map_or("", |n| self.at(n))
     }
 
-    /// Returns whether these tokens of code begin at `n`.
+    /// Returns whether these tokens begin at `n`.
     pub(crate) fn matches(&self, n: usize, pattern: &[&str]) -> bool {
         pattern.iter().enumerate().all(|(k, text)| self.at(n + k) == *text)
     }
 
-    pub(crate) fn refusal<T>(&self, n: usize, message: &'static str) -> Result<T, Refusal> {
-        let end = self.text.len();
-        Err(Refusal::new(self.code.get(n).map_or(end, |&index| self.tokens[index].from), message))
-    }
-
-    /// Returns the first token of code from `n` on with one of these texts.
+    /// Returns the first token from `n` on with one of these texts.
     pub(crate) fn find(&self, n: usize, texts: &[&str]) -> Result<usize, Refusal> {
-        match (n..self.len()).find(|&k| texts.contains(&self.at(k))) {
-            Some(found) => Ok(found),
-            None => self.refusal(n, "an item that does not end"),
-        }
+        let found = (n..self.len()).find(|&k| texts.contains(&self.at(k)));
+        found.map_or_else(|| self.refusal(n, "an item that does not end"), Ok)
     }
 
-    /// Returns the number of the bracket that closes the one at `n`.
+    /// Returns the number of the bracket that closes the one at `n`, or `n` if it is no bracket.
     pub(crate) fn closing(&self, n: usize) -> usize {
-        let mut depth = 0;
-        for k in n..self.len() {
-            match self.token(k).kind {
-                Kind::Open => depth += 1,
-                Kind::Close if depth == 1 => return k,
-                Kind::Close => depth -= 1,
-                _ => {}
-            }
-        }
-        self.len()
+        self.tokens.get(n).map_or(n, |token| token.closing.max(n))
     }
 
+    pub(crate) fn refusal<T>(&self, n: usize, message: &'static str) -> Result<T, Refusal> {
+        Err(Refusal::new(self.tokens.get(n).map_or(self.text.len(), |token| token.from), message))
+    }
+
+    /// Writes another name of the same width in the place of a token.
     pub(crate) fn rename(&mut self, n: usize, name: &'static str) {
-        self.tokens[self.code[n]].edit = Edit::Rename(name);
+        self.edits.push((self.tokens[n].from, self.tokens[n].to, name));
     }
 
-    /// Blanks the tokens of code from `from` to `to`, both included.
+    /// Blanks the tokens from `from` to `to`, both included.
     pub(crate) fn blank(&mut self, from: usize, to: usize) {
-        for index in self.code[from]..=self.code[to] {
-            self.tokens[index].edit = Edit::Blank;
-        }
+        self.edits.push((self.tokens[from].from, self.tokens[to].to, ""));
     }
 
     /// Blanks an item that ends at `to`, with its visibility and the comments directly above.
     pub(crate) fn blank_item(&mut self, from: usize, to: usize) {
-        let mut start = from;
-        if self.before(from) == "pub" {
-            start = from - 1;
-        } else if self.before(from) == ")" && from > 3 && self.at(from - 4) == "pub" {
-            start = from - 4;
-        }
-        self.blank(start, to);
-        self.blank_comments_above(self.code[start]);
+        let start = match self.before(from) {
+            "pub" => from - 1,
+            ")" if from > 3 && self.at(from - 4) == "pub" => from - 4,
+            _ => from,
+        };
+        self.blank_text(self.tokens[start].from, self.tokens[to].to);
     }
 
-    /// Blanks the comments on the lines directly above a token.
-    fn blank_comments_above(&mut self, index: usize) {
-        for above in (0..index).rev() {
-            let between = &self.text[self.tokens[above].to..self.tokens[above + 1].from];
-            let newlines = between.bytes().filter(|byte| *byte == b'\n').count();
-            if self.tokens[above].kind != Kind::Comment || newlines != 1 || !self.is_first(above) {
+    /// Blanks a part of the text, and the comments on the lines directly above that are not about
+    /// the file.
+    fn blank_text(&mut self, from: usize, to: usize) {
+        let mut start = from;
+        let above = self.comments.partition_point(|comment| comment.1 <= from);
+        for &(comment, end) in self.comments[..above].iter().rev() {
+            let between = &self.text[end..start];
+            let line = self.text[..comment].rsplit('\n').next().unwrap_or("");
+            let is_of_file = self.text[comment..].starts_with("//!");
+            if is_of_file || line.trim() != "" || between.trim() != "" || between.matches('\n').count() != 1 {
                 break;
             }
-            self.tokens[above].edit = Edit::Blank;
+            start = comment;
         }
+        self.edits.push((start, to, ""));
     }
 
-    /// Returns whether a token is the first one of its line.
-    fn is_first(&self, index: usize) -> bool {
-        let before = index.checked_sub(1).map_or(0, |index| self.tokens[index].to);
-        before == 0 || self.text[before..self.tokens[index].from].contains('\n')
-    }
-
-    fn blank_comments_above_ghosts(&mut self) {
-        for index in 0..self.tokens.len() {
-            if self.tokens[index].kind == Kind::Ghost {
-                self.blank_comments_above(index);
+    /// Returns the text with its edits.
+    pub(crate) fn edited(mut self) -> String {
+        self.edits.sort_unstable_by_key(|edit| edit.0);
+        let mut output = String::with_capacity(self.text.len() + 256);
+        let mut kept = 0;
+        for &(from, to, name) in self.edits.iter() {
+            if to <= kept {
+                continue;
             }
-        }
-    }
-
-    /// Refuses brackets that do not match.
-    fn check_brackets(&self) -> Result<(), Refusal> {
-        let mut open = Vec::new();
-        for n in 0..self.len() {
-            match self.token(n).kind {
-                Kind::Open => open.push(n),
-                Kind::Close if open.last().is_some_and(|&m| self.is_pair(m, n)) => _ = open.pop(),
-                Kind::Close => return self.refusal(n, "a bracket that closes none"),
-                _ => {}
+            push_kept(&mut output, &self.text[kept.min(from)..from]);
+            output.push_str(name);
+            if name.is_empty() {
+                push_blanks(&mut output, &self.text[from.max(kept)..to]);
             }
+            kept = to;
         }
-        match open.pop() {
-            Some(n) => self.refusal(n, "a bracket that is not closed"),
-            None => Ok(()),
-        }
+        push_kept(&mut output, &self.text[kept..]);
+        output
     }
+}
 
-    fn is_pair(&self, open: usize, close: usize) -> bool {
-        matches!((self.at(open), self.at(close)), ("(", ")") | ("[", "]") | ("{", "}"))
+/// Appends text that is kept. Blanks before the end of a line go.
+fn push_kept(output: &mut String, text: &str) {
+    let rest = text.trim_start_matches(' ');
+    if rest.starts_with('\n') {
+        output.truncate(output.trim_end_matches(' ').len());
+    }
+    output.push_str(if rest.starts_with('\n') { rest } else { text });
+}
+
+/// Appends a blank for each character of a text, and its newlines.
+fn push_blanks(output: &mut String, text: &str) {
+    for character in text.chars() {
+        if character == '\n' {
+            output.truncate(output.trim_end_matches(' ').len());
+        }
+        output.push(if character == '\n' { '\n' } else { ' ' });
     }
 }
