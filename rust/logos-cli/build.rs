@@ -21,7 +21,7 @@ fn erase() -> Result<(), Failure> {
     if let Some(program) = modules.iter_mut().find(|module| module.name == "logos_program") {
         program.added = RUN_LOGOS;
     }
-    Package { modules, below: vec![("logos_codegen", below)] }.build()
+    Package { modules, below: vec![("::logos_codegen", below)] }.build()
 }
 
 /// Runs git in the clone, and returns its output.

@@ -37,7 +37,7 @@ fn erase() -> Result<(), Failure> {
         added: START,
     };
     let modules = PROGRAMS.into_iter().map(module).collect();
-    Package { modules, below: vec![("logos_codegen", library), ("logos_build", tools)] }.build()
+    Package { modules, below: vec![("::logos_codegen", library), ("::logos_build", tools)] }.build()
 }
 
 fn main() -> ExitCode {

@@ -24,7 +24,8 @@ pub struct Module<'a> {
 #[derive(Clone, Debug, Default)]
 pub struct Package<'a> {
     pub modules: Vec<Module<'a>>,
-    /// The packages that hold other crates: the name of each, and the crates.
+    /// The packages that hold other crates: the path of each, such as `::logos_codegen`, and the
+    /// crates.
     pub below: Vec<(&'a str, Vec<&'a str>)>,
 }
 

@@ -122,6 +122,8 @@ fn keyword(source: &mut Source<'_>, n: usize, word: &str, names: &Names<'_>) -> 
     match word {
         "Drop" => return bound(source, n),
         "unsafe" if after == "{" => source.blank(n, n),
+        // What is unsafe in Rust has a safe function that checks.
+        "str" if source.matches(n + 1, &["::", "from_utf8_unchecked"]) => source.blank(n, n + 1),
         "unsafe" => return source.refusal(n, "an `unsafe` that is no block"),
         "final" if after == "fn" => return source.refusal(n, "a `final` function"),
         "fmt" if source.matches(n + 1, &["<", "W", ":", "fmt", "::", "Write", ">"]) => {

@@ -128,6 +128,7 @@ fn formatters_and_blocks_are_those_of_rust() {
             "fn fmt               (&self, f: &mut fmt::Formatter   ) -> fmt::Result {}\n",
         ),
         ("let x = unsafe { y(z) };\n", "let x =        { y(z) };\n"),
+        ("unsafe { str::from_utf8_unchecked(a) }\n", "       {      from_utf8_unchecked(a) }\n"),
         ("vec![in a; 1, 2]?; format!(in a; \"{x}\")?\n", "vec![in a; 1, 2]?; format!(in a; \"{x}\")?\n"),
     ]);
 }
