@@ -188,6 +188,15 @@ pub fn read_dir<R: Files>(
     }))
 }
 
+/// Opens a file to read it.
+///
+/// # Errors
+///
+/// Returns the error of the system.
+pub fn open<R: Files>(rt: &R, path: &str) -> io::Result<File> {
+    File::open(rt, path)
+}
+
 /// An open file.
 pub struct File(Opened);
 
@@ -241,7 +250,7 @@ impl Read for File {
         Ok(match &mut self.0 {
             Opened::File(file) => std::io::Read::read(file, buf)?,
             Opened::StandardInput(input) => std::io::Read::read(input, buf)?,
-            Opened::Program(left) => std::io::Read::read(left, buf)?,
+            Opened::Program(left) => left.read(buf)?,
         })
     }
 }

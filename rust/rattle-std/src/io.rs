@@ -74,6 +74,15 @@ impl<R: Read + ?Sized> Read for &mut R {
     }
 }
 
+impl Read for &[u8] {
+    fn read(&mut self, buf: &mut [u8]) -> Result<usize> {
+        let (front, rest) = self.split_at(self.len().min(buf.len()));
+        buf[..front.len()].copy_from_slice(front);
+        *self = rest;
+        Ok(front.len())
+    }
+}
+
 /// A reader of the first bytes of another one.
 pub struct Take<R> {
     inner: R,

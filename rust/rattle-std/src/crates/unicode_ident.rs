@@ -1,5 +1,21 @@
-//! x
-/// s
-pub fn is_xid_start(c: char) -> bool { c.is_alphabetic() }
-/// c
-pub fn is_xid_continue(c: char) -> bool { c.is_alphanumeric() || c == char::from(95u8) }
+//! Stands in for the kit's `unicode_ident`: characters of identifiers.
+
+use super::unicode::{contains, ranges};
+
+/// Returns whether a character has the property XID_Start.
+#[inline]
+pub fn is_xid_start(ch: char) -> bool {
+    if ch.is_ascii() {
+        return ch.is_ascii_alphabetic();
+    }
+    contains(&ranges::XID_START, ch)
+}
+
+/// Returns whether a character has the property XID_Continue.
+#[inline]
+pub fn is_xid_continue(ch: char) -> bool {
+    if ch.is_ascii() {
+        return ch.is_ascii_alphanumeric() || ch == '_';
+    }
+    contains(&ranges::XID_CONTINUE, ch)
+}
