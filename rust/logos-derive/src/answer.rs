@@ -5,7 +5,7 @@ use logos_codegen::logos_codegen::generator::Config;
 use logos_codegen::logos_derive as library;
 use logos_codegen::logos_tables::Shape;
 use logos_codegen::logos_token::token::Span;
-use rattle_std::alloc::{Global, set_budget_by_variable};
+use rattle_std::alloc::{Global, set_budget_of_program};
 use std::ops::Range;
 use std::panic::{AssertUnwindSafe, catch_unwind};
 
@@ -80,7 +80,7 @@ impl ShapeName {
 ///
 /// Returns what to say if memory is refused, or if the library panics, which is a mistake in it.
 pub fn ask(question: &Question, shape: ShapeName) -> Result<Answer, Failure> {
-    set_budget_by_variable().map_err(|error| Failure(error.to_string()))?;
+    set_budget_of_program().map_err(|error| Failure(error.to_string()))?;
     let derive = || library::derive(Global, &question.text, shape.shape());
     match catch_unwind(AssertUnwindSafe(derive)) {
         Ok(Ok(derivation)) => Ok(answer(&derivation)),
