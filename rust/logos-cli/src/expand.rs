@@ -1,29 +1,16 @@
-//! Expands the lexers of a Rust file in a build script, by the program `logos_cli`.
-//!
-//! ```no_run
-//! // build.rs
-//! logos_build::expand("src/lexers.rs");
-//! ```
-//!
-//! A module of the package includes the result:
-//!
-//! ```ignore
-//! include!(concat!(env!("OUT_DIR"), "/lexers.rs"));
-//! ```
-//!
-//! The program is the one that the variable `LOGOS_CLI` names, or the first on the path, or
-//! `~/.local/bin/logos_cli`. Cargo runs the script again where the source, the program or that
-//! variable has changed.
+//! Expands the lexers of a Rust file in a build script. Build scripts call it as `logos_build`.
 
-#![forbid(unsafe_code)]
-#![warn(missing_docs)]
+// In this package `std` is Rattle's.
+extern crate std as rust_std;
 
-#[path = "../../derive/src/program.rs"]
-mod program;
-
-use std::path::{Path, PathBuf};
-use std::process::{exit, Command};
-use std::{env, fs};
+use crate::logos_cli::run_command;
+use crate::logos_host::SourceDisk;
+use rust_std::path::{Path, PathBuf};
+use rust_std::prelude::v1::*;
+use rust_std::process::exit;
+use rust_std::{env, eprintln, format, println};
+use std::alloc::{AllocError, Global, set_budget_of_program};
+use std::prelude::{HostRuntime, String as Word, Vec as List};
 
 /// The shape of the printed lexers.
 #[derive(Clone, Copy, Debug, Default, PartialEq, Eq)]
@@ -67,62 +54,53 @@ impl Build {
     }
 
     /// Expands the lexers of a Rust file of the package into a file of the same name in the folder
-    /// `OUT_DIR`, and returns its path. Everything else in the file stays as it is.
+    /// `OUT_DIR`, and returns its path. Everything else in the file stays as it is. The result is
+    /// written whole, or not at all.
     ///
-    /// The program's warnings become warnings of Cargo. Where the file has faults, or where the
-    /// program is missing or fails, this prints why and ends the build script with status 1.
+    /// Warnings become warnings of Cargo. If the file has faults, or cannot be read, this prints why
+    /// and ends the build script with status 1. The library uses at most 1 GiB of memory, or what
+    /// the variable `LOGOS_MEMORY` says, such as `4G`.
     pub fn expand(&self, source: impl AsRef<Path>) -> PathBuf {
         let source = source.as_ref();
         self.try_expand(source).unwrap_or_else(|why| {
-            eprintln!("{}", why.trim_end());
+            eprintln!("{}", shown(why.trim_end()));
             exit(1)
         })
     }
 
     fn try_expand(&self, source: &Path) -> Result<PathBuf, String> {
-        println!("cargo::rerun-if-changed={}", source.display());
-        println!("cargo::rerun-if-env-changed=LOGOS_CLI");
-        let program = program::find().map_err(|why| format!("error: {why}"))?;
-        let real = fs::canonicalize(&program).unwrap_or_else(|_| program.clone());
-        println!("cargo::rerun-if-changed={}", real.display());
         let name = source.file_name().ok_or("error: the source is no file")?;
         let folder = env::var_os("OUT_DIR")
             .ok_or("error: OUT_DIR is not set: call this in a build script")?;
         let output = Path::new(&folder).join(name);
-        self.run(&program, source, &output)?;
+        let (source, written) = (word(source)?, word(&output)?);
+        println!("cargo::rerun-if-changed={source}");
+        set_budget_of_program().map_err(|error| format!("error: {error}"))?;
+        let messages = self.run(source, written)?;
+        let warnings = messages.lines().filter(|line| !line.is_empty());
+        warnings.for_each(|line| println!("cargo::warning={}", shown(line)));
         Ok(output)
     }
 
-    /// Runs the program, and hands its warnings on.
-    fn run(&self, program: &Path, source: &Path, output: &Path) -> Result<(), String> {
-        let mut command = Command::new(program);
-        command
-            .arg(source)
-            .args(["--shape", self.shape.word(), "--color", "never"])
-            .arg("--output")
-            .arg(output);
-        let done = command.output().map_err(|why| {
-            format!(
-                "error: the program `{}` cannot be run: {why}\nhelp: {}",
-                program.display(),
-                program::REMEDY
-            )
-        })?;
-        let messages = String::from_utf8_lossy(&done.stderr);
-        match done.status.code() {
-            Some(0) => {
-                messages
-                    .lines()
-                    .filter(|line| !line.is_empty())
-                    .for_each(|line| println!("cargo::warning={line}"));
-                Ok(())
-            }
-            Some(_) => Err(messages.into()),
-            None => Err(format!(
-                "{messages}error: the program `{}` fails ({})",
-                program.display(),
-                done.status
-            )),
+    /// Does what `logos_cli` does, and returns its warnings.
+    fn run(&self, source: &str, output: &str) -> Result<String, String> {
+        let words = [
+            source,
+            "--shape",
+            self.shape.word(),
+            "--color",
+            "never",
+            "--output",
+            output,
+        ];
+        let words = words_of(&words).map_err(|_| "error: out of memory")?;
+        let mut files = SourceDisk { rt: &HostRuntime };
+        let (mut out, mut messages) = (List::new(Global), List::new(Global));
+        let ending = run_command(Global, &words, &mut files, &mut out, &mut messages);
+        let messages = String::from_utf8_lossy(&messages).into_owned();
+        match ending.status {
+            0 => Ok(messages),
+            _ => Err(messages),
         }
     }
 }
@@ -131,4 +109,32 @@ impl Build {
 /// the result, as [`Build::expand`] does.
 pub fn expand(source: impl AsRef<Path>) -> PathBuf {
     Build::new().expand(source)
+}
+
+/// Returns a path as a word. Cargo reads paths from lines, so one with a line end is none.
+fn word(path: &Path) -> Result<&str, String> {
+    let word = path.to_str().filter(|word| !word.contains(char::is_control));
+    word.ok_or_else(|| format!("error: this path is not plain text: {}", path.display()))
+}
+
+fn words_of(words: &[&str]) -> Result<List<Word>, AllocError> {
+    let mut list = List::new(Global);
+    for text in words {
+        let mut word = Word::new(Global);
+        word.push_str(text)?;
+        list.push(word)?;
+    }
+    Ok(list)
+}
+
+/// Returns a text in which control characters but line ends are escaped.
+fn shown(text: &str) -> String {
+    let mut shown = String::with_capacity(text.len());
+    for c in text.chars() {
+        match c.is_control() && c != '\n' {
+            true => shown.extend(c.escape_default()),
+            false => shown.push(c),
+        }
+    }
+    shown
 }
