@@ -2,7 +2,8 @@
 //! holds. Sets the variable `LOGOS_COMMIT` for the compiler: the commit of the clone, or nothing if
 //! there is no clone or a file of it has changed.
 
-use rattle_erase::{Failure, LIBRARY, Package, repository};
+use rattle_erase::{Crates, LIBRARY, build};
+use std::io;
 use std::path::Path;
 use std::process::{Command, ExitCode};
 
@@ -12,21 +13,32 @@ const RUN_LOGOS: &str = "\
 pub fn run_logos_program(rt: &HostRuntime) -> u8 { run_logos(rt) }
 ";
 
-fn erase() -> Result<(), Failure> {
-    let crates = repository()?;
+/// What `logos_build` needs of the module of `logos_cli`, where it is private.
+const RUN_LOGOS_CLI: &str = "pub(crate) use self::running::run as run_command;\n";
+
+fn erase() -> io::Result<()> {
+    let crates = Crates::find()?;
     let below = crates.closure(&LIBRARY);
     let mut names = crates.closure(&["logos_program"]);
     names.retain(|name| !below.contains(name));
     let mut modules: Vec<_> = names.into_iter().map(|name| crates.module(name)).collect();
-    if let Some(program) = modules.iter_mut().find(|module| module.name == "logos_program") {
-        program.added = RUN_LOGOS;
+    for module in &mut modules {
+        match module.name {
+            "logos_program" => module.added = RUN_LOGOS,
+            "logos_cli" => module.added = RUN_LOGOS_CLI,
+            _ => (),
+        }
     }
-    Package { modules, below: vec![("::logos_codegen", below)] }.build()
+    build(&modules)
 }
 
 /// Runs git in the clone, and returns its output.
 fn git(words: &[&str]) -> Option<String> {
-    let output = Command::new("git").args(["-C", "../.."]).args(words).output().ok()?;
+    let output = Command::new("git")
+        .args(["-C", "../.."])
+        .args(words)
+        .output()
+        .ok()?;
     let text = String::from_utf8_lossy(&output.stdout);
     output.status.success().then(|| text.trim().to_string())
 }
@@ -36,21 +48,33 @@ fn commit() -> Option<String> {
     if !Path::new("../../.git").exists() || !Path::new("../../crates.txt").exists() {
         return None;
     }
-    let log = git(&["rev-parse", "--path-format=absolute", "--git-path", "logs/HEAD"])?;
+    let log = git(&[
+        "rev-parse",
+        "--path-format=absolute",
+        "--git-path",
+        "logs/HEAD",
+    ])?;
     if Path::new(&log).exists() {
         println!("cargo::rerun-if-changed={log}");
     }
     // Cargo leaves a file of its own in a checkout.
     let changes = git(&["status", "--porcelain", "--", ".", ":!.cargo-ok"])?;
-    if changes.is_empty() { git(&["rev-parse", "HEAD"]) } else { None }
+    if changes.is_empty() {
+        git(&["rev-parse", "HEAD"])
+    } else {
+        None
+    }
 }
 
 fn main() -> ExitCode {
-    println!("cargo::rustc-env=LOGOS_COMMIT={}", commit().unwrap_or_default());
+    println!(
+        "cargo::rustc-env=LOGOS_COMMIT={}",
+        commit().unwrap_or_default()
+    );
     match erase() {
         Ok(()) => ExitCode::SUCCESS,
-        Err(failure) => {
-            println!("cargo::error={failure}");
+        Err(error) => {
+            println!("cargo::error={error}");
             ExitCode::FAILURE
         }
     }

@@ -1,20 +1,21 @@
 //! Erases the programs of the tests and the examples into `OUT_DIR`, each as a module.
 
-use rattle_erase::{Failure, LIBRARY, Module, Package, repository};
+use rattle_erase::{Crates, Module, Paths, build};
+use std::io;
 use std::process::ExitCode;
 
-/// The programs, and their sources in the repository.
+/// The programs, and their sources.
 const PROGRAMS: [(&str, &str); 10] = [
-    ("calls", "tests/calls/src"),
-    ("evidence", "tests/evidence/src"),
-    ("edits", "tests/edits/src"),
-    ("config", "examples/config/main.rt.in"),
-    ("query", "examples/query/main.rt.in"),
-    ("log", "examples/log/main.rt.in"),
-    ("edit", "examples/edit/main.rt.in"),
-    ("errors", "examples/errors/main.rt.in"),
-    ("count", "examples/count/main.rt.in"),
-    ("first", "docs/guide/first.rt.in"),
+    ("calls", "../../tests/calls/src"),
+    ("evidence", "../../tests/evidence/src"),
+    ("edits", "../../tests/edits/src"),
+    ("config", "../../examples/config/main.rt.in"),
+    ("query", "../../examples/query/main.rt.in"),
+    ("log", "../../examples/log/main.rt.in"),
+    ("edit", "../../examples/edit/main.rt.in"),
+    ("errors", "../../examples/errors/main.rt.in"),
+    ("count", "../../examples/count/main.rt.in"),
+    ("first", "../../docs/guide/first.rt.in"),
 ];
 
 /// What runs a program from outside of its module.
@@ -24,27 +25,28 @@ pub fn start() -> std::process::ExitCode {
 }
 ";
 
-fn erase() -> Result<(), Failure> {
-    let crates = repository()?;
-    let library = crates.closure(&LIBRARY);
-    let mut tools = crates.closure(&["logos_program"]);
-    tools.retain(|name| !library.contains(name));
-    let libraries: Vec<&str> = library.iter().chain(&tools).chain(&["indexmap"]).copied().collect();
-    let module = |(name, source)| Module {
+fn erase() -> io::Result<()> {
+    let crates = Crates::find()?;
+    let mut libraries: Vec<_> = crates.names().map(|name| (name, "crate")).collect();
+    libraries.push(("indexmap", "std::crates"));
+    let module = |(name, source): (&'static str, &str)| Module {
         name,
-        source: crates.path(source),
-        libraries: libraries.clone(),
+        source: source.into(),
+        paths: Paths {
+            module: name,
+            libraries: libraries.clone(),
+        },
         added: START,
     };
-    let modules = PROGRAMS.into_iter().map(module).collect();
-    Package { modules, below: vec![("::logos_codegen", library), ("::logos_build", tools)] }.build()
+    let modules: Vec<_> = PROGRAMS.into_iter().map(module).collect();
+    build(&modules)
 }
 
 fn main() -> ExitCode {
     match erase() {
         Ok(()) => ExitCode::SUCCESS,
-        Err(failure) => {
-            println!("cargo::error={failure}");
+        Err(error) => {
+            println!("cargo::error={error}");
             ExitCode::FAILURE
         }
     }

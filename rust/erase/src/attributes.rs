@@ -15,7 +15,11 @@ const DERIVED: [&str; 9] =
     ["Clone", "Copy", "Debug", "Default", "Eq", "Hash", "Ord", "PartialEq", "PartialOrd"];
 
 /// Changes the attribute whose `#` is at `n`. Returns its last token.
-pub(crate) fn attribute(source: &mut Source<'_>, n: usize, added: &mut String) -> Result<usize, Refusal> {
+pub(crate) fn attribute(
+    source: &mut Source<'_>,
+    n: usize,
+    added: &mut String,
+) -> Result<usize, Refusal> {
     let open = if source.at(n + 1) == "!" { n + 2 } else { n + 1 };
     if source.at(open) != "[" {
         return source.refusal(n, "a `#` that begins no attribute");
@@ -62,7 +66,8 @@ fn copy_of(source: &Source<'_>, n: usize) -> Result<String, Refusal> {
     let word = source.find(n, &["struct", "enum", "fn", ";", "{"])?;
     let (name, open) = (source.at(word + 1), word + 2);
     if source.at(word) != "struct" || source.at(open) != "{" {
-        return source.refusal(n, "a derive of `Clone` on what is no plain struct with named fields");
+        return source
+            .refusal(n, "a derive of `Clone` on what is no plain struct with named fields");
     }
     let mut fields = String::new();
     for field in open + 1..source.closing(open) {

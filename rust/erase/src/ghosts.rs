@@ -70,7 +70,9 @@ pub(crate) fn ghost_end(text: &str, at: usize, word: usize) -> Result<usize, Ref
             Some(b';' | b',') => return Ok(next + 1),
             Some(b'}') => return Ok(end),
             Some(b'=') => end = braces_after(bytes, at, next + 1)?,
-            Some(b'b') if bytes[next..].starts_with(b"by") => end = braces_after(bytes, at, next + 2)?,
+            Some(b'b') if bytes[next..].starts_with(b"by") => {
+                end = braces_after(bytes, at, next + 2)?
+            }
             _ => return Err(unknown),
         }
     }

@@ -18,18 +18,17 @@ mod rules;
 mod source;
 mod tokens;
 
-pub use package::{Crates, Failure, LIBRARY, Module, Package, repository};
+pub use package::{Crates, LIBRARY, Module, build};
 
 use std::fmt;
 
 /// Where the paths of a file lead.
 #[derive(Clone, Debug, Default)]
-pub struct Paths {
-    /// The module that holds the file's crate, such as `crate::logos_hir`.
-    pub module: String,
-    /// The crates that the file may name, and the modules that hold them, such as `logos_token` and
-    /// `crate`.
-    pub libraries: Vec<(String, String)>,
+pub struct Paths<'a> {
+    /// The module of the root that holds the file's crate, such as `logos_hir`.
+    pub module: &'a str,
+    /// The crates that the file may name, and the module that holds each, such as `crate`.
+    pub libraries: Vec<(&'a str, &'a str)>,
 }
 
 /// Why a source was not erased.
@@ -62,13 +61,13 @@ impl fmt::Display for Refusal {
 /// # Errors
 ///
 /// Refuses a source with a form that this library does not know.
-pub fn erase(text: &str, paths: &Paths) -> Result<String, Refusal> {
+pub fn erase(text: &str, paths: &Paths<'_>) -> Result<String, Refusal> {
     let erased = source::Source::new(text).and_then(|mut source| {
         let added = rules::apply(&mut source, paths)?;
         Ok(source.edited() + &added)
     });
     erased.map_err(|refusal| {
-        let before = &text[..text.floor_char_boundary(refusal.at)];
+        let before = &text[..refusal.at];
         let line = before.split('\n').next_back().unwrap_or("");
         let (lines, column) = (before.matches('\n').count(), line.chars().count());
         Refusal { line: lines + 1, column: column + 1, ..refusal }

@@ -28,14 +28,13 @@ struct Names<'t> {
 }
 
 /// Changes the code of a source, and returns the lines that it needs at its end.
-pub(crate) fn apply(source: &mut Source<'_>, paths: &Paths) -> Result<String, Refusal> {
+pub(crate) fn apply(source: &mut Source<'_>, paths: &Paths<'_>) -> Result<String, Refusal> {
     let (mut names, mut copies) = (Names::default(), String::new());
     let mut n = 0;
     while n < source.len() {
         n = 1 + match source.at(n) {
             "#" => attribute(source, n, &mut copies)?,
-            "use" => declaration(source, n, &mut names)?,
-            "mod" => module(source, n)?,
+            "use" | "mod" => declaration(source, n, &mut names)?,
             "impl" => implementation(source, n)?,
             "crate" => own_path(source, n, &mut names)?,
             word if source.is_word(n) => {
@@ -47,35 +46,31 @@ pub(crate) fn apply(source: &mut Source<'_>, paths: &Paths) -> Result<String, Re
     }
     let mut added = String::from("\nuse std::prelude::*;\n");
     if names.has_own {
-        added += &format!("use {} as krate;\n", paths.module);
+        added += &format!("use crate::{} as krate;\n", paths.module);
     }
     for library in names.libraries {
-        let (name, module) = &paths.libraries[library];
+        let (name, module) = paths.libraries[library];
         added += &format!("use {module}::{name};\n");
     }
     Ok(added + &copies)
 }
 
-/// Blanks a `use` of laws, whose names it notes, and of what models alone need.
-fn declaration<'t>(source: &mut Source<'t>, n: usize, names: &mut Names<'t>) -> Result<usize, Refusal> {
+/// Blanks a declaration of laws, whose names it notes, and of what models alone need.
+fn declaration<'t>(
+    source: &mut Source<'t>,
+    n: usize,
+    names: &mut Names<'t>,
+) -> Result<usize, Refusal> {
     let end = source.find(n, &[";"])?;
     let law = (n..end).find(|&k| source.at(k) == "laws");
-    if law.is_none() && !source.matches(n + 1, &["std", "::", "marker", "::", "Model", ";"]) {
+    let is_law = law.is_some() && (source.at(n) == "use" || source.at(n + 2) == ";");
+    if !is_law && !source.matches(n + 1, &["std", "::", "marker", "::", "Model", ";"]) {
         return Ok(n);
     }
-    names.laws.extend((law.unwrap_or(end)..end).filter(|&k| source.is_word(k)).map(|k| source.at(k)));
+    let words = (law.unwrap_or(end)..end).filter(|&k| source.is_word(k));
+    names.laws.extend(words.map(|k| source.at(k)));
     source.blank_item(n, end);
     Ok(end)
-}
-
-/// Blanks a `mod laws;`.
-fn module(source: &mut Source<'_>, n: usize) -> Result<usize, Refusal> {
-    match (source.at(n + 1), source.at(n + 2)) {
-        ("laws", ";") => source.blank_item(n, n + 2),
-        ("laws", _) => return source.refusal(n, "a module of laws that is no file"),
-        _ => return Ok(n),
-    }
-    Ok(n + 2)
 }
 
 /// Blanks an `impl` of `Model`. A `drop` by code of a type's own is not known.
@@ -93,7 +88,9 @@ fn implementation(source: &mut Source<'_>, n: usize) -> Result<usize, Refusal> {
 /// Writes `crate::x` as `krate::x`, where `krate` is the module that holds the crate.
 fn own_path(source: &mut Source<'_>, n: usize, names: &mut Names<'_>) -> Result<usize, Refusal> {
     match (source.before(n), source.at(n + 1)) {
-        ("in" | "$", _) => return source.refusal(n, "a `crate` that is no path of an expression or a type"),
+        ("in" | "$", _) => {
+            return source.refusal(n, "a `crate` that is no path of an expression or a type");
+        }
         (_, "::") => source.rename(n, "krate"),
         ("(", ")") => return Ok(n),
         _ => return source.refusal(n, "a `crate` that begins no path"),
@@ -103,13 +100,13 @@ fn own_path(source: &mut Source<'_>, n: usize, names: &mut Names<'_>) -> Result<
 }
 
 /// Notes the library with which a path begins.
-fn note_library(source: &Source<'_>, n: usize, paths: &Paths, names: &mut Names<'_>) {
+fn note_library(source: &Source<'_>, n: usize, paths: &Paths<'_>, names: &mut Names<'_>) {
     let (before, after) = (source.before(n), source.at(n + 1));
     let is_path = after == "::" || before == "use" && [";", "as"].contains(&after);
     if !is_path || before == "::" || before == "." {
         return;
     }
-    if let Some(library) = paths.libraries.iter().position(|(name, _)| name == source.at(n))
+    if let Some(library) = paths.libraries.iter().position(|(name, _)| *name == source.at(n))
         && !names.libraries.contains(&library)
     {
         names.libraries.push(library);
@@ -117,7 +114,12 @@ fn note_library(source: &Source<'_>, n: usize, paths: &Paths, names: &mut Names<
 }
 
 /// Changes what a word says of a type, a block or a call.
-fn keyword(source: &mut Source<'_>, n: usize, word: &str, names: &Names<'_>) -> Result<usize, Refusal> {
+fn keyword(
+    source: &mut Source<'_>,
+    n: usize,
+    word: &str,
+    names: &Names<'_>,
+) -> Result<usize, Refusal> {
     let after = source.at(n + 1);
     match word {
         "Drop" => return bound(source, n),
@@ -158,7 +160,10 @@ fn method(source: &mut Source<'_>, n: usize, word: &str) -> Result<usize, Refusa
         match (source.at(n + 1), source.at(n + 2)) {
             ("(", ")") => {}
             ("(", _) => source.rename(n, name),
-            _ => return source.refusal(n, "a method that takes an allocator, called in an unknown form"),
+            _ => {
+                return source
+                    .refusal(n, "a method that takes an allocator, called in an unknown form");
+            }
         }
     }
     Ok(n)

@@ -57,7 +57,9 @@ impl<'t> Source<'t> {
             open.push(n);
         } else if token.kind == Kind::Close {
             match open.pop().map(|last| (last, self.at(last), self.at(n))) {
-                Some((last, "(", ")") | (last, "[", "]") | (last, "{", "}")) => self.tokens[last].closing = n,
+                Some((last, "(", ")") | (last, "[", "]") | (last, "{", "}")) => {
+                    self.tokens[last].closing = n
+                }
                 _ => return self.refusal(n, "a bracket that closes none"),
             }
         }
@@ -110,7 +112,7 @@ impl<'t> Source<'t> {
 
     /// Blanks the tokens from `from` to `to`, both included.
     pub(crate) fn blank(&mut self, from: usize, to: usize) {
-        self.edits.push((self.tokens[from].from, self.tokens[to].to, ""));
+        self.add_blanks(self.tokens[from].from, self.tokens[to].to);
     }
 
     /// Blanks an item that ends at `to`, with its visibility and the comments directly above.
@@ -132,12 +134,23 @@ impl<'t> Source<'t> {
             let between = &self.text[end..start];
             let line = self.text[..comment].rsplit('\n').next().unwrap_or("");
             let is_of_file = self.text[comment..].starts_with("//!");
-            if is_of_file || line.trim() != "" || between.trim() != "" || between.matches('\n').count() != 1 {
+            if is_of_file
+                || line.trim() != ""
+                || between.trim() != ""
+                || between.matches('\n').count() != 1
+            {
                 break;
             }
             start = comment;
         }
-        self.edits.push((start, to, ""));
+        self.add_blanks(start, to);
+    }
+
+    /// Blanks bytes, and the end of their line if nothing else follows on it.
+    fn add_blanks(&mut self, from: usize, to: usize) {
+        let rest = self.text[to..].trim_start_matches(' ');
+        let end = self.text.len() - rest.len();
+        self.edits.push((from, if rest.starts_with('\n') { end + 1 } else { to }, ""));
     }
 
     /// Returns the text with its edits.
@@ -146,33 +159,21 @@ impl<'t> Source<'t> {
         let mut output = String::with_capacity(self.text.len() + 256);
         let mut kept = 0;
         for &(from, to, name) in self.edits.iter() {
-            if to <= kept {
-                continue;
+            if to > kept {
+                output += &self.text[kept.min(from)..from];
+                output += name;
+                push_blanks(&mut output, &self.text[from.max(kept)..to], name);
+                kept = to;
             }
-            push_kept(&mut output, &self.text[kept.min(from)..from]);
-            output.push_str(name);
-            if name.is_empty() {
-                push_blanks(&mut output, &self.text[from.max(kept)..to]);
-            }
-            kept = to;
         }
-        push_kept(&mut output, &self.text[kept..]);
-        output
+        output + &self.text[kept..]
     }
 }
 
-/// Appends text that is kept. Blanks before the end of a line go.
-fn push_kept(output: &mut String, text: &str) {
-    let rest = text.trim_start_matches(' ');
-    if rest.starts_with('\n') {
-        output.truncate(output.trim_end_matches(' ').len());
-    }
-    output.push_str(if rest.starts_with('\n') { rest } else { text });
-}
-
-/// Appends a blank for each character of a text, and its newlines.
-fn push_blanks(output: &mut String, text: &str) {
-    for character in text.chars() {
+/// Appends a blank for each character of a text, or nothing if it has another name. Blanks before
+/// the end of a line go.
+fn push_blanks(output: &mut String, text: &str, name: &str) {
+    for character in text.chars().filter(|_| name.is_empty()) {
         if character == '\n' {
             output.truncate(output.trim_end_matches(' ').len());
         }

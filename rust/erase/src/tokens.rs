@@ -6,8 +6,9 @@ use crate::ghosts::{clause_end, ghost_end};
 /// What a token is.
 #[derive(Clone, Copy, Debug, PartialEq, Eq)]
 pub(crate) enum Kind {
+    /// A name, a keyword or a number.
     Word,
-    /// A lifetime, a number, a string or a character.
+    /// A lifetime, a string or a character.
     Literal,
     /// `::`, or one character of punctuation that is no bracket.
     Mark,
@@ -19,11 +20,6 @@ pub(crate) enum Kind {
 }
 
 /// Returns the kind and the end of the token that begins at `at`.
-///
-/// # Errors
-///
-/// Refuses a comment, a literal or a ghost item that does not end, and a character that is none of
-/// Rust's.
 pub(crate) fn token_at(text: &str, at: usize) -> Result<(Kind, usize), Refusal> {
     let bytes = text.as_bytes();
     match (bytes[at], bytes.get(at + 1)) {
@@ -34,8 +30,7 @@ pub(crate) fn token_at(text: &str, at: usize) -> Result<(Kind, usize), Refusal> 
         (b'(' | b'[' | b'{', _) => Ok((Kind::Open, at + 1)),
         (b')' | b']' | b'}', _) => Ok((Kind::Close, at + 1)),
         (b':', Some(b':')) => Ok((Kind::Mark, at + 2)),
-        (b'0'..=b'9', _) => Ok((Kind::Literal, number_end(bytes, at))),
-        (b'a'..=b'z' | b'A'..=b'Z' | b'_', _) => word_at(text, at),
+        (b'0'..=b'9' | b'a'..=b'z' | b'A'..=b'Z' | b'_', _) => word_at(text, at),
         (byte, _) if byte.is_ascii_punctuation() => Ok((Kind::Mark, at + 1)),
         _ => Err(Refusal::new(at, "a character that is none of Rust's")),
     }
@@ -69,13 +64,6 @@ fn word_at(text: &str, at: usize) -> Result<(Kind, usize), Refusal> {
     }
 }
 
-/// Returns the end of a number. A dot belongs to it if a digit follows.
-fn number_end(bytes: &[u8], at: usize) -> usize {
-    let to = word_end(bytes, at);
-    let has_fraction = bytes.get(to) == Some(&b'.') && bytes.get(to + 1).is_some_and(u8::is_ascii_digit);
-    if has_fraction { word_end(bytes, to + 1) } else { to }
-}
-
 /// Returns the end of the string whose opening quote is at `at`.
 pub(crate) fn string_end(bytes: &[u8], at: usize) -> Result<usize, Refusal> {
     let mut end = at + 1;
@@ -102,18 +90,15 @@ fn raw_string_end(text: &str, at: usize, hashes: usize) -> Result<usize, Refusal
 
 /// Returns the end of the lifetime or the character whose quote is at `at`.
 fn quote_end(text: &str, at: usize) -> Result<usize, Refusal> {
-    let mut rest = text[at + 1..].chars();
-    let first = rest.next();
-    if first == Some('\\') {
-        let escaped = at + 2 + rest.next().map_or(0, char::len_utf8);
-        let length = text[escaped..].find('\'');
-        let unending = Refusal::new(at, "a character that does not end");
-        return length.map(|length| escaped + length + 1).ok_or(unending);
-    }
-    if rest.next() == Some('\'') {
-        return Ok(at + 2 + first.map_or(0, char::len_utf8));
+    let rest = &text[at + 1..];
+    let length = rest.chars().next().map_or(0, char::len_utf8);
+    if rest.starts_with('\\')
+        && let Some(length) = rest.get(2..).and_then(|after| after.find('\''))
+    {
+        return Ok(at + 4 + length);
     }
     match word_end(text.as_bytes(), at + 1) {
+        _ if rest[length..].starts_with('\'') => Ok(at + 2 + length),
         to if to > at + 1 => Ok(to),
         _ => Err(Refusal::new(at, "a quote that begins no character and no lifetime")),
     }

@@ -33,6 +33,9 @@
 
 extern crate rattle_std as std;
 
+// The crates of the package below are here under the paths that they have there.
+use ::logos_codegen::*;
+
 mod expand;
 pub mod programs;
 

@@ -9,7 +9,14 @@
 #![no_std]
 #![forbid(unsafe_code)]
 // Some parameters, imports, labels and braces are there for the contracts alone.
-#![allow(dead_code, unused_braces, unused_imports, unused_labels, unused_parens, unused_variables)]
+#![allow(
+    dead_code,
+    unused_braces,
+    unused_imports,
+    unused_labels,
+    unused_parens,
+    unused_variables
+)]
 // The sources follow the rules of Rattle, where a function takes `&Vec<T>`, and loops use indices.
 #![allow(clippy::all, clippy::pedantic)]
 // The docs name items by their Rattle paths.
