@@ -1,25 +1,11 @@
 //! The rules of attributes: those of Rattle go, and a derive loses the names that Rust has not.
 
 use crate::Refusal;
+use crate::rules::Step;
 use crate::source::Source;
 
-/// Attributes for proofs alone, and for the layout of sources.
-const DROPPED: [&str; 3] = ["tactic", "cycle", "rattlefmt"];
-
-/// Attributes that mean the same in Rust.
-const KEPT: [&str; 8] =
-    ["allow", "cold", "expect", "inline", "must_use", "non_exhaustive", "repr", "rustfmt"];
-
-/// Names in a derive that mean the same in Rust.
-const DERIVED: [&str; 9] =
-    ["Clone", "Copy", "Debug", "Default", "Eq", "Hash", "Ord", "PartialEq", "PartialOrd"];
-
 /// Changes the attribute whose `#` is at `n`. Returns its last token.
-pub(crate) fn attribute(
-    source: &mut Source<'_>,
-    n: usize,
-    added: &mut String,
-) -> Result<usize, Refusal> {
+pub(crate) fn attribute(source: &mut Source<'_>, n: usize, added: &mut String) -> Step {
     let open = if source.at(n + 1) == "!" { n + 2 } else { n + 1 };
     if source.at(open) != "[" {
         return source.refusal(n, "a `#` that begins no attribute");
@@ -27,8 +13,10 @@ pub(crate) fn attribute(
     let close = source.closing(open);
     match source.at(open + 1) {
         "derive" if source.at(open + 2) == "(" => derive(source, n, added)?,
-        name if DROPPED.contains(&name) => source.blank(n, close),
-        name if KEPT.contains(&name) => {}
+        // For proofs alone, and for the layout of sources.
+        "tactic" | "cycle" | "rattlefmt" => source.blank(n, close),
+        // The same in Rust.
+        "allow" | "cold" | "expect" | "inline" | "must_use" | "repr" | "rustfmt" => {}
         _ => return source.refusal(open + 1, "an unknown attribute"),
     }
     Ok(close)
@@ -45,7 +33,8 @@ fn derive(source: &mut Source<'_>, n: usize, added: &mut String) -> Result<(), R
         match source.at(name) {
             "Clone" if !is_copy => *added += &copy_of(source, close + 2)?,
             "Drop" => {}
-            known if DERIVED.contains(&known) => {
+            "Clone" | "Copy" | "Debug" | "Default" | "Eq" | "Hash" | "Ord" | "PartialEq"
+            | "PartialOrd" => {
                 kept += 1;
                 continue;
             }
@@ -66,8 +55,7 @@ fn copy_of(source: &Source<'_>, n: usize) -> Result<String, Refusal> {
     let word = source.find(n, &["struct", "enum", "fn", ";", "{"])?;
     let (name, open) = (source.at(word + 1), word + 2);
     if source.at(word) != "struct" || source.at(open) != "{" {
-        return source
-            .refusal(n, "a derive of `Clone` on what is no plain struct with named fields");
+        return source.refusal(n, "a derive of `Clone` on no plain struct with named fields");
     }
     let mut fields = String::new();
     for field in open + 1..source.closing(open) {

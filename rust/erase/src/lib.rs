@@ -1,13 +1,12 @@
 //! Takes the contracts out of Rattle sources. What is left is Rust.
 //!
-//! Build scripts of the packages beside this one call it: each erases some of the crates in
-//! `crates/` and compiles them as modules of one Rust crate.
+//! Build scripts of the packages beside this one call it, and compile crates as modules.
 //!
 //! - Ghost items, clauses and what else is for proofs alone become blanks. A few names become others
 //!   of the same width. So each token that is left keeps its line and its column, and an error of
 //!   the compiler or a panic names the line of the `.rt` file.
-//! - Lines are only added after the last one: the `use` declarations by which the paths of the
-//!   file lead to modules, and copies that Rust cannot derive.
+//! - Lines are only added after the last one: `use` declarations, and copies that Rust cannot
+//!   derive.
 //! - What this library does not know it refuses, by file, line and column.
 #![forbid(unsafe_code)]
 
@@ -23,7 +22,7 @@ pub use package::{Crates, LIBRARY, Module, build};
 use std::fmt;
 
 /// Where the paths of a file lead.
-#[derive(Clone, Debug, Default)]
+#[derive(Clone, Default)]
 pub struct Paths<'a> {
     /// The module of the root that holds the file's crate, such as `logos_hir`.
     pub module: &'a str,

@@ -4,8 +4,7 @@ use crate::{Paths, erase};
 use std::path::{Path, PathBuf};
 use std::{env, fs, io};
 
-/// The roots of the crates that the package `logos-codegen` holds, with those below them. Packages
-/// above it hold the other crates.
+/// The package `logos-codegen` holds these crates and those below them.
 pub const LIBRARY: [&str; 3] = ["logos_codegen", "logos_tables", "logos_derive"];
 
 /// A crate or a program that becomes a module of the package's root.
@@ -25,10 +24,9 @@ pub struct Crates {
 }
 
 impl Crates {
-    /// Finds the crates. The package holds their folder and the list under the names `bazel-crates`
-    /// and `bazel-crates.txt`: as symbolic links in a clone, and as copies where it is vendored.
-    /// Rattle's gate refuses links with other names. In a clone without links the crates are two
-    /// folders above.
+    /// Finds the crates. The package has them as `bazel-crates` and `bazel-crates.txt`: symbolic
+    /// links in a clone, and copies where it is vendored. Rattle's gate refuses links with other
+    /// names. In a clone without links the crates are two folders above.
     ///
     /// # Errors
     ///
@@ -73,12 +71,10 @@ impl Crates {
     pub fn module<'a>(&'a self, name: &'a str) -> Module<'a> {
         let source = self.folder.join(name).join("src");
         // A library that is not in the list is one of the toolchain.
-        let module = |library| match self.names().any(|name| name == library) {
-            true => (library, "crate"),
-            false => (library, "std::crates"),
-        };
-        let paths = Paths { module: name, libraries: self.libraries(name).map(module).collect() };
-        Module { name, source, paths, added: "" }
+        let is_listed = |library| self.names().any(|name| name == library);
+        let place = |library| if is_listed(library) { "crate" } else { "std::crates" };
+        let libraries = self.libraries(name).map(|library| (library, place(library))).collect();
+        Module { name, source, paths: Paths { module: name, libraries }, added: "" }
     }
 }
 

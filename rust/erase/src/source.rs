@@ -4,12 +4,10 @@ use crate::Refusal;
 use crate::tokens::{Kind, token_at};
 
 /// A token of code: its bytes are `from..to`.
-#[derive(Clone, Copy, Debug)]
 struct Token {
-    kind: Kind,
     from: usize,
     to: usize,
-    /// The number of the bracket that closes this one.
+    /// The number of the bracket that closes this one, or else 0.
     closing: usize,
 }
 
@@ -26,9 +24,8 @@ pub(crate) struct Source<'t> {
 impl<'t> Source<'t> {
     /// Reads a source. Ghost items and clauses become blanks.
     pub(crate) fn new(text: &'t str) -> Result<Source<'t>, Refusal> {
-        // A token has about five bytes with the blanks after it.
-        let tokens = Vec::with_capacity(text.len() / 4);
-        let mut source = Source { text, tokens, comments: Vec::new(), edits: Vec::new() };
+        let (tokens, comments, edits) = (Vec::new(), Vec::new(), Vec::new());
+        let mut source = Source { text, tokens, comments, edits };
         let (mut at, mut open) = (0, Vec::new());
         while at < text.len() {
             if text.as_bytes()[at].is_ascii_whitespace() {
@@ -39,7 +36,7 @@ impl<'t> Source<'t> {
             match kind {
                 Kind::Comment => source.comments.push((at, to)),
                 Kind::Ghost => source.blank_text(at, to),
-                _ => source.push(Token { kind, from: at, to, closing: 0 }, &mut open)?,
+                Kind::Code => source.push(at, to, &mut open)?,
             }
             at = to;
         }
@@ -49,19 +46,17 @@ impl<'t> Source<'t> {
         }
     }
 
-    /// Adds a token, and pairs it with the last bracket that is open if it closes it.
-    fn push(&mut self, token: Token, open: &mut Vec<usize>) -> Result<(), Refusal> {
+    /// Adds a token, and pairs it with the last bracket that is open if it closes one.
+    fn push(&mut self, from: usize, to: usize, open: &mut Vec<usize>) -> Result<(), Refusal> {
         let n = self.tokens.len();
-        self.tokens.push(token);
-        if token.kind == Kind::Open {
-            open.push(n);
-        } else if token.kind == Kind::Close {
-            match open.pop().map(|last| (last, self.at(last), self.at(n))) {
-                Some((last, "(", ")") | (last, "[", "]") | (last, "{", "}")) => {
-                    self.tokens[last].closing = n
-                }
-                _ => return self.refusal(n, "a bracket that closes none"),
+        self.tokens.push(Token { from, to, closing: 0 });
+        match (open.last().map_or("", |&last| self.at(last)), self.at(n)) {
+            (_, "(" | "[" | "{") => open.push(n),
+            ("(", ")") | ("[", "]") | ("{", "}") => {
+                open.pop().into_iter().for_each(|last| self.tokens[last].closing = n);
             }
+            (_, ")" | "]" | "}") => return self.refusal(n, "a bracket that closes none"),
+            _ => {}
         }
         Ok(())
     }
@@ -69,10 +64,6 @@ impl<'t> Source<'t> {
     /// Returns how many tokens there are.
     pub(crate) fn len(&self) -> usize {
         self.tokens.len()
-    }
-
-    pub(crate) fn is_word(&self, n: usize) -> bool {
-        self.tokens[n].kind == Kind::Word
     }
 
     /// Returns the text of a token, or an empty one past the last.
@@ -125,20 +116,15 @@ impl<'t> Source<'t> {
         self.blank_text(self.tokens[start].from, self.tokens[to].to);
     }
 
-    /// Blanks a part of the text, and the comments on the lines directly above that are not about
-    /// the file.
+    /// Blanks bytes, and the comments on the lines directly above that are not about the file.
     fn blank_text(&mut self, from: usize, to: usize) {
         let mut start = from;
         let above = self.comments.partition_point(|comment| comment.1 <= from);
         for &(comment, end) in self.comments[..above].iter().rev() {
-            let between = &self.text[end..start];
-            let line = self.text[..comment].rsplit('\n').next().unwrap_or("");
+            let before = self.text[..comment].trim_end_matches(' ');
+            let is_first = before.is_empty() || before.ends_with('\n');
             let is_of_file = self.text[comment..].starts_with("//!");
-            if is_of_file
-                || line.trim() != ""
-                || between.trim() != ""
-                || between.matches('\n').count() != 1
-            {
+            if is_of_file || !is_first || self.text[end..start].trim_matches(' ') != "\n" {
                 break;
             }
             start = comment;

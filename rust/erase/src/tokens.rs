@@ -4,16 +4,9 @@ use crate::Refusal;
 use crate::ghosts::{clause_end, ghost_end};
 
 /// What a token is.
-#[derive(Clone, Copy, Debug, PartialEq, Eq)]
 pub(crate) enum Kind {
-    /// A name, a keyword or a number.
-    Word,
-    /// A lifetime, a string or a character.
-    Literal,
-    /// `::`, or one character of punctuation that is no bracket.
-    Mark,
-    Open,
-    Close,
+    /// A word, a number, another literal, `::`, or one character of punctuation.
+    Code,
     Comment,
     /// A ghost item or a clause.
     Ghost,
@@ -25,13 +18,11 @@ pub(crate) fn token_at(text: &str, at: usize) -> Result<(Kind, usize), Refusal> 
     match (bytes[at], bytes.get(at + 1)) {
         (b'/', Some(b'/')) => Ok((Kind::Comment, line_end(bytes, at))),
         (b'/', Some(b'*')) => Ok((Kind::Comment, block_comment_end(bytes, at)?)),
-        (b'"', _) => Ok((Kind::Literal, string_end(bytes, at)?)),
-        (b'\'', _) => Ok((Kind::Literal, quote_end(text, at)?)),
-        (b'(' | b'[' | b'{', _) => Ok((Kind::Open, at + 1)),
-        (b')' | b']' | b'}', _) => Ok((Kind::Close, at + 1)),
-        (b':', Some(b':')) => Ok((Kind::Mark, at + 2)),
+        (b'"', _) => Ok((Kind::Code, string_end(bytes, at)?)),
+        (b'\'', _) => Ok((Kind::Code, quote_end(text, at)?)),
+        (b':', Some(b':')) => Ok((Kind::Code, at + 2)),
         (b'0'..=b'9' | b'a'..=b'z' | b'A'..=b'Z' | b'_', _) => word_at(text, at),
-        (byte, _) if byte.is_ascii_punctuation() => Ok((Kind::Mark, at + 1)),
+        (byte, _) if byte.is_ascii_punctuation() => Ok((Kind::Code, at + 1)),
         _ => Err(Refusal::new(at, "a character that is none of Rust's")),
     }
 }
@@ -55,12 +46,12 @@ fn word_at(text: &str, at: usize) -> Result<(Kind, usize), Refusal> {
     let bytes = text.as_bytes();
     let to = word_end(bytes, at);
     match (&text[at..to], bytes.get(to)) {
-        ("r" | "br", Some(b'"' | b'#')) => Ok((Kind::Literal, raw_string_end(text, at, to)?)),
-        ("b", Some(b'"')) => Ok((Kind::Literal, string_end(bytes, to)?)),
-        ("b", Some(b'\'')) => Ok((Kind::Literal, quote_end(text, to)?)),
+        ("r" | "br", Some(b'"' | b'#')) => Ok((Kind::Code, raw_string_end(text, at, to)?)),
+        ("b", Some(b'"')) => Ok((Kind::Code, string_end(bytes, to)?)),
+        ("b", Some(b'\'')) => Ok((Kind::Code, quote_end(text, to)?)),
         ("ghost", _) => Ok((Kind::Ghost, ghost_end(text, at, to)?)),
         ("requires" | "ensures", _) => Ok((Kind::Ghost, clause_end(text, at, to)?)),
-        _ => Ok((Kind::Word, to)),
+        _ => Ok((Kind::Code, to)),
     }
 }
 
