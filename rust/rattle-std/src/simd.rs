@@ -60,7 +60,7 @@ impl<T: Copy, const N: usize> Simd<T, N> {
     pub fn from_slice(slice: &[T]) -> Self {
         match slice.first_chunk::<N>() {
             Some(numbers) => Simd(*numbers),
-            None => panic!("a slice of {} numbers is no vector of {N}", slice.len()),
+            None => panic!("a slice has too few numbers for a vector"),
         }
     }
 
@@ -79,8 +79,40 @@ impl<T: Copy, const N: usize> Simd<T, N> {
     /// Returns the vector of the numbers at indices of this one followed by another one.
     #[inline(always)]
     pub fn shuffle<const M: usize>(self, other: Self, indices: [usize; M]) -> Simd<T, M> {
-        Simd(indices.map(|k| if k < N { self.0[k] } else { other.0[k - N] }))
+        // Known when it is compiled, so one of the two is left.
+        if M == 2 * N && have_steps(&indices, 0, 1) {
+            let mut both = [self.0[0]; M];
+            both[..N].copy_from_slice(&self.0);
+            both[N..].copy_from_slice(&other.0);
+            return Simd(both);
+        }
+        Simd(core::array::from_fn(|at| {
+            let k = indices[at];
+            if k < N { self.0[k] } else { other.0[k - N] }
+        }))
     }
+}
+
+/// Returns whether 16, 32 or 64 indices begin with one number, and each is above the last one by
+/// another number. The compiler knows the result where it knows the indices, but through no loop in
+/// a loop.
+#[inline(always)]
+fn have_steps<const M: usize>(indices: &[usize; M], first: usize, step: usize) -> bool {
+    const { assert!(M == 16 || M == 32 || M == 64) };
+    have_16_steps(indices, 0, first, step)
+        && (M < 32 || have_16_steps(indices, 16, first, step))
+        && (M < 64 || have_16_steps(indices, 32, first, step))
+        && (M < 64 || have_16_steps(indices, 48, first, step))
+}
+
+/// Returns whether the 16 indices from `at` on are as they are wanted.
+#[inline(always)]
+fn have_16_steps(indices: &[usize], at: usize, first: usize, step: usize) -> bool {
+    let mut have = true;
+    for k in at..at + 16 {
+        have &= indices[k] == first + step * k;
+    }
+    have
 }
 
 impl<const N: usize> Simd<u8, N> {
@@ -151,10 +183,13 @@ impl WordBytes {
     #[inline(always)]
     pub fn swizzle(self, indices: [usize; 16]) -> Simd<u8, 16> {
         // Known when it is compiled, so one of the two is left.
-        if indices == core::array::from_fn(|k| 4 * k + 3) {
+        if have_steps(&indices, 3, 4) {
             return Simd(blocks::tops(self.0));
         }
-        Simd(indices.map(|k| (self.0[k / 4] >> (8 * (k % 4))) as u8))
+        Simd(core::array::from_fn(|at| {
+            let k = indices[at];
+            (self.0[k / 4] >> (8 * (k % 4))) as u8
+        }))
     }
 }
 

@@ -62,6 +62,8 @@ mod x86 {
     use core::arch::asm;
     use core::arch::x86_64::*;
     use core::mem::transmute;
+    use core::sync::atomic::{AtomicBool, Ordering::Relaxed};
+    use std::arch::is_x86_feature_detected;
 
     #[inline(always)]
     fn vector(bytes: [u8; 16]) -> __m128i {
@@ -99,10 +101,13 @@ mod x86 {
         and(bytes(words), [0xFF >> count; 16])
     }
 
+    /// Whether the machine is known to have SSSE3.
+    static HAS_SHUFFLE: AtomicBool = AtomicBool::new(false);
+
     #[inline(always)]
     pub fn at(table: [u8; 16], indices: [u8; 16]) -> [u8; 16] {
-        if !std::arch::is_x86_feature_detected!("ssse3") {
-            return super::plain::at(table, indices);
+        if !HAS_SHUFFLE.load(Relaxed) {
+            return bytes(at_first(vector(table), vector(indices)));
         }
         let mut found = vector(table);
         // The intrinsic would be a call where the crate is compiled for machines without SSSE3.
@@ -116,6 +121,14 @@ mod x86 {
             );
         }
         bytes(found)
+    }
+
+    /// Does what `at` does, the first time or where the machine has no SSSE3.
+    #[cold]
+    #[inline(never)]
+    fn at_first(table: __m128i, indices: __m128i) -> __m128i {
+        HAS_SHUFFLE.store(is_x86_feature_detected!("ssse3"), Relaxed);
+        vector(super::plain::at(bytes(table), bytes(indices)))
     }
 
     #[inline(always)]
