@@ -12,7 +12,6 @@ fn erase() -> io::Result<()> {
 }
 
 fn main() -> ExitCode {
-    println!("cargo::rustc-check-cfg=cfg(logos_tested_only)");
     match erase() {
         Ok(()) => ExitCode::SUCCESS,
         Err(error) => {

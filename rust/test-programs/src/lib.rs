@@ -5,6 +5,7 @@
 // Some parameters, imports, labels and braces are there for the contracts alone.
 #![allow(
     dead_code,
+    for_loops_over_fallibles,
     unused_braces,
     unused_imports,
     unused_labels,
