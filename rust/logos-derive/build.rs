@@ -16,22 +16,14 @@ const FOLDERS: [&str; 4] = [
 /// The crates in Rattle, and a file that is beside them.
 const CRATES: [&str; 2] = ["../../crates", "../../crates.txt"];
 
-/// What says nothing of what a library does, and what leads to other sources.
-const LEFT_OUT: [&str; 7] = [
-    "crates",
-    "must-fail",
-    "out",
-    "proofs",
-    "specs",
-    "target",
-    "tests",
-];
+/// Folders that say nothing of what a library does.
+const LEFT_OUT: [&str; 6] = ["must-fail", "out", "proofs", "specs", "target", "tests"];
 
 fn main() {
     let mut files = Vec::new();
-    FOLDERS
-        .iter()
-        .for_each(|folder| add_sources(Path::new(folder), &mut files));
+    for folder in FOLDERS {
+        add_sources(Path::new(folder), &mut files);
+    }
     if CRATES.iter().all(|path| Path::new(path).exists()) {
         add_sources(Path::new(CRATES[0]), &mut files);
     }
@@ -40,31 +32,31 @@ fn main() {
     for path in &files {
         println!("cargo::rerun-if-changed={}", path.display());
     }
-    let sum = files
-        .iter()
-        .filter_map(|path| fs::read(path).ok())
-        .fold(0xcbf2_9ce4_8422_2325, add);
+    let read = files.iter().filter_map(|path| fs::read(path).ok());
+    let sum = read.fold(0xcbf2_9ce4_8422_2325, add);
     println!("cargo::rustc-env=LOGOS_LIBRARY={sum:016x}");
 }
 
-/// Adds the Rust and Rattle sources of a folder.
+/// Adds the Rust and Rattle sources of a folder. Links are not followed.
 fn add_sources(folder: &Path, files: &mut Vec<PathBuf>) {
     let Ok(entries) = fs::read_dir(folder) else {
         return;
     };
-    for path in entries.flatten().map(|entry| entry.path()) {
+    for entry in entries.flatten() {
+        let path = entry.path();
+        let is_folder = entry.file_type().is_ok_and(|kind| kind.is_dir());
         let is_source = path
             .extension()
             .is_some_and(|end| end == "rs" || end == "rt");
-        if is_source {
-            files.push(path);
-        } else if !LEFT_OUT.iter().any(|name| path.ends_with(name)) {
+        if is_folder && !LEFT_OUT.iter().any(|name| path.ends_with(name)) {
             add_sources(&path, files);
+        } else if is_source {
+            files.push(path);
         }
     }
 }
 
-/// Adds the bytes of a file to a sum: FNV-1a over words.
+/// Adds the bytes of a file to a sum: FNV-1a over words of eight bytes.
 fn add(sum: u64, bytes: Vec<u8>) -> u64 {
     let mix = |sum: u64, word: u64| {
         (sum ^ word)

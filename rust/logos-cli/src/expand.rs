@@ -113,7 +113,9 @@ pub fn expand(source: impl AsRef<Path>) -> PathBuf {
 
 /// Returns a path as a word. Cargo reads paths from lines, so one with a line end is none.
 fn word(path: &Path) -> Result<&str, String> {
-    let word = path.to_str().filter(|word| !word.contains(char::is_control));
+    let word = path
+        .to_str()
+        .filter(|word| !word.contains(char::is_control));
     word.ok_or_else(|| format!("error: this path is not plain text: {}", path.display()))
 }
 

@@ -74,13 +74,21 @@ impl ShapeName {
     }
 }
 
+/// Sets how much memory the library uses.
+///
+/// # Errors
+///
+/// Returns what to say if the variable `LOGOS_MEMORY` names no number of bytes.
+pub fn set_budget() -> Result<(), Failure> {
+    set_budget_of_program().map_err(|error| Failure(error.to_string()))
+}
+
 /// Asks the library for the implementation of an enum.
 ///
 /// # Errors
 ///
 /// Returns what to say if memory is refused, or if the library panics, which is a mistake in it.
 pub fn ask(question: &Question, shape: ShapeName) -> Result<Answer, Failure> {
-    set_budget_of_program().map_err(|error| Failure(error.to_string()))?;
     let derive = || library::derive(Global, &question.text, shape.shape());
     match catch_unwind(AssertUnwindSafe(derive)) {
         Ok(Ok(derivation)) => Ok(answer(&derivation)),

@@ -41,6 +41,7 @@ use question::Question;
 pub fn derive(item: TokenStream) -> TokenStream {
     let question = Question::new(item.clone());
     let made = shape().and_then(|shape| {
+        answer::set_budget()?;
         let answer = answer_to(&question, shape)?;
         implementation(&answer, &question, &item)
     });

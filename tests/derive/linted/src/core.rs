@@ -1,0 +1,3 @@
+//! A module with a name that printed text uses.
+
+pub const NAME: &str = "core";
