@@ -1,24 +1,15 @@
 #!/usr/bin/env bash
-# Runs the examples: `cargo test` in each Cargo package of examples/, of rust/logos and of
-# rust/logos-cli, without a network. A quick test runs those of a package again where it, the runtime
-# packages or an answer of `logos_cli` have changed.
+# Runs the examples: `cargo test` in each Cargo package of examples/, in rust/logos and in
+# rust/logos-derive, without a network and without a program of this repository. A quick test runs
+# those of a package again if it, the packages of rust/ or the crates have changed.
 #
-# The program `logos_cli` is the one that the gate has built, or the first argument. Where cargo is
-# missing, that is printed, and nothing is tested. The last line is `examples: N passed, M failed`,
-# with the number of tests that passed, and that of packages that failed.
+# Where cargo is missing, that is printed, and nothing is tested. The last line is `examples: N
+# passed, M failed`, with the number of tests that passed, and that of packages that failed.
 set -uo pipefail
 
 root=$(cd "$(dirname "${BASH_SOURCE[0]}")/.." && pwd)
-LOGOS_CLI=${1:-$root/out/programs/logos_cli}
-if [ ! -x "$LOGOS_CLI" ]; then
-    echo "examples: the program $LOGOS_CLI is missing"
-    echo "examples: 0 passed, 1 failed"
-    exit 1
-fi
-LOGOS_CLI=$(realpath "$LOGOS_CLI")
-export LOGOS_CLI
 . "$root/tests/kept.sh"
-packages=(rust/logos rust/logos-cli examples/json examples/template examples/highlight examples/ini)
+packages=(rust/logos rust/logos-derive examples/json examples/template examples/highlight examples/ini)
 room=$(mktemp -d)
 trap 'rm -rf "$room"' EXIT
 passed=0
@@ -30,13 +21,14 @@ if ! command -v cargo > /dev/null; then
 fi
 # Tests a package, and writes into a file how many of its tests passed.
 tested() {
-    CARGO_TARGET_DIR="$room/target" CARGO_PROFILE_DEV_DEBUG=0 CARGO_INCREMENTAL=0 cargo test --quiet --offline --manifest-path "$root/$1/Cargo.toml" > "$room/output" 2>&1 || return
+    CARGO_TARGET_DIR=${CARGO_TARGET_DIR:-$room/target} CARGO_PROFILE_DEV_DEBUG=0 CARGO_INCREMENTAL=0 \
+        cargo test --quiet --offline --manifest-path "$root/$1/Cargo.toml" > "$room/output" 2>&1 || return
     awk '/^test result: ok\. [0-9]+ passed/ { all += $4 } END { print all + 0 }' "$room/output" > "$2"
 }
 
 for package in "${packages[@]}"; do
     count=$room/examples_${package//\//_}
-    if of_packages "$root/rust" "$root/$package" "$root/tests/examples.sh" | kept_by_answers "$count" tested "$package" "$count"; then
+    if of_packages "$root/rust" "$root"/crates/*/src "$root/$package" "$root/tests/examples.sh" | kept "$count" tested "$package" "$count"; then
         passed=$((passed + $(< "$count")))
     else
         failed=$((failed + 1))

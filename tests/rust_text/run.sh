@@ -32,7 +32,7 @@
 # compared no further. Which inputs and sources these are, and how many comparisons and refusals
 # there have to be, is stated here.
 #
-# It needs rustc, and the programs as the gate leaves them in out/programs, or the two arguments.
+# It needs rustc and cargo, and the programs as the gate leaves them in out/programs, or the two arguments.
 set -euo pipefail
 
 comparisons=768
@@ -130,7 +130,8 @@ lexer_text() {
 
 # Has rustc compile the program.
 compile() {
-    rustc --edition 2021 --crate-type proc-macro --crate-name logos_derive --extern proc_macro -o "$room/liblogos_derive.so" "$root/rust/logos-derive/src/lib.rs"
+    CARGO_PROFILE_DEV_OPT_LEVEL=1 CARGO_PROFILE_DEV_DEBUG=0 cargo build --offline --quiet -p logos-derive --manifest-path "$root/Cargo.toml" --target-dir "$root/out/cargo"
+    cp "$root/out/cargo/debug/liblogos_derive.so" "$room"
     # (most of the time goes into what `scan` finds, so its library is optimised, with all checks; it
     # says what its build script says to it at a higher level)
     LOGOS_VECTORS=1 rustc --edition 2021 --crate-type rlib --crate-name logos --cfg 'feature="export_derive"' --extern "logos_derive=$room/liblogos_derive.so" \
@@ -242,11 +243,10 @@ compare_tables() {
 }
 
 declare -A status
-command -v rustc > /dev/null || fail "rustc is missing"
-export LOGOS_CLI=$cli
+command -v cargo > /dev/null || fail "cargo is missing"
 lay_out
 write_program
-{ of_runtime "$root"; cat "$root"/rust/logos-derive/src/*.rs "$here/serde.rs" "$room/main.rs"; } | kept_by_answers "$room/rust_text" compile || fail "rustc refuses the printed texts"
+{ of_packages "$root/rust" "$root"/crates/*/src; cat "$here/serde.rs" "$room/main.rs"; } | kept "$room/rust_text" compile || fail "rustc refuses the printed texts"
 for inputs in "$room"/inputs/*; do
     for input in "$inputs"/*; do
         ask_lexer "${inputs##*/}" "$input"
