@@ -4,8 +4,8 @@ mod budget;
 
 use core::fmt;
 
-pub(crate) use budget::{claim, release};
 pub use budget::{BudgetError, DEFAULT_BUDGET, budget_of, set_budget, set_budget_of_program};
+pub(crate) use budget::{claim, release};
 
 /// The allocator of the process.
 #[derive(Clone, Copy, Debug, Default, PartialEq, Eq)]

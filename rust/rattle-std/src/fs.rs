@@ -239,7 +239,9 @@ impl File {
     fn len_hint(&self) -> usize {
         const MOST: u64 = 1 << 26;
         match &self.0 {
-            Opened::File(file) => file.metadata().map_or(0, |found| found.len().min(MOST) as usize),
+            Opened::File(file) => file
+                .metadata()
+                .map_or(0, |found| found.len().min(MOST) as usize),
             Opened::StandardInput(_) | Opened::Program(_) => 0,
         }
     }

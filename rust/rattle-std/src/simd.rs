@@ -109,8 +109,8 @@ fn have_steps<const M: usize>(indices: &[usize; M], first: usize, step: usize) -
 #[inline(always)]
 fn have_16_steps(indices: &[usize], at: usize, first: usize, step: usize) -> bool {
     let mut have = true;
-    for k in at..at + 16 {
-        have &= indices[k] == first + step * k;
+    for (k, index) in indices[at..at + 16].iter().enumerate() {
+        have &= *index == first + step * (at + k);
     }
     have
 }

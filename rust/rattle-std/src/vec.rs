@@ -7,9 +7,7 @@ use core::ops::{Bound, RangeBounds};
 
 pub use std::vec::IntoIter;
 
-/// A vector.
-///
-/// All of its memory comes from [`Vec::grow`], which asks the budget first.
+/// A vector. Its growth asks the budget first.
 pub struct Vec<T>(std::vec::Vec<T>);
 
 impl<T> Vec<T> {

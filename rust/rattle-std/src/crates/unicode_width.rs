@@ -19,7 +19,7 @@ const fn count() -> usize {
     let (mut at, mut runs) = (0, 0);
     while at < WIDTHS.len() {
         (_, at) = number_at(WIDTHS, at);
-        at += 1;
+        (_, at) = number_at(WIDTHS, at);
         runs += 1;
     }
     runs
@@ -29,10 +29,11 @@ const fn runs() -> [(u32, u8); RUNS] {
     let mut runs = [(0, 0); RUNS];
     let (mut run, mut at, mut from) = (0, 0, 0);
     while run < RUNS {
-        let (length, width) = number_at(WIDTHS, at);
+        let (length, after) = number_at(WIDTHS, at);
+        let (width, next) = number_at(WIDTHS, after);
         from += length;
-        runs[run] = (from - 1, WIDTHS[width]);
-        at = width + 1;
+        runs[run] = (from - 1, width as u8);
+        at = next;
         run += 1;
     }
     runs

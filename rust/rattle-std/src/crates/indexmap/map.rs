@@ -49,7 +49,8 @@ impl<K: Eq + Hash, V> IndexMap<K, V> {
         K: Borrow<Q>,
     {
         let entries = &self.entries;
-        self.table.find(hash, |index| entries[index].0.borrow() == key)
+        self.table
+            .find(hash, |index| entries[index].0.borrow() == key)
     }
 
     /// Returns the value of a key.
@@ -83,7 +84,9 @@ impl<K: Eq + Hash, V> IndexMap<K, V> {
         }
         let index = self.entries.len();
         if self.table.reserve(index, 1).is_err() {
-            return Err(AllocFailed { value: (key, value) });
+            return Err(AllocFailed {
+                value: (key, value),
+            });
         }
         self.entries.push((key, value))?;
         self.table.set(hash, index);

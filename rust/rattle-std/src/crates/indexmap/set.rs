@@ -73,7 +73,8 @@ impl<T: Eq + Hash> IndexSet<T> {
     {
         let hash = self.table.hash_of(value);
         let values = &self.values;
-        self.table.find(hash, |index| values[index].borrow() == value)
+        self.table
+            .find(hash, |index| values[index].borrow() == value)
     }
 
     /// Returns whether the set has a value.
@@ -123,7 +124,8 @@ impl<T: Eq + Hash> IndexSet<T> {
     /// Keeps the first `len` values.
     pub fn truncate(&mut self, len: usize) {
         for index in (len..self.values.len()).rev() {
-            self.table.remove(self.table.hash_of(&self.values[index]), index);
+            self.table
+                .remove(self.table.hash_of(&self.values[index]), index);
         }
         self.values.truncate(len);
     }

@@ -20,14 +20,14 @@ set!(XID_START);
 set!(XID_CONTINUE);
 
 /// Returns the number that begins at an index of a table, and where the next one begins.
-pub(crate) const fn number_at(bytes: &[u8], mut at: usize) -> (u32, usize) {
+pub(crate) const fn number_at(table: &[u8], mut at: usize) -> (u32, usize) {
     let (mut number, mut shift) = (0, 0);
-    while bytes[at] >= 128 {
-        number |= (bytes[at] as u32 - 128) << shift;
-        shift += 7;
+    while table[at] >= b']' {
+        number |= ((table[at] - b']') as u32) << shift;
+        shift += 5;
         at += 1;
     }
-    (number | (bytes[at] as u32) << shift, at + 1)
+    (number | ((table[at] - b'0') as u32) << shift, at + 1)
 }
 
 /// Returns how many ranges a set has.
