@@ -1,6 +1,6 @@
 //! Reads settings files: sections, names and values.
 
-/// The lexers, as `logos_cli` expands them from `src/lexers.rs`.
+/// The lexers, as the build script expands them from `src/lexers.rs`.
 pub mod lexers {
     include!(concat!(env!("OUT_DIR"), "/lexers.rs"));
 }

@@ -1,5 +1,6 @@
 //! What the library answers about an enum, in types of Rust's own library.
 
+use crate::packed::packed;
 use crate::question::Question;
 use logos_codegen::logos_codegen::generator::Config;
 use logos_codegen::logos_derive as library;
@@ -107,16 +108,17 @@ pub fn ask(question: &Question, shape: ShapeName) -> Result<Answer, Failure> {
 }
 
 fn answer(derivation: &library::Derivation) -> Answer {
-    let implementation = derivation
-        .implementation
-        .as_ref()
-        .map(|found| Implementation {
-            text: found.text.as_str().into(),
-            pieces: found.pieces.iter().map(piece).collect(),
-        });
     Answer {
-        implementation,
+        implementation: derivation.implementation.as_ref().map(implementation),
         diagnostics: derivation.diagnostics.iter().map(diagnostic).collect(),
+    }
+}
+
+fn implementation(found: &library::Implementation) -> Implementation {
+    let end = found.pieces.last().map_or(0, |piece| piece.to);
+    Implementation {
+        text: packed(found.text.as_str(), end),
+        pieces: found.pieces.iter().map(piece).collect(),
     }
 }
 

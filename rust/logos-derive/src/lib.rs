@@ -24,6 +24,7 @@ mod fault;
 mod fill;
 mod generics;
 mod kept;
+mod packed;
 mod question;
 mod record;
 mod stub;
@@ -36,7 +37,67 @@ use question::Question;
 
 /// Implements the trait `Logos` for an enum whose variants carry patterns.
 ///
-/// [The guide](https://github.com/maciejhirsz/logos) has more.
+/// ```
+/// use logos::{Lexer, Logos};
+///
+/// #[derive(Logos, Debug, PartialEq)]
+/// #[logos(skip r"[ \t\n]+", extras = usize, error = String)]
+/// #[logos(subpattern digits = "[0-9](_?[0-9])*")]
+/// enum Token<'s> {
+///     #[token("fast")]
+///     #[token("quick", ignore(case))]
+///     Fast,
+///     #[regex("(?&digits)", |lex| lex.slice().parse().map_err(|_| "too large".to_string()))]
+///     Number(u32),
+///     #[regex(r"\p{XID_Start}\p{XID_Continue}*")]
+///     Name(&'s str),
+///     #[token(";", count)]
+///     End,
+/// }
+///
+/// fn count<'s>(lexer: &mut Lexer<'s, Token<'s>>) {
+///     lexer.extras += 1;
+/// }
+///
+/// let mut lexer = Token::lexer("Quick 12;");
+/// assert_eq!(lexer.next(), Some(Ok(Token::Fast)));
+/// assert_eq!(lexer.next(), Some(Ok(Token::Number(12))));
+/// assert_eq!((lexer.next(), lexer.extras), (Some(Ok(Token::End)), 1));
+/// ```
+///
+/// # Attributes of variants
+///
+/// - `#[token(literal)]`: the text of the literal, a string or a byte string.
+/// - `#[regex(literal)]`: the texts that a regular expression matches, in the syntax of the crate
+///   `regex`.
+///
+/// A variant may have several. After the literal both take:
+///
+/// - a callback, or `callback = ..`: a path, or a closure of one parameter. It is called with the
+///   lexer at each match. A variant without a field has no value; the value of a field is what the
+///   callback returns, and the slice without a callback. A callback may also return `bool`, `Option`
+///   or `Result` of the value, `Skip`, `Filter`, `FilterResult` or the token.
+/// - `priority = 3`: of matches of the same length the one with the highest priority is taken. By
+///   default it grows with the number of bytes that a pattern matches at least.
+/// - `ignore(case)`: letters in both cases.
+/// - `allow_greedy = true`, of a `regex`: lets it end in `.*` or the like, which takes all that is
+///   left of the input or the line.
+///
+/// # Attributes of the enum
+///
+/// `#[logos(..)]` takes, any of them also several times if that is said:
+///
+/// - `skip literal` or `skip(literal, callback, priority = 3, ..)`, several times: a regular
+///   expression whose matches are left out.
+/// - `subpattern name = literal`, several times: a part of patterns, as `(?&name)`.
+/// - `extras = Type`: the state of the lexer, `extras`, which callbacks read and change. `()` by
+///   default.
+/// - `error = Type` or `error(Type, callback)`: the type of errors, which has to be
+///   `Default + Clone + PartialEq + Debug`, and what makes one from the lexer. `()` by default.
+/// - `type T = Type`, several times: the type of a type parameter.
+/// - `utf8 = false`: inputs are `[u8]`, and not `str`.
+/// - `crate = path`: where the crate `logos` is, if it has another name.
+/// - `export_dir = "path"`: accepted, and without effect here. `logos export` writes charts.
 #[proc_macro_derive(Logos, attributes(logos, extras, error, end, token, regex))]
 pub fn derive(item: TokenStream) -> TokenStream {
     let question = Question::new(item.clone());

@@ -30,5 +30,7 @@ enum Token {
 }
 
 fn main() {
-    println!("{:?} {}", linted::count("a 1 { } .. ...\nb"), core::NAME.len() + std::NAME.len());
+    let tokens = <Token as logos::Logos>::lexer("ab0").flatten();
+    let names = core::NAME.len() + std::NAME.len();
+    println!("{:?} {names} {:?}", linted::count("a 1 { } .. ...\nb"), tokens.collect::<Vec<_>>());
 }
