@@ -5,14 +5,13 @@
 #
 #   bench/derive.sh [PROGRAM] [TIMES]
 #
-# PROGRAM is `logos_cli`. Without it, it is the one that the variable LOGOS_CLI names, or the one
-# that the gate has built. A line for each build: the package, the profile, and its seconds by the
-# clock and of processor time.
+# PROGRAM is `logos_cli`, which expands the lexers by hand. Without it, it is the one that the gate
+# has built. A line for each build: the package, the profile, and its seconds by the clock and of
+# processor time.
 set -euo pipefail
 
 root=$(cd "$(dirname "${BASH_SOURCE[0]}")/.." && pwd)
-LOGOS_CLI=$(realpath "${1:-${LOGOS_CLI:-$root/out/programs/logos_cli}}")
-export LOGOS_CLI
+cli=$(realpath "${1:-$root/out/programs/logos_cli}")
 unset LOGOS_SHAPE CARGO_TARGET_DIR
 lexers=(css pythonic rusty sql)
 room=$(mktemp -d)
@@ -32,7 +31,7 @@ lay_out expanded ', default-features = false'
 sed -i '1i #![allow(unused)]' "$room/expanded/src/lib.rs"
 for lexer in "${lexers[@]}"; do
     cp "$root/examples/lexers/$lexer.rs" "$room/derived/src"
-    "$LOGOS_CLI" "$root/examples/lexers/$lexer.rs" --shape tailcall --output "$room/expanded/src/$lexer.rs"
+    "$cli" "$root/examples/lexers/$lexer.rs" --shape tailcall --output "$room/expanded/src/$lexer.rs"
 done
 for ((n = 0; n < ${2:-3}; n++)); do
     for profile in dev release; do

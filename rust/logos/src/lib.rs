@@ -1,18 +1,17 @@
 //! Lexers from enums: `#[derive(Logos)]`, and the runtime of the lexers that it makes.
 //!
-//! An enum implements [`Logos`] by the derive macro, or by a text that the program `logos_cli`
-//! prints. [`Logos::lexer`] begins a run over an input, and the run is an iterator over tokens.
+//! An enum implements [`Logos`] by the derive macro, or by generated code that the program
+//! `logos_cli` prints. [`Logos::lexer`] begins a run over an input, and the run is an iterator over tokens.
 //! [`Scan::scan`], for lexers that are tables, is one over tokens with their places, by chunks of
 //! the input.
 //!
 //! # Features
 //!
-//! - `export_derive`, on by default: the derive macro, which asks the program `logos_cli`.
+//! - `export_derive`, on by default: the derive macro.
 //! - `std`, on by default: a [`Scanner`] keeps what it looked ahead in a box, and not in itself.
 //!   Nothing else asks for more than `core`.
 //! - `state_machine_codegen`: the derive macro prints the shape `state_machine`, not `tables`.
-//! - `debug`: the derive macro says on standard error which program it asks, and prints the
-//!   implementations.
+//! - `debug`: the derive macro prints the implementations on standard error.
 //! - `forbid_unsafe`: [`Source`] has no unsafe methods. This crate has no unsafe code either way.
 
 #![no_std]

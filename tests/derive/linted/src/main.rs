@@ -32,5 +32,9 @@ enum Token {
 fn main() {
     let tokens = <Token as logos::Logos>::lexer("ab0").flatten();
     let names = core::NAME.len() + std::NAME.len();
-    println!("{:?} {names} {:?}", linted::count("a 1 { } .. ...\nb"), tokens.collect::<Vec<_>>());
+    println!(
+        "{:?} {names} {:?}",
+        linted::count("a 1 { } .. ...\nb"),
+        tokens.collect::<Vec<_>>()
+    );
 }
