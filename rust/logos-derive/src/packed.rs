@@ -66,3 +66,35 @@ fn escaped<const N: usize>(items: impl Iterator<Item = Option<[u8; N]>>) -> Opti
     }
     Some(text)
 }
+
+#[cfg(test)]
+mod tests {
+    use super::packed;
+
+    #[test]
+    fn a_table_becomes_a_byte_string() {
+        let text = "fn f() {}\nconst _A: [u8; 5] = [0,34,65,92,255,];\n";
+        let wanted = "fn f() {}\nconst _A: [u8; 5] = *b\"\\x00\\\"A\\\\\\xff\";\n";
+        assert_eq!(packed(text, 0), wanted);
+        let words = packed("const _B: [u16; 2] = [258,65,];", 0);
+        assert!(words.contains("[u16; 2] = {") && words.contains("b\"\\x02\\x01A\\x00\""));
+    }
+
+    #[test]
+    fn other_lines_stay() {
+        for text in [
+            "const _A: [u8; 1] = [256,];\n",
+            "const _A: [u32; 1] = [1,];\n",
+            "const _A: [u8; 1] = [x,];\n",
+            "const _A: u8 = [1,][0];\n",
+            "let a: [u8; 1] = [1,];",
+            "const _A: [u8; 1] = [1];\r\n",
+            "",
+        ] {
+            assert_eq!(packed(text, 0), text);
+        }
+        let text = "const _A: [u8; 1] = [1,];\n";
+        assert_eq!(packed(text, text.len()), text);
+        assert_eq!(packed(text, text.len() + 1), text);
+    }
+}

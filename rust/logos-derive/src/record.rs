@@ -107,3 +107,68 @@ fn read_diagnostic(rest: &mut &[u8]) -> Option<Diagnostic> {
         notes: read_list(rest, |rest| Some(read_text(rest)?.into()))?,
     })
 }
+
+#[cfg(test)]
+mod tests {
+    use super::{read, written};
+    use crate::answer::{Answer, Diagnostic, Implementation, Label, Piece};
+
+    fn answer() -> Answer {
+        let label = Label {
+            span: 1..2,
+            text: "see also".into(),
+        };
+        let found = Diagnostic {
+            is_error: false,
+            message: "never found é".into(),
+            span: 3..usize::MAX,
+            carets: Some(4..5),
+            labels: vec![label],
+            notes: vec!["help: a".into(), String::new()],
+        };
+        let piece = Piece {
+            range: 6..7,
+            source: 8..9,
+        };
+        Answer {
+            implementation: Some(Implementation {
+                text: "impl".into(),
+                pieces: vec![piece],
+            }),
+            diagnostics: vec![found],
+        }
+    }
+
+    #[test]
+    fn what_is_written_is_read() {
+        let bytes = written(&answer(), "asked").unwrap();
+        let found = read(&bytes, "asked").unwrap();
+        assert_eq!(written(&found, "asked").unwrap(), bytes);
+        let found = &found.diagnostics[0];
+        assert_eq!(
+            (&*found.message, found.span.end),
+            ("never found é", usize::MAX)
+        );
+        assert_eq!((found.carets.clone(), found.notes.len()), (Some(4..5), 2));
+    }
+
+    #[test]
+    fn a_record_that_is_not_whole_is_none() {
+        let bytes = written(&answer(), "asked").unwrap();
+        for length in 0..bytes.len() {
+            assert!(read(&bytes[..length], "asked").is_none());
+        }
+        assert!(read(&[&bytes[..], b"x"].concat(), "asked").is_none());
+        assert!(read(&bytes, "asked for").is_none());
+        assert!(read(&[0xff; 64], "asked").is_none());
+    }
+
+    #[test]
+    fn a_refused_enum_has_no_record() {
+        let refused = Answer {
+            implementation: None,
+            diagnostics: Vec::new(),
+        };
+        assert!(written(&refused, "asked").is_none());
+    }
+}
