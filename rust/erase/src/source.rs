@@ -124,7 +124,7 @@ impl<'t> Source<'t> {
             let before = self.text[..comment].trim_end_matches(' ');
             let is_first = before.is_empty() || before.ends_with('\n');
             let is_of_file = self.text[comment..].starts_with("//!");
-            if is_of_file || !is_first || self.text[end..start].trim_matches(' ') != "\n" {
+            if is_of_file || !is_first || self.text[end..start].trim_matches([' ', '\r']) != "\n" {
                 break;
             }
             start = comment;
@@ -134,7 +134,7 @@ impl<'t> Source<'t> {
 
     /// Blanks bytes, and the end of their line if nothing else follows on it.
     fn add_blanks(&mut self, from: usize, to: usize) {
-        let rest = self.text[to..].trim_start_matches(' ');
+        let rest = self.text[to..].trim_start_matches([' ', '\r']);
         let end = self.text.len() - rest.len();
         self.edits.push((from, if rest.starts_with('\n') { end + 1 } else { to }, ""));
     }

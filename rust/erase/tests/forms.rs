@@ -77,6 +77,7 @@ fn comments_above_what_goes_go_too() {
             "struct A {\n    a: u8, // Kept.\n\n\n}\n",
         ),
         ("//! Kept.\nghost use A;\n", "//! Kept.\n\n"),
+        ("a();\r\n/// Goes.\r\nghost use A;\r\nb();\r\n", "a();\r\n\n\nb();\r\n"),
     ]);
 }
 

@@ -37,6 +37,9 @@ fn renamed(source: &[char], erased: &[char]) -> Option<usize> {
 
 /// Returns whether a line differs from the line of the source by blanks and by names alone.
 fn is_in_place(source: &str, erased: &str) -> bool {
+    if source == erased {
+        return true;
+    }
     let source: Vec<char> = source.chars().collect();
     let erased: Vec<char> = erased.chars().collect();
     let mut at = 0;
