@@ -33,3 +33,8 @@ extern crate rattle_std as std;
 include!(concat!(env!("OUT_DIR"), "/crates.rs"));
 
 pub use self::logos_codegen::*;
+
+/// The example of the package's page, which `cargo test` runs.
+#[cfg(doctest)]
+#[doc = include_str!("../README.md")]
+struct Readme;
