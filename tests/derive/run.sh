@@ -2,7 +2,9 @@
 # Tests `#[derive(Logos)]` of rust/logos and `logos_build` of rust/logos-cli, without a network and
 # without any program of this repository.
 #
-#   tests/derive/run.sh
+#   tests/derive/run.sh [GROUP ..]
+#
+# With the names of groups it tests these alone.
 #
 # - accepted: the packages of accepted/ are built, and print what their files `expected` hold, in
 #   each shape.
@@ -27,6 +29,7 @@ here=$root/tests/derive
 . "$here/places.sh"
 export PYTHONDONTWRITEBYTECODE=1
 unset LOGOS_SHAPE LOGOS_MEMORY
+groups=" $* "
 room=$(mktemp -d)
 trap 'rm -rf "$room"' EXIT
 # A fresh home, and a path without a program of this repository. Nothing is asked of a network.
@@ -276,12 +279,11 @@ made_from() {
 }
 
 # NAME ROWS COMMAND ..: tests something that has so many rows, unless it passed before as it is.
-wanted=0
 group() {
     local out=$room/derive_$1 rows=$2 good=0 bad=1
+    [[ $groups = '  ' || $groups = *" $1 "* ]] || return 0
     (kept "$out" counted "$out" "${@:3}" < "$room/made_from")
     read -r good bad < "$out"
-    wanted=$((wanted + rows))
     passed=$((passed + good))
     failed=$((failed + bad + (good + bad == rows ? 0 : 1)))
     [ $((good + bad)) = "$rows" ] || echo "derive: the group $1 has $((good + bad)) rows, and not $rows"

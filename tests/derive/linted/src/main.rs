@@ -25,8 +25,8 @@ enum Token {
     Some,
     #[regex("[b-d]+")]
     None,
-    #[regex("[0-9]+", |lex| lex.slice().len())]
-    Option(usize),
+    #[regex("[0-9]+", |lex| lex.slice().len() == 1)]
+    Option,
 }
 
 fn main() {
