@@ -9,9 +9,6 @@
 # proofs all passed leaves a note in the folder .git/gate: which files it proved, with which
 # toolchain, and which programs it built. A later run over the same files takes its word for them.
 #
-# The sums in proved.sums have to be those of the crates, so that a program that is installed
-# without proofs may leave its checks out.
-#
 # In front of each verdict stand the seconds since the run began, and at the end the processor
 # minutes of each crate. RT_JOBS says how many checks run at once.
 set -uo pipefail
@@ -46,7 +43,7 @@ inputs() {
     {
         rt version
         find crates -path 'crates/*/out' -prune -o -type f -print0 | sort -z | xargs -0 sha256sum
-        sha256sum crates.txt HANDLES proved.sums .ci/run tests/proofs.sh tests/large_pages.{c,sh} tools/proved_sums.py
+        sha256sum crates.txt HANDLES .ci/run tests/proofs.sh tests/large_pages.{c,sh}
         sha256sum "$at/KIT-ID" "$at/bin/rattle" "$at/bin/rt" "$at/bin/rtlib.py"
     } | sha256sum
 }
@@ -135,7 +132,6 @@ rt ci "${words[@]}" | with_seconds | tee "$room/proofs" || status=1
 { kill "$watch"; wait "$watch"; } 2> /dev/null
 print_checks
 [ "$status" != 0 ] || put_programs || status=1
-[ "$status" != 0 ] || python3 tools/proved_sums.py || status=1
 if [ "$status" = 0 ] && [ "$sum" = "$(inputs)" ]; then
     mkdir -p "$gate"
     echo "$sum" > "$gate/inputs"

@@ -1,21 +1,20 @@
 #!/usr/bin/env python3
 """Runs the parts of tests/parts, and counts what passed.
 
-  run_parts.py proved [--anew] [PART..]   with the programs that the part `proofs` has left
-  run_parts.py quick [PART..]             without `proofs` and `wrong_bodies`, with programs that
-                                          are built unproved
+  run_parts.py gate [--anew]              all of them, with the proved programs and the erased ones
+  run_parts.py quick [--rattle] [PART..]  those that are named, or all but `proofs` and
+                                          `wrong_bodies`, with the erased programs; with --rattle
+                                          also with those that Rattle builds without proofs
 
-What is built unproved is kept in `out/quick`, and for the proved programs beside it in `out/gate`,
-so that the gate takes nothing of a quick test.
-
-Without names all parts run. Those that may run beside others do so, as many at once as there are
-cores. Each runs, whatever failed before it. At the end stand the time and the counts of each part,
-then a line for each part that was left out because a tool is missing, and last a line
-`N passed, M failed` with the sums. A part in which fewer passed than the list states has failed,
-and so has one that prints no counts. The status is 1 if anything failed."""
+A part whose command names programs runs once with those of Rattle, under its name, and once with
+those of Cargo, as `NAME.erased`. Parts run side by side, as many as there are cores, except for the
+two runs of one part, since the second takes what the first has compiled of the same text. Each
+part runs, whatever failed before it. At the end stand the time and the counts of each part, then a
+line for each part that was left out because a tool is missing, and last a line `N passed, M failed`
+with the sums. A part in which fewer passed than the list states has failed, and so has one that
+prints no counts. The status is 1 if anything failed."""
 import argparse
 import dataclasses
-import glob
 import os
 import re
 import shutil
@@ -27,16 +26,17 @@ import time
 
 ROOT = os.path.dirname(os.path.dirname(os.path.realpath(__file__)))
 LIST = f"{ROOT}/tests/parts"
-KEPT = {"quick": f"{ROOT}/out/quick", "proved": f"{ROOT}/out/gate"}
-# The programs that commands name, the folder of the examples in Rattle, and that of all that is
-# built without proofs.
-NAMES = {"logos": "logos", "logos_cli": "logos_cli", "logos_show": "logos_show", "calls": "calls", "evidence": "evidence", "edits": "edits", "examples": "examples", "built": "."}
-# Where `proofs` leaves programs.
-PROVED = {name: f"{ROOT}/out/programs/{name}" for name in ("logos", "logos_cli", "logos_show")}
-BUILD = "programs"
-# The parts that the quick test leaves out: the proofs, and what needs the libraries that they
-# leave.
+PROVED, RATTLE, CARGO = f"{ROOT}/out/programs", f"{ROOT}/out/rattle", f"{ROOT}/out/cargo/release"
+# What commands name: programs, the folder of the examples in Rattle, and that of the three programs.
+TOOLS = {"logos": "logos", "logos_cli": "logos_cli", "logos_show": "logos_show", "built": "."}
+FOR_TESTS = {"calls": "calls", "evidence": "evidence", "edits": "edits"}
+# The part that makes the programs of each compiler, and the tool that it needs.
+MAKERS = {"rattle": "programs", "cargo": "erased"}
+NEEDED = {"rattle": "rt", "cargo": "cargo"}
+# What the quick test leaves out: the proofs, and what needs the libraries that they leave.
 OF_PROOFS = ("proofs", "wrong_bodies")
+# What was compiled and found stays here: in the quick test from run to run.
+KEPT = {"quick": f"{ROOT}/out/compiled", "gate": f"{ROOT}/out/gate"}
 PRINTING = threading.Lock()
 
 
@@ -47,14 +47,25 @@ def fail(why):
 
 @dataclasses.dataclass
 class Part:
-    """A part: a row of the list, and the programs that its command names."""
+    """A run of a row of the list: with the programs of one compiler, or with none."""
 
-    name: str
+    row: str
     least: int
     tool: str
     alone: bool
+    by: str
     command: str
-    programs: list
+    # What its command names.
+    programs: set
+
+    @property
+    def name(self):
+        return self.row + ".erased" * (self.by == "cargo" and self.row not in MAKERS.values())
+
+    def missing(self):
+        """Returns the tool that it needs and that is not there, if any."""
+        tools = [self.tool, *[NEEDED[self.by]] * (self.by in NEEDED)]
+        return next((it for it in tools if it != "-" and not shutil.which(it)), None)
 
 
 @dataclasses.dataclass
@@ -75,32 +86,29 @@ def listed():
         for line in lines:
             if line.startswith("#") or not line.strip():
                 continue
-            name, least, tool, runs, command = line.rstrip("\n").split(maxsplit=4)
-            programs = re.findall(r"\{(\w+)\}", command)
-            if runs not in ("alone", "beside") or not set(programs) <= set(NAMES) or int(least) < 1:
+            name, least, tool, runs, by, command = line.rstrip("\n").split(maxsplit=5)
+            programs = set(re.findall(r"\{(\w+)\}", command))
+            known = {*TOOLS, *FOR_TESTS, "examples", "compiler"}
+            leasts = [int(it) for it in least.split(",")]
+            if runs not in ("alone", "beside") or by not in ("both", "-", *MAKERS) or not programs <= known or min(leasts) < 1:
                 fail(f"the list has a row that cannot be read: {line}")
-            found.append(Part(name, int(least), tool, runs == "alone", command, programs))
+            for one in MAKERS if by == "both" else [by]:
+                found.append(Part(name, leasts[-1 if one == "cargo" else 0], tool, runs == "alone", one, command.replace("{compiler}", one), programs - {"compiler"}))
     return found
 
 
-def paths_of(how):
-    """Returns where the programs are."""
-    return {**{name: f"{KEPT[how]}/{path}" for name, path in NAMES.items()}, **(PROVED if how == "proved" else {})}
+def paths_of(by, is_gate):
+    """Returns where the programs of a compiler are."""
+    if by == "cargo":
+        return {name: f"{CARGO}/{path}" for name, path in {**TOOLS, **FOR_TESTS, "examples": "."}.items()}
+    return {**{name: f"{RATTLE}/{path}" for name, path in {**TOOLS, **FOR_TESTS, "examples": "examples"}.items()},
+            **{name: f"{PROVED}/{path}" for name, path in TOOLS.items() if is_gate}}
 
 
-def with_programs(parts, how):
-    """Returns the parts with one that builds what they need, in front of them, but after the
-    proofs."""
-    if all(it in PROVED and how == "proved" for part in parts for it in part.programs):
-        return parts
-    at = next((number for number, part in enumerate(parts, 1) if part.name == "proofs"), 0)
-    return [*parts[:at], Part(BUILD, 1, "-", False, f"python3 tests/programs.py {KEPT[how]}", []), *parts[at:]]
-
-
-def words(part, paths):
+def words(part, is_gate):
     """Returns the words of a part's command."""
-    given = re.sub(r"\{(\w+)\}", lambda it: paths[it[1]], part.command)
-    return ["bash", "-c", given]
+    paths = paths_of(part.by, is_gate)
+    return ["bash", "-c", re.sub(r"\{(\w+)\}", lambda it: paths[it[1]], part.command)]
 
 
 def counts(part, output, status):
@@ -120,13 +128,13 @@ def counts(part, output, status):
     return passed, failed, ""
 
 
-def run(part, paths):
+def run(part, is_gate):
     """Runs a part, prints its output, and returns how it ended."""
     with tempfile.TemporaryFile() as out:
         begun = time.monotonic()
         if part.alone:
             print(f"== {part.name}", flush=True)
-        process = subprocess.Popen(words(part, paths), cwd=ROOT, stdin=subprocess.DEVNULL, stdout=subprocess.PIPE, stderr=subprocess.STDOUT)
+        process = subprocess.Popen(words(part, is_gate), cwd=ROOT, stdin=subprocess.DEVNULL, stdout=subprocess.PIPE, stderr=subprocess.STDOUT)
         for line in process.stdout:
             out.write(line)
             if part.alone:
@@ -150,11 +158,10 @@ def run(part, paths):
 class Line:
     """The parts that wait, and those that ended."""
 
-    def __init__(self, parts, how):
-        self.waiting, self.paths, self.results = with_programs(parts, how), paths_of(how), []
-        self.ready = set(PROVED) if how == "proved" else set()
+    def __init__(self, parts, is_gate):
+        self.waiting, self.is_gate, self.results = list(parts), is_gate, []
         self.change = threading.Condition()
-        self.running, self.is_alone = 0, False
+        self.running, self.is_alone = [], False
 
     def next(self):
         """Returns the next part that may begin, or None if there is none any more."""
@@ -163,68 +170,79 @@ class Line:
                 part = None if self.is_alone else self.first_ready()
                 if part:
                     self.waiting.remove(part)
-                    self.running, self.is_alone = self.running + 1, part.alone
+                    self.running.append(part)
+                    self.is_alone = part.alone
                     return part
                 self.change.wait()
             return None
 
     def first_ready(self):
-        """Returns the first part whose programs are there. After a part that runs alone none begins
-        before it has ended."""
+        """Returns the first part that may begin. After a part that runs alone none begins before it
+        has ended."""
         for part in self.waiting:
             if part.alone:
                 return None if self.running else part
-            if set(part.programs) <= self.ready:
+            if self.is_ready(part):
                 return part
         return None
 
+    def is_ready(self, part):
+        """Whether the programs of a part are there, and its row does not run."""
+        is_proved = self.is_gate and part.by == "rattle" and part.programs <= set(TOOLS)
+        maker = None if is_proved or part.row in MAKERS.values() else MAKERS.get(part.by)
+        return all(it.row not in (maker, part.row) for it in self.running) and all(it.row != maker for it in self.waiting)
+
     def end(self, part, result):
         with self.change:
-            self.running, self.is_alone = self.running - 1, False
+            self.running.remove(part)
+            self.is_alone = False
             self.results.append(result)
-            if part.name == BUILD:
-                self.ready = set(self.paths)
             self.change.notify_all()
 
     def work(self):
         """Runs parts until none waits."""
         while part := self.next():
-            self.end(part, run(part, self.paths))
+            self.end(part, run(part, self.is_gate))
 
 
 def table(results):
     """Prints the time and the counts of each part."""
-    print(f"\n{'part':18} {'wall s':>8} {'cpu s':>8} {'passed':>8} {'failed':>7}")
+    print(f"\n{'part':24} {'wall s':>8} {'cpu s':>8} {'passed':>8} {'failed':>7}")
     for it in results:
-        print(f"{it.name:18} {it.wall:8.1f} {it.processor:8.1f} {it.passed:8} {it.failed:7}")
+        print(f"{it.name:24} {it.wall:8.1f} {it.processor:8.1f} {it.passed:8} {it.failed:7}")
 
 
 def chosen(given):
     """Returns the parts that are asked for, and lines for those that are left out."""
-    parts = [it for it in listed() if given.how == "proved" or it.name not in OF_PROOFS]
-    unknown = set(given.parts) - {it.name for it in parts}
+    is_gate = given.how == "gate"
+    all_parts = [it for it in listed() if is_gate or it.row not in OF_PROOFS]
+    unknown = set(given.parts) - {it.row for it in all_parts}
     if unknown:
-        fail(f"no part is named {sorted(unknown)[0]}: there are {', '.join(it.name for it in parts)}")
-    parts = [it for it in parts if not given.parts or it.name in given.parts]
-    out = [it for it in parts if it.tool != "-" and not shutil.which(it.tool)]
-    return [it for it in parts if it not in out], [f"left out: {it.name}, because {it.tool} is missing" for it in out]
+        fail(f"no part is named {sorted(unknown)[0]}: there are {', '.join(dict.fromkeys(it.row for it in all_parts))}")
+    parts = [it for it in all_parts if (is_gate or given.rattle or it.by != "rattle") and (not given.parts or it.row in given.parts)]
+    makers = {MAKERS[it.by] for it in parts if it.by in MAKERS}
+    parts = [it for it in all_parts if it in parts or it.row in makers]
+    lines = [f"left out: {it.name}, because {it.missing()} is missing" for it in parts if it.missing()]
+    if not is_gate and not given.rattle:
+        lines.append("left out: the programs that Rattle builds: bash tests/quick.sh --rattle runs them too")
+    return [it for it in parts if not it.missing()], lines
 
 
 def main():
     parser = argparse.ArgumentParser(prog="run_parts.py", allow_abbrev=False)
-    parser.add_argument("how", choices=["proved", "quick"])
+    parser.add_argument("how", choices=["gate", "quick"])
     parser.add_argument("--anew", action="store_true", help="prove everything, whatever an earlier run has proved")
+    parser.add_argument("--rattle", action="store_true", help="run the programs that Rattle builds, too")
     parser.add_argument("parts", nargs="*", metavar="PART")
     given = parser.parse_intermixed_args()
     parts, left_out = chosen(given)
-    if given.anew:
-        for part in parts:
-            part.command += " --anew" * (part.name in OF_PROOFS)
+    for part in parts:
+        part.command += " --anew" * (given.anew and part.row in OF_PROOFS)
     begun = time.monotonic()
-    line = Line(parts, given.how)
-    os.environ["PYTHONDONTWRITEBYTECODE"] = "1"
-    if given.how == "quick":
-        os.environ["KEPT_BUILDS"] = f"{ROOT}/out/compiled"
+    for folder in (KEPT["gate"], os.path.dirname(CARGO)) if given.how == "gate" else ():
+        shutil.rmtree(folder, ignore_errors=True)
+    os.environ.update(PYTHONDONTWRITEBYTECODE="1", KEPT_BUILDS=KEPT[given.how])
+    line = Line(parts, given.how == "gate")
     jobs = [threading.Thread(target=line.work) for _ in range(len(os.sched_getaffinity(0)))]
     for job in jobs:
         job.start()

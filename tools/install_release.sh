@@ -1,10 +1,13 @@
 #!/usr/bin/env bash
 # Installs the programs of a release: bash install.sh [PREFIX]
 #
-# PREFIX is ~/.local if it is not given. The programs come into PREFIX/bin, and the Rust crates, the
-# pages and the licences into PREFIX/share/logos, in the place of those of another release. Nothing
-# is installed where a file is not as its sum says.
+# PREFIX is ~/.local if it is not given. The programs are put into PREFIX/bin, and the Rust packages,
+# the pages and the licences into PREFIX/share/logos, where FILES lists all of them with their sums.
+# They take the place of what FILES of another release lists. Nothing is installed where any other
+# file is in the way, or one that has changed since, or where a file of this release is not as
+# SHA256SUMS says.
 set -euo pipefail
+export LC_ALL=C
 
 case ${1-} in
     -*)
@@ -12,21 +15,39 @@ case ${1-} in
         exit 2 ;;
 esac
 here=$(cd "$(dirname "${BASH_SOURCE[0]}")" && pwd)
-prefix=${1:-$HOME/.local}
-(cd "$here" && sha256sum --quiet -c SHA256SUMS) || {
-    echo 'install: a file is not as SHA256SUMS says: nothing is installed' >&2
+mkdir -p "${1:-$HOME/.local}"/{bin,share}
+prefix=$(cd "${1:-$HOME/.local}" && pwd)
+share=$prefix/share/logos
+names=(logos logos_cli logos_show)
+
+refuse() {
+    echo "install: $1: nothing is installed" >&2
     exit 1
 }
-mkdir -p "$prefix/bin" "$prefix/share"
-for name in logos logos_cli logos_show; do
-    cp "$here/bin/$name" "$prefix/bin/$name.part"
-    mv "$prefix/bin/$name.part" "$prefix/bin/$name"
-done
-rm -rf "$prefix/share/logos"
-mkdir "$prefix/share/logos"
+
+# Prints the sums of the files of a release below a folder, with their paths below PREFIX.
+sums() {
+    (cd "$1" && find . -type f ! -name FILES -print0 | sort -z | xargs -0 sha256sum | sed "s|  \\./|  $2/|")
+}
+
+(cd "$here" && sha256sum --quiet -c SHA256SUMS) || refuse 'a file is not as SHA256SUMS says'
+[ ! -f "$share/FILES" ] || (cd "$prefix" && sha256sum --quiet --ignore-missing -c share/logos/FILES) || refuse 'a file of the release that is installed has changed'
+cd "$prefix"
+other=$(comm -23 <(find "${names[@]/#/bin/}" share/logos ! -type d 2> /dev/null | sort) <({ echo share/logos/FILES; cut -c 67- "$share/FILES" 2> /dev/null; } | sort) | head -n 1)
+[ -z "$other" ] || refuse "no release has put $prefix/$other there"
+
+beside=$(mktemp -d "$share.XXXXXX")
+trap 'rm -rf "$beside"' EXIT
+mkdir "$beside/new" "$beside/bin"
+cp "${names[@]/#/$here/bin/}" "$beside/bin"
 for it in README.md CHANGELOG.md LICENSE-APACHE LICENSE-MIT COMMIT docs rust; do
-    cp -R "$here/$it" "$prefix/share/logos"
+    cp -R "$here/$it" "$beside/new"
 done
-echo "Installed in $prefix/bin: logos_cli, logos_show, logos, of commit $(head -n 1 "$here/COMMIT" | cut -c 1-12)."
-echo "In Cargo.toml: logos = { path = \"$prefix/share/logos/rust/logos\" }"
-case :$PATH: in *:$prefix/bin:*) ;; *) echo "$prefix/bin is not on your PATH: export PATH=\"$prefix/bin:\$PATH\" adds it. The derive macro looks into ~/.local/bin in any case." ;; esac
+{ sums "$beside/bin" bin; sums "$beside/new" share/logos; } > "$beside/FILES"
+mv "$beside/FILES" "$beside/new"
+[ ! -d "$share" ] || mv "$share" "$beside/old"
+mv "$beside/new" "$share"
+mv "$beside"/bin/* "$prefix/bin"
+echo "Installed in $prefix/bin: ${names[*]}, of commit $(head -n 1 "$here/COMMIT" | cut -c 1-12)."
+echo "In Cargo.toml: logos = { path = \"$share/rust/logos\" }"
+case :$PATH: in *:$prefix/bin:*) ;; *) echo "$prefix/bin is not on your PATH: export PATH=\"$prefix/bin:\$PATH\" adds it." ;; esac

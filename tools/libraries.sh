@@ -17,15 +17,15 @@ import os
 import sys
 
 sys.path.insert(0, sys.argv[1])
-import build
+import crates
 
-uses = build.libraries()
+uses = crates.libraries()
 order = []
 for crate in sys.argv[2:]:
     if crate not in uses:
-        build.fail(f"{crate} is no crate of crates.txt")
-    order += [it for it in [*build.in_order(uses, crate), crate] if it not in order]
-print(*(it for it in order if os.path.exists(f"{build.ROOT}/crates/{it}/src/lib.rt")))
+        crates.fail(f"{crate} is no crate of crates.txt")
+    order += [it for it in [*crates.in_order(uses, crate), crate] if it not in order]
+print(*(it for it in order if os.path.exists(f"{crates.ROOT}/crates/{it}/src/lib.rt")))
 END
 )
 for crate in $order; do

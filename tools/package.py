@@ -1,10 +1,10 @@
 #!/usr/bin/env python3
-"""Makes the Cargo packages as plain Rust: tools/package.py FOLDER
+"""Makes the Cargo packages as plain Rust: tools/package.py [--sources] FOLDER
 
 In FOLDER/packages lies a workspace with each package of `rust/` that others may use. What build
 scripts make of `crates/` lies in it as sources, so a package needs neither the crates nor a build
 script. Then `cargo package` makes FOLDER/NAME-VERSION.crate of each, and builds what it has packed,
-without a network. The last line is `package: N packages`."""
+without a network; --sources leaves this out. The last line is `package: N packages`."""
 import json
 import os
 import re
@@ -107,13 +107,17 @@ def make_packages(room, folders):
 
 
 def main():
-    if len(sys.argv) != 2 or sys.argv[1].startswith("-"):
-        sys.exit("usage: tools/package.py FOLDER")
-    to = os.path.abspath(sys.argv[1])
+    words = [word for word in sys.argv[1:] if word != "--sources"]
+    if len(words) != 1 or words[0].startswith("-"):
+        sys.exit("usage: tools/package.py [--sources] FOLDER")
+    to = os.path.abspath(words[0])
     room, target = f"{to}/packages", f"{to}/target"
     shutil.rmtree(room, ignore_errors=True)
     os.makedirs(room)
     make_packages(room, erased_folders(target))
+    if "--sources" in sys.argv:
+        print(f"package: {len(PACKAGES)} packages")
+        return
     cargo("package", "--quiet", "--workspace", "--allow-dirty", "--target-dir", target, cwd=room)
     packed = [name for name in os.listdir(f"{target}/package") if name.endswith(".crate")]
     for name in packed:

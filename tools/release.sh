@@ -1,11 +1,12 @@
 #!/usr/bin/env bash
-# Packs the three proved programs for machines without the toolchain: tools/release.sh [--built
-# FOLDER] FOLDER
+# Packs the three proved programs for machines without the toolchain, and the Cargo packages:
+# tools/release.sh [--built FOLDER] FOLDER
 #
-# It writes FOLDER/logos-VERSION-x86_64-linux.tar.gz, with the programs, `rust/`, the pages and
-# the licences; the file COMMIT, which names the commit; and the file SHA256SUMS, with the sum of
-# each other file. Its `install.sh` compares the sums, and puts the programs into PREFIX/bin and the
-# rest into PREFIX/share/logos. The programs need x86-64 Linux with glibc 2.34 or later.
+# It writes FOLDER/logos-VERSION-x86_64-linux.tar.gz, with the programs; in `rust/` the packages as
+# tools/package.py makes them; the pages and the licences; the file COMMIT, which names the commit;
+# and the file SHA256SUMS, with the sum of each other file. Its `install.sh` compares the sums, and
+# puts the programs into PREFIX/bin and the rest into PREFIX/share/logos. The programs need x86-64
+# Linux with glibc 2.34 or later.
 #
 # The programs are those that `.ci/run` has proved and built, and it refuses where a file has
 # changed since. With --built they are taken from a folder in which they were built, and COMMIT says
@@ -51,6 +52,7 @@ else
     said='The gate proved these programs and built them.'
 fi
 version=$("$(program logos_cli)" --version | awk 'NR == 1 { print $2 }')
+export PYTHONDONTWRITEBYTECODE=1
 name=logos-$version-x86_64-linux
 room=$(mktemp -d)
 trap 'rm -rf "$room"' EXIT
@@ -59,7 +61,9 @@ for it in logos logos_cli logos_show; do
     install -m 755 "$(program "$it")" "$room/$name/bin/$it"
     printf 'commit: %s\n' "$commit" >> "$room/$name/bin/$it"
 done
-"${git[@]}" archive HEAD README.md CHANGELOG.md LICENSE-APACHE LICENSE-MIT docs rust | tar -xf - -C "$room/$name"
+"${git[@]}" archive HEAD README.md CHANGELOG.md LICENSE-APACHE LICENSE-MIT docs rust/README.md | tar -xf - -C "$room/$name"
+python3 "$root/tools/package.py" --sources "$room/made" > /dev/null
+cp -R "$room/made/packages/." "$room/$name/rust"
 printf '%s\n%s\n' "$commit" "$said" > "$room/$name/COMMIT"
 install -m 755 "$root/tools/install_release.sh" "$room/$name/install.sh"
 (cd "$room/$name" && find . -type f ! -name SHA256SUMS -print0 | LC_ALL=C sort -z | xargs -0 sha256sum > SHA256SUMS)

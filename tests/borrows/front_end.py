@@ -15,14 +15,14 @@ import subprocess
 import sys
 
 sys.path.insert(0, os.path.join(os.path.dirname(os.path.realpath(__file__)), "..", "..", "tools"))
-import build
+import crates
 
 
 def print_inputs(checkout, crate):
     """Prints all that decides how a crate is read."""
-    at, uses = build.kit(), build.libraries()
-    paths = [f"{at}/KIT-ID", f"{at}/bin/rattle", os.path.realpath(__file__), os.path.realpath(build.__file__)]
-    for name in [*build.in_order(uses, crate), crate]:
+    at, uses = crates.kit(), crates.libraries()
+    paths = [f"{at}/KIT-ID", f"{at}/bin/rattle", os.path.realpath(__file__), os.path.realpath(crates.__file__)]
+    for name in [*crates.in_order(uses, crate), crate]:
         print(name, *uses[name])
         for part in ("src", "specs", "proofs"):
             paths += sorted(os.path.join(folder, it) for folder, _, names in os.walk(f"{checkout}/crates/{name}/{part}") for it in names)
@@ -34,12 +34,12 @@ def print_inputs(checkout, crate):
 def main():
     is_asked = sys.argv[1] == "--inputs"
     checkout, crate = os.path.realpath(sys.argv[1 + is_asked]), sys.argv[2 + is_asked]
-    build.ROOT = checkout
+    crates.ROOT = checkout
     if is_asked:
         return print_inputs(checkout, crate)
-    at = build.kit()
-    uses = build.libraries()
-    order = build.in_order(uses, crate)
+    at = crates.kit()
+    uses = crates.libraries()
+    order = crates.in_order(uses, crate)
     kits = list(dict.fromkeys(["core", "std"] + [it for name in [crate, *order] for it in uses[name] if it not in uses]))
     words = ["check", "--crate-name", crate, "src/lib.rt"]
     for name in kits:

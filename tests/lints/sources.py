@@ -18,7 +18,7 @@ from concurrent.futures import ThreadPoolExecutor
 
 ROOT = os.path.dirname(os.path.dirname(os.path.dirname(os.path.realpath(__file__))))
 sys.path.insert(0, f"{ROOT}/tools")
-import build
+import crates
 
 # Where a quick test keeps the sums of the crates that are as they have to be.
 KEPT = os.environ.get("KEPT_BUILDS") and f"{os.environ['KEPT_BUILDS']}/sources"
@@ -52,7 +52,7 @@ def unformatted(at, names):
         for ran in pool.map(look, filter(None, (paths[number::jobs] for number in range(jobs)))):
             found = re.findall(r"^(.+?\.(?:rt|antt)):? (.*)", ran.stderr, re.M)
             if ran.returncode and not found:
-                build.fail(f"the formatter fails: {ran.stderr.strip()[-400:]}")
+                crates.fail(f"the formatter fails: {ran.stderr.strip()[-400:]}")
             yield from found
 
 
@@ -84,7 +84,7 @@ def keep(sums):
 
 def main():
     names = sorted(name for name in os.listdir(f"{ROOT}/crates") if os.path.isdir(f"{ROOT}/crates/{name}/src"))
-    at, before = build.kit(), kept()
+    at, before = crates.kit(), kept()
     sums = {name: sum_of(name, at) for name in names}
     changed_names = [name for name in names if before.get(name) != sums[name]]
     changed = {name: [] for name in changed_names}

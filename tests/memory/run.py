@@ -1,16 +1,20 @@
 #!/usr/bin/env python3
 """Refuses each request for memory of the programs in turn, and looks at their answers.
 
-  run.py logos PROGRAM        runs each command of `logos` on each source of tests/memory/logos
-  run.py tools CLI SHOW       runs `logos_cli` and `logos_show` on the sources of tests/memory/tools
-  run.py calls PROGRAM        has the program of calls answer the rows of tests/rows/calls, but for
-                              those of large.rows
+  run.py logos COMPILER PROGRAM    runs each command of `logos` on each source of tests/memory/logos
+  run.py tools COMPILER CLI SHOW   runs `logos_cli` and `logos_show` on the sources of
+                                   tests/memory/tools
+  run.py calls COMPILER PROGRAM    has the program of calls answer the rows of tests/rows/calls, but
+                                   for those of large.rows
+
+COMPILER is `rattle` or `cargo`.
 
 Each run of a program is made once with ample memory, and once for each of its requests with just
 that one refused (refuse.c). Each time it must end as it did, or in want of memory: with status
 3, `out of memory` as the last line of its messages, and nothing on standard output. A file is
 written as it was, or not at all, and no other file is left. For each run some refusal has to end
-so.
+so. In a program by `cargo` Rust's library asks for memory of its own, for what `OF_RUST` names, and
+ends the program where this is refused. Such a request counts neither as passed nor as failed.
 
 The program of calls refuses by itself (refuse_next.c): each row is answered once with ample memory,
 and then once for each request that its answer makes. The answer must be the wanted one, or that
@@ -40,6 +44,11 @@ CLI = ["whole.rs", "right.rs --output written", "right.rs --output folder/", "wh
 SHOW = ["whole.rs", "whole.rs input", "whole.rs input --enum Digits", "faults.rs", "faults.rs input", "whole.rs --json", "whole.rs input --json",
         "right.rs --inputs 5", "right.rs --inputs 5 --json", "right.rs --examples --json", "right.rs input --at 1:1 --json", "right.rs whole.rs --compare",
         "right.rs whole.rs --compare --json", "--version"]
+
+
+# Where Rust's library asks for memory of its own: when a program begins, for its words, for the
+# buffer of standard output, and for paths.
+OF_RUST = (b"std::rt::lang_start", b"std::env::args_os", b"std::io::stdio::stdout", b"std::sys::fs::", b"<std::fs::DirBuilder>::")
 
 
 class Wrong(Exception):
@@ -77,23 +86,35 @@ def is_want(status, out, err, files):
     return status == 3 and not out and not files and re.search(rb"^(error: )?out of memory\n\Z", err, re.M) is not None
 
 
+def is_of_rust(status, out, err, files, ample):
+    """Whether Rust's library has ended a program for a request of its own: what asked for memory
+    stands in the trace in front of all functions of ours. A file may be there whole, or not."""
+    frames = re.findall(rb"^ +\d+: (.+)$", err, re.M)
+    ours = next((at for at, it in enumerate(frames) if b"logos_" in it or b"rattle_std" in it), len(frames))
+    whole = all(files[name] == ample[name] for name in files if name in ample)
+    return status == 134 and not out and whole and any(it in frame for frame in frames[:ours] for it in OF_RUST)
+
+
 def refuse_each(refuse, program, words):
-    """Runs a program with each of its requests refused. Returns how many there were, how many ended
-    in want of memory, and the ample answer."""
+    """Runs a program with each of its requests refused. Returns how many there were of the program
+    itself, how many ended in want of memory, and the ample answer."""
     with tempfile.TemporaryDirectory(prefix="refused-", dir=place()) as room:
-        subprocess.run([program, *words], env={**os.environ, "LD_PRELOAD": refuse, "REFUSE": room}, stdin=subprocess.DEVNULL, check=True)
+        given = {**os.environ, "LD_PRELOAD": refuse, "REFUSE": room, "RUST_BACKTRACE": "1"}
+        subprocess.run([program, *words], env=given, stdin=subprocess.DEVNULL, check=True)
         ample = answer(room, 0)
-        count = len(glob.glob(f"{room}/*.status")) - 1
-        lacked = 0
-        for number in range(1, count + 1):
+        requests = len(glob.glob(f"{room}/*.status")) - 1
+        lacked = of_rust = 0
+        for number in range(1, requests + 1):
             found = answer(room, number)
             if is_want(*found):
                 lacked += 1
+            elif IS_ERASED and is_of_rust(*found, ample[3]):
+                of_rust += 1
             elif found != ample:
                 raise Wrong(f"request {number} of {' '.join(words)} is answered by {found}")
     if not lacked:
         raise Wrong(f"no refusal of {' '.join(words)} ends in out of memory")
-    return count, lacked, ample
+    return requests - of_rust, lacked, ample
 
 
 def place():
@@ -180,9 +201,7 @@ def of_calls(refuse, program):
 
 
 def main():
-    if len(sys.argv) < 3 or sys.argv[1] not in ("logos", "tools", "calls"):
-        sys.exit(__doc__)
-    programs = [os.path.realpath(it) for it in sys.argv[2:]]
+    programs = [os.path.realpath(it) for it in sys.argv[3:]]
     with tempfile.TemporaryDirectory(prefix="memory-") as room:
         try:
             if sys.argv[1] == "calls":
@@ -197,4 +216,7 @@ def main():
 
 
 if __name__ == "__main__":
+    if len(sys.argv) < 4 or sys.argv[1] not in ("logos", "tools", "calls") or sys.argv[2] not in ("rattle", "cargo"):
+        sys.exit(__doc__)
+    IS_ERASED = sys.argv[2] == "cargo"
     sys.exit(main())
