@@ -1,6 +1,6 @@
 #!/usr/bin/env bash
-# Measures lexers on texts of 32 MiB: `Lexer` and, as `chunks`, a run by chunks, in a proved build
-# and as `tools/install.sh` builds programs, beside scanners of the same rules: those that flex and
+# Measures lexers on texts of 32 MiB: `Lexer` and, as `chunks`, a run by chunks, in a proved build,
+# and in the program that INSTALLED names, beside scanners of the same rules: those that flex and
 # re2c make, and, where rustc is found, what it makes of the Rust text of these rules, over
 # `rust/logos`: in both shapes of `logos gen`, and as tables. Their `scan` is measured by
 # `for_each` and, as `loop`, by a loop. What has `.placed` in its name reads the places of the
@@ -159,14 +159,13 @@ compile() {
 }
 
 lexer=${LEXER:-$copy/crates/lexer_bench/out/lexer_bench}
-installed=${INSTALLED:-$copy/installed}
+installed=${INSTALLED:-$copy/none}
 logos=${LOGOS:-$copy/out/programs/logos}
 cli=${CLI:-$copy/out/programs/logos_cli}
-if [ -z "${LEXER:-}" ] || [ -z "${INSTALLED:-}" ] || [ -z "${LOGOS:-}" ] || [ -z "${CLI:-}" ]; then
+if [ -z "${LEXER:-}" ] || [ -z "${LOGOS:-}" ] || [ -z "${CLI:-}" ]; then
     copy_crates
     add_crate lexer "logos_code logos_codegen logos_fold logos_generator logos_machine logos_pattern logos_scan logos_walk"
     [ -n "${LEXER:-}" ] || build "$crate" "$bench/lexer/rules/json.rs" "$bench/lexer/rules/json.rs"
-    [ -n "${INSTALLED:-}" ] || build_as_installed lexer_bench "$installed"
     [ -n "${LOGOS:-}" ] && [ -n "${CLI:-}" ] || build_programs
 fi
 

@@ -43,8 +43,8 @@ add_crate() {
 }
 
 # Makes a toolchain in $copy/kit: the one that is installed, but that its compiler keeps jumps from
-# crossing 32 bytes, as tools/build.py has it. Where a jump does, many processors decode the code
-# around it anew each time, and which jump does is luck.
+# crossing 32 bytes. Where a jump does, many processors decode the code around it anew each time, and
+# which jump does is luck.
 make_kit() {
     local kit file
     [ ! -e "$copy/kit" ] || return 0
@@ -85,23 +85,6 @@ build_programs() {
     for name in logos logos_cli logos_show; do
         cp "$copy/crates/logos_program/out/logos_program" "$copy/out/programs/$name"
     done
-}
-
-# CRATE OUT: builds the program of a crate that was added, as `tools/install.sh` builds programs.
-# Its own sources count as proved there, so that its checks at run time are left out where those of
-# the crates below are.
-build_as_installed() {
-    cp -R "$bench/../tools" "$bench/../proved.sums" "$copy"
-    python3 - "$copy" "$1" >> "$copy/proved.sums" << 'END'
-import sys
-
-root, crate = sys.argv[1:]
-sys.path.insert(0, f"{root}/tools")
-import proved_sums
-
-print(f"{proved_sums.sum_of(root, crate, proved_sums.lines_of(root)[crate])}  {crate}")
-END
-    python3 "$copy/tools/build.py" "$2" "$1" >&2
 }
 
 # HEADING ..: prints a line about the machine, and the head of a table with these columns.
