@@ -16,7 +16,7 @@ fn skip_blanks(bytes: &[u8], mut at: usize) -> usize {
     at
 }
 
-/// Returns the end of the braces of antt that come next after `at`, in the clause or item at `item`.
+/// Returns the end of the antt braces that come next after `at`, in the clause or item at `item`.
 fn braces_after(bytes: &[u8], item: usize, at: usize) -> Result<usize, Refusal> {
     let open = skip_blanks(bytes, at);
     if bytes.get(open) != Some(&b'{') {
@@ -48,8 +48,8 @@ pub(crate) fn clause_end(text: &str, at: usize, word: usize) -> Result<usize, Re
 /// - `ghost use path;`
 /// - `ghost name = {..};`, a member of an `impl`
 /// - `ghost name: {..};` and `ghost name: {..} = {..};`, a member of a trait
-/// - `ghost name: {..},` and `ghost name: {..} by {..},`, a field, whose comma may be left out before
-///   a closing brace
+/// - `ghost name: {..},` and `ghost name: {..} by {..},`, a field, whose comma may be left out
+///   before a closing brace
 pub(crate) fn ghost_end(text: &str, at: usize, word: usize) -> Result<usize, Refusal> {
     let bytes = text.as_bytes();
     let name = skip_blanks(bytes, word);

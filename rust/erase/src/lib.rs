@@ -2,9 +2,9 @@
 //!
 //! Build scripts of the packages beside this one call it, and compile crates as modules.
 //!
-//! - Ghost items, clauses and what else is for proofs alone become blanks. A few names become others
-//!   of the same width. So each token that is left keeps its line and its column, and an error of
-//!   the compiler or a panic names the line of the `.rt` file.
+//! - Ghost items, clauses and what else is for proofs alone become blanks. A few names become
+//!   others of the same width. So each token that is left keeps its line and its column, and an
+//!   error of the compiler or a panic names the line of the `.rt` file.
 //! - Lines are only added after the last one: `use` declarations, and copies that Rust cannot
 //!   derive.
 //! - What this library does not know it refuses, by file, line and column.

@@ -78,7 +78,7 @@ impl Crates {
     }
 }
 
-/// Erases modules into the folder `OUT_DIR`, and writes `crates.rs` there, which declares them. Each
+/// Erases modules into the folder `OUT_DIR`, and writes `crates.rs` there, which declares them. A
 /// module is a file with its name and a folder with its modules.
 ///
 /// # Errors
