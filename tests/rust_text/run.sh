@@ -32,7 +32,8 @@
 # compared no further. Which inputs and sources these are, and how many comparisons and refusals
 # there have to be, is stated here.
 #
-# It needs rustc and cargo, and the programs as the gate leaves them in out/programs, or the two arguments.
+# It needs rustc and cargo, and the programs as the gate leaves them in out/programs, or the two
+# arguments.
 set -euo pipefail
 
 comparisons=768
