@@ -86,7 +86,8 @@ impl PathBuf {
 pub fn read<R: Files>(rt: &R, path: &str) -> io::Result<Vec<u8>> {
     let mut bytes = Vec::new(Global);
     let mut file = File::open(rt, path)?;
-    bytes.reserve(file.len_hint())?;
+    // One byte more, in which the end is found.
+    bytes.reserve(file.len_hint() + 1)?;
     file.read_to_end(&mut bytes)?;
     Ok(bytes)
 }

@@ -4,7 +4,7 @@ mod buffered;
 mod error;
 mod standard;
 
-use crate::alloc::Global;
+use crate::alloc::{AllocError, Global};
 use crate::string::String;
 use crate::vec::Vec;
 use core::fmt;
@@ -13,10 +13,10 @@ pub use buffered::BufWriter;
 pub use error::{Error, ErrorKind, Result};
 pub use standard::{Input, IsTerminal, Print, Stderr, Stdin, Stdout};
 
-/// The bytes that are read at first. Where there are more, larger blocks follow.
+/// The bytes for which room is made at first.
 const FIRST_BLOCK: usize = 8192;
 
-/// The bytes of the largest block that is read.
+/// The most bytes that are read at once.
 const LARGEST_BLOCK: usize = 1 << 20;
 
 /// Something that bytes are read from.
@@ -37,16 +37,22 @@ pub trait Read {
     /// what was read before is appended.
     fn read_to_end(&mut self, buf: &mut Vec<u8>) -> Result<usize> {
         let start = buf.len();
-        let mut block = FIRST_BLOCK;
-        loop {
-            match read_block(self, buf, block) {
-                Ok(0) => return Ok(buf.len() - start),
-                Ok(read) if read == block => block = (2 * block).min(LARGEST_BLOCK),
-                Ok(_) => {}
-                Err(error) if error.kind() == ErrorKind::Interrupted => {}
-                Err(error) => return Err(error),
+        let mut end = start;
+        let done = loop {
+            if end == buf.len()
+                && let Err(error) = lengthen(buf)
+            {
+                break Err(Error::from(error));
             }
-        }
+            match self.read(&mut buf[end..]) {
+                Ok(0) => break Ok(end - start),
+                Ok(read) => end += read,
+                Err(error) if error.kind() == ErrorKind::Interrupted => {}
+                Err(error) => break Err(error),
+            }
+        };
+        buf.truncate(end);
+        done
     }
 
     /// Returns a reader of at most `limit` bytes of this one.
@@ -58,14 +64,15 @@ pub trait Read {
     }
 }
 
-/// Appends a block of at most `most` bytes to a vector.
-fn read_block<R: Read + ?Sized>(from: &mut R, buf: &mut Vec<u8>, most: usize) -> Result<usize> {
+/// Appends zeros to a vector, in whose place bytes are read: as many as there is room for, or as the
+/// vector has.
+fn lengthen(buf: &mut Vec<u8>) -> core::result::Result<(), AllocError> {
     let len = buf.len();
-    buf.resize(len + most, 0)?;
-    let read = from.read(&mut buf[len..]);
-    let added = read.as_ref().map_or(0, |read| *read);
-    buf.truncate(len + added);
-    read
+    let room = match buf.capacity() - len {
+        0 => len.max(FIRST_BLOCK),
+        room => room,
+    };
+    buf.resize(len + room.min(LARGEST_BLOCK), 0)
 }
 
 impl<R: Read + ?Sized> Read for &mut R {
