@@ -86,7 +86,7 @@ fn write_all_writes_all_or_says_so() {
         taken: vec![],
         left: 8,
     };
-    write!(out, "{}-{:02}", "abc", 7).unwrap();
+    write!(out, "abc-{:02}", 7).unwrap();
     assert_eq!(out.taken, b"abc-07");
     assert_eq!(
         out.write_all(b"xyz").unwrap_err().kind(),
@@ -197,6 +197,7 @@ fn the_program_is_what_was_set() {
 #[test]
 fn clocks_go_on() {
     let start = Instant::now(&RT).unwrap();
-    assert!(RT.monotonic().unwrap() >= start.elapsed(&RT).unwrap());
+    let elapsed = start.elapsed(&RT).unwrap();
+    assert!(RT.monotonic().unwrap() >= elapsed);
     assert!(Instant::now(&RT).unwrap() >= start);
 }
