@@ -52,11 +52,10 @@ impl Place {
 
     /// Keeps the answer about an enum that is accepted.
     pub fn keep(&self, answer: &Answer) {
-        if let Some(bytes) = record::written(answer, &self.asked) {
-            if bytes.len() <= LONGEST {
-                // Without it the next build asks again.
-                let _ = self.write(&bytes);
-            }
+        let bytes = record::written(answer, &self.asked);
+        if let Some(bytes) = bytes.filter(|bytes| bytes.len() <= LONGEST) {
+            // Without it the next build asks again.
+            let _ = self.write(&bytes);
         }
     }
 

@@ -46,7 +46,7 @@ fn what_dereferences_to_an_input_is_one() {
         items(Box::<[u8]>::from(*b"abc")),
         [(true, 0..2), (false, 2..3)]
     );
-    assert_eq!(items(&&b"ab"[..]), [(true, 0..2)]);
+    assert_eq!(items::<&&[u8]>(&&b"ab"[..]), [(true, 0..2)]);
 }
 
 #[test]
