@@ -105,6 +105,20 @@ impl<'c, 's, 'i, C: Fn(LeafId, &[u8]) -> Action> Lexer<'c, 's, 'i, C> {
         Ok(Lexer::start(code, input, callback))
     }
 
+    /// Makes a lexer at the start of some bytes that are known to be UTF-8 if the code is in UTF-8
+    /// mode. `logos_stream` calls it: it tests bytes once, when it reads them.
+    pub fn new_checked(
+        code: &'c Code<'s>,
+        input: &'i [u8],
+        callback: C,
+    ) -> Lexer<'c, 's, 'i, C>
+        requires callable { C.IsAlwaysCallable callback }
+        requires text { IsTrue code.now.utf8 → IsUtf8 input.now }
+        ensures { result ≡ begun code.now input.now callback }
+    {
+        Lexer::start(code, input, callback)
+    }
+
     /// Makes a lexer before the first byte, which has made no step yet.
     fn start(code: &'c Code<'s>, input: &'i [u8], callback: C) -> Lexer<'c, 's, 'i, C>
         ensures { result ≡ begun code.now input.now callback }

@@ -1,7 +1,7 @@
 //! What comes first in some bytes of an input.
 
 ghost use Rattle.std.specs.Prelude.{◌≡◌, IsTrue, IsUtf8};
-ghost use Rattle.logos_stream.specs.Views.{answers_of, begun, item_of, IsFront, IsWithout};
+ghost use Rattle.logos_stream.specs.Views.{answers_of, item_of, IsFront, IsWithout};
 
 use crate::item::StreamItem;
 use logos_code::action::Action;
@@ -31,7 +31,7 @@ pub(crate) fn front_of<C: Fn(LeafId, &[u8]) -> Action + Copy>(
     requires text { IsTrue code.now.utf8 → IsUtf8 bytes.now }
     ensures { IsFront code.now (answers_of C.Fn callback) bytes.now is_last result }
 {
-    let mut lexer = lexer_on(code, bytes, callback);
+    let mut lexer = Lexer::new_checked(code, bytes, callback);
     match lexer.next_within(is_last) {
         Within::Item(item) => Front::Item(without_slice(item)),
         Within::More => Front::Waits(lexer.span().to),
@@ -46,25 +46,5 @@ fn without_slice(item: Item<'_>) -> StreamItem
     match item {
         Item::Token { leaf, span, .. } => StreamItem::Token { leaf, span },
         Item::Error { leaf, span, .. } => StreamItem::Error { leaf, span },
-    }
-}
-
-/// Makes a lexer at the start of some bytes, which are text if the lexer reads text.
-fn lexer_on<'c, 's, 'i, C: Fn(LeafId, &[u8]) -> Action + Copy>(
-    code: &'c Code<'s>,
-    bytes: &'i [u8],
-    callback: C,
-) -> Lexer<'c, 's, 'i, C>
-    requires callable { C.IsAlwaysCallable callback }
-    requires text { IsTrue code.now.utf8 → IsUtf8 bytes.now }
-    ensures { result ≡ begun code.now bytes.now callback }
-{
-    if code.is_utf8() {
-        // The bytes were tested when they were read, and a test takes time that grows with them.
-        return Lexer::new_str(code, unsafe { str::from_utf8_unchecked(bytes) }, callback);
-    }
-    match Lexer::new_bytes(code, bytes, callback) {
-        Ok(lexer) => lexer,
-        Err(_) => unreachable!(),
     }
 }
