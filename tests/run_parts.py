@@ -2,9 +2,9 @@
 """Runs the parts of tests/parts, and counts what passed.
 
   run_parts.py gate [--anew]              all of them, with the proved programs and the erased ones
-  run_parts.py quick [--rattle] [PART..]  those that are named, or all but `proofs` and
-                                          `wrong_bodies`, with the erased programs; with --rattle
-                                          also with those that Rattle builds without proofs
+  run_parts.py quick [--rattle] [PART..]  those that are named, or all but those of the gate, with
+                                          the erased programs; with --rattle also with those that
+                                          Rattle builds without proofs
 
 A part whose command names programs runs once with those of Rattle, under its name, and once with
 those of Cargo, as `NAME.erased`. Parts run side by side, as many as there are cores, except for the
@@ -52,11 +52,15 @@ class Part:
     row: str
     least: int
     tool: str
-    alone: bool
+    runs: str
     by: str
     command: str
     # What its command names.
     programs: set
+
+    @property
+    def alone(self):
+        return self.runs == "alone"
 
     @property
     def name(self):
@@ -64,8 +68,8 @@ class Part:
 
     def missing(self):
         """Returns the tool that it needs and that is not there, if any."""
-        tools = [self.tool, *[NEEDED[self.by]] * (self.by in NEEDED)]
-        return next((it for it in tools if it != "-" and not shutil.which(it)), None)
+        tools = [*self.tool.split(","), NEEDED.get(self.by, "-")]
+        return next((it for it in tools if it != "-" and not (shutil.which(it) or os.path.isdir(it))), None)
 
 
 @dataclasses.dataclass
@@ -90,10 +94,10 @@ def listed():
             programs = set(re.findall(r"\{(\w+)\}", command))
             known = {*TOOLS, *FOR_TESTS, "examples", "compiler"}
             leasts = [int(it) for it in least.split(",")]
-            if runs not in ("alone", "beside") or by not in ("both", "-", *MAKERS) or not programs <= known or min(leasts) < 1:
+            if runs not in ("alone", "beside", "gate") or by not in ("both", "-", *MAKERS) or not programs <= known or min(leasts) < 1:
                 fail(f"the list has a row that cannot be read: {line}")
             for one in MAKERS if by == "both" else [by]:
-                found.append(Part(name, leasts[-1 if one == "cargo" else 0], tool, runs == "alone", one, command.replace("{compiler}", one), programs - {"compiler"}))
+                found.append(Part(name, leasts[-1 if one == "cargo" else 0], tool, runs, one, command.replace("{compiler}", one), programs - {"compiler"}))
     return found
 
 
@@ -219,7 +223,8 @@ def chosen(given):
     unknown = set(given.parts) - {it.row for it in all_parts}
     if unknown:
         fail(f"no part is named {sorted(unknown)[0]}: there are {', '.join(dict.fromkeys(it.row for it in all_parts))}")
-    parts = [it for it in all_parts if (is_gate or given.rattle or it.by != "rattle") and (not given.parts or it.row in given.parts)]
+    wanted = lambda it: it.row in given.parts or not given.parts and (is_gate or it.runs != "gate")
+    parts = [it for it in all_parts if wanted(it) and (is_gate or given.rattle or it.by != "rattle")]
     makers = {MAKERS[it.by] for it in parts if it.by in MAKERS}
     parts = [it for it in all_parts if it in parts or it.row in makers]
     lines = [f"left out: {it.name}, because {it.missing()} is missing" for it in parts if it.missing()]
