@@ -1,0 +1,3 @@
+pub mod DerivationLemmas
+pub mod ErrorLemmas
+pub mod PieceLemmas

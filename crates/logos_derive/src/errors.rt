@@ -49,10 +49,11 @@ fn add_fault(
         ++ errors_at (faults_of (take number faults.now)) (next_value next.entry)
         (fault_of fault.now)) }
 {
-    if has_error(&faults[..number], next, fault) {
-        let error = error_of(*errors.allocator(), part, faults, number, fault, next)?;
-        errors.push(error)?;
+    if !has_error(&faults[..number], next, fault) {
+        return Ok(());
     }
+    let error = error_of(*errors.allocator(), part, faults, number, fault, next)?;
+    errors.push(error)?;
     Ok(())
 }
 

@@ -74,12 +74,13 @@ fn add_piece(
     let Some(end) = after_part(texts.text, offset, text.as_str()) else {
         return Ok(offset);
     };
-    if end != offset {
-        pieces.push(Piece {
-            from: offset,
-            to: end,
-            span,
-        })?;
+    if end == offset {
+        return Ok(offset);
     }
+    pieces.push(Piece {
+        from: offset,
+        to: end,
+        span,
+    })?;
     Ok(end)
 }

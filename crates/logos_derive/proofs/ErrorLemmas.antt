@@ -1,0 +1,46 @@
+-- The errors of faults, one after another.
+use Rattle.std.proofs.Common.{◌≡◌, ◌≢◌, ◌≤◌, ◌<◌, ◌+◌, ℕ, Bool, List, [], ◌∷◌, ◌++◌, length, get_or, drop, take, ap, sym, ◌∙◌, append_assoc}
+use Rattle.std.specs.Prelude.{true, false, if◌then◌else◌}
+use Rattle.std.proofs.lemmas.List.{append-nil}
+use Rattle.std.proofs.Math.ListN.{drop_of_length-le}
+use Rattle.logos_derive.specs.Diagnostics.{Saying, errors_after, errors_at, errors_said, has_error, said_of}
+use Rattle.logos_report.proofs.FaultLemmas.{next_front, next_left}
+use Rattle.logos_report.specs.Sets.{NextValue, next_after}
+use Rattle.logos_token.specs.FaultView.{fault_of, faults_of}
+use Rattle.logos_token.specs.Faults.{Fault}
+use Rattle.logos_token.specs.declared.error.SpannedError.{SpannedError}
+
+-- a fault without an error of its own, and one with it
+pub none_at : (front : List Fault) (next : NextValue) (fault : Fault) (old : List Saying) → has_error front next fault ≡ false → old ≡ old ++ errors_at front next fault
+none_at front next fault old e = sym (append-nil old) ∙ ap (λ (b : Bool). old ++ (if b then said_of fault ∷ [] else [])) (sym e)
+
+pub one_at : (front : List Fault) (next : NextValue) (fault : Fault) (old : List Saying) → has_error front next fault ≡ true → old ++ said_of fault ∷ [] ≡ old ++ errors_at front next fault
+one_at front next fault old e = ap (λ (b : Bool). old ++ (if b then said_of fault ∷ [] else [])) (sym e)
+
+-- the next fault, and those after it
+pub next_said : (faults : List SpannedError) (i : ℕ) (d : SpannedError) (next after : NextValue) (old new whole : List Saying) → i < length faults →
+    new ≡ old ++ errors_at (faults_of (take i faults)) next (fault_of (get_or faults i d)) → after ≡ next_after next (fault_of (get_or faults i d)) →
+    old ++ errors_after (faults_of (take i faults)) next (faults_of (drop i faults)) ≡ whole →
+    new ++ errors_after (faults_of (take (i + 1) faults)) after (faults_of (drop (i + 1) faults)) ≡ whole
+next_said faults i d next after old new whole l e then_left all =
+    let fault = fault_of (get_or faults i d) in
+    let front = faults_of (take i faults) in
+    let rest = faults_of (drop (i + 1) faults) in
+    let left = errors_after (front ++ fault ∷ []) (next_after next fault) rest in
+    ap (λ list. list ++ errors_after (faults_of (take (i + 1) faults)) after rest) e
+    ∙ ap (λ list. (old ++ errors_at front next fault) ++ errors_after list after rest) (next_front [] faults i d l)
+    ∙ ap (λ (t : NextValue). (old ++ errors_at front next fault) ++ errors_after (front ++ fault ∷ []) t rest) then_left
+    ∙ append_assoc old (errors_at front next fault) left
+    ∙ sym (ap (λ list. old ++ errors_after front next (faults_of list)) (next_left faults i d l))
+    ∙ all
+
+-- no fault is left
+pub none_said : (faults : List SpannedError) (i : ℕ) (front : List Fault) (next : NextValue) (old whole : List Saying) → length faults ≤ i →
+    old ++ errors_after front next (faults_of (drop i faults)) ≡ whole → old ≡ whole
+none_said faults i front next old whole l all =
+    sym (append-nil old) ∙ sym (ap (λ list. old ++ errors_after front next (faults_of list)) (drop_of_length-le faults l)) ∙ all
+
+-- faults have an error
+pub some_said : (sizes : List ℕ) (faults : List Fault) → faults ≢ [] → errors_said sizes faults ≢ []
+some_said sizes [] n = λ e. absurd (n refl)
+some_said sizes (fault ∷ faults) n = λ e. absurd cc
