@@ -23,7 +23,7 @@ TIMEFORMAT='%R %U %S'
 lay_out() {
     mkdir -p "$room/$1/src"
     printf '[package]\nname = "%s"\nedition = "2021"\n\n[workspace]\n\n[dependencies]\nlogos = { path = "%s"%s }\n' \
-        "$1" "$root/runtime/rust" "$2" > "$room/$1/Cargo.toml"
+        "$1" "$root/rust/logos" "$2" > "$room/$1/Cargo.toml"
     printf 'pub mod %s;\n' "${lexers[@]}" > "$room/$1/src/lib.rs"
 }
 

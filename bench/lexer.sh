@@ -2,7 +2,7 @@
 # Measures lexers on texts of 32 MiB: `Lexer` and, as `chunks`, a run by chunks, in a proved build
 # and as `tools/install.sh` builds programs, beside scanners of the same rules: those that flex and
 # re2c make, and, where rustc is found, what it makes of the Rust text of these rules, over
-# `runtime/rust`: in both shapes of `logos gen`, and as tables. Their `scan` is measured by
+# `rust/logos`: in both shapes of `logos gen`, and as tables. Their `scan` is measured by
 # `for_each` and, as `loop`, by a loop. What has `.placed` in its name reads the places of the
 # items too: without, rustc leaves out what finds them. A run lexes a text three times and until
 # that took a quarter of a second, and a short one very often. Of the runs, taken in turns, the
@@ -183,8 +183,8 @@ mapfile -t enums < <(for text in "${texts[@]}"; do echo "${rules[$text]:-$text}"
 others=(flex re2c)
 if command -v rustc > /dev/null; then
     others+=(tailcall state_machine tables scan loop {tailcall,state_machine,scan,loop}.placed)
-    { cat "$bench"/../runtime/rust/src/*.rs; rustc --version; } > "$copy/runtime"
-    LOGOS_VECTORS=1 rustc --edition 2021 -C opt-level=3 "${inside[@]}" --crate-type rlib --crate-name logos --cfg 'feature="std"' -o "$copy/liblogos.rlib" "$bench/../runtime/rust/src/lib.rs"
+    { cat "$bench"/../rust/logos/src/*.rs; rustc --version; } > "$copy/runtime"
+    LOGOS_VECTORS=1 rustc --edition 2021 -C opt-level=3 "${inside[@]}" --crate-type rlib --crate-name logos --cfg 'feature="std"' -o "$copy/liblogos.rlib" "$bench/../rust/logos/src/lib.rs"
 fi
 for name in "${enums[@]}"; do
     [ "$(jobs -rp | wc -l)" -lt "$(nproc)" ] || wait -n

@@ -42,7 +42,7 @@ text_of() {
     fi
 }
 
-LOGOS_VECTORS=1 rustc --edition 2021 -C opt-level=3 --crate-type rlib --crate-name logos --cfg 'feature="std"' -o "$copy/liblogos.rlib" "$bench/../runtime/rust/src/lib.rs"
+LOGOS_VECTORS=1 rustc --edition 2021 -C opt-level=3 --crate-type rlib --crate-name logos --cfg 'feature="std"' -o "$copy/liblogos.rlib" "$bench/../rust/logos/src/lib.rs"
 for name in "${names[@]}"; do
     if [ "$name" = json ]; then
         python3 "$bench/lexer/text.py" "$size" json > "$copy/$name.input"

@@ -100,7 +100,7 @@ TAKEN = {
     "lexers": {"two shapes": without("tests/lexers/run.sh", r"^shapes='state_machine tailcall tables'", "shapes='tables'"), "a lexer": removed("examples/lexers/json.*")},
     "rust_text": {"the small sources": without("tests/rust_text/rows", r".+"), "an input": removed("tests/rust_text/inputs/letters")},
     "memory_logos": {"a source": every(removed("tests/memory/logos/letters.*"), without("tests/memory/run.py", r'"letters", ', ""))},
-    "examples": {"all folders of tests": removed("examples/*/tests", "runtime/*/tests")},
+    "examples": {"all folders of tests": removed("examples/*/tests", "rust/*/tests")},
     "derive": {"a package": removed("tests/derive/accepted/closures"), "the table of refused sources": without("tests/derive/refused", r".+")},
     "limits": {"all cases": without("tests/limits.sh", r"^token=.*(?=^echo)"), "the beginnings of a source": without("tests/limits.sh", r"^for \(\(length = 0.*?^done\n")},
     "memory_calls": {"all rows": rows("tests/rows/calls"), "the rows of types": removed("tests/rows/calls/types.rows")},

@@ -1,6 +1,6 @@
 #!/usr/bin/env bash
-# Runs the examples: `cargo test` in each Cargo package of examples/, of runtime/rust and of
-# runtime/build, without a network. A quick test runs those of a package again where it, the runtime
+# Runs the examples: `cargo test` in each Cargo package of examples/, of rust/logos and of
+# rust/logos-cli, without a network. A quick test runs those of a package again where it, the runtime
 # packages or an answer of `logos_cli` have changed.
 #
 # The program `logos_cli` is the one that the gate has built, or the first argument. Where cargo is
@@ -18,7 +18,7 @@ fi
 LOGOS_CLI=$(realpath "$LOGOS_CLI")
 export LOGOS_CLI
 . "$root/tests/kept.sh"
-packages=(runtime/rust runtime/build examples/json examples/template examples/highlight examples/ini)
+packages=(rust/logos rust/logos-cli examples/json examples/template examples/highlight examples/ini)
 room=$(mktemp -d)
 trap 'rm -rf "$room"' EXIT
 passed=0
@@ -36,7 +36,7 @@ tested() {
 
 for package in "${packages[@]}"; do
     count=$room/examples_${package//\//_}
-    if of_packages "$root/runtime" "$root/$package" "$root/tests/examples.sh" | kept_by_answers "$count" tested "$package" "$count"; then
+    if of_packages "$root/rust" "$root/$package" "$root/tests/examples.sh" | kept_by_answers "$count" tested "$package" "$count"; then
         passed=$((passed + $(< "$count")))
     else
         failed=$((failed + 1))

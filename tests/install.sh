@@ -67,8 +67,8 @@ rows() {
 # FOLDER: makes a clone of what a release packs.
 make_clone() {
     mkdir -p "$1"
-    cp -R "$root"/{README.md,CHANGELOG.md,LICENSE-APACHE,LICENSE-MIT,docs,runtime,tools} "$1"
-    rm -rf "$1"/runtime/*/target
+    cp -R "$root"/{README.md,CHANGELOG.md,LICENSE-APACHE,LICENSE-MIT,docs,rust,tools} "$1"
+    rm -rf "$1"/rust/*/target
     git -C "$1" init -q
     git -C "$1" add -A
     GIT_AUTHOR_DATE='2026-01-01T00:00:00Z' GIT_COMMITTER_DATE='2026-01-01T00:00:00Z' git -C "$1" -c user.name=t -c user.email=t commit -qm t
@@ -88,7 +88,7 @@ packs_the_same() {
 installs_release() {
     tar -xzf "$room/one.out"/*.tar.gz -C "$room" && bash "$room"/logos-*-linux/install.sh "$room/release" > /dev/null \
         && (cd "$root" && "$room/release/bin/logos_show" docs/guide/words.rs docs/guide/greeting | head -n 2 | cmp -s - "$room/items") \
-        && [ -f "$room/release/share/logos/runtime/rust/Cargo.toml" ]
+        && [ -f "$room/release/share/logos/rust/logos/Cargo.toml" ]
 }
 
 # The version names the commit that the release names.
@@ -101,7 +101,7 @@ names_commit() {
 }
 
 refuses_changed_release() {
-    echo >> "$room"/logos-*-linux/runtime/README.md
+    echo >> "$room"/logos-*-linux/rust/README.md
     ! bash "$room"/logos-*-linux/install.sh "$room/changed" > /dev/null 2>&1 && [ ! -e "$room/changed" ]
 }
 

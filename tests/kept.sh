@@ -88,7 +88,7 @@ of_toolchain() {
 # Prints the version of rustc, and the sources of the runtime package in this checkout.
 of_runtime() {
     rustc --version --verbose
-    find "$1/runtime/rust" -name target -prune -o -name '*.rs' -print | LC_ALL=C sort | xargs cat
+    find "$1/rust/logos" -name target -prune -o -name '*.rs' -print | LC_ALL=C sort | xargs cat
 }
 
 # Prints the versions of rustc and cargo, and the sums of all files in these folders, but for those
@@ -96,5 +96,5 @@ of_runtime() {
 of_packages() {
     rustc --version --verbose
     cargo --version --verbose
-    find "$@" \( -name target -o -path '*/runtime/*/Cargo.lock' -o -path '*/examples/*/Cargo.lock' \) -prune -o -type f -print0 | LC_ALL=C sort -z | xargs -0 sha256sum
+    find "$@" \( -name target -o -path '*/rust/*/Cargo.lock' -o -path '*/examples/*/Cargo.lock' \) -prune -o -type f -print0 | LC_ALL=C sort -z | xargs -0 sha256sum
 }

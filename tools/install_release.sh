@@ -24,9 +24,9 @@ for name in logos logos_cli logos_show; do
 done
 rm -rf "$prefix/share/logos"
 mkdir "$prefix/share/logos"
-for it in README.md CHANGELOG.md LICENSE-APACHE LICENSE-MIT COMMIT docs runtime; do
+for it in README.md CHANGELOG.md LICENSE-APACHE LICENSE-MIT COMMIT docs rust; do
     cp -R "$here/$it" "$prefix/share/logos"
 done
 echo "Installed in $prefix/bin: logos_cli, logos_show, logos, of commit $(head -n 1 "$here/COMMIT" | cut -c 1-12)."
-echo "In Cargo.toml: logos = { path = \"$prefix/share/logos/runtime/rust\" }"
+echo "In Cargo.toml: logos = { path = \"$prefix/share/logos/rust/logos\" }"
 case :$PATH: in *:$prefix/bin:*) ;; *) echo "$prefix/bin is not on your PATH: export PATH=\"$prefix/bin:\$PATH\" adds it. The derive macro looks into ~/.local/bin in any case." ;; esac

@@ -2,7 +2,7 @@
 # Packs the three proved programs for machines without the toolchain: tools/release.sh [--built
 # FOLDER] FOLDER
 #
-# It writes FOLDER/logos-VERSION-x86_64-linux.tar.gz, with the programs, `runtime/`, the pages and
+# It writes FOLDER/logos-VERSION-x86_64-linux.tar.gz, with the programs, `rust/`, the pages and
 # the licences; the file COMMIT, which names the commit; and the file SHA256SUMS, with the sum of
 # each other file. Its `install.sh` compares the sums, and puts the programs into PREFIX/bin and the
 # rest into PREFIX/share/logos. The programs need x86-64 Linux with glibc 2.34 or later.
@@ -59,7 +59,7 @@ for it in logos logos_cli logos_show; do
     install -m 755 "$(program "$it")" "$room/$name/bin/$it"
     printf 'commit: %s\n' "$commit" >> "$room/$name/bin/$it"
 done
-"${git[@]}" archive HEAD README.md CHANGELOG.md LICENSE-APACHE LICENSE-MIT docs runtime | tar -xf - -C "$room/$name"
+"${git[@]}" archive HEAD README.md CHANGELOG.md LICENSE-APACHE LICENSE-MIT docs rust | tar -xf - -C "$room/$name"
 printf '%s\n%s\n' "$commit" "$said" > "$room/$name/COMMIT"
 install -m 755 "$root/tools/install_release.sh" "$room/$name/install.sh"
 (cd "$room/$name" && find . -type f ! -name SHA256SUMS -print0 | LC_ALL=C sort -z | xargs -0 sha256sum > SHA256SUMS)

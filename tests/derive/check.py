@@ -95,7 +95,7 @@ def main():
     errors = {program: [] for program in programs}
     lines = {program: [] for program in programs}
     for program, message in messages(folder, "--bins"):
-        if message["level"] == "error":
+        if program in errors and message["level"] == "error":
             errors[program].append(found(message))
             lines[program].append(message["message"].split("\n")[1:])
     failed = 0

@@ -1,5 +1,5 @@
 #!/usr/bin/env bash
-# Tests `#[derive(Logos)]` of runtime/rust, without a network.
+# Tests `#[derive(Logos)]` of rust/logos, without a network.
 #
 #   tests/derive/run.sh [PROGRAM]
 #
@@ -88,7 +88,7 @@ accept() {
 # Switches the package of switched/, and builds and runs it.
 switch() {
     cp -r "$here/switched" "$room"
-    sed -i "s|^logos = \"0.16\"\$|logos = { path = \"$root/runtime/rust\" }|" "$room/switched/Cargo.toml"
+    sed -i "s|^logos = \"0.16\"\$|logos = { path = \"$root/rust/logos\" }|" "$room/switched/Cargo.toml"
     diff -r "$here/switched" "$room/switched" | grep '^[<>]' | cut -c1-9 > "$room/lines"
     printf '%s\n' '< logos =' '> logos =' > "$room/wanted"
     compare 'the lines that switch a package' "$room/wanted" "$room/lines"
@@ -106,9 +106,9 @@ switch() {
 # Builds packages with features of the package `logos`.
 feature() {
     local all=std,export_derive,debug,state_machine_codegen,forbid_unsafe
-    cargo check --offline --quiet --no-default-features --manifest-path "$root/runtime/rust/Cargo.toml" > "$room/found" 2>&1
+    cargo check --offline --quiet --no-default-features --manifest-path "$root/rust/logos/Cargo.toml" > "$room/found" 2>&1
     compare 'the package without features' /dev/null "$room/found"
-    cargo check --offline --quiet --no-default-features --features "$all" --manifest-path "$root/runtime/rust/Cargo.toml" > "$room/found" 2>&1
+    cargo check --offline --quiet --no-default-features --features "$all" --manifest-path "$root/rust/logos/Cargo.toml" > "$room/found" 2>&1
     compare 'the package with all features' /dev/null "$room/found"
     cargo build --offline --quiet -p functions --features logos/debug,logos/state_machine_codegen --manifest-path "$room/accepted/Cargo.toml" \
         > "$room/found" 2>&1
@@ -123,7 +123,7 @@ scripted_with() {
 # Builds the package whose lexers a build script expands, and changes what it depends on.
 script() {
     cp -r "$here/scripted" "$room"
-    sed -i "s|\"\.\./.*/runtime/|\"$root/runtime/|" "$room/scripted/Cargo.toml"
+    sed -i "s|\"\.\./.*/rust/|\"$root/rust/|" "$room/scripted/Cargo.toml"
     printf '#!/bin/sh\n"%s" "$@" && echo "warning: this is a warning" >&2\n' "$LOGOS_CLI" > "$room/program"
     chmod +x "$room/program"
     scripted_with "$room/program"
@@ -147,10 +147,10 @@ if [ ! -x "$LOGOS_CLI" ]; then
 fi
 mkdir "$room/accepted"
 cp -r "$here/Cargo.toml" "$here/accepted" "$room/accepted"
-sed -i "s|\.\./\.\./runtime|$root/runtime|" "$room/accepted/Cargo.toml"
-sed -i "s|\"\.\./.*/runtime/rust\"|\"$root/runtime/rust\"|" "$room"/accepted/accepted/*/Cargo.toml
+sed -i "s|\.\./\.\./rust|$root/rust|" "$room/accepted/Cargo.toml"
+sed -i "s|\"\.\./.*/rust/logos\"|\"$root/rust/logos\"|" "$room"/accepted/accepted/*/Cargo.toml
 table() {
-    python3 "$here/$1.py" "$here/$2" "$room/$2" "$root/runtime/rust" > "$room/output"
+    python3 "$here/$1.py" "$here/$2" "$room/$2" "$root/rust/logos" > "$room/output"
     add "$3"
 }
 
@@ -168,7 +168,7 @@ counted() {
 # NAME ROWS COMMAND ..: tests something that has so many rows, unless it passed before as it is.
 group() {
     local out=$room/derive_$1 rows=$2 good=0 bad=1
-    of_packages "$root/runtime" "$here" | kept_by_answers "$out" counted "$out" "${@:3}"
+    of_packages "$root/rust" "$here" | kept_by_answers "$out" counted "$out" "${@:3}"
     read -r good bad < "$out"
     passed=$((passed + good))
     failed=$((failed + bad + (good + bad == rows ? 0 : 1)))

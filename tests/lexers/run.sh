@@ -77,7 +77,7 @@ deriving() {
 # Has rustc compile the expanded files, where all warnings are errors, and a program that lexes by
 # them. Clippy is rustc with more warnings, so that where it is there it compiles the files.
 compile() {
-    (cd "$room" && rustc --edition 2021 -A warnings --crate-name logos --crate-type rlib --cfg 'feature="std"' -o liblogos.rlib "$root/runtime/rust/src/lib.rs" \
+    (cd "$room" && rustc --edition 2021 -A warnings --crate-name logos --crate-type rlib --cfg 'feature="std"' -o liblogos.rlib "$root/rust/logos/src/lib.rs" \
         && "$compiler" --edition 2021 --extern logos=liblogos.rlib --crate-name expanded --crate-type rlib -o libexpanded.rlib expanded.rs \
         && rustc --edition 2021 -A warnings --extern logos=liblogos.rlib --extern expanded=libexpanded.rlib -o lexers main.rs \
         && compile_plainly)
@@ -87,7 +87,7 @@ compile() {
 # says nothing of vectors.
 compile_plainly() {
     mkdir -p plain
-    cp -R "$root/runtime/rust/src" plain/src
+    cp -R "$root/rust/logos/src" plain/src
     sed -i '/_Tables/d; /_fold/d' plain/src/internal.rs
     sed -i '/const VECTORS/,/;$/d' plain/src/lexer.rs
     rustc --edition 2021 -A warnings --crate-name logos --crate-type rlib --emit metadata -o plain/liblogos.rmeta plain/src/lib.rs \

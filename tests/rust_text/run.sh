@@ -4,7 +4,7 @@
 #
 # Each source of tests/rust_text/sources, and some from elsewhere in the repository, is stripped,
 # and printed in all three shapes; and it stands there as it is, for the derive macro. rustc
-# compiles all texts at once over runtime/rust, and what comes of each input of
+# compiles all texts at once over rust/logos, and what comes of each input of
 # tests/rust_text/inputs is compared, item by item; a source with inputs of its own in
 # tests/rust_text/own, NAME or NAME.ANYTHING, reads these alone. The lines of tests/rust_text/rows
 # are small sources: a name, an enum, and inputs, parted by tabs. A source has at most one attribute
@@ -130,11 +130,11 @@ lexer_text() {
 
 # Has rustc compile the program.
 compile() {
-    rustc --edition 2021 --crate-type proc-macro --crate-name logos_derive --extern proc_macro -o "$room/liblogos_derive.so" "$root/runtime/derive/src/lib.rs"
+    rustc --edition 2021 --crate-type proc-macro --crate-name logos_derive --extern proc_macro -o "$room/liblogos_derive.so" "$root/rust/logos-derive/src/lib.rs"
     # (most of the time goes into what `scan` finds, so its library is optimised, with all checks; it
     # says what its build script says to it at a higher level)
     LOGOS_VECTORS=1 rustc --edition 2021 --crate-type rlib --crate-name logos --cfg 'feature="export_derive"' --extern "logos_derive=$room/liblogos_derive.so" \
-        -C opt-level=1 -C debug-assertions=on -o "$room/liblogos.rlib" "$root/runtime/rust/src/lib.rs"
+        -C opt-level=1 -C debug-assertions=on -o "$room/liblogos.rlib" "$root/rust/logos/src/lib.rs"
     rustc --edition 2021 --crate-type proc-macro --crate-name serde -o "$room/libserde.so" "$here/serde.rs"
     rustc --edition 2021 -L "$room" --extern "logos=$room/liblogos.rlib" --extern "serde=$room/libserde.so" -o "$room/rust_text" "$room/main.rs"
 }
@@ -246,7 +246,7 @@ command -v rustc > /dev/null || fail "rustc is missing"
 export LOGOS_CLI=$cli
 lay_out
 write_program
-{ of_runtime "$root"; cat "$root"/runtime/derive/src/*.rs "$here/serde.rs" "$room/main.rs"; } | kept_by_answers "$room/rust_text" compile || fail "rustc refuses the printed texts"
+{ of_runtime "$root"; cat "$root"/rust/logos-derive/src/*.rs "$here/serde.rs" "$room/main.rs"; } | kept_by_answers "$room/rust_text" compile || fail "rustc refuses the printed texts"
 for inputs in "$room"/inputs/*; do
     for input in "$inputs"/*; do
         ask_lexer "${inputs##*/}" "$input"

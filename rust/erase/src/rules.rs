@@ -1,0 +1,159 @@
+//! The rules by which code becomes Rust. Each looks at a token and those around it.
+
+use crate::attributes::attribute;
+use crate::source::Source;
+use crate::{Paths, Refusal};
+
+/// The last token that a rule has dealt with.
+pub(crate) type Step = Result<usize, Refusal>;
+
+/// Methods that take an allocator in Rattle and nothing in Rust, and their names with one.
+const WITH_ALLOCATOR: [(&str, &str); 4] = [
+    ("collect", "list_in"),
+    ("to_vec", "vec_in"),
+    ("to_string", "string_in"),
+    ("to_ascii_lowercase", "ascii_lowercase_in"),
+];
+
+/// What a file names.
+#[derive(Default)]
+struct Names<'t> {
+    /// The `use` declarations that its paths need, each once.
+    uses: String,
+    /// The names that declarations of laws import.
+    laws: Vec<&'t str>,
+}
+
+impl Names<'_> {
+    fn add(&mut self, declaration: &str) {
+        if !self.uses.contains(declaration) {
+            self.uses += declaration;
+        }
+    }
+}
+
+/// Changes the code of a source, and returns the lines that it needs at its end.
+pub(crate) fn apply(source: &mut Source<'_>, paths: &Paths<'_>) -> Result<String, Refusal> {
+    let (mut names, mut copies) = (Names::default(), String::new());
+    let mut n = 0;
+    while n < source.len() {
+        n = 1 + match source.at(n) {
+            "#" => attribute(source, n, &mut copies)?,
+            "use" | "mod" => declaration(source, n, &mut names)?,
+            "impl" => implementation(source, n)?,
+            "crate" => own_path(source, n, paths, &mut names)?,
+            word if word.as_bytes()[0].is_ascii_alphabetic() => {
+                note_library(source, n, paths, &mut names);
+                keyword(source, n, word, &names)?
+            }
+            _ => n,
+        };
+    }
+    Ok(format!("\nuse std::prelude::*;\n{}{copies}", names.uses))
+}
+
+/// Blanks a declaration of laws, whose names it notes, and of what models alone need.
+fn declaration<'t>(source: &mut Source<'t>, n: usize, names: &mut Names<'t>) -> Step {
+    let end = source.find(n, &[";"])?;
+    let law = (n..end).find(|&k| source.at(k) == "laws");
+    let is_law = law.is_some() && (source.at(n) == "use" || source.at(n + 2) == ";");
+    if !is_law && !source.matches(n + 1, &["std", "::", "marker", "::", "Model", ";"]) {
+        return Ok(n);
+    }
+    names.laws.extend((law.unwrap_or(end)..end).map(|k| source.at(k)));
+    source.blank_item(n, end);
+    Ok(end)
+}
+
+/// Blanks an `impl` of `Model`. A `drop` by code of a type's own is not known.
+fn implementation(source: &mut Source<'_>, n: usize) -> Step {
+    let open = source.find(n, &["{", ";"])?;
+    let trait_end = (n..open).find(|&k| source.at(k) == "for").map_or("", |k| source.before(k));
+    match trait_end {
+        "Model" => source.blank_item(n, source.closing(open)),
+        "Drop" => return source.refusal(n, "an `impl` of `Drop`"),
+        _ => return Ok(n),
+    }
+    Ok(source.closing(open))
+}
+
+/// Writes `crate::x` as `krate::x`, where `krate` is the module that holds the crate.
+fn own_path(source: &mut Source<'_>, n: usize, paths: &Paths<'_>, names: &mut Names<'_>) -> Step {
+    match (source.before(n), source.at(n + 1)) {
+        (before, "::") if before != "in" && before != "$" => source.rename(n, "krate"),
+        ("(", ")") => return Ok(n),
+        _ => return source.refusal(n, "a `crate` that begins no path of an item"),
+    }
+    names.add(&format!("use crate::{} as krate;\n", paths.module));
+    Ok(n)
+}
+
+/// Notes the library with which a path begins.
+fn note_library(source: &Source<'_>, n: usize, paths: &Paths<'_>, names: &mut Names<'_>) {
+    let (before, after) = (source.before(n), source.at(n + 1));
+    let is_path = after == "::" || before == "use" && [";", "as"].contains(&after);
+    if !is_path || before == "::" || before == "." {
+        return;
+    }
+    if let Some((name, module)) = paths.libraries.iter().find(|(name, _)| *name == source.at(n)) {
+        names.add(&format!("use {module}::{name};\n"));
+    }
+}
+
+/// Changes what a word says of a type, a block or a call.
+fn keyword(source: &mut Source<'_>, n: usize, word: &str, names: &Names<'_>) -> Step {
+    let after = source.at(n + 1);
+    match word {
+        "Drop" => return bound(source, n),
+        "unsafe" if after == "{" => source.blank(n, n),
+        // What is unsafe in Rust has a safe function that checks.
+        "str" if source.matches(n + 1, &["::", "from_utf8_unchecked"]) => source.blank(n, n + 1),
+        "unsafe" => return source.refusal(n, "an `unsafe` that is no block"),
+        "final" if after == "fn" => return source.refusal(n, "a `final` function"),
+        "fmt" if source.matches(n + 1, &["<", "W", ":", "fmt", "::", "Write", ">"]) => {
+            source.blank(n + 1, n + 7);
+        }
+        "Formatter" if source.matches(n + 1, &["<", "W", ">"]) => source.blank(n + 1, n + 3),
+        "cloned" if source.matches(n + 1, &["(", ")", "?"]) => source.rename(n, "clones"),
+        _ if source.before(n) == "." => return method(source, n, word),
+        "prove" | "prove_eq" | "prove_ne" if after == "!" => {
+            return source.refusal(n, "a macro for proofs");
+        }
+        _ if after == "(" && names.laws.contains(&word) => return law(source, n),
+        _ => {}
+    }
+    Ok(n)
+}
+
+/// Blanks the bound `Drop`: each type of Rust may be dropped.
+fn bound(source: &mut Source<'_>, n: usize) -> Step {
+    match (source.before(n), source.at(n + 1)) {
+        ("+", _) => source.blank(n - 1, n),
+        (":", "+") => source.blank(n, n + 1),
+        (":", "," | ">") => source.blank(n - 1, n),
+        _ => return source.refusal(n, "a `Drop` that is no bound and no name in a derive"),
+    }
+    Ok(n)
+}
+
+/// Changes the name of a method that takes an allocator.
+fn method(source: &mut Source<'_>, n: usize, word: &str) -> Step {
+    if let Some(&(_, name)) = WITH_ALLOCATOR.iter().find(|(name, _)| *name == word) {
+        match (source.at(n + 1), source.at(n + 2)) {
+            ("(", ")") => {}
+            ("(", _) => source.rename(n, name),
+            _ => return source.refusal(n, "a method with an allocator in an unknown form"),
+        }
+    }
+    Ok(n)
+}
+
+/// Blanks the call of a law, which does nothing.
+fn law(source: &mut Source<'_>, n: usize) -> Step {
+    let end = source.closing(n + 1) + 1;
+    if !["{", "}", ";"].contains(&source.before(n)) || source.at(end) != ";" {
+        return source.refusal(n, "a call of a law that is no statement");
+    }
+    source.blank(n, end);
+    Ok(end)
+}

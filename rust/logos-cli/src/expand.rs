@@ -1,0 +1,140 @@
+//! Expands the lexers of a Rust file in a build script. Build scripts call it as `logos_build`.
+
+// In this package `std` is Rattle's.
+extern crate std as rust_std;
+
+use crate::logos_cli::run_command;
+use crate::logos_host::SourceDisk;
+use rust_std::path::{Path, PathBuf};
+use rust_std::prelude::v1::*;
+use rust_std::process::exit;
+use rust_std::{env, eprintln, format, println};
+use std::alloc::{AllocError, Global, set_budget_of_program};
+use std::prelude::{HostRuntime, String as Word, Vec as List};
+
+/// The shape of the printed lexers.
+#[derive(Clone, Copy, Debug, Default, PartialEq, Eq)]
+pub enum Shape {
+    /// Tables, and one loop that reads them. It compiles in a second.
+    #[default]
+    Tables,
+    /// A function for each state.
+    Tailcall,
+    /// One loop, with an arm for each state.
+    StateMachine,
+}
+
+impl Shape {
+    fn word(self) -> &'static str {
+        match self {
+            Shape::Tables => "tables",
+            Shape::Tailcall => "tailcall",
+            Shape::StateMachine => "state_machine",
+        }
+    }
+}
+
+/// How files are expanded.
+#[derive(Clone, Debug, Default)]
+#[must_use = "`expand` expands a file"]
+pub struct Build {
+    shape: Shape,
+}
+
+impl Build {
+    /// Returns the way in which [`expand`] expands files.
+    pub fn new() -> Build {
+        Build::default()
+    }
+
+    /// Sets the shape of the lexers.
+    pub fn shape(mut self, shape: Shape) -> Build {
+        self.shape = shape;
+        self
+    }
+
+    /// Expands the lexers of a Rust file of the package into a file of the same name in the folder
+    /// `OUT_DIR`, and returns its path. Everything else in the file stays as it is. The result is
+    /// written whole, or not at all.
+    ///
+    /// Warnings become warnings of Cargo. If the file has faults, or cannot be read, this prints why
+    /// and ends the build script with status 1. The library uses at most 1 GiB of memory, or what
+    /// the variable `LOGOS_MEMORY` says, such as `4G`.
+    pub fn expand(&self, source: impl AsRef<Path>) -> PathBuf {
+        let source = source.as_ref();
+        self.try_expand(source).unwrap_or_else(|why| {
+            eprintln!("{}", shown(why.trim_end()));
+            exit(1)
+        })
+    }
+
+    fn try_expand(&self, source: &Path) -> Result<PathBuf, String> {
+        let name = source.file_name().ok_or("error: the source is no file")?;
+        let folder = env::var_os("OUT_DIR")
+            .ok_or("error: OUT_DIR is not set: call this in a build script")?;
+        let output = Path::new(&folder).join(name);
+        let (source, written) = (word(source)?, word(&output)?);
+        println!("cargo::rerun-if-changed={source}");
+        set_budget_of_program().map_err(|error| format!("error: {error}"))?;
+        let messages = self.run(source, written)?;
+        let warnings = messages.lines().filter(|line| !line.is_empty());
+        warnings.for_each(|line| println!("cargo::warning={}", shown(line)));
+        Ok(output)
+    }
+
+    /// Does what `logos_cli` does, and returns its warnings.
+    fn run(&self, source: &str, output: &str) -> Result<String, String> {
+        let words = [
+            source,
+            "--shape",
+            self.shape.word(),
+            "--color",
+            "never",
+            "--output",
+            output,
+        ];
+        let words = words_of(&words).map_err(|_| "error: out of memory")?;
+        let mut files = SourceDisk { rt: &HostRuntime };
+        let (mut out, mut messages) = (List::new(Global), List::new(Global));
+        let ending = run_command(Global, &words, &mut files, &mut out, &mut messages);
+        let messages = String::from_utf8_lossy(&messages).into_owned();
+        match ending.status {
+            0 => Ok(messages),
+            _ => Err(messages),
+        }
+    }
+}
+
+/// Expands the lexers of a Rust file of the package in the shape of tables, and returns the path of
+/// the result, as [`Build::expand`] does.
+pub fn expand(source: impl AsRef<Path>) -> PathBuf {
+    Build::new().expand(source)
+}
+
+/// Returns a path as a word. Cargo reads paths from lines, so one with a line end is none.
+fn word(path: &Path) -> Result<&str, String> {
+    let word = path.to_str().filter(|word| !word.contains(char::is_control));
+    word.ok_or_else(|| format!("error: this path is not plain text: {}", path.display()))
+}
+
+fn words_of(words: &[&str]) -> Result<List<Word>, AllocError> {
+    let mut list = List::new(Global);
+    for text in words {
+        let mut word = Word::new(Global);
+        word.push_str(text)?;
+        list.push(word)?;
+    }
+    Ok(list)
+}
+
+/// Returns a text in which control characters but line ends are escaped.
+fn shown(text: &str) -> String {
+    let mut shown = String::with_capacity(text.len());
+    for c in text.chars() {
+        match c.is_control() && c != '\n' {
+            true => shown.extend(c.escape_default()),
+            false => shown.push(c),
+        }
+    }
+    shown
+}

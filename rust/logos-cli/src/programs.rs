@@ -1,0 +1,24 @@
+//! Runs a program on the runtime of this process. The programs `logos`, `logos_cli` and
+//! `logos_show` call it.
+
+use std::alloc::set_budget_of_program;
+use std::io::Write;
+use std::prelude::HostRuntime;
+use std::process::ExitCode;
+
+/// The line that `--version` prints after the version. The programs print none where it names no
+/// commit.
+const COMMIT: &str = concat!("commit: ", env!("LOGOS_COMMIT"), "\n");
+
+/// The exit status where an argument or a variable has a form that is not known.
+const MISUSE: u8 = 2;
+
+/// Runs a program, which returns its exit status.
+pub fn run(program: fn(&HostRuntime) -> u8) -> ExitCode {
+    if let Err(error) = set_budget_of_program() {
+        let _ = writeln!(HostRuntime.stderr(), "error: {error}");
+        return ExitCode::from(MISUSE);
+    }
+    std::fs::set_program(COMMIT.as_bytes());
+    ExitCode::from(program(&HostRuntime))
+}

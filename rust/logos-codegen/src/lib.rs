@@ -1,0 +1,35 @@
+//! The library behind `#[derive(Logos)]`: from the source of an enum to its lexer.
+//!
+//! The items at the root are those of the crate `logos_codegen` of the repository. The modules
+//! `logos_*` are its crates. Their sources are written in Rattle, which is Rust with contracts, and
+//! are proved there. A build script takes the contracts out and leaves the rest as it is, so lines
+//! and columns are those of the `.rt` files. That the result does what was proved rests on that
+//! script, on `rattle-std`, and on the Rust compiler. The tests of the repository run both.
+
+#![no_std]
+#![forbid(unsafe_code)]
+// Some parameters, imports, labels and braces are there for the contracts alone.
+#![allow(
+    dead_code,
+    unused_braces,
+    unused_imports,
+    unused_labels,
+    unused_parens,
+    unused_variables
+)]
+// The sources follow the rules of Rattle, where a function takes `&Vec<T>`, and loops use indices.
+#![allow(clippy::all, clippy::pedantic)]
+// The docs name items by their Rattle paths.
+#![allow(rustdoc::all)]
+
+#[cfg(not(any(target_pointer_width = "64", logos_tested_only)))]
+compile_error!(
+    "logos-codegen is proved for hosts with 64-bit pointers. To build it for this host, where it is \
+     only tested, pass `--cfg logos_tested_only` to rustc."
+);
+
+extern crate rattle_std as std;
+
+include!(concat!(env!("OUT_DIR"), "/crates.rs"));
+
+pub use self::logos_codegen::*;

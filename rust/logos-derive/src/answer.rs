@@ -1,0 +1,150 @@
+//! What the library answers about an enum, in types of Rust's own library.
+
+use crate::question::Question;
+use logos_codegen::logos_codegen::generator::Config;
+use logos_codegen::logos_derive as library;
+use logos_codegen::logos_tables::Shape;
+use logos_codegen::logos_token::token::Span;
+use rattle_std::alloc::{Global, set_budget_of_program};
+use std::ops::Range;
+use std::panic::{AssertUnwindSafe, catch_unwind};
+
+/// What the library answers: the implementation, if the enum is accepted, and faults and warnings.
+pub struct Answer {
+    pub implementation: Option<Implementation>,
+    pub diagnostics: Vec<Diagnostic>,
+}
+
+/// The implementation of an enum, and the pieces of its source in it.
+pub struct Implementation {
+    pub text: String,
+    pub pieces: Vec<Piece>,
+}
+
+/// A piece of the source that the implementation repeats.
+pub struct Piece {
+    /// Where it is in the implementation, in bytes.
+    pub range: Range<usize>,
+    /// Where its tokens are in the source, in bytes.
+    pub source: Range<usize>,
+}
+
+/// A fault or a warning.
+pub struct Diagnostic {
+    pub is_error: bool,
+    /// The first line, after the code of a fault in brackets.
+    pub message: String,
+    /// What it is about, in bytes of the source.
+    pub span: Range<usize>,
+    /// The part of a literal that is at fault, if that is not all of `span`.
+    pub carets: Option<Range<usize>>,
+    pub labels: Vec<Label>,
+    /// Lines that begin with `note: ` or `help: `.
+    pub notes: Vec<String>,
+}
+
+/// Another place of a diagnostic, with what is said of it.
+pub struct Label {
+    pub span: Range<usize>,
+    pub text: String,
+}
+
+/// Why there is no answer, and what to do.
+pub struct Failure(pub String);
+
+/// The shape of an implementation, as the variable `LOGOS_SHAPE` names it.
+#[derive(Clone, Copy)]
+pub struct ShapeName(pub &'static str);
+
+impl ShapeName {
+    /// The names of all shapes.
+    pub const ALL: [&'static str; 3] = ["tables", "tailcall", "state_machine"];
+
+    fn shape(self) -> Shape {
+        let code = |use_state_machine_codegen| {
+            Shape::Code(Config {
+                use_state_machine_codegen,
+            })
+        };
+        match self.0 {
+            "tailcall" => code(false),
+            "state_machine" => code(true),
+            _ => Shape::Tables,
+        }
+    }
+}
+
+/// Asks the library for the implementation of an enum.
+///
+/// # Errors
+///
+/// Returns what to say if memory is refused, or if the library panics, which is a mistake in it.
+pub fn ask(question: &Question, shape: ShapeName) -> Result<Answer, Failure> {
+    set_budget_of_program().map_err(|error| Failure(error.to_string()))?;
+    let derive = || library::derive(Global, &question.text, shape.shape());
+    match catch_unwind(AssertUnwindSafe(derive)) {
+        Ok(Ok(derivation)) => Ok(answer(&derivation)),
+        Ok(Err(_)) => Err(Failure(format!(
+            "there is not enough memory to make the lexer of {}\n\
+             help: the most that is used is 1 GiB, or what the variable LOGOS_MEMORY says, such as \
+             `LOGOS_MEMORY=4G`\n\
+             help: smaller counts, as in `{{0,20}}`, and smaller classes need less",
+            question.described()
+        ))),
+        Err(_) => Err(Failure(format!(
+            "the lexer of {} cannot be made: the library has panicked, which is a mistake in it",
+            question.described()
+        ))),
+    }
+}
+
+fn answer(derivation: &library::Derivation) -> Answer {
+    let implementation = derivation
+        .implementation
+        .as_ref()
+        .map(|found| Implementation {
+            text: found.text.as_str().into(),
+            pieces: found.pieces.iter().map(piece).collect(),
+        });
+    Answer {
+        implementation,
+        diagnostics: derivation.diagnostics.iter().map(diagnostic).collect(),
+    }
+}
+
+fn piece(piece: &library::Piece) -> Piece {
+    Piece {
+        range: piece.from..piece.to,
+        source: range(piece.span),
+    }
+}
+
+fn range(span: Span) -> Range<usize> {
+    span.from..span.to
+}
+
+fn diagnostic(found: &library::Diagnostic) -> Diagnostic {
+    let message = found.message.as_str();
+    let note = |note: &library::Note| {
+        let level = if note.is_help { "help" } else { "note" };
+        format!("{level}: {}", note.text.as_str())
+    };
+    Diagnostic {
+        is_error: matches!(found.level, library::Level::Error),
+        message: match &found.code {
+            Some(code) => format!("[{}] {message}", code.name()),
+            None => message.into(),
+        },
+        span: range(found.span),
+        carets: found.carets.map(range),
+        labels: found.labels.iter().map(label).collect(),
+        notes: found.notes.iter().map(note).collect(),
+    }
+}
+
+fn label(label: &library::Label) -> Label {
+    Label {
+        span: range(label.span),
+        text: label.text.as_str().into(),
+    }
+}

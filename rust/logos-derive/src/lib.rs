@@ -1,0 +1,117 @@
+//! The macro `#[derive(Logos)]`.
+//!
+//! Programs use it by the crate `logos`, which hands it on. It calls the library `logos-codegen` in
+//! the same process, and puts the implementation that the library makes in the place of the derive.
+//!
+//! What you wrote in the enum keeps its places, so the compiler points into your callbacks and
+//! types where you wrote them. A fault of the enum is an error under the tokens that it is about,
+//! with its code in brackets. Stable Rust has no places inside of a literal: there a copy of the
+//! line with carets is part of the message. It has no warnings of macros either: they come as uses
+//! of a deprecated constant named `logos`, and `#[allow(deprecated)]` on the enum silences them.
+//!
+//! # Variables of the environment
+//!
+//! - `LOGOS_SHAPE`: the shape of the implementation: `tables`, the default, `tailcall` or
+//!   `state_machine`. With the feature `state_machine_codegen` that one is the default. Cargo builds
+//!   a package anew if the variable has changed.
+//! - `LOGOS_MEMORY`: the most memory that the library uses, such as `500M` or `4G`. 1 GiB without it.
+
+#![forbid(unsafe_code)]
+#![warn(missing_docs)]
+
+mod answer;
+mod fault;
+mod fill;
+mod generics;
+mod kept;
+mod question;
+mod record;
+mod stub;
+mod type_syntax;
+mod warning;
+
+use answer::{Answer, Failure, ShapeName};
+use proc_macro::TokenStream;
+use question::Question;
+
+/// Implements the trait `Logos` for an enum whose variants carry patterns.
+///
+/// [The guide](https://github.com/maciejhirsz/logos) has more.
+#[proc_macro_derive(Logos, attributes(logos, extras, error, end, token, regex))]
+pub fn derive(item: TokenStream) -> TokenStream {
+    let question = Question::new(item.clone());
+    let made = shape().and_then(|shape| {
+        let answer = answer_to(&question, shape)?;
+        implementation(&answer, &question, &item)
+    });
+    let (mut tokens, is_refused) = match made {
+        Ok(made) => made,
+        Err(failure) => (fault::failure(&failure, &question), true),
+    };
+    tokens.extend(tracked());
+    if is_refused {
+        tokens.extend(stub::stub(item));
+    }
+    tokens
+}
+
+/// Returns the answer about an enum: the one that is kept, or else the library's.
+fn answer_to(question: &Question, shape: ShapeName) -> Result<Answer, Failure> {
+    let place = kept::Place::new(&question.text, shape);
+    let answer = match place.find() {
+        Some(answer) => answer,
+        None => {
+            let answer = answer::ask(question, shape)?;
+            place.keep(&answer);
+            answer
+        }
+    };
+    if let (true, Some(found)) = (cfg!(feature = "debug"), &answer.implementation) {
+        eprintln!("[logos] {}: {}", shape.0, found.text);
+    }
+    Ok(answer)
+}
+
+/// Returns the implementation and the warnings, or the faults of the enum, and whether it is
+/// refused.
+fn implementation(
+    answer: &Answer,
+    question: &Question,
+    item: &TokenStream,
+) -> Result<(TokenStream, bool), Failure> {
+    let mut tokens = TokenStream::new();
+    for found in &answer.diagnostics {
+        tokens.extend(match found.is_error {
+            true => fault::error(found, question),
+            false => warning::warning(found, question, item),
+        });
+    }
+    match &answer.implementation {
+        Some(found) => tokens.extend(fill::tokens(found, question)?),
+        None => return Ok((tokens, true)),
+    }
+    Ok((tokens, false))
+}
+
+/// Returns the shape of the implementation. A variable without a text counts as not set.
+fn shape() -> Result<ShapeName, Failure> {
+    let word = std::env::var("LOGOS_SHAPE").unwrap_or_default();
+    if word.is_empty() {
+        let is_machine = cfg!(feature = "state_machine_codegen");
+        return Ok(ShapeName(ShapeName::ALL[if is_machine { 2 } else { 0 }]));
+    }
+    let shape = ShapeName::ALL.into_iter().find(|shape| *shape == word);
+    shape.map(ShapeName).ok_or_else(|| {
+        let help = "help: write `tables`, `tailcall` or `state_machine`";
+        Failure(format!("the variable LOGOS_SHAPE is `{word}`\n{help}"))
+    })
+}
+
+/// Returns an item that reads the variable, so that Cargo builds the package anew where it has
+/// changed. A function that nobody calls leaves no trace in what the compiler writes.
+fn tracked() -> TokenStream {
+    "const _: () = { #[allow(dead_code)] fn tracked() { \
+     let _ = ::core::option_env!(\"LOGOS_SHAPE\"); } };"
+        .parse()
+        .unwrap_or_default()
+}

@@ -1,0 +1,225 @@
+//! The enum as a text, and where its tokens stand there.
+
+use proc_macro::{Delimiter, Group, Ident, Literal, Spacing, Span, TokenStream, TokenTree};
+use std::ops::Range;
+
+/// The enum as a text, with its tokens.
+#[derive(Default)]
+pub struct Question {
+    pub text: String,
+    nodes: Vec<Node>,
+    tokens: Vec<Token>,
+}
+
+/// A token tree of the enum, with its byte range in the text.
+struct Node {
+    from: usize,
+    to: usize,
+    tree: TokenTree,
+    inner: Vec<Node>,
+}
+
+/// A token of the enum, with its byte range in the text. Delimiters are tokens, too.
+struct Token {
+    from: usize,
+    to: usize,
+    span: Span,
+    is_literal: bool,
+}
+
+/// The tokens over which a byte range reaches.
+pub struct Place {
+    pub first: Span,
+    pub last: Span,
+    /// The byte range of the literal in which the place lies, if it is a part of one.
+    pub literal: Option<Range<usize>>,
+}
+
+impl Question {
+    /// Prints an item.
+    pub fn new(item: TokenStream) -> Question {
+        let mut question = Question::default();
+        question.nodes = question.print(item);
+        question.text.push('\n');
+        question
+    }
+
+    /// Returns the token trees of a byte range, if each of them lies there as a whole.
+    pub fn cut(&self, range: &Range<usize>) -> Option<Vec<TokenTree>> {
+        cut(&self.nodes, range.start, range.end)
+    }
+
+    /// Returns the places of the first and the last token of the type of a field, if a variant with
+    /// one field has the name that ends at a byte offset.
+    pub fn field_after(&self, end: usize) -> Option<(Span, Span)> {
+        let variants = self.nodes.last()?;
+        let after = variants.inner.partition_point(|node| node.from < end);
+        let field = variants
+            .inner
+            .get(after)
+            .filter(|node| is_parenthesized(node))?;
+        let name = variants.inner.get(after.checked_sub(1)?)?;
+        let type_ = field.inner.get(field_start(&field.inner)..)?;
+        let (first, last) = (type_.first()?, type_.last()?);
+        (name.to == end).then_some((first.tree.span(), last.tree.span()))
+    }
+
+    /// Returns whether a byte offset lies in an attribute.
+    pub fn is_in_attribute(&self, at: usize) -> bool {
+        is_in_attribute(&self.nodes, at)
+    }
+
+    /// Returns the place of the enum's name.
+    pub fn name(&self) -> Option<Place> {
+        let name = self.name_node()?;
+        self.place(&(name.from..name.to))
+    }
+
+    /// Returns how the enum is called in a message.
+    pub fn described(&self) -> String {
+        match self.name_node() {
+            Some(name) => format!("the enum `{}`", name.tree),
+            None => "this item".into(),
+        }
+    }
+
+    fn name_node(&self) -> Option<&Node> {
+        let is_enum = |node: &Node| {
+            matches!(&node.tree, TokenTree::Ident(_)) && node.tree.to_string() == "enum"
+        };
+        self.nodes.get(self.nodes.iter().position(is_enum)? + 1)
+    }
+
+    /// Returns the place of the tokens that a byte range meets.
+    pub fn place(&self, range: &Range<usize>) -> Option<Place> {
+        let from = range.start;
+        let to = range.end.max(from.saturating_add(1));
+        let start = self.tokens.partition_point(|token| token.to <= from);
+        let end = self.tokens.partition_point(|token| token.from < to);
+        let met = self.tokens.get(start..end)?;
+        let (first, last) = (met.first()?, met.last()?);
+        let is_part =
+            first.is_literal && first.from == last.from && (first.from < from || to < first.to);
+        Some(Place {
+            first: first.span,
+            last: last.span,
+            literal: is_part.then_some(first.from..first.to),
+        })
+    }
+
+    /// Appends token trees to the text.
+    fn print(&mut self, trees: TokenStream) -> Vec<Node> {
+        trees
+            .into_iter()
+            .map(|tree| self.print_tree(tree))
+            .collect()
+    }
+
+    fn print_tree(&mut self, tree: TokenTree) -> Node {
+        let from = self.text.len();
+        let mut inner = Vec::new();
+        let to;
+        match &tree {
+            TokenTree::Group(group) => (inner, to) = self.print_group(group),
+            TokenTree::Ident(name) => to = self.push(&printed(name), name.span()),
+            TokenTree::Literal(literal) => to = self.push_literal(literal),
+            TokenTree::Punct(punct) => {
+                to = self.push(punct.as_char().encode_utf8(&mut [0; 4]), punct.span());
+                if punct.spacing() == Spacing::Joint {
+                    self.text.pop();
+                }
+            }
+        }
+        Node {
+            from,
+            to,
+            tree,
+            inner,
+        }
+    }
+
+    /// Appends a group, and returns what is in it and where it ends.
+    fn print_group(&mut self, group: &Group) -> (Vec<Node>, usize) {
+        let Some((open, close)) = delimiters(group.delimiter()) else {
+            // What a macro hands on of its argument has no delimiters.
+            let inner = self.print(group.stream());
+            let to = inner.last().map_or(self.text.len(), |node| node.to);
+            return (inner, to);
+        };
+        self.push(open, group.span_open());
+        let inner = self.print(group.stream());
+        (inner, self.push(close, group.span_close()))
+    }
+
+    /// Appends a token, and returns where it ends. A blank follows it, or a line end where that
+    /// keeps lines short.
+    fn push(&mut self, text: &str, span: Span) -> usize {
+        let from = self.text.len();
+        let to = from + text.len();
+        self.text.push_str(text);
+        self.text
+            .push(if matches!(text, "," | "]") { '\n' } else { ' ' });
+        self.tokens.push(Token {
+            from,
+            to,
+            span,
+            is_literal: false,
+        });
+        to
+    }
+
+    fn push_literal(&mut self, literal: &Literal) -> usize {
+        let to = self.push(&literal.to_string(), literal.span());
+        if let Some(token) = self.tokens.last_mut() {
+            token.is_literal = true;
+        }
+        to
+    }
+}
+
+/// Returns how a name is printed. `$crate` is no name that a source can hold.
+fn printed(name: &Ident) -> String {
+    name.to_string().trim_start_matches('$').into()
+}
+
+fn delimiters(delimiter: Delimiter) -> Option<(&'static str, &'static str)> {
+    match delimiter {
+        Delimiter::Parenthesis => Some(("(", ")")),
+        Delimiter::Brace => Some(("{", "}")),
+        Delimiter::Bracket => Some(("[", "]")),
+        Delimiter::None => None,
+    }
+}
+
+/// Returns the trees of a range that begins and ends where trees do, on one level.
+fn cut(nodes: &[Node], from: usize, to: usize) -> Option<Vec<TokenTree>> {
+    let first = nodes.partition_point(|node| node.to <= from);
+    let end = nodes.partition_point(|node| node.from < to);
+    match nodes.get(first..end)? {
+        run @ [head, ..] if head.from == from && run[run.len() - 1].to == to => {
+            Some(run.iter().map(|node| node.tree.clone()).collect())
+        }
+        [node] => cut(&node.inner, from, to),
+        _ => None,
+    }
+}
+
+fn is_parenthesized(node: &Node) -> bool {
+    matches!(&node.tree, TokenTree::Group(group) if group.delimiter() == Delimiter::Parenthesis)
+}
+
+/// Returns how many trees precede the type of a field: its attributes.
+fn field_start(nodes: &[Node]) -> usize {
+    let is_hash = |node: &Node| matches!(&node.tree, TokenTree::Punct(p) if p.as_char() == '#');
+    2 * nodes.chunks(2).take_while(|pair| is_hash(&pair[0])).count()
+}
+
+fn is_in_attribute(nodes: &[Node], at: usize) -> bool {
+    let found = nodes.partition_point(|node| node.to <= at);
+    let Some(node) = nodes.get(found) else {
+        return false;
+    };
+    let is_hash = |node: &Node| matches!(&node.tree, TokenTree::Punct(p) if p.as_char() == '#');
+    let is_attribute = found > 0 && is_hash(&nodes[found - 1]);
+    is_attribute || is_in_attribute(&node.inner, at)
+}

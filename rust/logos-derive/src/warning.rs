@@ -1,0 +1,45 @@
+//! Warnings, as uses of a deprecated constant: stable Rust has none for macros.
+
+use crate::answer::Diagnostic;
+use crate::fault::text;
+use crate::question::Question;
+use proc_macro::{Delimiter, Group, Ident, Literal, Span, TokenStream, TokenTree};
+
+/// Returns the items that let the compiler warn at the first token of the place, or at the name of
+/// the enum. It does not warn at the derive, which is no token of the user's.
+///
+/// Lint levels of the enum that are `allow` hold for its warnings, too.
+pub fn warning(found: &Diagnostic, question: &Question, item: &TokenStream) -> TokenStream {
+    let note = Literal::string(&text(found, question));
+    let place = question.place(&found.span).or_else(|| question.name());
+    let span = place.map_or(Span::call_site(), |place| place.first);
+    let constant = format!(
+        "#[deprecated(note = {note})] #[allow(non_upper_case_globals)] const logos: () = ();"
+    );
+    let mut inner: TokenStream = constant.parse().unwrap_or_default();
+    inner.extend("let _ =".parse::<TokenStream>().unwrap_or_default());
+    inner.extend([TokenTree::from(Ident::new("logos", span))]);
+    inner.extend(";".parse::<TokenStream>().unwrap_or_default());
+    let mut tokens = allowed(item.clone());
+    tokens.extend("const _: () =".parse::<TokenStream>().unwrap_or_default());
+    tokens.extend([TokenTree::from(Group::new(Delimiter::Brace, inner))]);
+    tokens.extend(";".parse::<TokenStream>().unwrap_or_default());
+    tokens
+}
+
+/// Returns the attributes `#[allow(..)]` in front of an item.
+fn allowed(item: TokenStream) -> TokenStream {
+    let mut found = TokenStream::new();
+    let mut trees = item.into_iter();
+    while let (Some(TokenTree::Punct(hash)), Some(TokenTree::Group(attribute))) =
+        (trees.next(), trees.next())
+    {
+        let name = attribute.stream().into_iter().next();
+        if hash.as_char() == '#'
+            && matches!(name, Some(TokenTree::Ident(name)) if name.to_string() == "allow")
+        {
+            found.extend([TokenTree::from(hash), attribute.into()]);
+        }
+    }
+    found
+}

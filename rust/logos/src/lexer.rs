@@ -1,0 +1,232 @@
+//! Lexers: runs of a printed text over an input.
+
+use crate::scan::{Scan, Scanner};
+use crate::{Logos, Source};
+use core::fmt;
+use core::ops::{Deref, DerefMut, Range};
+
+/// A part of an input, in byte offsets.
+pub type Span = Range<usize>;
+
+/// A run of a lexer over an input. As an iterator it yields each token, or the error that stands in
+/// its place.
+pub struct Lexer<'source, Token: Logos<'source>> {
+    source: &'source Token::Source,
+    start: usize,
+    end: usize,
+    /// The state that callbacks can read and change.
+    pub extras: Token::Extras,
+}
+
+impl<'source, Token: Logos<'source>> Lexer<'source, Token> {
+    /// Whether the compiler makes vectors of loops over 16 bytes. Printed texts ask.
+    #[doc(hidden)]
+    pub const VECTORS: bool = option_env!("LOGOS_VECTORS").is_some()
+        && cfg!(any(target_feature = "sse2", target_feature = "neon"));
+
+    /// Returns a lexer at the start of an input, with extras of their default value.
+    pub fn new(source: &'source Token::Source) -> Self
+    where
+        Token::Extras: Default,
+    {
+        Self::with_extras(source, Token::Extras::default())
+    }
+
+    /// Returns a lexer at the start of an input, with these extras.
+    pub fn with_extras(source: &'source Token::Source, extras: Token::Extras) -> Self {
+        Lexer {
+            source,
+            start: 0,
+            end: 0,
+            extras,
+        }
+    }
+
+    /// Returns the whole input.
+    pub fn source(&self) -> &'source Token::Source {
+        self.source
+    }
+
+    /// Returns the place of the last token.
+    pub fn span(&self) -> Span {
+        self.start..self.end
+    }
+
+    /// Returns the text of the last token.
+    pub fn slice(&self) -> <Token::Source as Source>::Slice<'source> {
+        self.part(self.span())
+    }
+
+    /// Returns the input after the last token.
+    pub fn remainder(&self) -> <Token::Source as Source>::Slice<'source> {
+        self.part(self.end..self.source.len())
+    }
+
+    /// Makes the last token `n` bytes longer.
+    ///
+    /// # Panics
+    ///
+    /// Panics if the token would end after the input, or inside a character. The lexer is then as
+    /// it was before the call.
+    pub fn bump(&mut self, n: usize) {
+        let end = self.end.checked_add(n);
+        let is_end = |end: &usize| *end <= self.source.len() && self.source.is_boundary(*end);
+        self.end = end.filter(is_end).expect("Invalid Lexer bump");
+    }
+
+    /// Returns a lexer for another enum at the same place of the same input.
+    pub fn morph<Other>(self) -> Lexer<'source, Other>
+    where
+        Other: Logos<'source, Source = Token::Source>,
+        Token::Extras: Into<Other::Extras>,
+    {
+        Lexer {
+            source: self.source,
+            start: self.start,
+            end: self.end,
+            extras: self.extras.into(),
+        }
+    }
+
+    /// Returns an iterator over tokens with their places.
+    pub fn spanned(self) -> SpannedIter<'source, Token> {
+        SpannedIter { lexer: self }
+    }
+
+    /// Returns an iterator over the tokens that follow, with their places, by chunks of the input:
+    /// the items of [`Lexer::spanned`]. [`Iterator::for_each`] and [`Iterator::fold`] are mostly
+    /// faster than calls of `next`.
+    pub fn scan(self) -> Scanner<'source, Token>
+    where
+        Token: Scan<'source>,
+    {
+        Scanner::new(self, false)
+    }
+
+    /// Returns an iterator over those items that are the same whatever follows the input, of which
+    /// more is to come. At its end [`Lexer::remainder`] is what the next part has to begin with.
+    ///
+    /// That holds for callbacks that read their match alone: others see the part and not the rest.
+    pub fn scan_part(self) -> Scanner<'source, Token>
+    where
+        Token: Scan<'source>,
+    {
+        Scanner::new(self, true)
+    }
+
+    /// Sets where the token begins to where the last one ended.
+    pub(crate) fn begin(&mut self) {
+        self.start = self.end;
+    }
+
+    pub(crate) fn start(&self) -> usize {
+        self.start
+    }
+
+    pub(crate) fn end(&self) -> usize {
+        self.end
+    }
+
+    pub(crate) fn set_span(&mut self, span: Span) {
+        (self.start, self.end) = (span.start, span.end);
+    }
+
+    pub(crate) fn set_end(&mut self, end: usize) {
+        self.end = end;
+    }
+
+    fn part(&self, range: Span) -> <Token::Source as Source>::Slice<'source> {
+        let source: &'source Token::Source = self.source;
+        source
+            .slice(range)
+            .expect("tokens end where a part of the input can")
+    }
+}
+
+impl<'source, Token: Logos<'source>> Iterator for Lexer<'source, Token> {
+    type Item = Result<Token, Token::Error>;
+
+    fn next(&mut self) -> Option<Self::Item> {
+        self.begin();
+        Token::lex(self)
+    }
+}
+
+impl<'source, Token: Logos<'source>> Clone for Lexer<'source, Token>
+where
+    Token::Extras: Clone,
+{
+    fn clone(&self) -> Self {
+        Lexer {
+            source: self.source,
+            start: self.start,
+            end: self.end,
+            extras: self.extras.clone(),
+        }
+    }
+}
+
+impl<'source, Token: Logos<'source>> fmt::Debug for Lexer<'source, Token>
+where
+    Token::Source: fmt::Debug,
+    Token::Extras: fmt::Debug,
+{
+    fn fmt(&self, f: &mut fmt::Formatter<'_>) -> fmt::Result {
+        let source: &dyn fmt::Debug = &self.source;
+        let extras: &dyn fmt::Debug = &self.extras;
+        f.debug_map()
+            .entries([("source", source), ("extras", extras)])
+            .finish()
+    }
+}
+
+/// An iterator over tokens with their places.
+pub struct SpannedIter<'source, Token: Logos<'source>> {
+    lexer: Lexer<'source, Token>,
+}
+
+impl<'source, Token: Logos<'source>> Iterator for SpannedIter<'source, Token> {
+    type Item = (Result<Token, Token::Error>, Span);
+
+    fn next(&mut self) -> Option<Self::Item> {
+        let item = self.lexer.next()?;
+        Some((item, self.lexer.span()))
+    }
+}
+
+impl<'source, Token: Logos<'source>> Clone for SpannedIter<'source, Token>
+where
+    Token::Extras: Clone,
+{
+    fn clone(&self) -> Self {
+        SpannedIter {
+            lexer: self.lexer.clone(),
+        }
+    }
+}
+
+impl<'source, Token: Logos<'source>> fmt::Debug for SpannedIter<'source, Token>
+where
+    Token::Source: fmt::Debug,
+    Token::Extras: fmt::Debug,
+{
+    fn fmt(&self, f: &mut fmt::Formatter<'_>) -> fmt::Result {
+        f.debug_struct("SpannedIter")
+            .field("lexer", &self.lexer)
+            .finish()
+    }
+}
+
+impl<'source, Token: Logos<'source>> Deref for SpannedIter<'source, Token> {
+    type Target = Lexer<'source, Token>;
+
+    fn deref(&self) -> &Self::Target {
+        &self.lexer
+    }
+}
+
+impl<'source, Token: Logos<'source>> DerefMut for SpannedIter<'source, Token> {
+    fn deref_mut(&mut self) -> &mut Self::Target {
+        &mut self.lexer
+    }
+}

@@ -1,0 +1,85 @@
+//! Stands in for Rattle's `std::alloc`: the allocator, its errors, and the budget of memory.
+
+mod budget;
+
+use core::fmt;
+
+pub(crate) use budget::{claim, release};
+pub use budget::{BudgetError, DEFAULT_BUDGET, budget_of, set_budget, set_budget_of_program};
+
+/// The allocator of the process.
+#[derive(Clone, Copy, Debug, Default, PartialEq, Eq)]
+pub struct Global;
+
+/// Memory was refused.
+#[derive(Clone, Copy, PartialEq, Eq)]
+pub struct AllocError;
+
+impl fmt::Display for AllocError {
+    fn fmt(&self, f: &mut fmt::Formatter<'_>) -> fmt::Result {
+        f.write_str("memory allocation failed")
+    }
+}
+
+impl fmt::Debug for AllocError {
+    fn fmt(&self, f: &mut fmt::Formatter<'_>) -> fmt::Result {
+        f.write_str("AllocError")
+    }
+}
+
+impl core::error::Error for AllocError {}
+
+/// Memory to store a value was refused.
+pub struct AllocFailed<T> {
+    /// The value that was not stored.
+    pub value: T,
+}
+
+impl<T> fmt::Display for AllocFailed<T> {
+    fn fmt(&self, f: &mut fmt::Formatter<'_>) -> fmt::Result {
+        AllocError.fmt(f)
+    }
+}
+
+impl<T> fmt::Debug for AllocFailed<T> {
+    fn fmt(&self, f: &mut fmt::Formatter<'_>) -> fmt::Result {
+        f.write_str("AllocFailed")
+    }
+}
+
+impl<T> core::error::Error for AllocFailed<T> {}
+
+impl<T> From<AllocFailed<T>> for AllocError {
+    #[inline]
+    fn from(_error: AllocFailed<T>) -> AllocError {
+        AllocError
+    }
+}
+
+impl From<AllocError> for fmt::Error {
+    fn from(_error: AllocError) -> fmt::Error {
+        fmt::Error
+    }
+}
+
+/// Returns the capacity to which a block with `capacity` items of `size` bytes grows so that
+/// `additional` items fit after the first `len`, and claims the bytes that are added.
+///
+/// The capacity at least doubles, so that adding items one by one takes linear time.
+///
+/// # Errors
+///
+/// Returns `AllocError` if the number of bytes overflows or the budget does not allow it.
+pub(crate) fn grown(
+    len: usize,
+    capacity: usize,
+    additional: usize,
+    size: usize,
+) -> Result<usize, AllocError> {
+    let needed = len.checked_add(additional).ok_or(AllocError)?;
+    let least = if size == 1 { 8 } else { 4 };
+    let grown = needed.max(capacity.saturating_mul(2)).max(least);
+    let bytes = grown.checked_mul(size).ok_or(AllocError)?;
+    claim(bytes - capacity * size)?;
+    Ok(grown)
+}

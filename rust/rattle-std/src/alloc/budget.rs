@@ -1,0 +1,96 @@
+//! The budget of memory: how many bytes may be in use.
+//!
+//! A program or a macro that takes input of others sets it. Past it growth is refused as if memory
+//! ran out. Everything that this crate allocates is counted, by capacity; the overhead of the
+//! system's allocator is not.
+
+use super::AllocError;
+use core::fmt;
+use core::sync::atomic::{AtomicUsize, Ordering::Relaxed};
+
+/// The budget that programs set where the variable does not name another one: 1 GiB.
+pub const DEFAULT_BUDGET: usize = 1 << 30;
+
+/// The variable of the environment that names another budget.
+const VARIABLE: &str = "LOGOS_MEMORY";
+
+/// The most bytes that may be in use. The greatest number stands for no budget.
+static BUDGET: AtomicUsize = AtomicUsize::new(usize::MAX);
+
+/// The bytes in use that were claimed while there was a budget.
+static IN_USE: AtomicUsize = AtomicUsize::new(0);
+
+/// Sets how many bytes may be in use, or that there is no budget, as at the start.
+///
+/// What is allocated before is not counted, so this is called first. The setting is that of the
+/// process.
+pub fn set_budget(bytes: Option<usize>) {
+    BUDGET.store(bytes.unwrap_or(usize::MAX), Relaxed);
+}
+
+/// Sets the budget that the variable `LOGOS_MEMORY` names, or [`DEFAULT_BUDGET`] where it is not set.
+///
+/// # Errors
+///
+/// Returns an error if the variable names no number of bytes. Then the budget is [`DEFAULT_BUDGET`].
+pub fn set_budget_of_program() -> Result<(), BudgetError> {
+    set_budget(Some(DEFAULT_BUDGET));
+    if let Some(text) = std::env::var_os(VARIABLE) {
+        let bytes = text.to_str().and_then(budget_of).ok_or(BudgetError)?;
+        set_budget(Some(bytes));
+    }
+    Ok(())
+}
+
+/// Returns the number of bytes that a text names: digits, and `M` for MiB or `G` for GiB after them.
+pub fn budget_of(text: &str) -> Option<usize> {
+    let (digits, unit) = match text.as_bytes() {
+        [.., b'M'] => (&text[..text.len() - 1], 1 << 20),
+        [.., b'G'] => (&text[..text.len() - 1], 1 << 30),
+        _ => (text, 1),
+    };
+    if !digits.bytes().all(|byte| byte.is_ascii_digit()) {
+        return None;
+    }
+    digits.parse::<usize>().ok()?.checked_mul(unit)
+}
+
+/// The variable `LOGOS_MEMORY` names no number of bytes.
+#[derive(Clone, Copy, Debug, PartialEq, Eq)]
+pub struct BudgetError;
+
+impl fmt::Display for BudgetError {
+    fn fmt(&self, f: &mut fmt::Formatter<'_>) -> fmt::Result {
+        f.write_str("the variable LOGOS_MEMORY has to be a number of bytes, such as 500M or 2G")
+    }
+}
+
+impl core::error::Error for BudgetError {}
+
+/// Claims bytes that are about to be allocated.
+///
+/// # Errors
+///
+/// Returns `AllocError` if more bytes would be in use than the budget allows.
+#[inline]
+pub(crate) fn claim(bytes: usize) -> Result<(), AllocError> {
+    let budget = BUDGET.load(Relaxed);
+    if budget == usize::MAX {
+        return Ok(());
+    }
+    let before = IN_USE.fetch_add(bytes, Relaxed);
+    // Bytes of the time before the budget may have been released, so the sum may be below zero.
+    if (before.wrapping_add(bytes) as isize) > budget.min(isize::MAX as usize) as isize {
+        IN_USE.fetch_sub(bytes, Relaxed);
+        return Err(AllocError);
+    }
+    Ok(())
+}
+
+/// Releases bytes that were claimed.
+#[inline]
+pub(crate) fn release(bytes: usize) {
+    if bytes != 0 && BUDGET.load(Relaxed) != usize::MAX {
+        IN_USE.fetch_sub(bytes, Relaxed);
+    }
+}

@@ -1,0 +1,108 @@
+//! A set in order.
+
+use crate::alloc::{AllocError, AllocFailed, Global};
+use crate::vec::Vec;
+use core::borrow::Borrow;
+use core::iter::Flatten;
+use core::slice::Iter;
+
+/// The most values of a run. To insert a value moves at most as many.
+const RUN: usize = 512;
+
+/// A set of values in order.
+///
+/// It is a sorted vector in runs, so that to insert a value moves few others. No run is empty.
+pub struct BTreeSet<T> {
+    runs: Vec<Vec<T>>,
+    len: usize,
+}
+
+impl<T: Ord> BTreeSet<T> {
+    /// Returns an empty set.
+    pub fn new(alloc: Global) -> BTreeSet<T> {
+        BTreeSet {
+            runs: Vec::new(alloc),
+            len: 0,
+        }
+    }
+
+    /// Returns the run that has a value, or that it belongs to: the last one for the greatest.
+    fn run_of<Q: ?Sized + Ord>(&self, value: &Q) -> usize
+    where
+        T: Borrow<Q>,
+    {
+        let is_before = |run: &Vec<T>| run.last().is_some_and(|last| last.borrow() < value);
+        let run = self.runs.partition_point(is_before);
+        run.min(self.runs.len().saturating_sub(1))
+    }
+
+    /// Adds a value, and returns whether it is new.
+    ///
+    /// # Errors
+    ///
+    /// Returns the value if memory is refused. Then the set has the same values as before.
+    pub fn insert(&mut self, value: T) -> Result<bool, AllocFailed<T>> {
+        let mut run = self.run_of(&value);
+        if self.make_room(run).is_err() {
+            return Err(AllocFailed { value });
+        }
+        if self.runs[run].last().is_some_and(|last| *last < value) && run + 1 < self.runs.len() {
+            run += 1;
+        }
+        match self.runs[run].binary_search(&value) {
+            Ok(_) => Ok(false),
+            Err(at) => {
+                self.runs[run].insert(at, value)?;
+                self.len += 1;
+                Ok(true)
+            }
+        }
+    }
+
+    /// Makes a first run, or two of a full one.
+    fn make_room(&mut self, run: usize) -> Result<(), AllocError> {
+        if self.runs.is_empty() {
+            self.runs.push(Vec::new(Global))?;
+        } else if self.runs[run].len() == RUN {
+            self.runs.reserve(1)?;
+            let rest = self.runs[run].split_off(RUN / 2)?;
+            self.runs.insert(run + 1, rest)?;
+        }
+        Ok(())
+    }
+
+    /// Returns whether the set has a value.
+    pub fn contains<Q: ?Sized + Ord>(&self, value: &Q) -> bool
+    where
+        T: Borrow<Q>,
+    {
+        let Some(run) = self.runs.get(self.run_of(value)) else {
+            return false;
+        };
+        run.binary_search_by(|it| it.borrow().cmp(value)).is_ok()
+    }
+
+    /// Returns the values in order.
+    pub fn iter(&self) -> Flatten<Iter<'_, Vec<T>>> {
+        self.runs.iter().flatten()
+    }
+
+    /// Returns how many values there are.
+    pub fn len(&self) -> usize {
+        self.len
+    }
+
+    /// Returns whether there is no value.
+    pub fn is_empty(&self) -> bool {
+        self.len == 0
+    }
+}
+
+impl<'v, T: Ord> IntoIterator for &'v BTreeSet<T> {
+    type Item = &'v T;
+    type IntoIter = Flatten<Iter<'v, Vec<T>>>;
+
+    fn into_iter(self) -> Self::IntoIter {
+        self.iter()
+    }
+}

@@ -1,0 +1,130 @@
+//! Stands in for the kit's `indexmap`: sets and maps whose entries have indices, 0 for the one that
+//! was added first.
+
+mod map;
+mod set;
+
+pub use map::IndexMap;
+pub use set::IndexSet;
+
+use crate::alloc::{AllocError, Global};
+use crate::vec::Vec;
+use core::hash::{BuildHasher, Hash};
+use std::hash::RandomState;
+
+/// A hash, and 1 more than the index of the entry that has it. An empty place has index 0.
+#[derive(Clone, Copy)]
+struct Place {
+    hash: u32,
+    entry: u32,
+}
+
+const EMPTY: Place = Place { hash: 0, entry: 0 };
+
+/// The indices of entries by their hashes: a power of two of places, at most half of them used. A
+/// place that is used by another entry is passed over for the next one.
+///
+/// The keys of the hashes are random, so that nobody can choose entries with equal ones. No result
+/// depends on them, since entries are only listed by their indices.
+struct Table {
+    places: Vec<Place>,
+    state: RandomState,
+}
+
+impl Table {
+    fn new(alloc: Global) -> Table {
+        Table {
+            places: Vec::new(alloc),
+            state: RandomState::new(),
+        }
+    }
+
+    #[inline]
+    fn hash_of<Q: ?Sized + Hash>(&self, key: &Q) -> u32 {
+        self.state.hash_one(key) as u32
+    }
+
+    /// Returns the index of the entry with a hash that passes a test.
+    #[inline]
+    fn find<F: Fn(usize) -> bool>(&self, hash: u32, is_it: F) -> Option<usize> {
+        let mask = self.places.len().wrapping_sub(1);
+        let mut at = hash as usize & mask;
+        while let Some(place) = self.places.get(at).filter(|place| place.entry != 0) {
+            let index = place.entry as usize - 1;
+            if place.hash == hash && is_it(index) {
+                return Some(index);
+            }
+            at = (at + 1) & mask;
+        }
+        None
+    }
+
+    /// Sets the hash of the entry with an index. There has to be room.
+    fn set(&mut self, hash: u32, index: usize) {
+        let mask = self.places.len() - 1;
+        let mut at = hash as usize & mask;
+        while self.places[at].entry != 0 {
+            at = (at + 1) & mask;
+        }
+        self.places[at] = Place {
+            hash,
+            entry: index as u32 + 1,
+        };
+    }
+
+    /// Makes room for `additional` entries beside `len`.
+    #[inline]
+    fn reserve(&mut self, len: usize, additional: usize) -> Result<(), AllocError> {
+        let needed = len.checked_add(additional).ok_or(AllocError)?;
+        if needed <= self.places.len() / 2 {
+            return Ok(());
+        }
+        self.grow(needed)
+    }
+
+    #[cold]
+    fn grow(&mut self, needed: usize) -> Result<(), AllocError> {
+        if needed >= u32::MAX as usize / 2 {
+            return Err(AllocError);
+        }
+        let count = (2 * needed).next_power_of_two().max(16);
+        let mut places = Vec::new(Global);
+        places.resize(count, EMPTY)?;
+        core::mem::swap(&mut self.places, &mut places);
+        for place in places.iter().filter(|place| place.entry != 0) {
+            self.set(place.hash, place.entry as usize - 1);
+        }
+        Ok(())
+    }
+
+    /// Removes the entry with a hash and an index. Entries that were passed on over its place move
+    /// back.
+    fn remove(&mut self, hash: u32, index: usize) {
+        let mask = self.places.len() - 1;
+        let mut hole = hash as usize & mask;
+        while self.places[hole].entry as usize != index + 1 {
+            hole = (hole + 1) & mask;
+        }
+        self.close(hole);
+    }
+
+    /// Empties a place.
+    fn close(&mut self, mut hole: usize) {
+        let mask = self.places.len() - 1;
+        let mut at = (hole + 1) & mask;
+        while self.places[at].entry != 0 {
+            let home = self.places[at].hash as usize & mask;
+            if (at.wrapping_sub(home) & mask) >= (at.wrapping_sub(hole) & mask) {
+                self.places[hole] = self.places[at];
+                hole = at;
+            }
+            at = (at + 1) & mask;
+        }
+        self.places[hole] = EMPTY;
+    }
+
+    /// Removes all entries.
+    fn clear(&mut self) {
+        self.places.fill(EMPTY);
+    }
+}

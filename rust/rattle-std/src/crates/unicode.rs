@@ -1,0 +1,195 @@
+//! Stands in for the kit's `unicode`: sets of characters by their names, and simple case folding.
+//! The data is in `unicode_tables.rs`, which a program in Rattle prints from the kit's crates.
+
+pub(super) mod ranges;
+
+pub(super) use ranges::{contains, number_at};
+
+/// The sets that a name stands for, as in `\p{Greek}`.
+pub mod sets {
+    use super::ranges::ranges_of;
+    use crate::alloc::{AllocError, Global};
+    use crate::crates::unicode_tables::{ASSIGNED, NAMES};
+    use crate::vec::Vec;
+    use core::fmt;
+
+    /// A set of code points that a property names.
+    #[derive(Clone, Copy, Debug, PartialEq, Eq, Hash)]
+    pub enum Set {
+        /// All code points.
+        Any,
+        /// Those of ASCII.
+        Ascii,
+        /// Those that have a character.
+        Assigned,
+        /// That of a binary property, a general category or a script, by its number.
+        Named(u16),
+    }
+
+    impl Set {
+        /// Returns the members as ranges in order, each by its first and its last one. They may have
+        /// surrogates.
+        ///
+        /// # Errors
+        ///
+        /// Returns `AllocError` if memory is refused.
+        pub fn ranges(self, alloc: Global) -> Result<Vec<(u32, u32)>, AllocError> {
+            match self {
+                Set::Any => Vec::from_slice(alloc, &[(0, 0x10_FFFF)]),
+                Set::Ascii => Vec::from_slice(alloc, &[(0, 0x7F)]),
+                Set::Assigned => ranges_of(alloc, ASSIGNED),
+                Set::Named(number) => ranges_of(alloc, usize::from(number)),
+            }
+        }
+    }
+
+    /// Why a name stands for no set.
+    #[derive(Clone, Copy, Debug, PartialEq, Eq, Hash)]
+    pub enum LookupError {
+        /// No property has the name.
+        PropertyNotFound,
+    }
+
+    impl fmt::Display for LookupError {
+        fn fmt(&self, f: &mut fmt::Formatter<'_>) -> fmt::Result {
+            f.write_str("Unicode property not found")
+        }
+    }
+
+    impl core::error::Error for LookupError {}
+
+    /// Returns the set of a binary property, a general category or a script by its normalized name.
+    ///
+    /// # Errors
+    ///
+    /// Returns `PropertyNotFound` if none has the name.
+    pub fn by_name(name: &[u8]) -> Result<Set, LookupError> {
+        match NAMES.binary_search_by(|(it, _)| it.as_bytes().cmp(name)) {
+            Ok(at) => Ok(Set::Named(NAMES[at].1)),
+            Err(_) => Err(LookupError::PropertyNotFound),
+        }
+    }
+
+    /// Returns the form in which names are compared: in small letters, without the prefix `is`,
+    /// spaces, `_`, `-` and what is not ASCII.
+    ///
+    /// # Errors
+    ///
+    /// Returns `AllocError` if memory is refused.
+    pub fn normalize(alloc: Global, name: &[char]) -> Result<Vec<u8>, AllocError> {
+        let (has_prefix, rest) = match name {
+            ['i' | 'I', 's' | 'S', rest @ ..] => (true, rest),
+            _ => (false, name),
+        };
+        let mut out = Vec::new(alloc);
+        for character in rest {
+            if character.is_ascii() && !matches!(character, ' ' | '_' | '-') {
+                out.push(character.to_ascii_lowercase() as u8)?;
+            }
+        }
+        // `isc` is short for ISO_Comment, where `c` is a general category.
+        if has_prefix && out.as_slice() == b"c" {
+            return Vec::from_slice(alloc, b"isc");
+        }
+        Ok(out)
+    }
+}
+
+/// The sets of `\d`, `\s` and `\w`.
+pub mod perl {
+    use super::ranges::ranges_of;
+    use crate::alloc::{AllocError, Global};
+    use crate::crates::unicode_tables::{DIGIT, SPACE, WORD};
+    use crate::vec::Vec;
+
+    /// Returns the ranges of `\d`.
+    ///
+    /// # Errors
+    ///
+    /// Returns `AllocError` if memory is refused, as the next two do.
+    pub fn digit_ranges(alloc: Global) -> Result<Vec<(u32, u32)>, AllocError> {
+        ranges_of(alloc, DIGIT)
+    }
+
+    /// Returns the ranges of `\s`.
+    pub fn space_ranges(alloc: Global) -> Result<Vec<(u32, u32)>, AllocError> {
+        ranges_of(alloc, SPACE)
+    }
+
+    /// Returns the ranges of `\w`.
+    pub fn word_ranges(alloc: Global) -> Result<Vec<(u32, u32)>, AllocError> {
+        ranges_of(alloc, WORD)
+    }
+}
+
+/// Case folding.
+pub mod case {
+    use super::number_at;
+    use crate::crates::unicode_tables::{FOLD_COUNT, FOLDS};
+
+    static PAIRS: [(u32, u32); FOLD_COUNT] = pairs();
+
+    /// Returns each two characters that simple case folding makes equal, in both orders, sorted.
+    pub fn fold_pairs() -> &'static [(u32, u32)] {
+        &PAIRS
+    }
+
+    /// Reads the table of pairs. This is done when the crate is compiled.
+    const fn pairs() -> [(u32, u32); FOLD_COUNT] {
+        let mut pairs = [(0, 0); FOLD_COUNT];
+        let (mut pair, mut at, mut first) = (0, 0, 0);
+        while pair < FOLD_COUNT {
+            let (step, after) = number_at(FOLDS, at);
+            let (difference, next) = number_at(FOLDS, after);
+            first += step;
+            let half = difference.div_ceil(2);
+            let is_above = difference.is_multiple_of(2);
+            pairs[pair] = (first, if is_above { first + half } else { first - half });
+            at = next;
+            pair += 1;
+        }
+        pairs
+    }
+}
+
+/// Properties of characters.
+pub mod properties {
+    use super::contains;
+    use super::ranges::{ALPHABETIC, NUMBER};
+
+    /// What the crates need of the general category of a character.
+    #[derive(Clone, Copy, Debug, PartialEq, Eq)]
+    pub struct GeneralCategory {
+        is_number: bool,
+    }
+
+    impl GeneralCategory {
+        /// Returns the category of a character.
+        pub fn for_char(c: char) -> GeneralCategory {
+            GeneralCategory {
+                is_number: contains(&NUMBER, c),
+            }
+        }
+    }
+
+    /// A group of general categories.
+    #[derive(Clone, Copy, Debug, PartialEq, Eq)]
+    pub enum GeneralCategoryGroup {
+        /// Decimal numbers, letters that are numbers, and others.
+        Number,
+    }
+
+    impl GeneralCategoryGroup {
+        /// Returns whether a category is in the group.
+        pub fn contains(self, value: GeneralCategory) -> bool {
+            match self {
+                GeneralCategoryGroup::Number => value.is_number,
+            }
+        }
+    }
+
+    /// Returns whether a character is alphabetic.
+    pub fn is_alphabetic(c: char) -> bool {
+        contains(&ALPHABETIC, c)
+    }
+}

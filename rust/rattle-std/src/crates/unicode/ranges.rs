@@ -1,0 +1,85 @@
+//! Sets of characters as ranges. Those of functions that are called often are read from the tables
+//! when the crate is compiled.
+
+use crate::alloc::{AllocError, Global};
+use crate::crates::unicode_tables as tables;
+use crate::crates::unicode_tables::{OFFSETS, RANGES};
+use crate::vec::Vec;
+use core::cmp::Ordering;
+
+/// A set whose ranges are read when the crate is compiled.
+macro_rules! set {
+    ($name:ident) => {
+        pub(crate) static $name: [(u32, u32); count(tables::$name)] = ranges(tables::$name);
+    };
+}
+
+set!(ALPHABETIC);
+set!(NUMBER);
+set!(XID_START);
+set!(XID_CONTINUE);
+
+/// Returns the number that begins at an index of a table, and where the next one begins.
+pub(crate) const fn number_at(bytes: &[u8], mut at: usize) -> (u32, usize) {
+    let (mut number, mut shift) = (0, 0);
+    while bytes[at] >= 128 {
+        number |= (bytes[at] as u32 - 128) << shift;
+        shift += 7;
+        at += 1;
+    }
+    (number | (bytes[at] as u32) << shift, at + 1)
+}
+
+/// Returns how many ranges a set has.
+const fn count(set: usize) -> usize {
+    let mut at = OFFSETS[set] as usize;
+    let mut numbers = 0;
+    while at < OFFSETS[set + 1] as usize {
+        (_, at) = number_at(RANGES, at);
+        numbers += 1;
+    }
+    numbers / 2
+}
+
+/// Returns the range that begins at an index of the table, for a range before that ends in front of
+/// `from`, and where the next one begins.
+const fn range_at(at: usize, from: u32) -> ((u32, u32), usize) {
+    let (gap, at) = number_at(RANGES, at);
+    let (more, at) = number_at(RANGES, at);
+    ((from + gap, from + gap + more), at)
+}
+
+/// Returns the ranges of a set.
+const fn ranges<const COUNT: usize>(set: usize) -> [(u32, u32); COUNT] {
+    let mut ranges = [(0, 0); COUNT];
+    let (mut range, mut at, mut from) = (0, OFFSETS[set] as usize, 0);
+    while range < COUNT {
+        (ranges[range], at) = range_at(at, from);
+        from = ranges[range].1 + 1;
+        range += 1;
+    }
+    ranges
+}
+
+/// Returns the ranges of a set.
+pub(super) fn ranges_of(alloc: Global, set: usize) -> Result<Vec<(u32, u32)>, AllocError> {
+    let mut ranges = Vec::new(alloc);
+    let (mut at, mut from) = (OFFSETS[set] as usize, 0);
+    while at < OFFSETS[set + 1] as usize {
+        let (range, next) = range_at(at, from);
+        ranges.push(range)?;
+        (at, from) = (next, range.1 + 1);
+    }
+    Ok(ranges)
+}
+
+/// Returns whether ranges in order have a character.
+pub(crate) fn contains(ranges: &[(u32, u32)], c: char) -> bool {
+    let code = c as u32;
+    let place = |&(first, last): &(u32, u32)| match (code < first, last < code) {
+        (true, _) => Ordering::Greater,
+        (_, true) => Ordering::Less,
+        _ => Ordering::Equal,
+    };
+    ranges.binary_search_by(place).is_ok()
+}

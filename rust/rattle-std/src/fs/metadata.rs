@@ -1,0 +1,145 @@
+//! What the system knows of a file.
+
+use super::Files;
+use crate::io::{self, ErrorKind};
+
+/// What the system knows of a file.
+#[derive(Clone)]
+pub struct Metadata {
+    found: std::fs::Metadata,
+    /// The hash of its whole path, which stands for the number of the file.
+    #[cfg(not(unix))]
+    name: u64,
+}
+
+impl Metadata {
+    /// Returns whether it is a regular file.
+    pub fn is_file(&self) -> bool {
+        self.found.is_file()
+    }
+
+    /// Returns how many bytes the file has.
+    #[allow(clippy::len_without_is_empty)]
+    pub fn len(&self) -> u64 {
+        self.found.len()
+    }
+
+    /// Returns who may read, write and run the file.
+    pub fn permissions(&self) -> Permissions {
+        Permissions(self.found.permissions())
+    }
+}
+
+/// Returns what the system knows of the file at a path.
+///
+/// # Errors
+///
+/// Returns the error of the system.
+pub fn metadata<R: Files>(_rt: &R, path: &str) -> io::Result<Metadata> {
+    if cfg!(not(target_os = "linux")) && path.starts_with("/proc/") {
+        // Whether a process runs is not known there, so none is said to have ended.
+        return Err(ErrorKind::Unsupported.into());
+    }
+    Ok(Metadata {
+        found: std::fs::metadata(path)?,
+        #[cfg(not(unix))]
+        name: name_of(path)?,
+    })
+}
+
+/// Returns a hash of the whole path of a file.
+#[cfg(not(unix))]
+fn name_of(path: &str) -> io::Result<u64> {
+    use std::hash::{DefaultHasher, Hash, Hasher};
+    let mut hasher = DefaultHasher::new();
+    std::fs::canonicalize(path)?.hash(&mut hasher);
+    Ok(hasher.finish())
+}
+
+/// Who may read, write and run a file.
+pub struct Permissions(std::fs::Permissions);
+
+/// Sets who may read, write and run a file.
+///
+/// # Errors
+///
+/// Returns the error of the system.
+pub fn set_permissions<R: Files>(_rt: &R, path: &str, to: Permissions) -> io::Result<()> {
+    Ok(std::fs::set_permissions(path, to.0)?)
+}
+
+/// What Unix knows of a file besides. Elsewhere a file is the one that its whole path names.
+pub trait MetadataExt {
+    /// Returns the number of the device.
+    fn dev(&self) -> u64;
+    /// Returns the number of the file on its device.
+    fn ino(&self) -> u64;
+    /// Returns the number of the owner.
+    fn uid(&self) -> u32;
+    /// Returns the number of the group.
+    fn gid(&self) -> u32;
+    /// Returns the kind of file, and who may read, write and run it.
+    fn mode(&self) -> u32;
+}
+
+#[cfg(unix)]
+impl MetadataExt for Metadata {
+    fn dev(&self) -> u64 {
+        std::os::unix::fs::MetadataExt::dev(&self.found)
+    }
+
+    fn ino(&self) -> u64 {
+        std::os::unix::fs::MetadataExt::ino(&self.found)
+    }
+
+    fn uid(&self) -> u32 {
+        std::os::unix::fs::MetadataExt::uid(&self.found)
+    }
+
+    fn gid(&self) -> u32 {
+        std::os::unix::fs::MetadataExt::gid(&self.found)
+    }
+
+    fn mode(&self) -> u32 {
+        std::os::unix::fs::MetadataExt::mode(&self.found)
+    }
+}
+
+#[cfg(not(unix))]
+impl MetadataExt for Metadata {
+    fn dev(&self) -> u64 {
+        0
+    }
+
+    fn ino(&self) -> u64 {
+        self.name
+    }
+
+    fn uid(&self) -> u32 {
+        0
+    }
+
+    fn gid(&self) -> u32 {
+        0
+    }
+
+    fn mode(&self) -> u32 {
+        0
+    }
+}
+
+/// The permissions of Unix.
+pub trait PermissionsExt {
+    /// Sets who may read, write and run the file.
+    fn set_mode(&mut self, mode: u32);
+}
+
+impl PermissionsExt for Permissions {
+    #[cfg(unix)]
+    fn set_mode(&mut self, mode: u32) {
+        std::os::unix::fs::PermissionsExt::set_mode(&mut self.0, mode);
+    }
+
+    #[cfg(not(unix))]
+    fn set_mode(&mut self, _mode: u32) {}
+}

@@ -1,0 +1,210 @@
+//! Stands in for Rattle's `std::io`: reading into vectors that may be refused memory, and writing.
+
+mod buffered;
+mod error;
+mod standard;
+
+use crate::alloc::Global;
+use crate::string::String;
+use crate::vec::Vec;
+use core::fmt;
+
+pub use buffered::BufWriter;
+pub use error::{Error, ErrorKind, Result};
+pub use standard::{Input, IsTerminal, Print, Stderr, Stdin, Stdout};
+
+/// The bytes that are read at first. Where there are more, larger blocks follow.
+const FIRST_BLOCK: usize = 8192;
+
+/// The bytes of the largest block that is read.
+const LARGEST_BLOCK: usize = 1 << 20;
+
+/// Something that bytes are read from.
+pub trait Read {
+    /// Reads bytes, and returns how many. None are left where the number is 0 and `buf` is not
+    /// empty.
+    ///
+    /// # Errors
+    ///
+    /// Returns the error of the system. Then nothing was read.
+    fn read(&mut self, buf: &mut [u8]) -> Result<usize>;
+
+    /// Appends all bytes that are left to a vector, and returns how many.
+    ///
+    /// # Errors
+    ///
+    /// Returns the error of the system, or one of the kind `OutOfMemory` if memory is refused. Then
+    /// what was read before is appended.
+    fn read_to_end(&mut self, buf: &mut Vec<u8>) -> Result<usize> {
+        let start = buf.len();
+        let mut block = FIRST_BLOCK;
+        loop {
+            match read_block(self, buf, block) {
+                Ok(0) => return Ok(buf.len() - start),
+                Ok(read) if read == block => block = (2 * block).min(LARGEST_BLOCK),
+                Ok(_) => {}
+                Err(error) if error.kind() == ErrorKind::Interrupted => {}
+                Err(error) => return Err(error),
+            }
+        }
+    }
+
+    /// Returns a reader of at most `limit` bytes of this one.
+    fn take(self, limit: u64) -> Take<Self>
+    where
+        Self: Sized,
+    {
+        Take { inner: self, limit }
+    }
+}
+
+/// Appends a block of at most `most` bytes to a vector.
+fn read_block<R: Read + ?Sized>(from: &mut R, buf: &mut Vec<u8>, most: usize) -> Result<usize> {
+    let len = buf.len();
+    buf.resize(len + most, 0)?;
+    let read = from.read(&mut buf[len..]);
+    let added = read.as_ref().map_or(0, |read| *read);
+    buf.truncate(len + added);
+    read
+}
+
+impl<R: Read + ?Sized> Read for &mut R {
+    fn read(&mut self, buf: &mut [u8]) -> Result<usize> {
+        (**self).read(buf)
+    }
+}
+
+impl Read for &[u8] {
+    fn read(&mut self, buf: &mut [u8]) -> Result<usize> {
+        let (front, rest) = self.split_at(self.len().min(buf.len()));
+        buf[..front.len()].copy_from_slice(front);
+        *self = rest;
+        Ok(front.len())
+    }
+}
+
+/// A reader of the first bytes of another one.
+pub struct Take<R> {
+    inner: R,
+    limit: u64,
+}
+
+impl<R: Read> Read for Take<R> {
+    fn read(&mut self, buf: &mut [u8]) -> Result<usize> {
+        let most = self.limit.min(buf.len() as u64) as usize;
+        if most == 0 {
+            return Ok(0);
+        }
+        let read = self.inner.read(&mut buf[..most])?;
+        self.limit -= read as u64;
+        Ok(read)
+    }
+}
+
+/// Returns all text that a reader has left.
+///
+/// # Errors
+///
+/// Returns the error of the system, one of the kind `InvalidData` if the text is not UTF-8, or one
+/// of the kind `OutOfMemory` if memory is refused.
+pub fn read_to_string<R: Read>(alloc: Global, mut reader: R) -> Result<String> {
+    let mut bytes = Vec::new(alloc);
+    reader.read_to_end(&mut bytes)?;
+    String::from_utf8(bytes).map_err(|_| Error::from(ErrorKind::InvalidData))
+}
+
+/// Something that bytes are written to.
+pub trait Write {
+    /// Writes bytes, and returns how many.
+    ///
+    /// # Errors
+    ///
+    /// Returns the error of the system. Then nothing was written.
+    fn write(&mut self, buf: &[u8]) -> Result<usize>;
+
+    /// Writes what is held back.
+    ///
+    /// # Errors
+    ///
+    /// Returns the error of the system.
+    fn flush(&mut self) -> Result<()>;
+
+    /// Writes all bytes.
+    ///
+    /// # Errors
+    ///
+    /// Returns the error of the system. Then a part of the bytes may be written.
+    fn write_all(&mut self, mut buf: &[u8]) -> Result<()> {
+        while !buf.is_empty() {
+            match self.write(buf) {
+                Ok(0) => return Err(Error::from(ErrorKind::WriteZero)),
+                Ok(written) => buf = &buf[written..],
+                Err(error) if error.kind() == ErrorKind::Interrupted => {}
+                Err(error) => return Err(error),
+            }
+        }
+        Ok(())
+    }
+
+    /// Writes what is formatted: `write!` calls it.
+    ///
+    /// # Errors
+    ///
+    /// Returns the error of the system. Then a part may be written.
+    fn write_fmt(&mut self, text: fmt::Arguments<'_>) -> Result<()> {
+        let mut pieces = Pieces {
+            to: self,
+            error: None,
+        };
+        match fmt::Write::write_fmt(&mut pieces, text) {
+            Ok(()) => Ok(()),
+            Err(fmt::Error) => Err(pieces.error.unwrap_or(Error::from(ErrorKind::Other))),
+        }
+    }
+}
+
+/// A writer to which what is formatted comes in pieces.
+struct Pieces<'w, W: ?Sized> {
+    to: &'w mut W,
+    error: Option<Error>,
+}
+
+impl<W: Write + ?Sized> fmt::Write for Pieces<'_, W> {
+    fn write_str(&mut self, piece: &str) -> fmt::Result {
+        self.to.write_all(piece.as_bytes()).map_err(|error| {
+            self.error = Some(error);
+            fmt::Error
+        })
+    }
+}
+
+impl<W: Write + ?Sized> Write for &mut W {
+    fn write(&mut self, buf: &[u8]) -> Result<usize> {
+        (**self).write(buf)
+    }
+
+    fn flush(&mut self) -> Result<()> {
+        (**self).flush()
+    }
+
+    fn write_all(&mut self, buf: &[u8]) -> Result<()> {
+        (**self).write_all(buf)
+    }
+}
+
+impl Write for Vec<u8> {
+    #[inline]
+    fn write(&mut self, buf: &[u8]) -> Result<usize> {
+        self.extend_from_slice(buf)?;
+        Ok(buf.len())
+    }
+
+    fn flush(&mut self) -> Result<()> {
+        Ok(())
+    }
+
+    #[inline]
+    fn write_all(&mut self, buf: &[u8]) -> Result<()> {
+        Ok(self.extend_from_slice(buf)?)
+    }
+}

@@ -1,0 +1,140 @@
+//! Errors of files and streams.
+
+use crate::alloc::{AllocError, AllocFailed};
+use core::fmt;
+
+/// What reading or writing returns.
+pub type Result<T> = core::result::Result<T, Error>;
+
+/// An error of the system.
+#[derive(Clone, Copy, Debug)]
+pub struct Error {
+    kind: ErrorKind,
+    /// The number that the system gave it.
+    code: Option<i32>,
+}
+
+impl Error {
+    /// Returns the kind of the error.
+    pub fn kind(&self) -> ErrorKind {
+        self.kind
+    }
+}
+
+impl fmt::Display for Error {
+    fn fmt(&self, f: &mut fmt::Formatter<'_>) -> fmt::Result {
+        match self.code {
+            Some(code) => std::io::Error::from_raw_os_error(code).fmt(f),
+            None => write!(f, "{:?}", self.kind),
+        }
+    }
+}
+
+impl core::error::Error for Error {}
+
+impl From<ErrorKind> for Error {
+    fn from(kind: ErrorKind) -> Error {
+        Error { kind, code: None }
+    }
+}
+
+impl From<AllocError> for Error {
+    fn from(_error: AllocError) -> Error {
+        Error::from(ErrorKind::OutOfMemory)
+    }
+}
+
+impl<T> From<AllocFailed<T>> for Error {
+    fn from(_error: AllocFailed<T>) -> Error {
+        Error::from(ErrorKind::OutOfMemory)
+    }
+}
+
+impl From<std::io::Error> for Error {
+    fn from(error: std::io::Error) -> Error {
+        let code = error.raw_os_error();
+        let kind = if code == Some(LINKS_LEAD_ROUND) {
+            ErrorKind::FilesystemLoop
+        } else {
+            ErrorKind::of_std(error.kind())
+        };
+        Error { kind, code }
+    }
+}
+
+/// The system's number of the error of links that lead round. Rust's kind of it has no stable name.
+const LINKS_LEAD_ROUND: i32 = if cfg!(any(target_os = "linux", target_os = "android")) {
+    40
+} else if cfg!(windows) {
+    1921
+} else {
+    62
+};
+
+macro_rules! kinds {
+    ($($(#[$doc:meta])* $kind:ident,)*) => {
+        /// Why reading or writing failed.
+        #[derive(Clone, Copy, Debug, PartialEq, Eq, Hash)]
+        pub enum ErrorKind {
+            $($(#[$doc])* $kind,)*
+            /// The links of a path lead round, or are too many.
+            FilesystemLoop,
+            /// Another reason.
+            Other,
+        }
+
+        impl ErrorKind {
+            fn of_std(kind: std::io::ErrorKind) -> ErrorKind {
+                match kind {
+                    $(std::io::ErrorKind::$kind => ErrorKind::$kind,)*
+                    _ => ErrorKind::Other,
+                }
+            }
+        }
+    };
+}
+
+kinds! {
+    /// There is no such file.
+    NotFound,
+    /// The system does not allow it.
+    PermissionDenied,
+    /// There is such a file already.
+    AlreadyExists,
+    /// A folder has to be a file.
+    IsADirectory,
+    /// A part of the path has to be a folder.
+    NotADirectory,
+    /// A folder that has to be empty has entries.
+    DirectoryNotEmpty,
+    /// A name is too long, or has characters that the system does not take.
+    InvalidFilename,
+    /// A parameter is none that the system takes.
+    InvalidInput,
+    /// The data is not as it has to be.
+    InvalidData,
+    /// The disk is full.
+    StorageFull,
+    /// A quota is used up.
+    QuotaExceeded,
+    /// The file would be larger than the system allows.
+    FileTooLarge,
+    /// The file system is read-only.
+    ReadOnlyFilesystem,
+    /// Nobody reads what is written.
+    BrokenPipe,
+    /// The call was interrupted, and can be repeated.
+    Interrupted,
+    /// The call would have to wait.
+    WouldBlock,
+    /// The call took too long.
+    TimedOut,
+    /// A call to write wrote nothing.
+    WriteZero,
+    /// The data ends too early.
+    UnexpectedEof,
+    /// The system has no such call.
+    Unsupported,
+    /// Memory is refused.
+    OutOfMemory,
+}

@@ -1,0 +1,105 @@
+//! Standard input, output and error.
+
+use super::{Read, Result, Write};
+use crate::rt::HostRuntime;
+use crate::vec::Vec;
+
+/// A system with a standard input.
+pub trait Input {
+    /// What reads it.
+    type Reader: Read;
+
+    /// Returns what reads standard input.
+    fn reader(&self) -> Self::Reader;
+}
+
+impl Input for HostRuntime {
+    type Reader = Stdin;
+
+    fn reader(&self) -> Stdin {
+        self.stdin()
+    }
+}
+
+/// A system with a standard output.
+pub trait Print {
+    /// Returns standard output.
+    fn stdout(&self) -> Stdout;
+
+    /// Returns standard error.
+    fn stderr(&self) -> Stderr;
+}
+
+impl Print for HostRuntime {
+    fn stdout(&self) -> Stdout {
+        HostRuntime::stdout(self)
+    }
+
+    fn stderr(&self) -> Stderr {
+        HostRuntime::stderr(self)
+    }
+}
+
+impl<P: Print> Print for &P {
+    fn stdout(&self) -> Stdout {
+        (**self).stdout()
+    }
+
+    fn stderr(&self) -> Stderr {
+        (**self).stderr()
+    }
+}
+
+/// A stream that may be a terminal.
+pub trait IsTerminal {
+    /// Returns whether it is one.
+    fn is_terminal(&self) -> bool;
+}
+
+impl IsTerminal for Vec<u8> {
+    fn is_terminal(&self) -> bool {
+        false
+    }
+}
+
+/// Standard input.
+pub struct Stdin(pub(crate) std::io::Stdin);
+
+impl Read for Stdin {
+    fn read(&mut self, buf: &mut [u8]) -> Result<usize> {
+        Ok(std::io::Read::read(&mut self.0, buf)?)
+    }
+}
+
+macro_rules! output {
+    ($(#[$doc:meta])* $name:ident) => {
+        $(#[$doc])*
+        pub struct $name(pub(crate) std::io::$name);
+
+        impl Write for $name {
+            fn write(&mut self, buf: &[u8]) -> Result<usize> {
+                Ok(std::io::Write::write(&mut self.0, buf)?)
+            }
+
+            fn flush(&mut self) -> Result<()> {
+                Ok(std::io::Write::flush(&mut self.0)?)
+            }
+        }
+
+        impl IsTerminal for $name {
+            fn is_terminal(&self) -> bool {
+                std::io::IsTerminal::is_terminal(&self.0)
+            }
+        }
+    };
+}
+
+output! {
+    /// Standard output.
+    Stdout
+}
+
+output! {
+    /// Standard error.
+    Stderr
+}

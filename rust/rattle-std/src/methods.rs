@@ -1,0 +1,133 @@
+//! Methods of Rust's own types that take an allocator in Rattle. Erased files have them under
+//! another name of the same width.
+
+use crate::alloc::{AllocError, Global};
+use crate::string::String;
+use crate::vec::Vec;
+use core::fmt;
+
+/// Rattle's `collect`.
+pub trait ListIn: Iterator + Sized {
+    /// Returns a collection of all items.
+    ///
+    /// # Errors
+    ///
+    /// Returns `AllocError` if memory is refused.
+    fn list_in<C: FromItems<Self::Item>>(self, alloc: Global) -> Result<C, AllocError> {
+        C::from_items(alloc, self)
+    }
+}
+
+impl<I: Iterator> ListIn for I {}
+
+/// A collection that is made of items.
+pub trait FromItems<T>: Sized {
+    /// Returns the collection of all items.
+    ///
+    /// # Errors
+    ///
+    /// Returns `AllocError` if memory is refused.
+    fn from_items<I: Iterator<Item = T>>(alloc: Global, items: I) -> Result<Self, AllocError>;
+}
+
+impl<T> FromItems<T> for Vec<T> {
+    fn from_items<I: Iterator<Item = T>>(alloc: Global, items: I) -> Result<Vec<T>, AllocError> {
+        let mut list = Vec::new(alloc);
+        list.extend(items)?;
+        Ok(list)
+    }
+}
+
+impl FromItems<char> for String {
+    fn from_items<I: Iterator<Item = char>>(alloc: Global, items: I) -> Result<String, AllocError> {
+        let mut text = String::new(alloc);
+        for item in items {
+            text.push(item)?;
+        }
+        Ok(text)
+    }
+}
+
+/// Rattle's `to_vec`.
+pub trait VecIn<T> {
+    /// Returns a vector of copies.
+    ///
+    /// # Errors
+    ///
+    /// Returns `AllocError` if memory is refused.
+    fn vec_in(&self, alloc: Global) -> Result<Vec<T>, AllocError>;
+}
+
+impl<T: Copy> VecIn<T> for [T] {
+    fn vec_in(&self, alloc: Global) -> Result<Vec<T>, AllocError> {
+        Vec::from_slice(alloc, self)
+    }
+}
+
+/// Rattle's `to_string`.
+pub trait StringIn: fmt::Display {
+    /// Returns the text of a value.
+    ///
+    /// # Errors
+    ///
+    /// Returns `AllocError` if memory is refused.
+    fn string_in(&self, alloc: Global) -> Result<String, AllocError> {
+        formatted(alloc, format_args!("{self}"))
+    }
+}
+
+impl<T: fmt::Display + ?Sized> StringIn for T {}
+
+/// Rattle's `to_ascii_lowercase`.
+pub trait AsciiLowercaseIn {
+    /// Returns a copy in which the capital letters of ASCII are small.
+    ///
+    /// # Errors
+    ///
+    /// Returns `AllocError` if memory is refused.
+    fn ascii_lowercase_in(&self, alloc: Global) -> Result<String, AllocError>;
+}
+
+impl AsciiLowercaseIn for str {
+    fn ascii_lowercase_in(&self, alloc: Global) -> Result<String, AllocError> {
+        let mut text = String::new(alloc);
+        text.reserve(self.len())?;
+        for character in self.chars() {
+            text.push(character.to_ascii_lowercase())?;
+        }
+        Ok(text)
+    }
+}
+
+/// Returns what is formatted. `format!` calls it.
+///
+/// # Errors
+///
+/// Returns `AllocError` if memory is refused.
+pub fn formatted(alloc: Global, text: fmt::Arguments<'_>) -> Result<String, AllocError> {
+    let mut made = String::new(alloc);
+    made.write_fmt(text)?;
+    Ok(made)
+}
+
+/// Returns a vector of `count` copies of a value. `vec!` calls it.
+///
+/// # Errors
+///
+/// Returns `AllocError` if memory is refused.
+pub fn repeated<T: Clone>(alloc: Global, value: T, count: usize) -> Result<Vec<T>, AllocError> {
+    let mut values = Vec::new(alloc);
+    values.resize(count, value)?;
+    Ok(values)
+}
+
+/// Returns a vector of values. `vec!` calls it.
+///
+/// # Errors
+///
+/// Returns `AllocError` if memory is refused.
+pub fn listed<T, const N: usize>(alloc: Global, values: [T; N]) -> Result<Vec<T>, AllocError> {
+    let mut list = Vec::new(alloc);
+    list.extend(values)?;
+    Ok(list)
+}

@@ -1,0 +1,221 @@
+//! Stands in for Rattle's `std::simd`, which is Rust's portable one: vectors of bytes.
+//!
+//! A vector is an array. What loops would make slow is done for 16 bytes at a time by a function of
+//! `blocks`, which has the instructions of x86-64 and of 64-bit ARM, and loops for other machines.
+
+mod blocks;
+
+use core::ops::{BitAnd, BitOr, Shr};
+
+/// The names that files import.
+pub mod prelude {
+    pub use super::{u8x16, u8x32, u8x64, u32x16};
+}
+
+/// A vector of `N` numbers.
+#[derive(Clone, Copy, Debug, PartialEq, Eq)]
+pub struct Simd<T, const N: usize>([T; N]);
+
+/// A vector of 16 bytes.
+#[allow(non_camel_case_types)]
+pub type u8x16 = Simd<u8, 16>;
+
+/// A vector of 32 bytes.
+#[allow(non_camel_case_types)]
+pub type u8x32 = Simd<u8, 32>;
+
+/// A vector of 64 bytes.
+#[allow(non_camel_case_types)]
+pub type u8x64 = Simd<u8, 64>;
+
+/// A vector of 16 words.
+#[allow(non_camel_case_types)]
+pub type u32x16 = Simd<u32, 16>;
+
+/// For which of at most 64 entries of two vectors a comparison holds.
+#[derive(Clone, Copy, Debug, PartialEq, Eq)]
+pub struct Mask<const N: usize>(u64);
+
+impl<const N: usize> Mask<N> {
+    /// Returns the number whose bit `k` is set if it holds for entry `k`.
+    #[inline(always)]
+    pub fn to_bitmask(self) -> u64 {
+        self.0
+    }
+}
+
+impl<T: Copy, const N: usize> Simd<T, N> {
+    /// Returns the vector of the numbers of an array.
+    #[inline(always)]
+    pub fn from_array(array: [T; N]) -> Self {
+        Simd(array)
+    }
+
+    /// Returns the vector of the first numbers of a slice.
+    ///
+    /// # Panics
+    ///
+    /// Panics if the slice has fewer than `N`.
+    #[inline(always)]
+    pub fn from_slice(slice: &[T]) -> Self {
+        match slice.first_chunk::<N>() {
+            Some(numbers) => Simd(*numbers),
+            None => panic!("a slice has too few numbers for a vector"),
+        }
+    }
+
+    /// Returns the vector of `N` times one number.
+    #[inline(always)]
+    pub fn splat(value: T) -> Self {
+        Simd([value; N])
+    }
+
+    /// Returns the numbers as an array.
+    #[inline(always)]
+    pub fn to_array(self) -> [T; N] {
+        self.0
+    }
+
+    /// Returns the vector of the numbers at indices of this one followed by another one.
+    #[inline(always)]
+    pub fn shuffle<const M: usize>(self, other: Self, indices: [usize; M]) -> Simd<T, M> {
+        // Known when it is compiled, so one of the two is left.
+        if M == 2 * N && have_steps(&indices, 0, 1) {
+            let mut both = [self.0[0]; M];
+            both[..N].copy_from_slice(&self.0);
+            both[N..].copy_from_slice(&other.0);
+            return Simd(both);
+        }
+        Simd(core::array::from_fn(|at| {
+            let k = indices[at];
+            if k < N { self.0[k] } else { other.0[k - N] }
+        }))
+    }
+}
+
+/// Returns whether 16, 32 or 64 indices begin with one number, and each is above the last one by
+/// another number. The compiler knows the result where it knows the indices, but through no loop in
+/// a loop.
+#[inline(always)]
+fn have_steps<const M: usize>(indices: &[usize; M], first: usize, step: usize) -> bool {
+    const { assert!(M == 16 || M == 32 || M == 64) };
+    have_16_steps(indices, 0, first, step)
+        && (M < 32 || have_16_steps(indices, 16, first, step))
+        && (M < 64 || have_16_steps(indices, 32, first, step))
+        && (M < 64 || have_16_steps(indices, 48, first, step))
+}
+
+/// Returns whether the 16 indices from `at` on are as they are wanted.
+#[inline(always)]
+fn have_16_steps(indices: &[usize], at: usize, first: usize, step: usize) -> bool {
+    let mut have = true;
+    for k in at..at + 16 {
+        have &= indices[k] == first + step * k;
+    }
+    have
+}
+
+impl<const N: usize> Simd<u8, N> {
+    /// Returns the 16 bytes from `at` on.
+    #[inline(always)]
+    fn block(&self, at: usize) -> &[u8; 16] {
+        match self.0[at..].first_chunk() {
+            Some(block) => block,
+            None => unreachable!(),
+        }
+    }
+
+    /// Makes a vector of what a function returns for blocks of 16 bytes of two vectors.
+    #[inline(always)]
+    fn by_blocks(self, other: Self, f: impl Fn([u8; 16], [u8; 16]) -> [u8; 16]) -> Self {
+        let mut made = [0; N];
+        for (at, block) in made.chunks_exact_mut(16).enumerate() {
+            block.copy_from_slice(&f(*self.block(16 * at), *other.block(16 * at)));
+        }
+        Simd(made)
+    }
+
+    /// Returns which entries are equal.
+    #[inline(always)]
+    pub fn simd_eq(self, other: Self) -> Mask<N> {
+        let mut bits = 0;
+        for at in 0..N / 16 {
+            let equal = blocks::equal(*self.block(16 * at), *other.block(16 * at));
+            bits |= u64::from(equal) << (16 * at);
+        }
+        Mask(bits)
+    }
+
+    /// Returns which entries differ.
+    #[inline(always)]
+    pub fn simd_ne(self, other: Self) -> Mask<N> {
+        Mask(self.simd_eq(other).0 ^ (u64::MAX >> (64 - N)))
+    }
+
+    /// Returns the vector of the bytes at indices of this one, which are below 16.
+    #[inline(always)]
+    pub fn swizzle_dyn_within<const M: usize>(self, indices: Self) -> Self {
+        const { assert!(N == 16 && M == 16) };
+        self.by_blocks(indices, blocks::at)
+    }
+
+    /// Returns the vector of the bytes at indices of this one.
+    #[inline(always)]
+    pub fn swizzle<const M: usize>(self, indices: [usize; M]) -> Simd<u8, M> {
+        Simd(indices.map(|k| self.0[k]))
+    }
+}
+
+/// The bytes of 16 words, the lowest byte of each word first.
+#[derive(Clone, Copy, Debug)]
+pub struct WordBytes([u32; 16]);
+
+impl Simd<u32, 16> {
+    /// Returns the bytes of the words, the lowest byte of each word first.
+    #[inline(always)]
+    pub fn to_le_bytes(self) -> WordBytes {
+        WordBytes(self.0)
+    }
+}
+
+impl WordBytes {
+    /// Returns the vector of the bytes at indices.
+    #[inline(always)]
+    pub fn swizzle(self, indices: [usize; 16]) -> Simd<u8, 16> {
+        // Known when it is compiled, so one of the two is left.
+        if have_steps(&indices, 3, 4) {
+            return Simd(blocks::tops(self.0));
+        }
+        Simd(core::array::from_fn(|at| {
+            let k = indices[at];
+            (self.0[k / 4] >> (8 * (k % 4))) as u8
+        }))
+    }
+}
+
+impl<const N: usize> BitAnd for Simd<u8, N> {
+    type Output = Self;
+
+    #[inline(always)]
+    fn bitand(self, other: Self) -> Self {
+        self.by_blocks(other, blocks::and)
+    }
+}
+
+impl<const N: usize> BitOr for Simd<u8, N> {
+    type Output = Self;
+
+    #[inline(always)]
+    fn bitor(self, other: Self) -> Self {
+        self.by_blocks(other, blocks::or)
+    }
+}
+
+impl<const N: usize> Shr for Simd<u8, N> {
+    type Output = Self;
+
+    #[inline(always)]
+    fn shr(self, other: Self) -> Self {
+        self.by_blocks(other, blocks::shifted)
+    }
+}

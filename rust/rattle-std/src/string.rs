@@ -1,0 +1,206 @@
+//! Stands in for Rattle's `std::string`: a text whose growth may be refused memory.
+
+use crate::alloc::{AllocError, Global, grown, release};
+use crate::clone::Clone;
+use crate::vec::Vec;
+use core::borrow::Borrow;
+use core::fmt;
+use core::ops::Deref;
+use core::str::Utf8Error;
+
+/// A text in UTF-8.
+#[derive(PartialEq, Eq, PartialOrd, Ord, Hash)]
+pub struct String(std::string::String);
+
+impl String {
+    /// Returns an empty text, which has allocated nothing.
+    #[inline]
+    pub fn new(_alloc: Global) -> String {
+        String(std::string::String::new())
+    }
+
+    /// Returns a copy of a text.
+    ///
+    /// # Errors
+    ///
+    /// Returns `AllocError` if memory is refused.
+    #[allow(clippy::should_implement_trait)]
+    pub fn from_str(alloc: Global, s: &str) -> Result<String, AllocError> {
+        let mut copy = String::new(alloc);
+        copy.push_str(s)?;
+        Ok(copy)
+    }
+
+    /// Returns the text that bytes are.
+    ///
+    /// # Errors
+    ///
+    /// Returns an error, which holds the bytes, if they are not UTF-8.
+    pub fn from_utf8(mut bytes: Vec<u8>) -> Result<String, FromUtf8Error> {
+        match std::string::String::from_utf8(bytes.take_claimed()) {
+            Ok(text) => Ok(String(text)),
+            Err(error) => Err(FromUtf8Error {
+                error: error.utf8_error(),
+                bytes: Vec::from_claimed(error.into_bytes()),
+            }),
+        }
+    }
+
+    /// Returns one of Rust's strings with the text.
+    pub fn into_std(mut self) -> std::string::String {
+        release(self.0.capacity());
+        core::mem::take(&mut self.0)
+    }
+
+    /// Makes room for `additional` bytes after the text, by a new block.
+    #[cold]
+    fn grow(&mut self, additional: usize) -> Result<(), AllocError> {
+        let before = self.0.capacity();
+        let capacity = grown(self.0.len(), before, additional, 1)?;
+        let done = self.0.try_reserve_exact(capacity - self.0.len());
+        release(capacity.saturating_sub(self.0.capacity()));
+        done.map_err(|_| AllocError)
+    }
+
+    /// Makes room for `additional` bytes.
+    ///
+    /// # Errors
+    ///
+    /// Returns `AllocError` if memory is refused.
+    #[inline]
+    pub fn reserve(&mut self, additional: usize) -> Result<(), AllocError> {
+        if additional <= self.0.capacity() - self.0.len() {
+            return Ok(());
+        }
+        self.grow(additional)
+    }
+
+    /// Returns the allocator.
+    pub fn allocator(&self) -> &Global {
+        &Global
+    }
+
+    /// Appends a text.
+    ///
+    /// # Errors
+    ///
+    /// Returns `AllocError` if memory is refused. Then the text is unchanged.
+    #[inline]
+    pub fn push_str(&mut self, string: &str) -> Result<(), AllocError> {
+        self.reserve(string.len())?;
+        self.0.push_str(string);
+        Ok(())
+    }
+
+    /// Appends a character.
+    ///
+    /// # Errors
+    ///
+    /// Returns `AllocError` if memory is refused. Then the text is unchanged.
+    #[inline]
+    pub fn push(&mut self, ch: char) -> Result<(), AllocError> {
+        self.reserve(ch.len_utf8())?;
+        self.0.push(ch);
+        Ok(())
+    }
+
+    /// Removes the last character and returns it.
+    pub fn pop(&mut self) -> Option<char> {
+        self.0.pop()
+    }
+
+    /// Keeps the first `n` bytes.
+    pub fn truncate(&mut self, n: usize) {
+        self.0.truncate(n);
+    }
+
+    /// Removes all text.
+    pub fn clear(&mut self) {
+        self.0.clear();
+    }
+
+    /// Returns the text.
+    #[inline]
+    pub fn as_str(&self) -> &str {
+        &self.0
+    }
+
+    /// Returns the bytes of the text.
+    pub fn into_bytes(mut self) -> Vec<u8> {
+        Vec::from_claimed(core::mem::take(&mut self.0).into_bytes())
+    }
+
+    /// Appends what is formatted: `write!` calls it.
+    ///
+    /// # Errors
+    ///
+    /// Returns `AllocError` if memory is refused. Then a part may be appended.
+    pub fn write_fmt(&mut self, text: fmt::Arguments<'_>) -> Result<(), AllocError> {
+        fmt::Write::write_fmt(self, text).map_err(|_| AllocError)
+    }
+}
+
+impl fmt::Write for String {
+    fn write_str(&mut self, text: &str) -> fmt::Result {
+        Ok(self.push_str(text)?)
+    }
+}
+
+impl Drop for String {
+    #[inline]
+    fn drop(&mut self) {
+        release(self.0.capacity());
+    }
+}
+
+impl Deref for String {
+    type Target = str;
+
+    #[inline]
+    fn deref(&self) -> &str {
+        &self.0
+    }
+}
+
+impl Borrow<str> for String {
+    fn borrow(&self) -> &str {
+        &self.0
+    }
+}
+
+impl fmt::Display for String {
+    fn fmt(&self, f: &mut fmt::Formatter<'_>) -> fmt::Result {
+        self.0.fmt(f)
+    }
+}
+
+impl fmt::Debug for String {
+    fn fmt(&self, f: &mut fmt::Formatter<'_>) -> fmt::Result {
+        self.0.fmt(f)
+    }
+}
+
+impl Clone for String {
+    fn clone(&self) -> Result<String, AllocError> {
+        String::from_str(Global, self)
+    }
+}
+
+/// The error of bytes that are not UTF-8.
+#[derive(Debug)]
+pub struct FromUtf8Error {
+    bytes: Vec<u8>,
+    error: Utf8Error,
+}
+
+impl FromUtf8Error {
+    /// Returns where and why the bytes are not UTF-8.
+    pub fn utf8_error(&self) -> Utf8Error {
+        self.error
+    }
+
+    /// Returns the bytes.
+    pub fn into_bytes(self) -> Vec<u8> {
+        self.bytes
+    }
+}

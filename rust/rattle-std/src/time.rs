@@ -1,0 +1,53 @@
+//! Stands in for Rattle's `std::time`.
+
+use crate::io;
+use crate::rt::HostRuntime;
+
+pub use core::time::Duration;
+
+/// A system with a clock.
+pub trait Clock {
+    /// Returns the time since a point that stays the same while the program runs.
+    ///
+    /// # Errors
+    ///
+    /// Returns an error if the system has no clock.
+    fn monotonic(&self) -> io::Result<Duration>;
+}
+
+impl Clock for HostRuntime {
+    fn monotonic(&self) -> io::Result<Duration> {
+        use std::sync::OnceLock;
+        static START: OnceLock<std::time::Instant> = OnceLock::new();
+        Ok(START.get_or_init(std::time::Instant::now).elapsed())
+    }
+}
+
+/// A point in time.
+#[derive(Clone, Copy, Debug, PartialEq, Eq, PartialOrd, Ord)]
+pub struct Instant(Duration);
+
+impl Instant {
+    /// Returns the present.
+    ///
+    /// # Errors
+    ///
+    /// Returns an error if the system has no clock.
+    pub fn now(clock: &impl Clock) -> io::Result<Instant> {
+        Ok(Instant(clock.monotonic()?))
+    }
+
+    /// Returns the time since this point.
+    ///
+    /// # Errors
+    ///
+    /// Returns an error if the system has no clock.
+    pub fn elapsed(&self, clock: &impl Clock) -> io::Result<Duration> {
+        Ok(Instant::now(clock)?.duration_since(*self))
+    }
+
+    /// Returns the time from an earlier point to this one.
+    pub fn duration_since(&self, earlier: Instant) -> Duration {
+        self.0.saturating_sub(earlier.0)
+    }
+}

@@ -1,0 +1,302 @@
+//! Stands in for Rattle's `std::vec`: a vector whose growth may be refused memory.
+
+mod traits;
+
+use crate::alloc::{AllocError, AllocFailed, Global, grown, release};
+use core::ops::{Bound, RangeBounds};
+
+pub use std::vec::IntoIter;
+
+/// A vector.
+///
+/// All of its memory comes from [`Vec::grow`], which asks the budget first.
+pub struct Vec<T>(std::vec::Vec<T>);
+
+impl<T> Vec<T> {
+    /// Returns an empty vector, which has allocated nothing.
+    #[inline]
+    pub fn new(_alloc: Global) -> Vec<T> {
+        Vec(std::vec::Vec::new())
+    }
+
+    /// Returns an empty vector with room for `capacity` values.
+    ///
+    /// # Errors
+    ///
+    /// Returns `AllocError` if memory is refused.
+    pub fn with_capacity(alloc: Global, capacity: usize) -> Result<Vec<T>, AllocError> {
+        let mut values = Vec::new(alloc);
+        values.reserve(capacity)?;
+        Ok(values)
+    }
+
+    /// Returns a vector of copies of the items.
+    ///
+    /// # Errors
+    ///
+    /// Returns `AllocError` if memory is refused.
+    pub fn from_slice(alloc: Global, items: &[T]) -> Result<Vec<T>, AllocError>
+    where
+        T: Copy,
+    {
+        let mut copies = Vec::new(alloc);
+        copies.extend_from_slice(items)?;
+        Ok(copies)
+    }
+
+    /// Returns one of Rust's vectors with the values.
+    pub fn into_std(mut self) -> std::vec::Vec<T> {
+        release(self.0.capacity().wrapping_mul(size_of::<T>()));
+        self.take_claimed()
+    }
+
+    /// Takes the values out. Their bytes stay claimed.
+    pub(crate) fn take_claimed(&mut self) -> std::vec::Vec<T> {
+        core::mem::take(&mut self.0)
+    }
+
+    /// Returns a vector of values whose bytes are claimed.
+    pub(crate) fn from_claimed(values: std::vec::Vec<T>) -> Vec<T> {
+        Vec(values)
+    }
+
+    /// Makes room for `additional` values after the first `len`, by a new block.
+    #[cold]
+    fn grow(&mut self, additional: usize) -> Result<(), AllocError> {
+        let (len, size) = (self.0.len(), size_of::<T>());
+        let before = self.0.capacity();
+        let capacity = grown(len, before, additional, size)?;
+        let done = self.0.try_reserve_exact(capacity - len);
+        // Rust may allocate more than was wanted, and what was not allocated is released.
+        let after = self.0.capacity();
+        release(capacity.saturating_sub(after) * size);
+        done.map_err(|_| AllocError)
+    }
+
+    /// Makes room for `additional` values.
+    ///
+    /// # Errors
+    ///
+    /// Returns `AllocError` if memory is refused. Then the vector is unchanged.
+    #[inline]
+    pub fn reserve(&mut self, additional: usize) -> Result<(), AllocError> {
+        if additional <= self.0.capacity() - self.0.len() {
+            return Ok(());
+        }
+        self.grow(additional)
+    }
+
+    /// Returns the allocator.
+    pub fn allocator(&self) -> &Global {
+        &Global
+    }
+
+    /// Returns for how many values there is room.
+    #[inline]
+    pub fn capacity(&self) -> usize {
+        self.0.capacity()
+    }
+
+    /// Returns the values.
+    #[inline]
+    pub fn as_slice(&self) -> &[T] {
+        &self.0
+    }
+
+    /// Returns the values.
+    #[inline]
+    pub fn as_mut_slice(&mut self) -> &mut [T] {
+        &mut self.0
+    }
+
+    /// Appends a value.
+    ///
+    /// # Errors
+    ///
+    /// Returns the value if memory is refused. Then the vector is unchanged.
+    #[inline]
+    pub fn push(&mut self, value: T) -> Result<(), AllocFailed<T>> {
+        if self.0.len() == self.0.capacity() && self.grow(1).is_err() {
+            return Err(AllocFailed { value });
+        }
+        self.0.push(value);
+        Ok(())
+    }
+
+    /// Removes the last value and returns it.
+    #[inline]
+    pub fn pop(&mut self) -> Option<T> {
+        self.0.pop()
+    }
+
+    /// Inserts a value at an index.
+    ///
+    /// # Errors
+    ///
+    /// Returns the value if memory is refused. Then the vector is unchanged.
+    pub fn insert(&mut self, index: usize, element: T) -> Result<(), AllocFailed<T>> {
+        if self.reserve(1).is_err() {
+            return Err(AllocFailed { value: element });
+        }
+        self.0.insert(index, element);
+        Ok(())
+    }
+
+    /// Removes the value at an index and returns it.
+    pub fn remove(&mut self, index: usize) -> T {
+        self.0.remove(index)
+    }
+
+    /// Removes the value at an index and returns it. The last value takes its place.
+    pub fn swap_remove(&mut self, index: usize) -> T {
+        self.0.swap_remove(index)
+    }
+
+    /// Removes all values.
+    #[inline]
+    pub fn clear(&mut self) {
+        self.0.clear();
+    }
+
+    /// Keeps the first `n` values.
+    #[inline]
+    pub fn truncate(&mut self, n: usize) {
+        self.0.truncate(n);
+    }
+
+    /// Removes all but the first of consecutive equal values.
+    pub fn dedup(&mut self)
+    where
+        T: PartialEq,
+    {
+        self.0.dedup();
+    }
+
+    /// Makes the vector `n` values long: it is cut, or filled up with copies of a value.
+    ///
+    /// # Errors
+    ///
+    /// Returns `AllocError` if memory is refused. Then the vector is unchanged.
+    #[inline]
+    pub fn resize(&mut self, n: usize, value: T) -> Result<(), AllocError>
+    where
+        T: core::clone::Clone,
+    {
+        self.reserve(n.saturating_sub(self.0.len()))?;
+        self.0.resize(n, value);
+        Ok(())
+    }
+
+    /// Moves all values of another vector to the end.
+    ///
+    /// # Errors
+    ///
+    /// Returns `AllocError` if memory is refused. Then both vectors are unchanged.
+    pub fn append(&mut self, other: &mut Vec<T>) -> Result<(), AllocError> {
+        self.reserve(other.len())?;
+        self.0.append(&mut other.0);
+        Ok(())
+    }
+
+    /// Removes the values from an index on, and returns them.
+    ///
+    /// # Errors
+    ///
+    /// Returns `AllocError` if memory is refused. Then the vector is unchanged.
+    pub fn split_off(&mut self, at: usize) -> Result<Vec<T>, AllocError> {
+        let mut rest = Vec::with_capacity(Global, self.0.len() - at)?;
+        rest.0.extend(self.0.drain(at..));
+        Ok(rest)
+    }
+
+    /// Appends copies of the values of a slice.
+    ///
+    /// # Errors
+    ///
+    /// Returns `AllocError` if memory is refused. Then the vector is unchanged.
+    #[inline]
+    pub fn extend_from_slice(&mut self, other: &[T]) -> Result<(), AllocError>
+    where
+        T: Copy,
+    {
+        self.reserve(other.len())?;
+        self.0.extend_from_slice(other);
+        Ok(())
+    }
+
+    /// Appends copies of the values in a range.
+    ///
+    /// # Errors
+    ///
+    /// Returns `AllocError` if memory is refused. Then the vector is unchanged.
+    pub fn extend_from_within<R: RangeBounds<usize>>(&mut self, range: R) -> Result<(), AllocError>
+    where
+        T: Copy,
+    {
+        let (start, end) = bounds(&range, self.0.len());
+        self.reserve(end.saturating_sub(start))?;
+        self.0.extend_from_within(start..end);
+        Ok(())
+    }
+
+    /// Appends the items of an iterator.
+    ///
+    /// # Errors
+    ///
+    /// Returns `AllocError` if memory is refused. Then items that came before are appended.
+    pub fn extend<I: IntoIterator<Item = T>>(&mut self, items: I) -> Result<(), AllocError> {
+        let items = items.into_iter();
+        self.reserve(items.size_hint().0)?;
+        for value in items {
+            self.push(value)?;
+        }
+        Ok(())
+    }
+
+    /// Replaces the values in a range by the items of an iterator, and returns the former ones.
+    ///
+    /// # Errors
+    ///
+    /// Returns `AllocError` if memory is refused. Then the vector is unchanged.
+    pub fn splice<R: RangeBounds<usize>, I: IntoIterator<Item = T>>(
+        &mut self,
+        range: R,
+        items: I,
+    ) -> Result<IntoIter<T>, AllocError> {
+        let (start, end) = bounds(&range, self.0.len());
+        let mut new = Vec::new(Global);
+        new.extend(items)?;
+        let mut removed = Vec::with_capacity(Global, end - start)?;
+        self.reserve(new.len())?;
+        let tail = self.0.len() - end;
+        removed.0.extend(self.0.drain(start..end));
+        let added = new.len();
+        self.0.append(&mut new.0);
+        // The new values come after the tail: they are moved in front of it.
+        self.0[start..].rotate_left(tail);
+        debug_assert_eq!(self.0.len(), start + added + tail);
+        Ok(removed.into_iter())
+    }
+}
+
+/// Returns where a range begins and ends in a slice of `len` values.
+fn bounds<R: RangeBounds<usize>>(range: &R, len: usize) -> (usize, usize) {
+    let start = match range.start_bound() {
+        Bound::Included(start) => *start,
+        Bound::Excluded(before) => before + 1,
+        Bound::Unbounded => 0,
+    };
+    let end = match range.end_bound() {
+        Bound::Included(last) => last + 1,
+        Bound::Excluded(end) => *end,
+        Bound::Unbounded => len,
+    };
+    (start, end)
+}
+
+impl<T> Drop for Vec<T> {
+    #[inline]
+    fn drop(&mut self) {
+        release(self.0.capacity().wrapping_mul(size_of::<T>()));
+    }
+}

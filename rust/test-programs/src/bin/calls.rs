@@ -1,0 +1,7 @@
+//! The program of `tests/calls`.
+
+use std::process::ExitCode;
+
+fn main() -> ExitCode {
+    test_programs::calls::start()
+}

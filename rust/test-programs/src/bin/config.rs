@@ -1,0 +1,7 @@
+//! The example `examples/config`.
+
+use std::process::ExitCode;
+
+fn main() -> ExitCode {
+    test_programs::config::start()
+}

@@ -1,0 +1,7 @@
+//! The example `examples/count`.
+
+use std::process::ExitCode;
+
+fn main() -> ExitCode {
+    test_programs::count::start()
+}

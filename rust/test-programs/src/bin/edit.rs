@@ -1,0 +1,7 @@
+//! The example `examples/edit`.
+
+use std::process::ExitCode;
+
+fn main() -> ExitCode {
+    test_programs::edit::start()
+}

@@ -1,0 +1,7 @@
+//! The program of `tests/edits`.
+
+use std::process::ExitCode;
+
+fn main() -> ExitCode {
+    test_programs::edits::start()
+}

@@ -1,0 +1,7 @@
+//! The example `examples/errors`.
+
+use std::process::ExitCode;
+
+fn main() -> ExitCode {
+    test_programs::errors::start()
+}

@@ -1,0 +1,7 @@
+//! The example `examples/log`.
+
+use std::process::ExitCode;
+
+fn main() -> ExitCode {
+    test_programs::log::start()
+}

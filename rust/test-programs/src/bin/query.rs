@@ -1,0 +1,7 @@
+//! The example `examples/query`.
+
+use std::process::ExitCode;
+
+fn main() -> ExitCode {
+    test_programs::query::start()
+}

@@ -1,0 +1,23 @@
+//! The programs of the tests and the examples in Rattle, each as a module, without its contracts.
+
+#![no_std]
+#![forbid(unsafe_code)]
+// Some parameters, imports, labels and braces are there for the contracts alone.
+#![allow(
+    dead_code,
+    unused_braces,
+    unused_imports,
+    unused_labels,
+    unused_parens,
+    unused_variables
+)]
+// The sources follow the rules of Rattle.
+#![allow(clippy::all, clippy::pedantic)]
+
+extern crate rattle_std as std;
+
+// The crates of the packages below are here under the paths that they have there.
+use ::logos_build::*;
+use ::logos_codegen::*;
+
+include!(concat!(env!("OUT_DIR"), "/crates.rs"));
