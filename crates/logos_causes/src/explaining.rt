@@ -67,11 +67,7 @@ pub fn explain_enum(alloc: Global, source: &str, origin: Origin) -> Result<Expla
 
 /// Returns what is known of a source. If its origin is given, the warnings of `enum_warnings` are
 /// part of it.
-fn explain_source(
-    alloc: Global,
-    source: &str,
-    origin: Option<Origin>,
-) -> Result<Explained, Memory>
+fn explain_source(alloc: Global, source: &str, origin: Option<Origin>) -> Result<Explained, Memory>
     ensures { IfOk result (λ known. HasSets source.now (sizes_of known.clues)) }
 {
     match tokenize(alloc, source) {

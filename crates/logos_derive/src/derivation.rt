@@ -32,8 +32,8 @@ pub struct Derivation {
 ///
 /// Returns `Memory` if memory runs out.
 pub fn derive(alloc: Global, source: &str, shape: Shape) -> Result<Derivation, Memory>
-    // The text is that of the lexer of the source, in which the pieces stand as they are printed;
-    // or the errors are those of the faults of the source.
+    // The text is that of the lexer of the source, with the pieces in it. Or the errors are those of
+    // the faults of the source.
     ensures { IfOk result (IsDerivation shape source.now) }
 {
     match generate(alloc, source, config_of(shape)) {
@@ -61,11 +61,7 @@ fn accepted(
 }
 
 /// Returns the warnings of an accepted source.
-fn warnings_by(
-    alloc: Global,
-    source: &str,
-    made: &Generated<'_>,
-) -> Result<Vec<Diagnostic>, Memory>
+fn warnings_by(alloc: Global, source: &str, made: &Generated<'_>) -> Result<Vec<Diagnostic>, Memory>
     ensures { IfOk result (λ diagnostics. All IsWarning diagnostics.items) }
 {
     let mut warned = enum_warnings(alloc, source, true, Origin::Macro)?;

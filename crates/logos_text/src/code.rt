@@ -30,7 +30,12 @@ pub fn text(alloc: Global, code: &Code<'_>) -> Result<String, Memory>
     let parts = code.parts();
     let this = print_type(alloc, &parts.header.this)?;
     let mut text = String::new(alloc);
-    push_code(alloc, &mut text, parts, Names::new(parts, &this, short_names()))?;
+    push_code(
+        alloc,
+        &mut text,
+        parts,
+        Names::new(parts, &this, short_names()),
+    )?;
     Ok(text)
 }
 

@@ -14,11 +14,7 @@ use logos_type::print_type;
 use std::alloc::Global;
 
 /// Appends the enum of the leaves, each with its number. It derives these traits.
-pub(crate) fn push_leaf_names(
-    text: &mut String,
-    derives: &str,
-    count: usize,
-) -> Result<(), Memory>
+pub(crate) fn push_leaf_names(text: &mut String, derives: &str, count: usize) -> Result<(), Memory>
     ensures { OnOk result (string_bytes text.new
         ≡ string_bytes text.old ++ leaf_names_text derives.now count) }
 {
