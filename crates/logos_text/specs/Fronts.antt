@@ -37,13 +37,21 @@ signature_text core logos =
     ++ codes ":: result :: Result < Self , < Self as " ++ logos
     ++ codes ":: Logos < 's >> :: Error >> { "
 
--- The imports of that function.
+-- The imports of that function: of what the library has for it alone, of types of `core`, and of
+-- `Logos`, with the type of the lexer.
+abbrev pub internals_text : List ℕ → List ℕ
+internals_text logos =
+    codes "use " ++ logos ++ codes ":: internal :: { LexerInternal , CallbackRetVal , CallbackResult , SkipRetVal , SkipResult , } ; "
+
+abbrev pub core_text : List ℕ → List ℕ
+core_text core = codes "use " ++ core ++ codes ":: result :: Result as _Result ; use " ++ core ++ codes ":: option :: Option as _Option ; "
+
+abbrev pub lexer_text : List ℕ → List ℕ → List ℕ
+lexer_text logos this =
+    codes "use " ++ logos ++ codes ":: Logos ; type _Lexer < 's > = " ++ logos ++ codes ":: Lexer < 's , " ++ this ++ codes " > ; "
+
 abbrev pub uses_text : List ℕ → List ℕ → List ℕ → List ℕ
-uses_text core logos this =
-    codes "use " ++ logos
-    ++ codes ":: internal :: { LexerInternal , CallbackRetVal , CallbackResult , SkipRetVal , SkipResult , } ; use " ++ core
-    ++ codes ":: result :: Result as _Result ; use " ++ core ++ codes ":: option :: Option as _Option ; use "
-    ++ logos ++ codes ":: Logos ; type _Lexer < 's > = " ++ logos ++ codes ":: Lexer < 's , " ++ this ++ codes " > ; "
+uses_text core logos this = internals_text logos ++ core_text core ++ lexer_text logos this
 
 -- The text before the body of the function that lexes.
 abbrev pub opening_text : List ℕ → AroundValue → List ℕ → List ℕ
