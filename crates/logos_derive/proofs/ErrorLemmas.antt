@@ -1,21 +1,11 @@
 -- The errors of faults, one after another.
-use Rattle.std.proofs.Common.{◌≡◌, ◌≢◌, ◌≤◌, ◌<◌, ◌+◌, ℕ, Bool, List, [], ◌∷◌, ◌++◌, length, get_or, drop, take, ap, sym, ◌∙◌, append_assoc}
-use Rattle.std.specs.Prelude.{true, false, if◌then◌else◌}
-use Rattle.std.proofs.lemmas.List.{append-nil}
-use Rattle.std.proofs.Math.ListN.{drop_of_length-le}
-use Rattle.logos_derive.specs.Diagnostics.{Saying, errors_after, errors_at, errors_said, has_error, said_of}
+use Rattle.std.proofs.Common.{◌≡◌, ◌≢◌, ◌<◌, ◌+◌, ℕ, List, [], ◌∷◌, ◌++◌, length, get_or, drop, take, ap, refl, sym, ◌∙◌, append_assoc}
+use Rattle.logos_derive.specs.Diagnostics.{Saying, errors_after, errors_at, errors_said}
 use Rattle.logos_report.proofs.FaultLemmas.{next_front, next_left}
 use Rattle.logos_report.specs.Sets.{NextValue, next_after}
 use Rattle.logos_token.specs.FaultView.{fault_of, faults_of}
 use Rattle.logos_token.specs.Faults.{Fault}
 use Rattle.logos_token.specs.declared.error.SpannedError.{SpannedError}
-
--- a fault without an error of its own, and one with it
-pub none_at : (front : List Fault) (next : NextValue) (fault : Fault) (old : List Saying) → has_error front next fault ≡ false → old ≡ old ++ errors_at front next fault
-none_at front next fault old e = sym (append-nil old) ∙ ap (λ (b : Bool). old ++ (if b then said_of fault ∷ [] else [])) (sym e)
-
-pub one_at : (front : List Fault) (next : NextValue) (fault : Fault) (old : List Saying) → has_error front next fault ≡ true → old ++ said_of fault ∷ [] ≡ old ++ errors_at front next fault
-one_at front next fault old e = ap (λ (b : Bool). old ++ (if b then said_of fault ∷ [] else [])) (sym e)
 
 -- the next fault, and those after it
 pub next_said : (faults : List SpannedError) (i : ℕ) (d : SpannedError) (next after : NextValue) (old new whole : List Saying) → i < length faults →
@@ -33,12 +23,6 @@ next_said faults i d next after old new whole l e then_left all =
     ∙ append_assoc old (errors_at front next fault) left
     ∙ sym (ap (λ list. old ++ errors_after front next (faults_of list)) (next_left faults i d l))
     ∙ all
-
--- no fault is left
-pub none_said : (faults : List SpannedError) (i : ℕ) (front : List Fault) (next : NextValue) (old whole : List Saying) → length faults ≤ i →
-    old ++ errors_after front next (faults_of (drop i faults)) ≡ whole → old ≡ whole
-none_said faults i front next old whole l all =
-    sym (append-nil old) ∙ sym (ap (λ list. old ++ errors_after front next (faults_of list)) (drop_of_length-le faults l)) ∙ all
 
 -- faults have an error
 pub some_said : (sizes : List ℕ) (faults : List Fault) → faults ≢ [] → errors_said sizes faults ≢ []
