@@ -3,7 +3,7 @@ use Rattle.std.proofs.Common.{◌≡◌, ◌≢◌, ℕ, List, [], ◌∷◌, Op
 use Rattle.logos_code.specs.Code.{CodeValue}
 use Rattle.logos_codegen.specs.Given.{IsGiven}
 use Rattle.logos_codegen.specs.Source.{IsRefused, unread, faulty}
-use Rattle.logos_derive.proofs.ErrorLemmas.{some_said}
+use Rattle.logos_derive.proofs.ErrorLemmas.{some_summaries}
 use Rattle.logos_derive.specs.Derivations.{IsAccepted, IsDerivation, IsRefusedWith, accepted, refused}
 use Rattle.logos_derive.specs.declared.derivation.Derivation.{Derivation}
 use Rattle.logos_derive.specs.inside.Steps.{IsAcceptedBy, IsRefusedFor}
@@ -44,7 +44,7 @@ one_refused {shape} {source} {faults} derivation r d = refused (record {
   refused = r;
   sets = d.sets;
   errors = d.errors;
-  some = some_said d.sizes faults (some_faults r);
+  some = some_summaries d.sizes faults (some_faults r);
 })
 
 pub all_refused : {E : Type 0} (shape : Shape) {source : List ℕ} {faults : List Fault} (result : Result Derivation E) → IsRefused source faults → IfOk result (IsRefusedFor source faults) →

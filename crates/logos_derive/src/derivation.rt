@@ -32,8 +32,8 @@ pub struct Derivation {
 ///
 /// Returns `Memory` if memory runs out.
 pub fn derive(alloc: Global, source: &str, shape: Shape) -> Result<Derivation, Memory>
-    // The text is that of the lexer of the source, with the pieces in it. Or the errors are those of
-    // the faults of the source.
+    // The text is that of the lexer of the source, with the pieces in it, or the errors are those
+    // of the faults of the source.
     ensures { IfOk result (IsDerivation shape source.now) }
 {
     match generate(alloc, source, config_of(shape)) {

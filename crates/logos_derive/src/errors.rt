@@ -2,7 +2,7 @@
 //! more than 50 with one code. `derivation` calls it.
 
 ghost use Rattle.std.specs.Prelude.{◌≡◌, ◌≤◌, ◌++◌, IfOk, OnOk, length, map, take};
-ghost use Rattle.logos_derive.specs.Views.{errors_at, errors_said, fault_of, faults_of, has_error, next_value, said_by, said_of, sizes_of};
+ghost use Rattle.logos_derive.specs.Views.{errors_at, error_summaries, fault_of, faults_of, has_error, next_value, summary_of, error_summary, sizes_of};
 
 use crate::diagnostic::{Diagnostic, Level};
 use crate::joined::{joined_to, labels_of};
@@ -22,8 +22,8 @@ pub(crate) fn errors_of(
     faults: &[SpannedError],
     clues: &Clues,
 ) -> Result<Vec<Diagnostic>, Memory>
-    ensures { IfOk result (λ errors. map said_by errors.items
-        ≡ errors_said (sizes_of clues.now) (faults_of faults.now)) }
+    ensures { IfOk result (λ errors. map summary_of errors.items
+        ≡ error_summaries (sizes_of clues.now) (faults_of faults.now)) }
 {
     let mut errors = Vec::new(alloc);
     let mut next = first_faults(clues);
@@ -45,7 +45,7 @@ fn add_fault(
     errors: &mut Vec<Diagnostic>,
 ) -> Result<(), Memory>
     requires { number ≤ length faults.now }
-    ensures { OnOk result (map said_by errors.new.items ≡ map said_by errors.old.items
+    ensures { OnOk result (map summary_of errors.new.items ≡ map summary_of errors.old.items
         ++ errors_at (faults_of (take number faults.now)) (next_value next.entry)
         (fault_of fault.now)) }
 {
@@ -78,7 +78,7 @@ fn error_of(
     fault: &SpannedError,
     next: NextFaults<'_>,
 ) -> Result<Diagnostic, Memory>
-    ensures { IfOk result (λ error. said_by error ≡ said_of (fault_of fault.now)) }
+    ensures { IfOk result (λ error. summary_of error ≡ error_summary (fault_of fault.now)) }
 {
     let start = number.saturating_add(1);
     let joined = joined_to(rest_from(faults, start), next.after(fault));

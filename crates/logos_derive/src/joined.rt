@@ -1,5 +1,5 @@
-//! The faults that belong to an error in front of them: its notes, and the other members of a set of
-//! ambiguous leaves. `errors` calls it.
+//! The faults that belong to an error in front of them: its notes, and the other members of a set
+//! of ambiguous leaves. `errors` calls it.
 
 use crate::diagnostic::{Label, add_label, add_other};
 use logos_report::{MOST, Member, NextFaults, begins_error, first_line};

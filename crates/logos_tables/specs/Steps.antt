@@ -27,7 +27,7 @@ abbrev pub mark_number : Option Mark → ℕ
 mark_number None = 0
 mark_number (Some mark) = if mark.late then mark.leaf * 2 + 3 else mark.leaf * 2 + 2
 
--- A leaf below this number has a mark that is a number of 64 bits, too. No list of leaves is longer.
+-- A leaf below this number has a mark that is a number of 64 bits. No list of leaves is longer.
 abbrev pub leaf_limit : ℕ
 leaf_limit = 9223372036854775807
 

@@ -59,10 +59,10 @@ pub fn text_in(alloc: Global, code: &Code<'_>, around: Around<'_>) -> Result<Str
     Ok(text)
 }
 
-/// Returns the beginning of the implementation of `Logos` by tables for the enum of a code: its types, the
-/// imports of the function that lexes, and inside that function the functions for matches and
-/// errors and the enum of the leaves. Text that follows it can go on with the body of that
-/// function.
+/// Returns the beginning of the implementation of `Logos` by tables for the enum of a code: its
+/// types, the imports of the function that lexes, and inside that function the functions for
+/// matches and errors and the enum of the leaves. Text that follows it can go on with the body of
+/// that function.
 ///
 /// # Errors
 ///
