@@ -19,8 +19,7 @@ printf 'enum \xff' > torn.rs
 mkdir folder
 usage='usage: logos_cli INPUT [-o FILE] [-c] [--shape tables|tailcall|state_machine]
                  [--color always|never|auto]
-       logos_cli INPUT.. -o FOLDER/ [-c] [--shape SHAPE] [--color WHEN]
-       logos_cli --derive [--shape SHAPE] [--message-format human|json] -'
+       logos_cli INPUT.. -o FOLDER/ [-c] [--shape SHAPE] [--color WHEN]'
 met=0
 
 fail() {

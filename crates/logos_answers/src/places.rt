@@ -59,7 +59,7 @@ fn with_digit(number: usize, byte: u8) -> Option<usize>
     if byte > b'9' {
         return None;
     }
-    if number >= 10_000_000_000_000_000 {
+    if number as u64 >= 10_000_000_000_000_000 {
         return None;
     }
     positive(number * 10 + (byte - b'0') as usize)

@@ -14,7 +14,7 @@ use logos_pattern::leaf::{Callback, Leaf};
 use logos_report::{Clues, Warning};
 use logos_token::error::Memory;
 use logos_token::token::{Span, TokenError, Tokens, tokenize};
-use logos_warnings::item_warnings;
+use logos_warnings::{Origin, item_warnings};
 use std::alloc::{AllocError, Global};
 use std::mem;
 
@@ -49,7 +49,7 @@ pub fn explain(alloc: Global, source: &str) -> Result<Explained, Memory>
     // Each set of ambiguous leaves of the source is known, in order.
     ensures { IfOk result (λ known. HasSets source.now (sizes_of known.clues)) }
 {
-    explain_source(alloc, source, false)
+    explain_source(alloc, source, None)
 }
 
 /// Returns the same with all warnings of the enum that the source spells, which derives `Logos`:
@@ -58,19 +58,20 @@ pub fn explain(alloc: Global, source: &str) -> Result<Explained, Memory>
 /// # Errors
 ///
 /// Returns `Memory` if memory runs out.
-pub fn explain_enum(alloc: Global, source: &str) -> Result<Explained, Memory>
+pub fn explain_enum(alloc: Global, source: &str, origin: Origin) -> Result<Explained, Memory>
     // Each set of ambiguous leaves of the source is known, in order.
     ensures { IfOk result (λ known. HasSets source.now (sizes_of known.clues)) }
 {
-    explain_source(alloc, source, true)
+    explain_source(alloc, source, Some(origin))
 }
 
-/// Returns what is known of a source, with the warnings of `enum_warnings` or without them.
-fn explain_source(alloc: Global, source: &str, warns: bool) -> Result<Explained, Memory>
+/// Returns what is known of a source. If its origin is given, the warnings of `enum_warnings` are
+/// part of it.
+fn explain_source(alloc: Global, source: &str, origin: Option<Origin>) -> Result<Explained, Memory>
     ensures { IfOk result (λ known. HasSets source.now (sizes_of known.clues)) }
 {
     match tokenize(alloc, source) {
-        Ok(stream) => explain_tokens(alloc, source, stream.run(), warns),
+        Ok(stream) => explain_tokens(alloc, source, stream.run(), origin),
         Err(error) => explain_unreadable(alloc, source, error),
     }
 }
@@ -93,14 +94,14 @@ fn explain_tokens(
     alloc: Global,
     source: &str,
     tokens: Tokens<'_, '_>,
-    warns: bool,
+    origin: Option<Origin>,
 ) -> Result<Explained, Memory>
     requires spelled { Spells source.now (tokens_of tokens) }
     requires shallow { depth_of (tokens_of tokens) ≤ delimiter_limit }
     ensures { IfOk result (λ known. HasSets source.now (sizes_of known.clues)) }
 {
     match read_enum(alloc, tokens) {
-        Ok(item) => explain_item(alloc, source, &item, tokens.span(), warns),
+        Ok(item) => explain_item(alloc, source, &item, tokens.span(), origin),
         Err(error) => explain_misread(alloc, error),
     }
 }
@@ -125,18 +126,26 @@ fn explain_item(
     source: &str,
     item: &ItemEnum<'_, '_>,
     span: Span,
-    warns: bool,
+    origin: Option<Origin>,
 ) -> Result<Explained, Memory>
     requires { GivesEnum source.now (enum_value item.now) span }
     ensures { IfOk result (λ known. HasSets source.now (sizes_of known.clues)) }
 {
-    let mut warnings = if warns {
-        item_warnings(alloc, item, true)?
-    } else {
-        Vec::new(alloc)
-    };
+    let mut warnings = known_warnings(alloc, item, origin)?;
     let clues = clues_in(alloc, source, item, span, &mut warnings)?;
     Ok(Explained { clues, warnings })
+}
+
+/// Returns the warnings of an enum that derives `Logos`, if its origin is given.
+fn known_warnings(
+    alloc: Global,
+    item: &ItemEnum<'_, '_>,
+    origin: Option<Origin>,
+) -> Result<Vec<Warning>, AllocError> {
+    match origin {
+        Some(origin) => item_warnings(alloc, item, true, origin),
+        None => Ok(Vec::new(alloc)),
+    }
 }
 
 /// Returns what is known of the faults of the enum that a source spells, which has this span. Adds

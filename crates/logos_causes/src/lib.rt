@@ -10,10 +10,5 @@ mod meetings;
 mod names;
 mod quoting;
 mod starts;
-mod warned;
 
 pub use explaining::{Explained, explain, explain_enum, lexer_warnings};
-pub use warned::{
-    Showing, add_lexer, add_missing, add_passed, add_text, add_warnings, denial_text, has_lexer,
-    push_warned, text_of, warning_lines, warning_text,
-};

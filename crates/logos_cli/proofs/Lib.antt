@@ -1,4 +1,2 @@
 pub mod BatchLemmas
-pub mod DeriveLemmas
-pub mod RefusalLemmas
 pub mod RunLemmas

@@ -1,5 +1,4 @@
 pub mod Orders
-pub mod Deriving
 pub mod Runs
 pub mod inside
 pub mod Words

@@ -11,12 +11,11 @@ use Rattle.logos_options.specs.declared.given.Answer.{Answer}
 use Rattle.logos_options.specs.declared.given.Answer.TheVariants as answers
 use Rattle.logos_options.specs.declared.program.Program.TheVariants.{Cli}
 use Rattle.logos_cli.specs.declared.options.Batch.{Batch}
-use Rattle.logos_cli.specs.declared.options.DeriveOrder.{DeriveOrder}
 use Rattle.logos_cli.specs.declared.options.ExpandOrder.{ExpandOrder}
 use Rattle.logos_cli.specs.declared.options.Request.{Request}
 use Rattle.logos_cli.specs.declared.options.Request.TheVariants as requests
-use Rattle.logos_expand.specs.declared.shape.Shape.{Shape}
-use Rattle.logos_expand.specs.declared.shape.Shape.TheVariants.{Code, Tables}
+use Rattle.logos_tables.specs.declared.shape.Shape.{Shape}
+use Rattle.logos_tables.specs.declared.shape.Shape.TheVariants.{Code, Tables}
 
 -- A file to expand: its path, the path of the file for the result, whether that is only compared,
 -- the shape of the lexers, how messages are written, whether warnings are denied, and when messages
@@ -36,7 +35,6 @@ pub data Asked : Type 0 where
   asks_version : Asked
   asks_expansion : (order : OrderValue) → Asked
   asks_each : (orders : List OrderValue) → Asked
-  asks_derive : (order : DeriveOrder) → Asked
 
 -- The shapes of lexers, by their names.
 abbrev pub shape_named : List ℕ → Option Shape
@@ -80,18 +78,9 @@ file_given words given input shape =
     if given.switches.is_check && not (is_some given.values.output) then None
     else placed words (record { input = input; output = given.values.output; is_check = given.switches.is_check; shape = shape; format = given_or Human given.values.format; denies = given.switches.denies; color = given_or Auto given.values.color }) given.values.output given.second
 
--- An enum to answer about, which is read from standard input; the answer is not for a file.
-abbrev pub enum_given : GivenValue → List ℕ → Shape → Option Asked
-enum_given given input shape =
-    if given.switches.is_check || is_some given.values.output then None
-    else (if given.switches.denies then None
-    else (if is_some given.second then None
-    else (if bytes_eq input (codes "/dev/stdin") then Some (asks_derive (record { shape = shape; format = given_or Human given.values.format; color = given_or Auto given.values.color }))
-    else None)))
-
 abbrev pub shaped_given : List (List ℕ) → GivenValue → List ℕ → Option Shape → Option Asked
 shaped_given words given input None = None
-shaped_given words given input (Some shape) = if given.switches.is_derive then enum_given given input shape else file_given words given input shape
+shaped_given words given input (Some shape) = file_given words given input shape
 
 -- What is asked of the input, if there is one.
 abbrev pub order_given : List (List ℕ) → GivenValue → Option (List ℕ) → Option Asked
@@ -133,4 +122,3 @@ request_value requests.Help = asks_help
 request_value requests.Version = asks_version
 request_value (requests.Expand order) = asks_expansion (order_value order)
 request_value (requests.ExpandEach batch) = asks_each (batch_value batch)
-request_value (requests.Derive order) = asks_derive order

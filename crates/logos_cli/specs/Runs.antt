@@ -2,20 +2,15 @@
 -- that are read there, and the files after that; `makes` of files, a path, the bytes of the file
 -- there from then on, and the files after that; `finds` of files, a path, some bytes, how the file
 -- there compares with them, and the files after that.
-use Rattle.std.specs.Prelude.{◌≡◌, ◌≢◌, ◌⊎◌, ◌++◌, ◌||◌, ℕ, List, [], ◌∷◌, All, Bool, Contains, true, false, IsTrue, Option, Some, None, IfSome, bytes_eq, codes, map, string_bytes, unwrap_or}
+use Rattle.std.specs.Prelude.{◌≡◌, ◌≢◌, ◌⊎◌, ◌++◌, ◌||◌, ℕ, List, [], ◌∷◌, All, Bool, Contains, true, false, IsTrue, Option, Some, None, IfSome, bytes_eq, map, unwrap_or}
 use Rattle.std.specs.Io.KnownBytes.{Appends, Keeps}
 use Rattle.logos_host.specs.declared.comparing.Standing.{Standing}
 use Rattle.logos_host.specs.declared.comparing.Standing.TheVariants.{Same}
 use Rattle.logos_host.specs.Reading.{Reads}
 use Rattle.logos_expand.specs.Expanding.{IsExpanded}
 use Rattle.logos_expand.specs.Gathering.{IsCause}
-use Rattle.logos_cli.specs.Deriving.{IsDerived, ShowsErrors, standard_input}
-use Rattle.logos_cli.specs.Orders.{Asked, asks_help, asks_version, asks_expansion, asks_each, asks_derive, OrderValue}
-use Rattle.logos_cli.specs.declared.options.DeriveOrder.{DeriveOrder}
-use Rattle.logos_codegen.specs.Source.{IsRefused}
-use Rattle.logos_derive.specs.declared.answering.Template.{Template}
+use Rattle.logos_cli.specs.Orders.{Asked, asks_help, asks_version, asks_expansion, asks_each, OrderValue}
 use Rattle.logos_text.specs.Standing.{StandInOrder}
-use Rattle.logos_token.specs.Faults.{Fault}
 
 -- A file has other bytes than these, or cannot be read.
 pub record IsOther {F : Type 0} (finds : F → List ℕ → List ℕ → Standing → F → Type 0) (path bytes : List ℕ) (files after : F) : Type 0 where
@@ -28,17 +23,6 @@ pub record IsRewritten {F : Type 0} (makes : F → List ℕ → List ℕ → F �
   pub between : F
   pub other : IsOther finds path bytes files between
   pub made : makes between path bytes after
-
--- The enum on standard input has no faults, and its implementation is at the end of standard
--- output, with placeholders.
-abbrev pub IsAnswered : {F : Type 0} → (F → List ℕ → List ℕ → F → Type 0) → DeriveOrder → F → F → Option (List ℕ) → Option (List ℕ) → Type 0
-IsAnswered gives order files after old new =
-    Reads gives files (codes "/dev/stdin") (λ text read. (after ≡ read) × ((answer : Template) × IsDerived order.shape text answer × Appends old new (string_bytes answer.text)))
-
--- The enum on standard input has faults, which this text shows.
-abbrev pub IsDeniedAnswer : {F : Type 0} → (F → List ℕ → List ℕ → F → Type 0) → DeriveOrder → F → F → List ℕ → Type 0
-IsDeniedAnswer gives order files after shown =
-    Reads gives files (codes "/dev/stdin") (λ text read. (after ≡ read) × ((faults : List Fault) × IsRefused text faults × ShowsErrors order.format (standard_input text) faults shown))
 
 module _ {F : Type 0} (gives makes : F → List ℕ → List ℕ → F → Type 0) (finds : F → List ℕ → List ℕ → Standing → F → Type 0) where
   -- A file has these bytes, and was not written.
@@ -72,7 +56,6 @@ module _ {F : Type 0} (gives makes : F → List ℕ → List ℕ → F → Type 
   IsDone asks_version files after old new = after ≡ files
   IsDone (asks_expansion order) files after old new = IsCarriedOut order files after old new
   IsDone (asks_each orders) files after old new = AreCarriedOut orders files after old new
-  IsDone (asks_derive order) files after old new = IsAnswered gives order files after old new
 
   -- The file is read, and has faults, which this text shows, or warnings, which are denied; or its
   -- expansion was only to be compared, and is not what the other file has. No file is written.
@@ -103,7 +86,6 @@ module _ {F : Type 0} (gives makes : F → List ℕ → List ℕ → F → Type 
   IsDenied asks_version files after shown = ⊥
   IsDenied (asks_expansion order) files after shown = IsDeniedOrder order files after shown
   IsDenied (asks_each orders) files after shown = AreDenied orders files after shown
-  IsDenied (asks_derive order) files after shown = IsDeniedAnswer gives order files after shown
 
 -- The path of the file for a result, of which there is one.
 abbrev pub output_of : OrderValue → List ℕ
@@ -133,7 +115,6 @@ module _ {F : Type 0} (same : F → List ℕ → List ℕ → Bool → Type 0) w
   abbrev pub IsOwnOutput : Asked → F → Type 0
   IsOwnOutput asks_help files = ⊥
   IsOwnOutput asks_version files = ⊥
-  IsOwnOutput (asks_derive order) files = ⊥
   IsOwnOutput (asks_expansion order) files = IfSome order.output (λ path. same files order.input path true)
   IsOwnOutput (asks_each orders) files =
       ((order : OrderValue) × Contains orders order × IsInput orders files (output_of order)) ⊎ (has_twins (map output_of orders) ≡ true)
@@ -142,6 +123,5 @@ module _ {F : Type 0} (same : F → List ℕ → List ℕ → Bool → Type 0) w
   abbrev pub IsApart : Asked → F → Type 0
   IsApart asks_help files = Unit {0}
   IsApart asks_version files = Unit {0}
-  IsApart (asks_derive order) files = Unit {0}
   IsApart (asks_expansion order) files = IfSome order.output (λ path. same files order.input path false)
   IsApart (asks_each orders) files = All (λ order. IsNoInput orders files (output_of order)) orders × (has_twins (map output_of orders) ≡ false)

@@ -1,7 +1,4 @@
 -- Definitions that clauses cite: of lower crates, and those of this one that name no type of it.
-pub use Rattle.logos_causes.specs.Sets.{HasSets}
-pub use Rattle.logos_codegen.specs.Source.{IsRefused}
-pub use Rattle.logos_derive.specs.declared.answering.Template.{Template}
 pub use Rattle.logos_expand.specs.Expanding.{IsExpanded}
 pub use Rattle.logos_expand.specs.Gathering.{FailsBy, IsRefusedFor}
 pub use Rattle.logos_host.specs.Failures.{status_of}
@@ -9,9 +6,4 @@ pub use Rattle.logos_host.specs.Messages.{message_of}
 pub use Rattle.logos_host.specs.Reading.{Reads}
 pub use Rattle.logos_options.specs.Given.{given_value}
 pub use Rattle.logos_options.specs.Paths.{texts_of}
-pub use Rattle.logos_report.specs.Faults.{faults_texts}
-pub use Rattle.logos_report.specs.Pages.{StandInOrder}
-pub use Rattle.logos_report.specs.Sets.{sizes_of}
-pub use Rattle.logos_rust_file.specs.Handed.{Refuses}
-pub use Rattle.logos_token.specs.Faults.{Fault}
 pub use Rattle.std.specs.Io.KnownBytes.{Appends, Keeps}

@@ -3,9 +3,10 @@
 ghost use Rattle.std.specs.Prelude.{⊤};
 ghost use Rattle.logos_cli.specs.Views.{FailsBy, IsRefusedFor};
 
-use logos_expand::{Shape, shape_name};
+use logos_expand::shape_name;
 use logos_host::{ComparableFiles, Failure, Standing};
 use logos_report::Page;
+use logos_tables::Shape;
 use std::alloc::{AllocError, Global};
 
 /// How many lines of each text are shown.

@@ -2,10 +2,8 @@
 
 #![tactic(auto)]
 
-mod answering;
 mod batch;
 mod difference;
-mod implementation;
 mod options;
 mod running;
 

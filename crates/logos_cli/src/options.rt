@@ -1,12 +1,12 @@
 //! What the words of a command line ask for.
 
 ghost use Rattle.std.specs.Prelude.{◌≡◌, IfErr, IfOk, None, Some, is_some, map, option_map, string_bytes};
-ghost use Rattle.logos_cli.specs.Views.{asked, asked_given, enum_given, file_given, given_value, is_folder, named_shape, order_given, order_value, placed, request_value, shape_named, status_of};
+ghost use Rattle.logos_cli.specs.Views.{asked, asked_given, file_given, given_value, is_folder, named_shape, order_given, order_value, placed, request_value, shape_named, status_of};
 
 use logos_codegen::generator::Config;
-use logos_expand::Shape;
 use logos_host::{Color, Failure, MessageFormat};
-use logos_options::{Answer, Given, Program, STANDARD_INPUT, given_by, misuse};
+use logos_options::{Answer, Given, Program, given_by, misuse};
+use logos_tables::Shape;
 
 /// What is asked for.
 #[derive(Clone, Copy)]
@@ -16,8 +16,6 @@ pub(crate) enum Request<'w> {
     Expand(ExpandOrder<'w>),
     /// The results of files go into a folder.
     ExpandEach(Batch<'w>),
-    /// The answer to the derive macro.
-    Derive(DeriveOrder),
 }
 
 /// A file to expand.
@@ -48,17 +46,6 @@ pub(crate) struct Batch<'w> {
     pub(crate) order: ExpandOrder<'w>,
     /// The path of the folder, which ends in `/`.
     pub(crate) folder: &'w str,
-}
-
-/// An enum on standard input whose implementation is printed with placeholders.
-#[derive(Clone, Copy)]
-pub(crate) struct DeriveOrder {
-    /// The shape of the lexer.
-    pub(crate) shape: Shape,
-    /// How messages are written.
-    pub(crate) format: MessageFormat,
-    /// When messages have colors.
-    pub(crate) color: Color,
 }
 
 /// Returns what the words ask for.
@@ -92,7 +79,7 @@ fn request_given<'w>(words: &'w [String], given: Given<'w>) -> Result<Request<'w
     }
 }
 
-/// Returns the files to expand, or the enum to answer about.
+/// Returns the files to expand.
 fn order_given<'w>(words: &'w [String], given: Given<'w>) -> Result<Request<'w>, Failure<'w>>
     ensures asked { IfOk result (λ request. order_given (map string_bytes words.now)
         (given_value given.entry) (given_value given.entry).first
@@ -108,9 +95,6 @@ fn order_given<'w>(words: &'w [String], given: Given<'w>) -> Result<Request<'w>,
         Ok(shape) => shape,
         Err(failure) => return Err(failure),
     };
-    if given.switches.is_derive {
-        return enum_given(given, input, shape);
-    }
     file_given(words, given, input, shape)
 }
 
@@ -170,36 +154,6 @@ fn is_folder(path: &str) -> bool
     ensures { result ≡ is_folder path.now }
 {
     path.ends_with('/')
-}
-
-/// Returns the enum to answer about, which is read from standard input.
-fn enum_given<'w>(
-    given: Given<'w>,
-    input: &'w str,
-    shape: Shape,
-) -> Result<Request<'w>, Failure<'w>>
-    ensures asked { IfOk result (λ request. enum_given (given_value given.entry) input.now shape
-        ≡ Some (request_value request)) }
-    ensures misuse { IfErr result (λ failure. (enum_given (given_value given.entry) input.now
-        shape ≡ None) × (status_of failure ≡ 2)) }
-{
-    if given.switches.is_check | is_given(given.values.output) {
-        return Err(misuse("`--derive` writes no file", ""));
-    }
-    if given.switches.denies {
-        return Err(misuse("`--derive` denies no warnings", ""));
-    }
-    if let Some(path) = given.second {
-        return Err(misuse("a second input file", path));
-    }
-    if input != STANDARD_INPUT {
-        return Err(misuse("`--derive` reads standard input, which is `-`, not", input));
-    }
-    Ok(Request::Derive(DeriveOrder {
-        shape,
-        format: given.values.format_or_human(),
-        color: given.values.color_or_auto(),
-    }))
 }
 
 /// Returns whether there is a path.

@@ -3,12 +3,11 @@
 ghost use Rattle.std.specs.Prelude.{◌≡◌, ◌≢◌, ◌≤◌, ◌++◌, ◌⊎◌, None, MatchOption, false, true, IfErr, IfOk, IfSome, OnOk, ℕ, List, IsTrue, map, string_bytes};
 ghost use Rattle.logos_cli.specs.Views.{Appends, Keeps, status_of, message_of, Reads, asked, order_value, request_value, IsCarriedOut, IsDelivered, IsDenied, IsDeniedOrder, IsDone, IsApart, IsOwnOutput, IsSettled, IsExpanded, FailsBy, IsRefusedFor, IsOther};
 
-use crate::answering::run_derive;
 use crate::batch::run_batch;
 use crate::difference::{StaleFile, difference};
 use crate::options::{ExpandOrder, Request, request_of};
-use logos_causes::Showing;
 use logos_expand::{Expansion, expand};
+use logos_file_warnings::Showing;
 use logos_host::{ComparableFiles, Failure, Files, Standing, read_text, report, write_through};
 use logos_options::{PROGRAM, Program, commit_line, with_nearest};
 use logos_report::Source;
@@ -19,7 +18,6 @@ pub(crate) const USAGE: &str = "\
 usage: logos_cli INPUT [-o FILE] [-c] [--shape tables|tailcall|state_machine]
                  [--color always|never|auto]
        logos_cli INPUT.. -o FOLDER/ [-c] [--shape SHAPE] [--color WHEN]
-       logos_cli --derive [--shape SHAPE] [--message-format human|json] -
 ";
 
 const HELP: &str = "\
@@ -42,9 +40,6 @@ options:
       --color WHEN   always, never or auto (on a terminal; the default)
       --deny-warnings
                      write nothing, with status 1, if there are warnings
-      --derive       read one enum from standard input, and print its
-                     implementation for `#[derive(Logos)]`: identifiers stand
-                     for what the user wrote
       --message-format FORMAT
                      human: a report (the default)
                      json: a line of JSON for each message
@@ -102,7 +97,6 @@ pub(crate) fn run<F: ComparableFiles, O: Write, E: Write + IsTerminal>(
         Ok(Request::Version) => ended(print_version(files, out), err),
         Ok(Request::Expand(order)) => run_order(alloc, order, files, out, err),
         Ok(Request::ExpandEach(batch)) => run_batch(alloc, batch, files, out, err),
-        Ok(Request::Derive(order)) => run_derive(alloc, order, files, out, err),
         Err(failure) => failed(&with_nearest(failure, Program::Cli), err),
     }
 }

@@ -7,7 +7,7 @@ use Rattle.logos_type.specs.Printed.{printed_type}
 use Rattle.logos_type.specs.TypeTrees.{type_tree}
 use Rattle.logos_definition.specs.ErrorTypes.{ErrorView, error_text, run_text}
 use Rattle.logos_definition.specs.ErrorTypeViews.{error_view, run_in}
-use Rattle.logos_text.specs.Fronts.{AroundValue, BeginsWith, IsFront, opening_text}
+use Rattle.logos_text.specs.Fronts.{AroundValue, BeginsWith, IsFront, opening_text, short_core}
 use Rattle.logos_text.specs.Gaps.{gap_after}
 use Rattle.logos_codegen.specs.declared.generation.Generated.{Generated}
 
@@ -46,8 +46,8 @@ around_made made = record {
 -- The text begins an implementation of `Logos` for the type of the enum: its head and the imports
 -- of its function.
 abbrev pub BeginsImplementation : Generated → List ℕ → Type 0
-BeginsImplementation made = BeginsWith (opening_text (around_made made) (printed_type (type_tree made.code.header.this)))
+BeginsImplementation made = BeginsWith (opening_text short_core (around_made made) (printed_type (type_tree made.code.header.this)))
 
--- The text is the beginning of that implementation, up to the enum of the leaves.
+-- The text is the beginning of an implementation by tables, up to the enum of the leaves.
 abbrev pub IsFrontOf : Generated → List ℕ → Type 0
 IsFrontOf made = IsFront (around_made made) (printed_type (type_tree made.code.header.this)) (length made.code.code_leaves)

@@ -1,1 +1,3 @@
-pub mod BackLemmas
+pub mod DerivationLemmas
+pub mod ErrorLemmas
+pub mod PieceLemmas

@@ -1,6 +1,7 @@
 pub mod Parts
-pub mod Pieces
-pub mod Templates
+pub mod Implementations
+pub mod Diagnostics
+pub mod Derivations
 pub mod inside
 pub mod Words
 pub mod Views

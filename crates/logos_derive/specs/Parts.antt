@@ -1,6 +1,5 @@
 -- Parts of a text.
 use Rattle.std.specs.Prelude.{◌≡◌, ◌≤◌, ◌+◌, ℕ, List, length, slice_range}
-use Rattle.std.specs.Str.Pattern.{LacksTextAt}
 use Rattle.logos_lexeme.specs.declared.lexeme.Span.{Span}
 use Rattle.logos_token.specs.Printing.{printed}
 use Rattle.logos_token.specs.Spelling.{Spells}
@@ -11,15 +10,6 @@ pub record StandsAt (text : List ℕ) (from : ℕ) (part : List ℕ) (to : ℕ) 
   pub ends : to ≡ from + length part
   pub within : to ≤ length text
   pub is : slice_range text from to ≡ part
-
--- These bytes stand nowhere in a text.
-abbrev pub IsAbsent : List ℕ → List ℕ → Type 0
-IsAbsent text part = (from : ℕ) → from ≤ length text → LacksTextAt part text from
-
--- Placeholders with this beginning are new: it stands neither in the source nor in the
--- implementation.
-abbrev pub IsNew : List ℕ → List ℕ → List ℕ → Type 0
-IsNew source text prefix = IsAbsent source prefix × IsAbsent text prefix
 
 -- The span of a source holds whole tokens, and this is their printed text.
 pub record IsPartOf (source : List ℕ) (span : Span) (text : List ℕ) : Type 0 where

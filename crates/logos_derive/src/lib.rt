@@ -1,19 +1,22 @@
-//! What the derive macro is answered: an implementation with placeholders for the pieces that a
-//! user wrote.
+//! What the derive macro needs to know of an enum: its implementation with the pieces of the source
+//! in it, or its errors, and its warnings. `rust/logos-derive` makes tokens of it.
 
 #![tactic(auto)]
 
-mod answering;
 mod calls;
-mod checking;
-mod filling;
+mod derivation;
+mod diagnostic;
+mod errors;
+mod implementation;
+mod joined;
+mod notes;
 mod options;
 mod parts;
-mod piece;
 mod placing;
-mod prefix;
 mod printed;
+mod warnings;
 
-pub use answering::{Template, make_template};
 pub use calls::{Call, calls_in};
-pub use piece::SourcePiece;
+pub use derivation::{Derivation, derive};
+pub use diagnostic::{Diagnostic, Label, Level, Note};
+pub use implementation::{Implementation, Piece};

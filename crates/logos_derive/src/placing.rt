@@ -1,10 +1,10 @@
 //! Finds where the parts of a source are printed in an implementation.
 
-ghost use Rattle.std.specs.Prelude.{All, IfOk, OnOk, string_bytes};
-ghost use Rattle.logos_derive.specs.Views.{IsPieceOf, KeepsPieces};
+ghost use Rattle.std.specs.Prelude.{◌≤◌, IfOk, IfSome, OnOk};
+ghost use Rattle.logos_derive.specs.Views.{ArePieces, Completes};
 
+use crate::implementation::Piece;
 use crate::parts::{after_part, part_text};
-use crate::piece::SourcePiece;
 use logos_token::error::Memory;
 use logos_token::token::Span;
 use std::alloc::Global;
@@ -24,8 +24,6 @@ pub(crate) struct Texts<'t> {
     pub(crate) source: &'t str,
     /// The implementation.
     pub(crate) text: &'t str,
-    /// The beginning of placeholders.
-    pub(crate) prefix: &'t str,
 }
 
 /// Returns the pieces of parts, which are in the order of the implementation. A part that is
@@ -34,15 +32,15 @@ pub(crate) fn pieces_at(
     alloc: Global,
     texts: Texts<'_>,
     parts: &[PrintedPart],
-) -> Result<Vec<SourcePiece>, Memory>
+) -> Result<Vec<Piece>, Memory>
     ensures { IfOk result (λ pieces.
-        All (IsPieceOf texts.entry.prefix.now texts.entry.source.now) pieces.items) }
+        ArePieces texts.entry.source.now texts.entry.text.now 0 pieces.items) }
 {
     let mut pieces = Vec::new(alloc);
     let mut offset = 0;
     for part in parts {
         offset = match after_next(texts.text, offset, part.front) {
-            Some(after) => add_piece(alloc, texts, after, part.span, &mut pieces)?,
+            Some(after) => add_piece(texts, after, part.span, &mut pieces)?,
             None => return Ok(pieces),
         };
     }
@@ -50,7 +48,9 @@ pub(crate) fn pieces_at(
 }
 
 /// Returns the byte offset after the first `front` of a text from an offset on.
-pub(crate) fn after_next(text: &str, offset: usize, front: &str) -> Option<usize> {
+pub(crate) fn after_next(text: &str, offset: usize, front: &str) -> Option<usize>
+    ensures { IfSome result (λ after. offset ≤ after) }
+{
     let rest = text.get(offset..)?;
     let before = rest.find(front)?;
     offset.checked_add(before)?.checked_add(front.len())
@@ -59,31 +59,28 @@ pub(crate) fn after_next(text: &str, offset: usize, front: &str) -> Option<usize
 /// Adds a piece of the source, if its printed tokens stand at an offset of the implementation.
 /// Returns the offset after it.
 fn add_piece(
-    alloc: Global,
     texts: Texts<'_>,
     offset: usize,
     span: Span,
-    pieces: &mut Vec<SourcePiece>,
+    pieces: &mut Vec<Piece>,
 ) -> Result<usize, Memory>
-    ensures { OnOk result (KeepsPieces texts.entry.prefix.now texts.entry.source.now
-        pieces.old.items pieces.new.items) }
+    ensures { IfOk result (λ end. Completes texts.entry.source.now texts.entry.text.now offset
+        pieces.old.items → Completes texts.entry.source.now texts.entry.text.now end
+        pieces.new.items) }
 {
-    let Some(text) = part_text(alloc, texts.source, span)? else {
+    let Some(text) = part_text(*pieces.allocator(), texts.source, span)? else {
         return Ok(offset);
     };
     let Some(end) = after_part(texts.text, offset, text.as_str()) else {
         return Ok(offset);
     };
-    if end != offset {
-        let number = pieces.len();
-        let prefix = texts.prefix;
-        pieces.push(SourcePiece {
-            number,
-            name: format!(in alloc; "{prefix}{number}")?,
-            span,
-            text,
-            offset,
-        })?;
+    if end == offset {
+        return Ok(offset);
     }
+    pieces.push(Piece {
+        from: offset,
+        to: end,
+        span,
+    })?;
     Ok(end)
 }

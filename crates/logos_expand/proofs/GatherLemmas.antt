@@ -5,7 +5,7 @@ use Rattle.std.proofs.Math.Seq.{drop-cons}
 use Rattle.std.proofs.Math.ListN.{drop_of_length-le}
 use Rattle.logos_codegen.specs.Words.{Rule}
 use Rattle.logos_code.specs.Code.{CodeValue}
-use Rattle.logos_expand.specs.declared.shape.Shape.{Shape}
+use Rattle.logos_tables.specs.declared.shape.Shape.{Shape}
 use Rattle.logos_codegen.specs.Given.{IsGiven}
 use Rattle.logos_codegen.specs.Source.{IsAccepted, IsRefused, IsWithinSizes}
 use Rattle.logos_expand.specs.declared.expanding.Gathered.{Gathered}
@@ -13,7 +13,8 @@ use Rattle.logos_causes.specs.Sets.{HasSets}
 use Rattle.logos_report.specs.Sets.{sizes_of}
 use Rattle.logos_report.specs.declared.clues.Clues.{Clues}
 use Rattle.logos_report.specs.declared.refused.Refused.{Refused}
-use Rattle.logos_expand.specs.Expanding.{IsExpansion, IsExpanded, IsFileOf, IsUnreadable, Replaces, config_of, text_at}
+use Rattle.logos_expand.specs.Expanding.{IsExpansion, IsExpanded, IsFileOf, IsUnreadable, Replaces, text_at}
+use Rattle.logos_tables.specs.Shapes.{config_of}
 use Rattle.logos_expand.specs.Expanding.Replaces.{ended as r_ended, stays as r_stays, gives as r_gives}
 use Rattle.logos_expand.specs.Heads.{IsFileWith}
 use Rattle.logos_expand.specs.inside.Steps.{AddsRefusal, AreFaultsOf, GathersOne, IsExpansionBy}

@@ -1,46 +1,18 @@
 -- A file with the derive of its lexers expanded.
 use Rattle.std.specs.Prelude.{◌≡◌, ℕ, List, [], ◌∷◌, ◌++◌, ◌⊎◌, ◌==◌, ◌&&◌, ◌||◌, Bool, Option, true, false, codes, slice_range, string_bytes}
-use Rattle.logos_code.specs.Code.{CodeValue}
-use Rattle.logos_code.specs.declared.code.Config.{Config}
-use Rattle.logos_expand.specs.declared.shape.Shape.{Shape}
-use Rattle.logos_expand.specs.declared.shape.Shape.TheVariants.{Code, Tables}
 use Rattle.logos_expand.specs.Heads.{IsFileWith}
-use Rattle.logos_tables.specs.Texts.{HoldsTables}
-use Rattle.logos_codegen.specs.Given.{IsGiven}
+use Rattle.logos_tables.specs.Shapes.{IsLexerText}
+use Rattle.logos_tables.specs.declared.shape.Shape.{Shape}
 use Rattle.logos_rust_file.specs.declared.finding.FoundEnum.{FoundEnum}
 use Rattle.logos_rust_file.specs.declared.replacing.Replacement.{Replacement}
 use Rattle.logos_rust_file.specs.Files.{AreEnumsOf}
 use Rattle.logos_rust_file.specs.Replacing.{replaced}
-use Rattle.logos_graph.specs.View.{GraphValue}
-use Rattle.logos_enum.specs.Values.{Slice}
 use Rattle.logos_layout.specs.Conditions.{conditions_text}
 use Rattle.logos_layout.specs.Layout.{IsLaidOut, IsWrittenAs}
 use Rattle.logos_rust_file.specs.Handed.{EndsReading}
 use Rattle.logos_rust_file.specs.Handed.{IsStripped}
-use Rattle.logos_text.specs.Standing.{StandInOrder}
-use Rattle.logos_text.specs.Texts.{texts_of}
 use Rattle.logos_token.specs.Faults.{Fault}
 use Rattle.logos_token.specs.Tokens.{TokenList}
-
--- The shape of the code that a lexer is made of.
-abbrev pub config_of : Shape → Config
-config_of (Code config) = config
-config_of Tables = record { use_state_machine_codegen = true }
-
--- A code is shown in a shape: the texts of all its tables, and those of all its conditions, stand
--- in the text, or tables that hold all that it does.
-abbrev pub IsShown : Shape → CodeValue → List ℕ → Type 0
-IsShown (Code config) code shown = StandInOrder (texts_of code) shown
-IsShown Tables code shown = HoldsTables code shown
-
--- This is the text of a lexer of a source without faults, in this shape.
-pub record IsLexerText (shape : Shape) (source shown : List ℕ) : Type 0 where
-  pub graph : GraphValue
-  pub code : CodeValue
-  pub name : Slice
-  pub export : Option (List ℕ)
-  pub given : IsGiven source (config_of shape) graph code name export
-  pub stand : IsShown shape code shown
 
 -- The attributes of an implementation: these lints of rustc and clippy do not look at it, and
 -- rustfmt leaves it as it is.

@@ -2,7 +2,7 @@
 use Rattle.std.specs.Prelude.{◌≡◌, ◌≢◌, ◌⊎◌, ◌++◌, ℕ, Bool, IsTrue, List, [], ◌∷◌, true, false, string_bytes}
 use Rattle.logos_host.specs.declared.message_format.MessageFormat.{MessageFormat}
 use Rattle.logos_host.specs.declared.message_format.MessageFormat.TheVariants.{Human, Json}
-use Rattle.logos_expand.specs.declared.shape.Shape.{Shape}
+use Rattle.logos_tables.specs.declared.shape.Shape.{Shape}
 use Rattle.logos_causes.specs.Sets.{HasSets}
 use Rattle.logos_codegen.specs.Source.{IsRefused}
 use Rattle.logos_expand.specs.declared.expanding.Gathered.{Gathered}

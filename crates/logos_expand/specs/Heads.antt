@@ -1,7 +1,7 @@
 -- The first line of a file with the derive of its lexers expanded.
 use Rattle.std.specs.Prelude.{◌≡◌, ◌⊎◌, ℕ, ◌&&◌, Bool, true, nat_le, List, [], ◌∷◌, ◌++◌, codes, if◌then◌else◌}
-use Rattle.logos_expand.specs.declared.shape.Shape.{Shape}
-use Rattle.logos_expand.specs.declared.shape.Shape.TheVariants.{Code, Tables}
+use Rattle.logos_tables.specs.declared.shape.Shape.{Shape}
+use Rattle.logos_tables.specs.declared.shape.Shape.TheVariants.{Code, Tables}
 use Rattle.logos_layout.specs.Inner.{IsWithoutInner}
 
 -- A byte is printable ASCII.

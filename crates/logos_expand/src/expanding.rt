@@ -1,18 +1,17 @@
 //! A file with the derive of its lexers expanded.
 
 ghost use Rattle.std.specs.Prelude.{◌≡◌, ◌≤◌, ◌++◌, All, IfErr, IfOk, IsTrue, OnOk, length, map, string_bytes};
-ghost use Rattle.logos_expand.specs.Views.{IsRefused, AreInOrder, IsFoundCut, found_span, part_span, AreEnumsOf, StandInOrder, Refuses, IsExpanded, IsExpansion, IsFileOf, IsShown, IsUnreadable, config_of, AreRefused, EndsWithLines, FailsFor, GathersAll, ShowsRefused, refused_texts, AddsRefusal, GathersOne, HasSets, IsExpansionBy, sizes_of, SpellsEnum};
+ghost use Rattle.logos_expand.specs.Views.{IsRefused, AreInOrder, IsFoundCut, found_span, part_span, AreEnumsOf, StandInOrder, Refuses, IsExpanded, IsExpansion, IsFileOf, IsUnreadable, AreRefused, EndsWithLines, FailsFor, GathersAll, ShowsRefused, refused_texts, AddsRefusal, GathersOne, HasSets, IsExpansionBy, sizes_of, SpellsEnum};
 
 use crate::head::with_head;
 use crate::printing::{Site, printed_with};
-use crate::shape::Shape;
-use logos_causes::{
-    Explained, Showing, add_lexer, add_missing, add_passed, add_text, add_warnings, denial_text,
-    explain_enum, push_warned, text_of, warning_lines, warning_text,
-};
+use logos_causes::{Explained, explain_enum};
 use logos_codegen::error::Memory;
-use logos_codegen::generator::Config;
 use logos_codegen::{Generated, Refusal, generate};
+use logos_file_warnings::{
+    Showing, add_lexer, add_missing, add_passed, add_text, add_warnings, denial_text, push_warned,
+    text_of, warning_lines, warning_text,
+};
 use logos_host::{Failure, MessageFormat};
 use logos_messages::push_refused_messages;
 use logos_report::{
@@ -20,7 +19,8 @@ use logos_report::{
 };
 use logos_rust_file::{FoundEnum, Replacement, enums_in, replace};
 use logos_strip::stripping::strip_enum;
-use logos_tables::tables;
+use logos_tables::{Shape, config_of};
+use logos_warnings::Origin;
 use std::alloc::{AllocError, Global};
 
 /// A file with the derive of its lexers expanded.
@@ -221,7 +221,7 @@ fn gather_enum(
 fn clues_of(text: &str, offset: usize, warned: &mut Vec<Warning>) -> Result<Clues, Memory>
     ensures { IfOk result (λ clues. HasSets text.now (sizes_of clues)) }
 {
-    let Explained { clues, warnings } = explain_enum(*warned.allocator(), text)?;
+    let Explained { clues, warnings } = explain_enum(*warned.allocator(), text, Origin::File)?;
     add_warnings(offset, warnings, warned)?;
     Ok(clues)
 }
@@ -245,32 +245,6 @@ fn push_refusal(
             Ok(())
         }
         Refusal::Memory => Err(Memory),
-    }
-}
-
-/// Returns the shape of the code that a lexer is made of.
-pub fn config_of(shape: Shape) -> Config
-    ensures { result ≡ config_of shape }
-{
-    match shape {
-        Shape::Code(config) => config,
-        Shape::Tables => Config {
-            use_state_machine_codegen: true,
-        },
-    }
-}
-
-/// Returns the text of a lexer.
-///
-/// # Errors
-///
-/// Returns `Memory` if memory runs out.
-pub fn lexer_text(alloc: Global, shape: Shape, made: &Generated<'_>) -> Result<String, Memory>
-    ensures { IfOk result (λ text. IsShown shape made.now.code (string_bytes text)) }
-{
-    match shape {
-        Shape::Code(_) => made.text(alloc),
-        Shape::Tables => tables(alloc, made),
     }
 }
 

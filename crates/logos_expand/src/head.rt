@@ -3,9 +3,9 @@
 ghost use Rattle.std.specs.Prelude.{◌≡◌, ◌++◌, IfOk, OnOk, string_bytes};
 ghost use Rattle.logos_expand.specs.Views.{IsWithoutInner, IsFileWith, IsHead, code_name, head_text, is_plain, is_printable, line_text, shape_name, shown_name};
 
-use crate::shape::Shape;
 use logos_host::file_name;
 use logos_layout::without_inner;
+use logos_tables::Shape;
 use logos_token::error::Memory;
 use std::alloc::Global;
 

@@ -5,8 +5,6 @@
 mod expanding;
 mod head;
 mod printing;
-mod shape;
 
-pub use expanding::{Expansion, config_of, expand, lexer_text};
+pub use expanding::{Expansion, expand};
 pub use head::shape_name;
-pub use shape::Shape;

@@ -4,14 +4,13 @@
 ghost use Rattle.std.specs.Prelude.{◌≡◌, ◌++◌, true, IfOk, OnOk, string_bytes};
 ghost use Rattle.logos_expand.specs.Views.{tokens_of, IsLaidOut, IsGuard, IsGuarded, are_blanks, guard_text, import_under, lexer_under, under, IsPrintedWith};
 
-use crate::expanding::lexer_text;
-use crate::shape::Shape;
 use logos_codegen::Generated;
 use logos_codegen::error::Memory;
 use logos_codegen::token::Tokens;
 use logos_derive::calls_in;
 use logos_layout::{Note, Setting, lay_out, push_conditions, write_left};
 use logos_report::Source;
+use logos_tables::{Shape, lexer_text};
 use std::alloc::Global;
 
 /// Where an enum stands, and the shape of its lexer.

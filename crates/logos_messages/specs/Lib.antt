@@ -2,7 +2,5 @@ pub mod Shown
 pub mod Tokens
 pub mod Growing
 pub mod Messages
-pub mod Answers
 pub mod Warnings
 pub mod Words
-pub mod Views

@@ -1,9 +1,7 @@
-//! Faults and warnings as lines of JSON in rustc's schema of diagnostics, for editors, for CI and
-//! for the derive macro.
+//! Faults and warnings as lines of JSON in rustc's schema of diagnostics, for editors and for CI.
 
 #![tactic(auto)]
 
-mod answer;
 mod fault;
 mod head;
 mod marked;
@@ -13,6 +11,5 @@ mod rest;
 mod spans;
 mod warnings;
 
-pub use answer::{PieceRange, push_pieces, push_version};
 pub use messages::{push_messages, push_refused_messages};
 pub use warnings::push_warning_messages;

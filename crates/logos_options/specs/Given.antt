@@ -54,7 +54,7 @@ abbrev pub given_nothing : GivenValue
 given_nothing = record {
   first = None;
   second = None;
-  switches = record { is_check = false; is_derive = false; denies = false; is_json = false };
+  switches = record { is_check = false; denies = false; is_json = false };
   values = record { color = None; format = None; expected = None; name = None; output = None; shape = None };
   asking = None;
   answer = None;
@@ -79,7 +79,6 @@ with_asking given asking = if is_some given.asking then None else Some (record g
 abbrev pub with_switches : Switches → OptionName → Option Switches
 with_switches switches options.Check = if switches.is_check then None else Some (record switches { is_check = true })
 with_switches switches options.DenyWarnings = if switches.denies then None else Some (record switches { denies = true })
-with_switches switches options.Derive = if switches.is_derive then None else Some (record switches { is_derive = true })
 with_switches switches options.Json = if switches.is_json then None else Some (record switches { is_json = true })
 with_switches switches option = None
 

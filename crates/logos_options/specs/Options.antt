@@ -1,7 +1,7 @@
 -- The options of a command line.
 use Rattle.std.specs.Prelude.{ℕ, List, Bool, true, false, Option, Some, None, if◌then◌else◌, bytes_eq, codes}
 use Rattle.logos_options.specs.declared.options.OptionName.{OptionName}
-use Rattle.logos_options.specs.declared.options.OptionName.TheVariants.{At, Check, Color, Compare, DenyWarnings, Derive, Enum, Examples, Expect, Help, Inputs, Json, MessageFormat, Output, Shape, Version}
+use Rattle.logos_options.specs.declared.options.OptionName.TheVariants.{At, Check, Color, Compare, DenyWarnings, Enum, Examples, Expect, Help, Inputs, Json, MessageFormat, Output, Shape, Version}
 
 -- The options with a word of one letter.
 abbrev pub letter_named : List ℕ → Option OptionName
@@ -37,11 +37,10 @@ long_named word =
     if bytes_eq word (codes "--check") then Some Check
     else (if bytes_eq word (codes "--color") then Some Color
     else (if bytes_eq word (codes "--deny-warnings") then Some DenyWarnings
-    else (if bytes_eq word (codes "--derive") then Some Derive
     else (if bytes_eq word (codes "--enum") then Some Enum
     else (if bytes_eq word (codes "--help") then Some Help
     else (if bytes_eq word (codes "--message-format") then Some MessageFormat
-    else later_named word))))))
+    else later_named word)))))
 
 abbrev pub first_named : Option OptionName → List ℕ → Option OptionName
 first_named (Some option) word = Some option
@@ -58,7 +57,6 @@ takes_value Check = false
 takes_value Color = true
 takes_value Compare = false
 takes_value DenyWarnings = false
-takes_value Derive = false
 takes_value Enum = true
 takes_value Examples = false
 takes_value Expect = true

@@ -1,7 +1,7 @@
 -- Which options the programs take.
 use Rattle.std.specs.Prelude.{Bool, true, false}
 use Rattle.logos_options.specs.declared.options.OptionName.{OptionName}
-use Rattle.logos_options.specs.declared.options.OptionName.TheVariants.{At, Check, Color, Compare, DenyWarnings, Derive, Enum, Examples, Expect, Help, Inputs, Json, MessageFormat, Output, Shape, Version}
+use Rattle.logos_options.specs.declared.options.OptionName.TheVariants.{At, Check, Color, Compare, DenyWarnings, Enum, Examples, Expect, Help, Inputs, Json, MessageFormat, Output, Shape, Version}
 use Rattle.logos_options.specs.declared.program.Program.{Program}
 use Rattle.logos_options.specs.declared.program.Program.TheVariants.{Cli, Show}
 
@@ -12,7 +12,6 @@ cli_takes Check = true
 cli_takes Color = true
 cli_takes Compare = false
 cli_takes DenyWarnings = true
-cli_takes Derive = true
 cli_takes Enum = false
 cli_takes Examples = false
 cli_takes Expect = false
@@ -31,7 +30,6 @@ show_takes Check = false
 show_takes Color = true
 show_takes Compare = true
 show_takes DenyWarnings = true
-show_takes Derive = false
 show_takes Enum = true
 show_takes Examples = true
 show_takes Expect = true

@@ -30,7 +30,6 @@ pub struct Given<'w> {
 #[derive(Clone, Copy)]
 pub struct Switches {
     pub is_check: bool,
-    pub is_derive: bool,
     pub denies: bool,
     pub is_json: bool,
 }
@@ -140,7 +139,6 @@ fn read_words(program: Program, words: &[String]) -> Result<Given<'_>, Failure<'
         second: None,
         switches: Switches {
             is_check: false,
-            is_derive: false,
             denies: false,
             is_json: false,
         },
@@ -336,10 +334,6 @@ fn switched<'w>(switches: Switches, option: OptionName) -> Result<Switches, Fail
         }),
         OptionName::DenyWarnings if !switches.denies => Ok(Switches {
             denies: true,
-            ..switches
-        }),
-        OptionName::Derive if !switches.is_derive => Ok(Switches {
-            is_derive: true,
             ..switches
         }),
         OptionName::Json if !switches.is_json => Ok(Switches {

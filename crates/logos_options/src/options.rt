@@ -11,7 +11,6 @@ pub enum OptionName {
     Color,
     Compare,
     DenyWarnings,
-    Derive,
     Enum,
     Examples,
     Expect,
@@ -25,13 +24,12 @@ pub enum OptionName {
 }
 
 /// All options.
-pub(crate) const OPTIONS: [OptionName; 16] = [
+pub(crate) const OPTIONS: [OptionName; 15] = [
     OptionName::At,
     OptionName::Check,
     OptionName::Color,
     OptionName::Compare,
     OptionName::DenyWarnings,
-    OptionName::Derive,
     OptionName::Enum,
     OptionName::Examples,
     OptionName::Expect,
@@ -65,7 +63,6 @@ impl OptionName {
             OptionName::Color => "--color",
             OptionName::Compare => "--compare",
             OptionName::DenyWarnings => "--deny-warnings",
-            OptionName::Derive => "--derive",
             OptionName::Enum => "--enum",
             OptionName::Examples => "--examples",
             OptionName::Expect => "--expect",
@@ -128,9 +125,6 @@ fn by_long(word: &str) -> Option<OptionName>
     }
     if word == "--deny-warnings" {
         return Some(OptionName::DenyWarnings);
-    }
-    if word == "--derive" {
-        return Some(OptionName::Derive);
     }
     if word == "--enum" {
         return Some(OptionName::Enum);

@@ -38,7 +38,6 @@ fn cli_takes(option: OptionName) -> bool
         OptionName::Check
             | OptionName::Color
             | OptionName::DenyWarnings
-            | OptionName::Derive
             | OptionName::Help
             | OptionName::MessageFormat
             | OptionName::Output

@@ -153,7 +153,7 @@ impl<'c> NextFaults<'c> {
 
 impl Member<'_> {
     /// Returns the name of its leaf.
-    pub(crate) fn name(&self) -> &str {
+    pub fn name(&self) -> &str {
         match self.meeting.names.get(self.number) {
             Some(name) => name.as_str(),
             None => "",

@@ -164,7 +164,7 @@ fn count_all(faults: &[SpannedError], first: NextFaults<'_>) -> usize
 }
 
 /// Returns whether a report of an error begins with a fault.
-fn begins_error(next: NextFaults<'_>, fault: &SpannedError) -> bool
+pub fn begins_error(next: NextFaults<'_>, fault: &SpannedError) -> bool
     ensures { result ≡ begins_error (next_value next.entry) (fault_of fault.now) }
 {
     is_error(fault.code) & !next.follows(fault)

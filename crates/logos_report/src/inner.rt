@@ -9,7 +9,7 @@ use logos_token::token::Span;
 /// Returns what the carets of a fault stand under: the character of a literal at which its pattern
 /// is faulty, or else the span of the fault. What follows a subpattern that was put in is not
 /// looked for.
-pub(crate) fn caret_span(part: Part<'_, '_>, fault: &SpannedError) -> Span {
+pub fn caret_span(part: Part<'_, '_>, fault: &SpannedError) -> Span {
     let span = fault.span;
     if !matches!(fault.code, FaultCode::Regex) {
         return span;
@@ -28,15 +28,15 @@ pub(crate) fn caret_span(part: Part<'_, '_>, fault: &SpannedError) -> Span {
 
 /// A subpattern that is put into a pattern in front of the byte at which it is faulty.
 #[derive(Clone, Copy)]
-pub(crate) struct PutIn<'t> {
-    pub(crate) name: &'t str,
+pub struct PutIn<'t> {
+    pub name: &'t str,
     /// Where it is defined, in bytes of the part of the file, if that is found.
-    pub(crate) definition: Option<usize>,
+    pub definition: Option<usize>,
 }
 
 /// Returns the first subpattern that is put into the pattern of a fault in front of its byte, if
 /// there is one.
-pub(crate) fn put_in<'t>(part: Part<'_, 't>, fault: &SpannedError) -> Option<PutIn<'t>> {
+pub fn put_in<'t>(part: Part<'_, 't>, fault: &SpannedError) -> Option<PutIn<'t>> {
     if !matches!(fault.code, FaultCode::Regex) {
         return None;
     }

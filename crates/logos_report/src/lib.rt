@@ -18,9 +18,11 @@ mod window;
 
 pub use clues::{Clues, Meeting, Member, NextFaults, Start, first_faults};
 pub use faults::{
-    MOST, count_errors, first_line, is_error, push_fault, push_faults, push_rest, push_summary,
+    MOST, begins_error, count_errors, first_line, is_error, push_fault, push_faults, push_rest,
+    push_summary,
 };
 pub use frame::{digits, push_frame, push_place};
+pub use inner::{PutIn, caret_span, put_in};
 pub use page::{Page, Style};
 pub use refused::{FaultListing, Refused, count_in, push_refused, seen_in};
 pub use sight::help_of;

@@ -3,12 +3,13 @@
 ghost use Rattle.std.specs.Prelude.{IfErr};
 ghost use Rattle.logos_show.specs.Words.{IsNoMisuse};
 
-use logos_causes::{
-    Explained, Showing, add_warnings, explain, push_warned, text_of as text_of_lines, warning_lines,
-};
+use logos_causes::{Explained, explain};
 use logos_codegen::Refusal;
 use logos_codegen::error::{Errors, Memory};
 use logos_codegen::token::Span;
+use logos_file_warnings::{
+    Showing, add_warnings, push_warned, text_of as text_of_lines, warning_lines,
+};
 use logos_host::{ComparableFiles, Failure, Files, MessageFormat, read_text};
 use logos_items::print_bytes;
 use logos_messages::push_messages;

@@ -6,13 +6,14 @@ ghost use Rattle.logos_show.specs.Orders.{IsNoMisuse};
 use crate::choosing::has_name;
 use crate::reading::{refusal_of, refused, refused_with, text_of};
 use logos_answers::{push_costs, push_examples, push_rows};
-use logos_causes::{
-    Explained, Showing, add_lexer, add_missing, add_passed, add_text, add_warnings, denial_text,
-    explain_enum, has_lexer, warning_text,
-};
+use logos_causes::{Explained, explain_enum};
 use logos_codegen::error::Memory;
 use logos_codegen::generator::Config;
 use logos_codegen::{Generated, generate};
+use logos_file_warnings::{
+    Showing, add_lexer, add_missing, add_passed, add_text, add_warnings, denial_text, has_lexer,
+    warning_text,
+};
 use logos_host::Failure;
 use logos_inspect::{LeafRow, costs_of, row_of};
 use logos_lines::LineIndex;
@@ -21,6 +22,7 @@ use logos_records::{
 };
 use logos_report::{Page, Part, Source, Warning};
 use logos_rust_file::{FoundEnum, enums_in};
+use logos_warnings::Origin;
 use std::alloc::Global;
 use std::mem;
 
@@ -217,7 +219,7 @@ fn known_after(
     pages: &mut Pages,
     one: EnumInFile<'_, '_>,
 ) -> Result<Explained, Memory> {
-    let Explained { clues, warnings } = explain_enum(alloc, one.text)?;
+    let Explained { clues, warnings } = explain_enum(alloc, one.text, Origin::File)?;
     let mut warned = mem::replace(&mut pages.warned, Vec::new(alloc));
     add_warnings(one.part.offset, warnings, &mut warned)?;
     Ok(Explained {

@@ -2,6 +2,7 @@ pub mod Steps
 pub mod Layout
 pub mod RowsView
 pub mod Texts
+pub mod Shapes
 pub mod inside
 pub mod Words
 pub mod Views

@@ -27,6 +27,10 @@ abbrev pub mark_number : Option Mark → ℕ
 mark_number None = 0
 mark_number (Some mark) = if mark.late then mark.leaf * 2 + 3 else mark.leaf * 2 + 2
 
+-- A leaf below this number has a mark that is a number of 64 bits. No list of leaves is longer.
+abbrev pub leaf_limit : ℕ
+leaf_limit = 9223372036854775807
+
 -- 1 for a leaf whose matches are left out without a callback, and else 0.
 abbrev pub skip_number : Use → ℕ
 skip_number use_of = if use_of.skips && not use_of.asks then 1 else 0

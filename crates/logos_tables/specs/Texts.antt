@@ -1,5 +1,5 @@
 -- The printed texts of tables.
-use Rattle.std.specs.Prelude.{◌≡◌, ℕ, ◌*◌, ◌&&◌, Bool, true, nat_le, nat_lt, List, [], ◌∷◌, ◌++◌, length, map, codes, if◌then◌else◌}
+use Rattle.std.specs.Prelude.{◌≡◌, ℕ, ◌*◌, ◌&&◌, Bool, true, nat_le, List, [], ◌∷◌, ◌++◌, length, map, codes, if◌then◌else◌}
 use Rattle.std.specs.Fmt.{decimal}
 use Rattle.std.specs.List.{flat_map}
 use Rattle.logos_code.specs.Code.{CodeValue}
@@ -7,17 +7,17 @@ use Rattle.logos_text.specs.Standing.{numbered}
 use Rattle.logos_tables.specs.Layout.{Tables, Hold}
 use Rattle.logos_tables.specs.Steps.{mark_number, skip_number}
 
--- All numbers are below a bound.
-abbrev pub are_below : ℕ → List ℕ → Bool
-are_below bound [] = true
-are_below bound (number ∷ numbers) = nat_lt number bound && are_below bound numbers
+-- No number is above a bound.
+abbrev pub are_at_most : ℕ → List ℕ → Bool
+are_at_most most [] = true
+are_at_most most (number ∷ numbers) = nat_le number most && are_at_most most numbers
 
 -- The shortest type that holds the numbers.
 abbrev pub type_text : List ℕ → List ℕ
 type_text numbers =
-    if are_below 256 numbers then codes "u8"
-    else (if are_below 65536 numbers then codes "u16"
-    else (if are_below 4294967296 numbers then codes "u32"
+    if are_at_most 255 numbers then codes "u8"
+    else (if are_at_most 65535 numbers then codes "u16"
+    else (if are_at_most 4294967295 numbers then codes "u32"
     else codes "u64"))
 
 -- An entry: its digits, and a comma.

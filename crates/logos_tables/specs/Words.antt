@@ -9,6 +9,6 @@ pub use Rattle.logos_text.specs.Fronts.{BeginsWith}
 pub use Rattle.logos_text.specs.Standing.{Grows, numbered}
 pub use Rattle.std.specs.List.{All, flat_map}
 pub use Rattle.logos_tables.specs.Layout.{AreClasses, AreRows, Classify, HaveSameSteps, IsClassOf, by_classes, spread}
-pub use Rattle.logos_tables.specs.Steps.{HasSteps, led_number, mark_number, skip_number, step_number}
-pub use Rattle.logos_tables.specs.Texts.{HoldsTables, are_below, end_texts, entry_text, entry_type_text, head_text, lengths_text, marks_text, most_steps, name_text, names_text, number_text, run_steps_text, size_texts, skips_text, step_texts, table_text, type_text}
+pub use Rattle.logos_tables.specs.Steps.{HasSteps, leaf_limit, led_number, mark_number, skip_number, step_number}
+pub use Rattle.logos_tables.specs.Texts.{HoldsTables, are_at_most, end_texts, entry_text, entry_type_text, head_text, lengths_text, marks_text, most_steps, name_text, names_text, number_text, run_steps_text, size_texts, skips_text, step_texts, table_text, type_text}
 pub use Rattle.logos_tables.specs.inside.Adding.{Appends, AppendsSteps, AppendsTables}

@@ -1,4 +1,5 @@
-//! The Rust text of a lexer whose states are tables: one loop over `static` tables.
+//! The Rust text of a lexer in each shape, and that of the shape `tables`: one loop over `static`
+//! tables.
 
 #![tactic(auto)]
 
@@ -13,6 +14,8 @@ mod rest;
 mod rows;
 mod runs;
 mod scanned;
+mod shape;
 mod steps;
 
 pub use lexer::tables;
+pub use shape::{Shape, config_of, lexer_text};

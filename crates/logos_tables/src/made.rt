@@ -34,7 +34,7 @@ const _BY_BYTES: bool = _ROWS.len() <= 300;
 const _COLUMNS: usize = if _BY_BYTES { 272 } else { _WIDTH };
 const _END_COLUMN: usize = if _BY_BYTES { 256 } else { _CLASSES[256] as usize };
 const _LEADS: _Entry = (_ROWS.len() * _COLUMNS) as _Entry;
-const _: () = assert!(_ROWS.len() * _COLUMNS < 1 << _KIND_BIT);
+const _: () = ::core::assert!(_ROWS.len() * _COLUMNS < 1 << _KIND_BIT);
 
 // How many bytes are of the classes before each one.
 const _BYTES_BEFORE: [u16; _WIDTH + 1] = {
@@ -51,7 +51,7 @@ const _BYTES_BEFORE: [u16; _WIDTH + 1] = {
 };
 // What a row has: the run with its first step, how many steps of that run are of the rows before, whether any step leads on, how many
 // bytes stay, and the number of the loop over them.
-#[derive(Clone, Copy)]
+#[derive(::core::clone::Clone, ::core::marker::Copy)]
 struct _Row {
     run: usize,
     passed: usize,
@@ -284,10 +284,10 @@ const _MOST_RANGES: usize = {
     }
     most
 };
-#[derive(Clone, Copy)]
+#[derive(::core::clone::Clone, ::core::marker::Copy)]
 #[repr(align(16))]
 struct _Bytes([u8; 16]);
-#[derive(Clone, Copy)]
+#[derive(::core::clone::Clone, ::core::marker::Copy)]
 struct _Range {
     lowest: _Bytes,
     length: _Bytes,

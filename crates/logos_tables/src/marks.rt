@@ -2,14 +2,11 @@
 //! steps.
 
 ghost use Rattle.std.specs.Prelude.{◌≡◌, ◌<◌, IfOk, IfSome, map, option_map};
-ghost use Rattle.logos_tables.specs.Words.{All, mark_of, use_of, mark_number, skip_number};
+ghost use Rattle.logos_tables.specs.Words.{All, leaf_limit, mark_of, use_of, mark_number, skip_number};
 
 use logos_code::code::{CodeLeaf, CodeState, Mark};
 use logos_pattern::leaf::VariantKind;
 use std::alloc::{AllocError, Global};
-
-/// A leaf below this number has a mark that is a number, too. No list of leaves is longer.
-const LEAVES: usize = 9_223_372_036_854_775_807;
 
 /// Returns the numbers of the marks of all states.
 ///
@@ -17,7 +14,7 @@ const LEAVES: usize = 9_223_372_036_854_775_807;
 ///
 /// Returns an error if memory runs out.
 pub(crate) fn marks_of(alloc: Global, states: &[CodeState]) -> Result<Vec<usize>, AllocError>
-    requires { All (λ state. IfSome state.mark (λ mark. mark.leaf.0 < LEAVES)) states.now }
+    requires { All (λ state. IfSome state.mark (λ mark. mark.leaf.0 < leaf_limit)) states.now }
     ensures { IfOk result (λ marks. marks.items
         ≡ map (λ state. mark_number (option_map mark_of state.mark)) states.now) }
 {
@@ -31,7 +28,7 @@ pub(crate) fn marks_of(alloc: Global, states: &[CodeState]) -> Result<Vec<usize>
 /// Returns the number of a mark: 0 for none, and else 2 more than twice the number of its leaf, and
 /// 1 more if it is late.
 fn mark_number(mark: Option<Mark>) -> usize
-    requires { IfSome mark (λ mark. mark.leaf.0 < LEAVES) }
+    requires { IfSome mark (λ mark. mark.leaf.0 < leaf_limit) }
     ensures { result ≡ mark_number (option_map mark_of mark) }
 {
     match mark {

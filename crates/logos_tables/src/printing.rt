@@ -1,7 +1,7 @@
 //! Prints tables and numbers. `lexer`, `parts` and `rest` call it.
 
 ghost use Rattle.std.specs.Prelude.{◌≡◌, ◌++◌, ◌∷◌, [], OnOk, string_bytes};
-ghost use Rattle.logos_tables.specs.Words.{flat_map, Grows, Appends, are_below, entry_text, head_text, number_text, table_text, type_text};
+ghost use Rattle.logos_tables.specs.Words.{flat_map, Grows, Appends, are_at_most, entry_text, head_text, number_text, table_text, type_text};
 
 use logos_token::error::Memory;
 
@@ -66,24 +66,24 @@ fn push_head(text: &mut String, name: &str, entries: &[usize]) -> Result<(), Mem
 fn type_of(numbers: &[usize]) -> &'static str
     ensures { result.now ≡ type_text numbers.now }
 {
-    if are_below(numbers, 256) {
+    if are_at_most(numbers, 255) {
         return "u8";
     }
-    if are_below(numbers, 65536) {
+    if are_at_most(numbers, 65535) {
         return "u16";
     }
-    if are_below(numbers, 4294967296) {
+    if are_at_most(numbers, 4294967295) {
         return "u32";
     }
     "u64"
 }
 
-/// Returns whether all numbers are below a bound.
-fn are_below(numbers: &[usize], bound: usize) -> bool
-    ensures { result ≡ are_below bound numbers.now }
+/// Returns whether no number is above a bound.
+fn are_at_most(numbers: &[usize], most: usize) -> bool
+    ensures { result ≡ are_at_most most numbers.now }
 {
     for number in numbers {
-        if *number >= bound {
+        if *number > most {
             return false;
         }
     }

@@ -3,7 +3,7 @@ use Rattle.std.proofs.Common.{◌≡◌, ℕ, ◌+◌, ◌-◌, ◌<◌, ◌≤�
 use Rattle.std.proofs.Math.ListN.{drop_of_length-le}
 use Rattle.std.specs.List.{flat_map}
 use Rattle.logos_text.specs.Texts.{table_text, table_texts}
-use Rattle.logos_text.specs.Fronts.{BeginsWith, IsFront, leaf_names_text, opening_text, AroundValue}
+use Rattle.logos_text.specs.Fronts.{BeginsWith, IsFront, leaf_names_text, opening_text, whole_core, whole_derives, AroundValue}
 use Rattle.logos_text.specs.Standing.{StandInOrder, Adds, AddsLast, Grows, numbered}
 
 -- the part of an element is added
@@ -72,11 +72,11 @@ begins_whole {xs} {front} {a} {b} {c} {d} none e p q = record {
 }
 
 -- the front of an implementation
-pub is_front : {a b c : List ℕ} (around : AroundValue) (this : List ℕ) (leaves : ℕ) → a ≡ [] → b ≡ a ++ opening_text around this →
-    AddsLast (leaf_names_text leaves) b c → IsFront around this leaves c
+pub is_front : {a b c : List ℕ} (around : AroundValue) (this : List ℕ) (leaves : ℕ) → a ≡ [] → b ≡ a ++ opening_text whole_core around this →
+    AddsLast (leaf_names_text whole_derives leaves) b c → IsFront around this leaves c
 is_front {a} {b} {c} around this leaves none e p = record {
   functions = p.added;
-  is = p.is ∙ ap (λ w. w ++ (p.added ++ leaf_names_text leaves)) (e ∙ ap (λ w. w ++ opening_text around this) none);
+  is = p.is ∙ ap (λ w. w ++ (p.added ++ leaf_names_text whole_derives leaves)) (e ∙ ap (λ w. w ++ opening_text whole_core around this) none);
 }
 
 -- a loop that adds the text of each number

@@ -21,40 +21,65 @@ abbrev pub types_text : AroundValue → List ℕ
 types_text around =
     codes "type Error = " ++ around.error ++ codes "; type Extras = " ++ around.extras ++ codes "; type Source = " ++ around.source ++ codes "; "
 
--- The signature of the function that lexes.
-abbrev pub signature_text : List ℕ → List ℕ
-signature_text logos =
+-- The path of Rust's `core`, with the gap after it, as a text of code has it, and as one of tables:
+-- there a module of this name beside the enum is another one.
+abbrev pub short_core : List ℕ
+short_core = codes "core "
+
+abbrev pub whole_core : List ℕ
+whole_core = codes ":: core "
+
+-- The signature of the function that lexes, with this path of `core`.
+abbrev pub signature_text : List ℕ → List ℕ → List ℕ
+signature_text core logos =
     codes "fn lex ( lex : & mut " ++ logos
-    ++ codes ":: Lexer < 's , Self > ) -> core :: option :: Option < core :: result :: Result < Self , < Self as " ++ logos
+    ++ codes ":: Lexer < 's , Self > ) -> " ++ core ++ codes ":: option :: Option < " ++ core
+    ++ codes ":: result :: Result < Self , < Self as " ++ logos
     ++ codes ":: Logos < 's >> :: Error >> { "
 
--- The imports of that function.
-abbrev pub uses_text : List ℕ → List ℕ → List ℕ
-uses_text logos this =
-    codes "use " ++ logos
-    ++ codes ":: internal :: { LexerInternal , CallbackRetVal , CallbackResult , SkipRetVal , SkipResult , } ; use core :: result :: Result as _Result ; use core :: option :: Option as _Option ; use "
-    ++ logos ++ codes ":: Logos ; type _Lexer < 's > = " ++ logos ++ codes ":: Lexer < 's , " ++ this ++ codes " > ; "
+-- The imports of that function: of what the library has for it alone, of types of `core`, and of
+-- `Logos`, with the type of the lexer.
+abbrev pub internals_text : List ℕ → List ℕ
+internals_text logos =
+    codes "use " ++ logos ++ codes ":: internal :: { LexerInternal , CallbackRetVal , CallbackResult , SkipRetVal , SkipResult , } ; "
+
+abbrev pub core_text : List ℕ → List ℕ
+core_text core = codes "use " ++ core ++ codes ":: result :: Result as _Result ; use " ++ core ++ codes ":: option :: Option as _Option ; "
+
+abbrev pub lexer_text : List ℕ → List ℕ → List ℕ
+lexer_text logos this =
+    codes "use " ++ logos ++ codes ":: Logos ; type _Lexer < 's > = " ++ logos ++ codes ":: Lexer < 's , " ++ this ++ codes " > ; "
+
+abbrev pub uses_text : List ℕ → List ℕ → List ℕ → List ℕ
+uses_text core logos this = internals_text logos ++ core_text core ++ lexer_text logos this
 
 -- The text before the body of the function that lexes.
-abbrev pub opening_text : AroundValue → List ℕ → List ℕ
-opening_text around this = head_text around.logos this ++ types_text around ++ signature_text around.logos ++ uses_text around.logos this
+abbrev pub opening_text : List ℕ → AroundValue → List ℕ → List ℕ
+opening_text core around this = head_text around.logos this ++ types_text around ++ signature_text core around.logos ++ uses_text core around.logos this
 
 -- A leaf in the enum of the leaves, with a comma before it unless it is the first.
 abbrev pub leaf_name_text : ℕ → List ℕ
 leaf_name_text leaf =
     (if leaf == 0 then codes "" else codes ", ") ++ codes "Leaf" ++ decimal leaf ++ codes " = " ++ decimal leaf ++ codes "isize "
 
--- The enum of so many leaves, each with its number.
-abbrev pub leaf_names_text : ℕ → List ℕ
-leaf_names_text count = codes "# [ derive ( Clone , Copy ) ] enum LogosLeaf { " ++ numbered leaf_name_text 0 count ++ codes "} "
+-- The traits of this enum, as a text of code has them, and as one of tables.
+abbrev pub short_derives : List ℕ
+short_derives = codes "Clone , Copy"
+
+abbrev pub whole_derives : List ℕ
+whole_derives = codes ":: core :: clone :: Clone , :: core :: marker :: Copy"
+
+-- The enum of so many leaves, each with its number, with these traits.
+abbrev pub leaf_names_text : List ℕ → ℕ → List ℕ
+leaf_names_text derives count = codes "# [ derive ( " ++ derives ++ codes " ) ] enum LogosLeaf { " ++ numbered leaf_name_text 0 count ++ codes "} "
 
 -- The text begins with this one.
 pub record BeginsWith (front text : List ℕ) : Type 0 where
   pub rest : List ℕ
   pub is : text ≡ front ++ rest
 
--- The text is the beginning of an implementation for this type: its head, the imports of the
--- function that lexes, the functions for matches and errors, and the enum of so many leaves.
+-- The text is the beginning of an implementation by tables for this type: its head, the imports of
+-- the function that lexes, the functions for matches and errors, and the enum of so many leaves.
 pub record IsFront (around : AroundValue) (this : List ℕ) (leaves : ℕ) (text : List ℕ) : Type 0 where
   pub functions : List ℕ
-  pub is : text ≡ opening_text around this ++ (functions ++ leaf_names_text leaves)
+  pub is : text ≡ opening_text whole_core around this ++ (functions ++ leaf_names_text whole_derives leaves)

@@ -1,13 +1,13 @@
 //! Prints a whole code. `logos_codegen` calls it.
 
 ghost use Rattle.std.specs.Prelude.{IfOk, OnOk, length, string_bytes};
-ghost use Rattle.logos_text.specs.Views.{printed_type, type_tree, code_of, BeginsWith, IsFront, leaf_names_text, opening_text, Adds, AddsLast, Grows, StandInOrder, texts_in, texts_of, around_value};
+ghost use Rattle.logos_text.specs.Views.{printed_type, type_tree, code_of, BeginsWith, IsFront, leaf_names_text, opening_text, short_core, Adds, AddsLast, Grows, StandInOrder, texts_in, texts_of, around_value};
 
 use crate::errors::push_make_error;
 use crate::implementation::{Around, push_front};
 use crate::leaves::{push_get_action, push_leaf_names};
 use crate::macros::{push_fast_loop_macro, push_take_action_macro};
-use crate::names::Names;
+use crate::names::{Names, short_names, whole_names};
 use crate::pieces::push;
 use crate::states::{push_closing, push_opening, push_states};
 use crate::tables::push_tables;
@@ -30,7 +30,12 @@ pub fn text(alloc: Global, code: &Code<'_>) -> Result<String, Memory>
     let parts = code.parts();
     let this = print_type(alloc, &parts.header.this)?;
     let mut text = String::new(alloc);
-    push_code(alloc, &mut text, parts, Names::new(parts, &this))?;
+    push_code(
+        alloc,
+        &mut text,
+        parts,
+        Names::new(parts, &this, short_names()),
+    )?;
     Ok(text)
 }
 
@@ -41,22 +46,23 @@ pub fn text(alloc: Global, code: &Code<'_>) -> Result<String, Memory>
 /// Returns `Memory` if memory runs out.
 pub fn text_in(alloc: Global, code: &Code<'_>, around: Around<'_>) -> Result<String, Memory>
     ensures stand { IfOk result (λ text. StandInOrder (texts_of code.now) (string_bytes text)) }
-    ensures begins { IfOk result (λ text. BeginsWith (opening_text (around_value around.entry)
+    ensures begins { IfOk result (λ text. BeginsWith (opening_text short_core (around_value around.entry)
         (printed_type (type_tree code.now.header.this))) (string_bytes text)) }
 {
     let parts = code.parts();
     let this = print_type(alloc, &parts.header.this)?;
     let mut text = String::new(alloc);
-    push_front(&mut text, around, &this)?;
-    push_code(alloc, &mut text, parts, Names::new(parts, &this))?;
+    let core = short_names();
+    push_front(&mut text, around, &this, core.path)?;
+    push_code(alloc, &mut text, parts, Names::new(parts, &this, core))?;
     push(&mut text, " } }")?;
     Ok(text)
 }
 
-/// Returns the beginning of the implementation of `Logos` for the enum of a code: its types, the
-/// imports of the function that lexes, and inside that function the functions for matches and
-/// errors and the enum of the leaves. Text that follows it can go on with the body of that
-/// function.
+/// Returns the beginning of the implementation of `Logos` by tables for the enum of a code: its
+/// types, the imports of the function that lexes, and inside that function the functions for
+/// matches and errors and the enum of the leaves. Text that follows it can go on with the body of
+/// that function.
 ///
 /// # Errors
 ///
@@ -69,8 +75,9 @@ pub fn front_in(alloc: Global, code: &Code<'_>, around: Around<'_>) -> Result<St
     let parts = code.parts();
     let this = print_type(alloc, &parts.header.this)?;
     let mut text = String::new(alloc);
-    push_front(&mut text, around, &this)?;
-    push_actions(alloc, &mut text, parts, Names::new(parts, &this))?;
+    let core = whole_names();
+    push_front(&mut text, around, &this, core.path)?;
+    push_actions(alloc, &mut text, parts, Names::new(parts, &this, core))?;
     Ok(text)
 }
 
@@ -121,11 +128,11 @@ fn push_actions(
     parts: &CodeParts<'_>,
     names: Names<'_>,
 ) -> Result<(), Memory>
-    ensures { OnOk result (AddsLast (leaf_names_text (length parts.now.leaves.items))
+    ensures { OnOk result (AddsLast (leaf_names_text names.entry.core.derives.now (length parts.now.leaves.items))
         (string_bytes text.old) (string_bytes text.new)) }
 {
     push_make_error(alloc, text, parts.header.error_callback.as_ref(), names)?;
     push_get_action(alloc, text, &parts.leaves, names)?;
-    push_leaf_names(text, parts.leaves.len())?;
+    push_leaf_names(text, names.core.derives, parts.leaves.len())?;
     Ok(())
 }

@@ -2,7 +2,7 @@
 //! body.
 
 ghost use Rattle.std.specs.Prelude.{◌≡◌, ◌++◌, OnOk, string_bytes};
-ghost use Rattle.logos_text.specs.Views.{head_text, opening_text, signature_text, types_text, uses_text, around_value};
+ghost use Rattle.logos_text.specs.Views.{head_text, core_text, internals_text, lexer_text, opening_text, signature_text, types_text, uses_text, around_value};
 
 use logos_token::error::Memory;
 
@@ -20,15 +20,20 @@ pub struct Around<'p> {
     pub source: &'p str,
 }
 
-/// Appends the text before a body.
-pub(crate) fn push_front(text: &mut String, around: Around<'_>, this: &str) -> Result<(), Memory>
+/// Appends the text before a body. `core` is the path of Rust's `core`, with the gap after it.
+pub(crate) fn push_front(
+    text: &mut String,
+    around: Around<'_>,
+    this: &str,
+    core: &str,
+) -> Result<(), Memory>
     ensures { OnOk result (string_bytes text.new
-        ≡ string_bytes text.old ++ opening_text (around_value around.entry) this.now) }
+        ≡ string_bytes text.old ++ opening_text core.now (around_value around.entry) this.now) }
 {
     push_head(text, around.logos, this)?;
     push_types(text, around)?;
-    push_signature(text, around.logos)?;
-    push_uses(text, around.logos, this)?;
+    push_signature(text, core, around.logos)?;
+    push_uses(text, core, around.logos, this)?;
     Ok(())
 }
 
@@ -57,25 +62,59 @@ fn push_types(text: &mut String, around: Around<'_>) -> Result<(), Memory>
 }
 
 /// Appends the signature of the function that lexes.
-fn push_signature(text: &mut String, logos: &str) -> Result<(), Memory>
+fn push_signature(text: &mut String, core: &str, logos: &str) -> Result<(), Memory>
     ensures { OnOk result (string_bytes text.new
-        ≡ string_bytes text.old ++ signature_text logos.now) }
+        ≡ string_bytes text.old ++ signature_text core.now logos.now) }
 {
     write!(
         text,
-        "fn lex ( lex : & mut {logos}:: Lexer < 's , Self > ) -> core :: option :: Option < core :: result :: Result < Self , < Self as {logos}:: Logos < 's >> :: Error >> {{ "
+        "fn lex ( lex : & mut {logos}:: Lexer < 's , Self > ) -> {core}:: option :: Option < {core}:: result :: Result < Self , < Self as {logos}:: Logos < 's >> :: Error >> {{ "
     )?;
     Ok(())
 }
 
 /// Appends the imports of the names that the body uses.
-fn push_uses(text: &mut String, logos: &str, this: &str) -> Result<(), Memory>
+fn push_uses(text: &mut String, core: &str, logos: &str, this: &str) -> Result<(), Memory>
     ensures { OnOk result (string_bytes text.new
-        ≡ string_bytes text.old ++ uses_text logos.now this.now) }
+        ≡ string_bytes text.old ++ uses_text core.now logos.now this.now) }
+{
+    push_internals(text, logos)?;
+    push_core(text, core)?;
+    push_lexer(text, logos, this)?;
+    Ok(())
+}
+
+/// Appends the import of what the library has for the body alone.
+fn push_internals(text: &mut String, logos: &str) -> Result<(), Memory>
+    ensures { OnOk result (string_bytes text.new
+        ≡ string_bytes text.old ++ internals_text logos.now) }
 {
     write!(
         text,
-        "use {logos}:: internal :: {{ LexerInternal , CallbackRetVal , CallbackResult , SkipRetVal , SkipResult , }} ; use core :: result :: Result as _Result ; use core :: option :: Option as _Option ; use {logos}:: Logos ; type _Lexer < 's > = {logos}:: Lexer < 's , {this} > ; "
+        "use {logos}:: internal :: {{ LexerInternal , CallbackRetVal , CallbackResult , SkipRetVal , SkipResult , }} ; "
+    )?;
+    Ok(())
+}
+
+/// Appends the imports of types of Rust's `core`.
+fn push_core(text: &mut String, core: &str) -> Result<(), Memory>
+    ensures { OnOk result (string_bytes text.new ≡ string_bytes text.old ++ core_text core.now) }
+{
+    write!(
+        text,
+        "use {core}:: result :: Result as _Result ; use {core}:: option :: Option as _Option ; "
+    )?;
+    Ok(())
+}
+
+/// Appends the import of `Logos`, and the type of the lexer.
+fn push_lexer(text: &mut String, logos: &str, this: &str) -> Result<(), Memory>
+    ensures { OnOk result (string_bytes text.new
+        ≡ string_bytes text.old ++ lexer_text logos.now this.now) }
+{
+    write!(
+        text,
+        "use {logos}:: Logos ; type _Lexer < 's > = {logos}:: Lexer < 's , {this} > ; "
     )?;
     Ok(())
 }

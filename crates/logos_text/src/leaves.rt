@@ -1,7 +1,7 @@
 //! Prints the leaves, and what the lexer does with their matches. `code` calls it once for all
 //! leaves.
 
-ghost use Rattle.std.specs.Prelude.{◌≡◌, ◌++◌, OnOk, string_bytes};
+ghost use Rattle.std.specs.Prelude.{◌≡◌, ◌++◌, OnOk, codes, string_bytes};
 ghost use Rattle.logos_text.specs.Words.{leaf_name_text, leaf_names_text, Grows, numbered};
 
 use crate::callbacks::push_call;
@@ -13,14 +13,23 @@ use logos_token::error::Memory;
 use logos_type::print_type;
 use std::alloc::Global;
 
-/// Appends the enum of the leaves, each with its number.
-pub(crate) fn push_leaf_names(text: &mut String, count: usize) -> Result<(), Memory>
+/// Appends the enum of the leaves, each with its number. It derives these traits.
+pub(crate) fn push_leaf_names(text: &mut String, derives: &str, count: usize) -> Result<(), Memory>
     ensures { OnOk result (string_bytes text.new
-        ≡ string_bytes text.old ++ leaf_names_text count) }
+        ≡ string_bytes text.old ++ leaf_names_text derives.now count) }
 {
-    push_str(text, "# [ derive ( Clone , Copy ) ] enum LogosLeaf { ")?;
+    push_leaf_head(text, derives)?;
     push_each_leaf_name(text, count)?;
     push_str(text, "} ")?;
+    Ok(())
+}
+
+/// Appends the head of the enum of the leaves.
+fn push_leaf_head(text: &mut String, derives: &str) -> Result<(), Memory>
+    ensures { OnOk result (string_bytes text.new ≡ string_bytes text.old
+        ++ (codes "# [ derive ( " ++ derives.now ++ codes " ) ] enum LogosLeaf { ")) }
+{
+    write!(text, "# [ derive ( {derives} ) ] enum LogosLeaf {{ ")?;
     Ok(())
 }
 
@@ -54,9 +63,10 @@ pub(crate) fn push_get_action(
     ensures { OnOk result (Grows (string_bytes text.old) (string_bytes text.new)) }
 {
     let this = names.this;
+    let options = names.core.options;
     write!(
         text,
-        "# [ inline ] fn _get_action < 's > ( lex : & mut _Lexer < 's > , offset : usize , context : _Option < LogosLeaf > ) -> CallbackResult < 's , {this} > {{ match context {{ None => {{ lex . end_to_boundary ( offset . max ( lex . offset ( ) + 1 ) ) ; CallbackResult :: Error ( _make_error ( lex ) ) }} , "
+        "# [ inline ] fn _get_action < 's > ( lex : & mut _Lexer < 's > , offset : usize , context : _Option < LogosLeaf > ) -> CallbackResult < 's , {this} > {{ match context {{ {options}None => {{ lex . end_to_boundary ( offset . max ( lex . offset ( ) + 1 ) ) ; CallbackResult :: Error ( _make_error ( lex ) ) }} , "
     )?;
     push_arms(alloc, text, leaves, names)?;
     push(text, "} } ")
@@ -72,14 +82,24 @@ fn push_arms(
     ensures { OnOk result (Grows (string_bytes text.old) (string_bytes text.new)) }
 {
     if leaves.is_empty() {
-        return push(
-            text,
-            "Some ( _ ) => unreachable ! ( \"There are no matchable tokens\" ) , ",
-        );
+        return push_no_arm(text, names);
     }
     for n in 0..leaves.len() {
         push_arm(alloc, text, n, &leaves[n], names)?;
     }
+    Ok(())
+}
+
+/// Appends the match arm where there are no leaves.
+fn push_no_arm(text: &mut String, names: Names<'_>) -> Result<(), Memory>
+    ensures { OnOk result (Grows (string_bytes text.old) (string_bytes text.new)) }
+{
+    let options = names.core.options;
+    let macros = names.core.macros;
+    write!(
+        text,
+        "{options}Some ( _ ) => {macros}unreachable ! ( \"There are no matchable tokens\" ) , "
+    )?;
     Ok(())
 }
 
@@ -94,7 +114,8 @@ fn push_arm(
     ensures { OnOk result (Grows (string_bytes text.old) (string_bytes text.new)) }
 {
     let comma = comma_before(n);
-    write!(text, "{comma}Some ( LogosLeaf :: Leaf{n} ) => {{ ")?;
+    let options = names.core.options;
+    write!(text, "{comma}{options}Some ( LogosLeaf :: Leaf{n} ) => {{ ")?;
     push_leaf(alloc, text, leaf, names)?;
     push(text, "} ")
 }

@@ -4,6 +4,7 @@ ghost use Rattle.std.specs.Prelude.{◌≡◌, IfOk};
 ghost use Rattle.logos_warnings.specs.Views.{mistake_value, span_of};
 
 use crate::mistakes::{Mistake, mistakes_of};
+use crate::origin::{Origin, is_warning};
 use crate::others::add_others;
 use crate::plain::{fixed_warning, plain_warning};
 use logos_enum::{ItemEnum, ReadError, read_enum};
@@ -14,19 +15,25 @@ use std::alloc::{AllocError, Global};
 
 /// Returns the warnings of an enum with this text: those of its own attributes and then those of
 /// its variants', in source order, then that it has no pattern or does not derive `Logos`, and last
-/// those of attributes that its lexer passes over. An enum that cannot be read has none.
+/// those of attributes that its lexer passes over. An enum that cannot be read has none. An active
+/// `cfg` is no mistake in an enum from the derive macro.
 ///
 /// # Errors
 ///
 /// Returns `Memory` if memory runs out.
-pub fn enum_warnings(alloc: Global, text: &str, derives: bool) -> Result<Vec<Warning>, Memory> {
+pub fn enum_warnings(
+    alloc: Global,
+    text: &str,
+    derives: bool,
+    origin: Origin,
+) -> Result<Vec<Warning>, Memory> {
     let stream = match tokenize(alloc, text) {
         Ok(stream) => stream,
         Err(TokenError::Memory) => return Err(Memory),
         Err(_) => return Ok(Vec::new(alloc)),
     };
     match read_enum(alloc, stream.run()) {
-        Ok(item) => Ok(item_warnings(alloc, &item, derives)?),
+        Ok(item) => Ok(item_warnings(alloc, &item, derives, origin)?),
         Err(ReadError::Memory) => Err(Memory),
         Err(_) => Ok(Vec::new(alloc)),
     }
@@ -41,11 +48,14 @@ pub fn item_warnings(
     alloc: Global,
     item: &ItemEnum<'_, '_>,
     derives: bool,
+    origin: Origin,
 ) -> Result<Vec<Warning>, AllocError> {
     let mistakes = mistakes_of(alloc, item, derives)?;
     let mut warnings = Vec::new(alloc);
     for mistake in &mistakes {
-        warnings.push(warning_of(alloc, item.name.text, *mistake)?)?;
+        if is_warning(*mistake, origin) {
+            warnings.push(warning_of(alloc, item.name.text, *mistake)?)?;
+        }
     }
     if derives {
         add_others(item, &mut warnings)?;

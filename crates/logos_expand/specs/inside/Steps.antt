@@ -1,11 +1,12 @@
 -- The steps of gathering what the enums of a file give.
 use Rattle.std.specs.Prelude.{◌≡◌, ℕ, Bool, List, [], ◌∷◌, ◌++◌}
 use Rattle.logos_code.specs.Code.{CodeValue}
-use Rattle.logos_expand.specs.declared.shape.Shape.{Shape}
+use Rattle.logos_tables.specs.declared.shape.Shape.{Shape}
 use Rattle.logos_expand.specs.declared.expanding.Gathered.{Gathered}
 use Rattle.logos_report.specs.declared.clues.Clues.{Clues}
 use Rattle.logos_report.specs.declared.refused.Refused.{Refused}
-use Rattle.logos_expand.specs.Expanding.{IsGuarded, IsShown, under}
+use Rattle.logos_expand.specs.Expanding.{IsGuarded, under}
+use Rattle.logos_tables.specs.Shapes.{IsShown}
 use Rattle.logos_expand.specs.Gathering.{Gathers}
 use Rattle.logos_layout.specs.Layout.{IsLaidOut}
 use Rattle.logos_rust_file.specs.declared.finding.FoundEnum.{FoundEnum}

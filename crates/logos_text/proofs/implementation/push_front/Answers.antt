@@ -11,7 +11,8 @@ returns c =
     let start = string_bytes c.args.text.now in
     let head = head_text logos this in
     let types = types_text (around_value c.args.around) in
-    let signature = signature_text logos in
-    parts start (head ++ types ++ signature) (uses_text logos this)
+    let core = c.args.core.now in
+    let signature = signature_text core logos in
+    parts start (head ++ types ++ signature) (uses_text core logos this)
     (parts start (head ++ types) signature (parts start head types c.in_ok-push_head.ensures c.in_ok-push_types.ensures) c.in_ok-push_signature.ensures)
     c.in_ok-push_uses.ensures

@@ -1,0 +1,53 @@
+-- From what was made to a derivation.
+use Rattle.std.proofs.Common.{◌≡◌, ◌≢◌, ℕ, List, [], ◌∷◌, Option, Result, Ok, Err, IfOk, ap, sym, ◌∙◌}
+use Rattle.logos_code.specs.Code.{CodeValue}
+use Rattle.logos_codegen.specs.Given.{IsGiven}
+use Rattle.logos_codegen.specs.Source.{IsRefused, unread, faulty}
+use Rattle.logos_derive.proofs.ErrorLemmas.{some_summaries}
+use Rattle.logos_derive.specs.Derivations.{IsAccepted, IsDerivation, IsRefusedWith, accepted, refused}
+use Rattle.logos_derive.specs.declared.derivation.Derivation.{Derivation}
+use Rattle.logos_derive.specs.inside.Steps.{IsAcceptedBy, IsRefusedFor}
+use Rattle.logos_enum.specs.Values.{Slice}
+use Rattle.logos_graph.specs.View.{GraphValue}
+use Rattle.logos_tables.specs.Shapes.{config_of}
+use Rattle.logos_tables.specs.declared.shape.Shape.{Shape}
+use Rattle.logos_token.specs.Faults.{Fault}
+
+-- an accepted source
+one_accepted : {shape : Shape} {source : List ℕ} {graph : GraphValue} {code : CodeValue} {name : Slice} {export : Option (List ℕ)} (derivation : Derivation) →
+    IsGiven source (config_of shape) graph code name export → IsAcceptedBy shape code source derivation → IsDerivation shape source derivation
+one_accepted {shape} {source} {graph} {code} {name} {export} derivation g a = accepted (record {
+  made = a.made;
+  is = a.is;
+  implements = record {
+    lexer = record { graph = graph; code = code; name = name; export = export; given = g; stand = a.implements.shown };
+    pieces = a.implements.pieces;
+  };
+  warns = a.warns;
+})
+
+pub all_accepted : {E : Type 0} (shape : Shape) {source : List ℕ} {graph : GraphValue} {code : CodeValue} {name : Slice} {export : Option (List ℕ)} (result : Result Derivation E) →
+    IsGiven source (config_of shape) graph code name export → IfOk result (IsAcceptedBy shape code source) → IfOk result (IsDerivation shape source)
+all_accepted shape (Ok derivation) g a = one_accepted derivation g a
+all_accepted shape (Err error) g a = tt
+
+-- a source that is refused has faults
+some_faults : {source : List ℕ} {faults : List Fault} → IsRefused source faults → faults ≢ []
+some_faults (unread {fault} ending is) = λ e. absurd (cc is e)
+some_faults (faulty short shallow gives reported some) = some
+
+-- a refused source
+one_refused : {shape : Shape} {source : List ℕ} {faults : List Fault} (derivation : Derivation) → IsRefused source faults → IsRefusedFor source faults derivation → IsDerivation shape source derivation
+one_refused {shape} {source} {faults} derivation r d = refused (record {
+  sizes = d.sizes;
+  none = d.none;
+  refused = r;
+  sets = d.sets;
+  errors = d.errors;
+  some = some_summaries d.sizes faults (some_faults r);
+})
+
+pub all_refused : {E : Type 0} (shape : Shape) {source : List ℕ} {faults : List Fault} (result : Result Derivation E) → IsRefused source faults → IfOk result (IsRefusedFor source faults) →
+    IfOk result (IsDerivation shape source)
+all_refused shape (Ok derivation) r d = one_refused derivation r d
+all_refused shape (Err error) r d = tt

@@ -1,0 +1,138 @@
+//! The faults of an enum as errors: one for each fault that is not part of an earlier error, but no
+//! more than 50 with one code. `derivation` calls it.
+
+ghost use Rattle.std.specs.Prelude.{◌≡◌, ◌≤◌, ◌++◌, IfOk, OnOk, length, map, take};
+ghost use Rattle.logos_derive.specs.Views.{errors_at, error_summaries, fault_of, faults_of, has_error, next_value, summary_of, error_summary, sizes_of};
+
+use crate::diagnostic::{Diagnostic, Level};
+use crate::joined::{joined_to, labels_of};
+use crate::notes::{KnownError, notes_of};
+use logos_report::{
+    Clues, FaultListing, MOST, NextFaults, Part, begins_error, caret_span, count_in, first_faults,
+    first_line, seen_in,
+};
+use logos_token::error::{FaultCode, Memory, SpannedError};
+use logos_token::token::Span;
+use std::alloc::Global;
+
+/// Returns the errors of these faults, in order.
+pub(crate) fn errors_of(
+    alloc: Global,
+    part: Part<'_, '_>,
+    faults: &[SpannedError],
+    clues: &Clues,
+) -> Result<Vec<Diagnostic>, Memory>
+    ensures { IfOk result (λ errors. map summary_of errors.items
+        ≡ error_summaries (sizes_of clues.now) (faults_of faults.now)) }
+{
+    let mut errors = Vec::new(alloc);
+    let mut next = first_faults(clues);
+    for number in 0..faults.len() {
+        let fault = &faults[number];
+        add_fault(part, faults, number, fault, next, &mut errors)?;
+        next = next.after(fault);
+    }
+    Ok(errors)
+}
+
+/// Adds the error of a fault, which has this number, if it has one of its own.
+fn add_fault(
+    part: Part<'_, '_>,
+    faults: &[SpannedError],
+    number: usize,
+    fault: &SpannedError,
+    next: NextFaults<'_>,
+    errors: &mut Vec<Diagnostic>,
+) -> Result<(), Memory>
+    requires { number ≤ length faults.now }
+    ensures { OnOk result (map summary_of errors.new.items ≡ map summary_of errors.old.items
+        ++ errors_at (faults_of (take number faults.now)) (next_value next.entry)
+        (fault_of fault.now)) }
+{
+    if !has_error(&faults[..number], next, fault) {
+        return Ok(());
+    }
+    let error = error_of(*errors.allocator(), part, faults, number, fault, next)?;
+    errors.push(error)?;
+    Ok(())
+}
+
+/// Returns whether a fault that comes next has an error of its own, by the faults in front of it.
+/// The first fault has one, so that no source is refused without an error.
+fn has_error(front: &[SpannedError], next: NextFaults<'_>, fault: &SpannedError) -> bool
+    ensures { result ≡ has_error (faults_of front.now) (next_value next.entry)
+        (fault_of fault.now) }
+{
+    if front.is_empty() {
+        return true;
+    }
+    begins_error(next, fault) & (seen_in(&[], front, fault.code) < MOST)
+}
+
+/// Returns the error of a fault, which has this number.
+fn error_of(
+    alloc: Global,
+    part: Part<'_, '_>,
+    faults: &[SpannedError],
+    number: usize,
+    fault: &SpannedError,
+    next: NextFaults<'_>,
+) -> Result<Diagnostic, Memory>
+    ensures { IfOk result (λ error. summary_of error ≡ error_summary (fault_of fault.now)) }
+{
+    let start = number.saturating_add(1);
+    let joined = joined_to(rest_from(faults, start), next.after(fault));
+    let known = KnownError {
+        part,
+        fault,
+        member: next.member(fault),
+        starts: next.starts(fault.code),
+        left_out: left_out(faults, start.saturating_add(joined.len()), fault.code),
+    };
+    let message = String::from_str(alloc, first_line(fault.message.as_str()))?;
+    let labels = labels_of(alloc, fault, joined, next.after(fault))?;
+    let notes = notes_of(alloc, known)?;
+    Ok(Diagnostic {
+        level: Level::Error,
+        code: Some(fault.code),
+        message,
+        span: fault.span,
+        carets: carets_of(part, fault),
+        labels,
+        notes,
+    })
+}
+
+/// Returns these faults from one with a number on.
+fn rest_from(faults: &[SpannedError], number: usize) -> &[SpannedError] {
+    match faults.get(number..) {
+        Some(rest) => rest,
+        None => &[],
+    }
+}
+
+/// Returns how many of these faults from one with a number on have a code, if those in front of it
+/// have as many as are shown.
+fn left_out(faults: &[SpannedError], number: usize, code: FaultCode) -> usize {
+    let Some(front) = faults.get(..number) else {
+        return 0;
+    };
+    if seen_in(&[], front, code) < MOST {
+        return 0;
+    }
+    let listing = FaultListing {
+        earlier: &[],
+        faults: rest_from(faults, number),
+        later: &[],
+    };
+    count_in(listing, code)
+}
+
+/// Returns where the carets of a fault stand, if that is not all of its span.
+fn carets_of(part: Part<'_, '_>, fault: &SpannedError) -> Option<Span> {
+    let carets = caret_span(part, fault);
+    if (carets.from == fault.span.from) & (carets.to == fault.span.to) {
+        return None;
+    }
+    Some(carets)
+}

@@ -1,0 +1,100 @@
+//! The lines under an error. `errors` calls it.
+
+use crate::diagnostic::{Note, add_help, add_note};
+use logos_report::{MOST, Member, Part, Start, help_of, put_in};
+use logos_token::error::{Memory, SpannedError};
+use std::alloc::Global;
+
+/// An error, with what is known of it.
+#[derive(Clone, Copy)]
+pub(crate) struct KnownError<'f, 'p, 't> {
+    pub(crate) part: Part<'p, 't>,
+    /// The fault with which it begins.
+    pub(crate) fault: &'f SpannedError,
+    /// What the fault is in a set of ambiguous leaves.
+    pub(crate) member: Option<Member<'f>>,
+    /// The patterns that explain it.
+    pub(crate) starts: &'f [Start],
+    /// How many faults with its code have no error, if it is the last error with this code.
+    pub(crate) left_out: usize,
+}
+
+/// Returns the lines under an error: the rest of its message, what is known of it, what to do, and
+/// how many faults with its code are left out.
+pub(crate) fn notes_of(alloc: Global, error: KnownError<'_, '_, '_>) -> Result<Vec<Note>, Memory> {
+    let mut notes = Vec::new(alloc);
+    add_put_in(alloc, error, &mut notes)?;
+    add_message(error, &mut notes)?;
+    add_starts(error.starts, &mut notes)?;
+    add_advice(error, &mut notes)?;
+    add_left_out(alloc, error.left_out, &mut notes)?;
+    Ok(notes)
+}
+
+/// Adds which subpattern is put into a pattern in front of the byte at which it is wrong, if that
+/// is why no part of the literal is known to be wrong.
+fn add_put_in(
+    alloc: Global,
+    error: KnownError<'_, '_, '_>,
+    notes: &mut Vec<Note>,
+) -> Result<(), Memory> {
+    let Some(put) = put_in(error.part, error.fault) else {
+        return Ok(());
+    };
+    let name = put.name;
+    let text = format!(in alloc; "the byte counts with `(?&{name})` put in")?;
+    add_note(text.as_str(), notes)
+}
+
+/// Adds the lines of a message after its first one. Those of a set of ambiguous leaves name its
+/// other members, which are labels.
+fn add_message(error: KnownError<'_, '_, '_>, notes: &mut Vec<Note>) -> Result<(), Memory> {
+    match error.member {
+        Some(member) => add_note(member.meeting.note.as_str(), notes),
+        None => add_other_lines(error.fault.message.as_str(), notes),
+    }
+}
+
+/// Adds the lines of a message after its first one.
+fn add_other_lines(message: &str, notes: &mut Vec<Note>) -> Result<(), Memory> {
+    for line in message.split('\n').skip(1) {
+        add_other_line(line, notes)?;
+    }
+    Ok(())
+}
+
+/// Adds a line of a message, without the blanks in front of it, unless it is empty.
+fn add_other_line(line: &str, notes: &mut Vec<Note>) -> Result<(), Memory> {
+    if line.is_empty() {
+        return Ok(());
+    }
+    match line.strip_prefix("  ") {
+        Some(text) => add_note(text, notes),
+        None => add_note(line, notes),
+    }
+}
+
+/// Adds the patterns that can look at what stands before their first byte, but no more than 50.
+fn add_starts(starts: &[Start], notes: &mut Vec<Note>) -> Result<(), Memory> {
+    for start in starts.iter().take(MOST) {
+        add_note(start.name.as_str(), notes)?;
+    }
+    Ok(())
+}
+
+/// Adds what to do about an error, if that is known.
+fn add_advice(error: KnownError<'_, '_, '_>, notes: &mut Vec<Note>) -> Result<(), Memory> {
+    match help_of(error.part, error.fault) {
+        Some(help) => add_help(help, notes),
+        None => Ok(()),
+    }
+}
+
+/// Adds how many faults with the code of an error are left out, if there are any.
+fn add_left_out(alloc: Global, count: usize, notes: &mut Vec<Note>) -> Result<(), Memory> {
+    if count == 0 {
+        return Ok(());
+    }
+    let text = format!(in alloc; "{count} more with this code are not shown")?;
+    add_note(text.as_str(), notes)
+}

@@ -1,0 +1,10 @@
+//! The warnings of a file, and how they are shown.
+
+#![tactic(auto)]
+
+mod warned;
+
+pub use warned::{
+    Showing, add_lexer, add_missing, add_passed, add_text, add_warnings, denial_text, has_lexer,
+    push_warned, text_of, warning_lines, warning_text,
+};

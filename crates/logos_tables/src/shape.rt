@@ -1,0 +1,45 @@
+//! The shapes in which lexers are printed. `logos_derive`, `logos_expand` and `logos_cli` call it.
+
+ghost use Rattle.std.specs.Prelude.{◌≡◌, IfOk, string_bytes};
+ghost use Rattle.logos_tables.specs.Views.{IsShown, config_of};
+
+use crate::lexer::tables;
+use logos_codegen::Generated;
+use logos_codegen::generator::Config;
+use logos_token::error::Memory;
+use std::alloc::Global;
+
+/// How lexers are printed.
+#[derive(Clone, Copy)]
+pub enum Shape {
+    /// As code, in one of its shapes.
+    Code(Config),
+    /// As tables with a loop over them.
+    Tables,
+}
+
+/// Returns the shape of the code that a lexer is made of.
+pub fn config_of(shape: Shape) -> Config
+    ensures { result ≡ config_of shape }
+{
+    match shape {
+        Shape::Code(config) => config,
+        Shape::Tables => Config {
+            use_state_machine_codegen: true,
+        },
+    }
+}
+
+/// Returns the text of a lexer.
+///
+/// # Errors
+///
+/// Returns `Memory` if memory runs out.
+pub fn lexer_text(alloc: Global, shape: Shape, made: &Generated<'_>) -> Result<String, Memory>
+    ensures { IfOk result (λ text. IsShown shape made.now.code (string_bytes text)) }
+{
+    match shape {
+        Shape::Code(_) => made.text(alloc),
+        Shape::Tables => tables(alloc, made),
+    }
+}
