@@ -107,11 +107,7 @@ impl<'c, 's, 'i, C: Fn(LeafId, &[u8]) -> Action> Lexer<'c, 's, 'i, C> {
 
     /// Makes a lexer at the start of some bytes that are known to be UTF-8 if the code is in UTF-8
     /// mode. `logos_stream` calls it: it tests bytes once, when it reads them.
-    pub fn new_checked(
-        code: &'c Code<'s>,
-        input: &'i [u8],
-        callback: C,
-    ) -> Lexer<'c, 's, 'i, C>
+    pub fn new_checked(code: &'c Code<'s>, input: &'i [u8], callback: C) -> Lexer<'c, 's, 'i, C>
         requires callable { C.IsAlwaysCallable callback }
         requires text { IsTrue code.now.utf8 → IsUtf8 input.now }
         ensures { result ≡ begun code.now input.now callback }
