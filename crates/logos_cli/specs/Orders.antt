@@ -1,5 +1,5 @@
 -- What the words of a command line ask for.
-use Rattle.std.specs.Prelude.{ℕ, ◌&&◌, ◌||◌, ◌==◌, ◌-◌, ◌++◌, List, Bool, true, false, Option, Some, None, if◌then◌else◌, option_map, bytes_eq, codes, is_some, length, map, not, slice_index, string_bytes}
+use Rattle.std.specs.Prelude.{ℕ, ◌&&◌, ◌==◌, ◌-◌, ◌++◌, List, Bool, true, false, Option, Some, None, if◌then◌else◌, option_map, bytes_eq, codes, is_some, length, map, not, slice_index, string_bytes}
 use Rattle.logos_host.specs.Paths.{file_name}
 use Rattle.logos_host.specs.declared.color.Color.{Color}
 use Rattle.logos_host.specs.declared.color.Color.TheVariants.{Auto}

@@ -1,10 +1,10 @@
 -- From what was made to a derivation.
-use Rattle.std.proofs.Common.{◌≡◌, ◌≢◌, ℕ, List, [], ◌∷◌, Option, Result, Ok, Err, IfOk, ap, sym, ◌∙◌}
+use Rattle.std.proofs.Common.{◌≡◌, ◌≢◌, ℕ, List, [], ◌∷◌, Option, Result, Ok, Err, IfOk, sym, ◌∙◌}
 use Rattle.logos_code.specs.Code.{CodeValue}
 use Rattle.logos_codegen.specs.Given.{IsGiven}
 use Rattle.logos_codegen.specs.Source.{IsRefused, unread, faulty}
 use Rattle.logos_derive.proofs.ErrorLemmas.{some_summaries}
-use Rattle.logos_derive.specs.Derivations.{IsAccepted, IsDerivation, IsRefusedWith, accepted, refused}
+use Rattle.logos_derive.specs.Derivations.{IsDerivation, accepted, refused}
 use Rattle.logos_derive.specs.declared.derivation.Derivation.{Derivation}
 use Rattle.logos_derive.specs.inside.Steps.{IsAcceptedBy, IsRefusedFor}
 use Rattle.logos_enum.specs.Values.{Slice}
@@ -33,7 +33,7 @@ all_accepted shape (Err error) g a = tt
 
 -- a source that is refused has faults
 some_faults : {source : List ℕ} {faults : List Fault} → IsRefused source faults → faults ≢ []
-some_faults (unread {fault} ending is) = λ e. absurd (cc is e)
+some_faults (unread {fault} ending is) = λ e. let clash : fault ∷ [] ≡ [] = sym is ∙ e in absurd cc
 some_faults (faulty short shallow gives reported some) = some
 
 -- a refused source

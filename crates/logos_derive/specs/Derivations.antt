@@ -1,5 +1,5 @@
 -- What the derive macro needs to know of an enum.
-use Rattle.std.specs.Prelude.{◌≡◌, ◌≢◌, ℕ, List, [], All, Option, Some, None}
+use Rattle.std.specs.Prelude.{◌≡◌, ◌≢◌, ℕ, List, [], All, Some, None}
 use Rattle.logos_causes.specs.Sets.{HasSets}
 use Rattle.logos_codegen.specs.Source.{IsRefused}
 use Rattle.logos_derive.specs.Diagnostics.{HasErrors, IsWarning, error_summaries}

@@ -1,6 +1,6 @@
 //! The implementation of an enum, with the pieces of its source in it.
 
-ghost use Rattle.std.specs.Prelude.{IfOk, string_bytes};
+ghost use Rattle.std.specs.Prelude.{IfOk};
 ghost use Rattle.logos_derive.specs.Views.{IsMadeOf};
 
 use crate::placing::{Texts, pieces_at};

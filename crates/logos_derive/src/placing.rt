@@ -1,6 +1,6 @@
 //! Finds where the parts of a source are printed in an implementation.
 
-ghost use Rattle.std.specs.Prelude.{◌≤◌, IfOk, IfSome, OnOk};
+ghost use Rattle.std.specs.Prelude.{◌≤◌, IfOk, IfSome};
 ghost use Rattle.logos_derive.specs.Views.{ArePieces, Completes};
 
 use crate::implementation::Piece;

@@ -1,5 +1,5 @@
 -- A file with the derive of its lexers expanded.
-use Rattle.std.specs.Prelude.{◌≡◌, ℕ, List, [], ◌∷◌, ◌++◌, ◌⊎◌, ◌==◌, ◌&&◌, ◌||◌, Bool, Option, true, false, codes, slice_range, string_bytes}
+use Rattle.std.specs.Prelude.{◌≡◌, ℕ, List, [], ◌∷◌, ◌++◌, ◌⊎◌, ◌==◌, ◌&&◌, ◌||◌, Bool, true, false, codes, slice_range, string_bytes}
 use Rattle.logos_expand.specs.Heads.{IsFileWith}
 use Rattle.logos_tables.specs.Shapes.{IsLexerText}
 use Rattle.logos_tables.specs.declared.shape.Shape.{Shape}
