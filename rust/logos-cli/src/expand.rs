@@ -57,9 +57,9 @@ impl Build {
     /// `OUT_DIR`, and returns its path. Everything else in the file stays as it is. The result is
     /// written whole, or not at all.
     ///
-    /// Warnings become warnings of Cargo. If the file has faults, or cannot be read, this prints why
-    /// and ends the build script with status 1. The library uses at most 1 GiB of memory, or what
-    /// the variable `LOGOS_MEMORY` says, such as `4G`.
+    /// Warnings become warnings of Cargo. If the file has faults, or cannot be read, this prints
+    /// why and ends the build script with status 1. The library uses at most 1 GiB of memory, or
+    /// what the variable `LOGOS_MEMORY` says, such as `4G`.
     pub fn expand(&self, source: impl AsRef<Path>) -> PathBuf {
         let source = source.as_ref();
         self.try_expand(source).unwrap_or_else(|why| {

@@ -95,8 +95,8 @@ struct Rest {
 
 impl Rest {
     /// Fills the pieces of a group in. The other tokens are shown at the anchor that precedes them
-    /// there: one of the group itself, or of a group in it. Parentheses begin with the anchor before
-    /// them. Returns the last anchor of the group itself, too.
+    /// there: one of the group itself, or of a group in it. Parentheses begin with the anchor
+    /// before them. Returns the last anchor of the group itself, too.
     fn fill(&mut self, stream: TokenStream, before: Option<Span>) -> (TokenStream, Option<Span>) {
         if self.is_done() && before.is_none() {
             return (stream, None);
@@ -152,7 +152,8 @@ impl Rest {
     }
 }
 
-/// Returns a token after the name of a variant. The value of its field is shown at the field's type.
+/// Returns a token after the name of a variant. The value of its field is shown at the field's
+/// type.
 fn constructed(tree: TokenTree, (first, last): (Span, Span)) -> TokenTree {
     let TokenTree::Group(group) = &tree else {
         return tree;

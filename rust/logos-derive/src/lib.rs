@@ -12,9 +12,10 @@
 //! # Variables of the environment
 //!
 //! - `LOGOS_SHAPE`: the shape of the implementation: `tables`, the default, `tailcall` or
-//!   `state_machine`. With the feature `state_machine_codegen` that one is the default. Cargo builds
-//!   a package anew if the variable has changed.
-//! - `LOGOS_MEMORY`: the most memory that the library uses, such as `500M` or `4G`. 1 GiB without it.
+//!   `state_machine`. With the feature `state_machine_codegen` that one is the default. Cargo
+//!   builds a package anew if the variable has changed.
+//! - `LOGOS_MEMORY`: the most memory that the library uses, such as `500M` or `4G`. 1 GiB without
+//!   it.
 
 #![forbid(unsafe_code)]
 #![warn(missing_docs)]
@@ -75,8 +76,8 @@ use question::Question;
 ///
 /// - a callback, or `callback = ..`: a path, or a closure of one parameter. It is called with the
 ///   lexer at each match. A variant without a field has no value; the value of a field is what the
-///   callback returns, and the slice without a callback. A callback may also return `bool`, `Option`
-///   or `Result` of the value, `Skip`, `Filter`, `FilterResult` or the token.
+///   callback returns, and the slice without a callback. A callback may also return `bool`,
+///   `Option` or `Result` of the value, `Skip`, `Filter`, `FilterResult` or the token.
 /// - `priority = 3`: of matches of the same length the one with the highest priority is taken. By
 ///   default it grows with the number of bytes that a pattern matches at least.
 /// - `ignore(case)`: letters in both cases.

@@ -1,9 +1,9 @@
 //! Lexers from enums: `#[derive(Logos)]`, and the runtime of the lexers that it makes.
 //!
 //! An enum implements [`Logos`] by the derive macro, or by generated code that the program
-//! `logos_cli` prints. [`Logos::lexer`] begins a run over an input, and the run is an iterator over tokens.
-//! [`Scan::scan`], for lexers that are tables, is one over tokens with their places, by chunks of
-//! the input.
+//! `logos_cli` prints. [`Logos::lexer`] begins a run over an input, and the run is an iterator over
+//! tokens. [`Scan::scan`], for lexers that are tables, is one over tokens with their places, by
+//! chunks of the input.
 //!
 //! # Features
 //!
