@@ -100,15 +100,12 @@ fn note_library(source: &Source<'_>, n: usize, paths: &Paths<'_>, names: &mut Na
     }
 }
 
-/// Changes what a word says of a type, a block or a call.
+/// Changes what a word says of a type or a call.
 fn keyword(source: &mut Source<'_>, n: usize, word: &str, names: &Names<'_>) -> Step {
     let after = source.at(n + 1);
     match word {
         "Drop" => return bound(source, n),
-        "unsafe" if after == "{" => source.blank(n, n),
-        // What is unsafe in Rust has a safe function that checks.
-        "str" if source.matches(n + 1, &["::", "from_utf8_unchecked"]) => source.blank(n, n + 1),
-        "unsafe" => return source.refusal(n, "an `unsafe` that is no block"),
+        "unsafe" => return source.refusal(n, "an `unsafe`"),
         "final" if after == "fn" => return source.refusal(n, "a `final` function"),
         "fmt" if source.matches(n + 1, &["<", "W", ":", "fmt", "::", "Write", ">"]) => {
             source.blank(n + 1, n + 7);

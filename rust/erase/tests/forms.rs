@@ -173,14 +173,12 @@ fn methods_with_an_allocator_have_names_of_their_own() {
 }
 
 #[test]
-fn formatters_and_blocks_are_those_of_rust() {
+fn formatters_are_those_of_rust() {
     assert_forms(&[
         (
             "fn fmt<W: fmt::Write>(&self, f: &mut fmt::Formatter<W>) -> fmt::Result {}\n",
             "fn fmt               (&self, f: &mut fmt::Formatter   ) -> fmt::Result {}\n",
         ),
-        ("let x = unsafe { y(z) };\n", "let x =        { y(z) };\n"),
-        ("unsafe { str::from_utf8_unchecked(a) }\n", "       {      from_utf8_unchecked(a) }\n"),
         (
             "vec![in a; 1, 2]?; format!(in a; \"{x}\")?\n",
             "vec![in a; 1, 2]?; format!(in a; \"{x}\")?\n",

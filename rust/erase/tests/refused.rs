@@ -3,7 +3,7 @@
 use rattle_erase::{Paths, erase};
 
 /// Sources, the line and the column at which each is refused, and a part of the message.
-const REFUSED: [(&str, usize, usize, &str); 36] = [
+const REFUSED: [(&str, usize, usize, &str); 37] = [
     ("fn f() {\n    ghost x\n}\n", 2, 5, "unknown form of a ghost item"),
     ("ghost fn f() {}\n", 1, 1, "unknown form of a ghost item"),
     ("ghost a = { b } c\n", 1, 1, "unknown form of a ghost item"),
@@ -33,6 +33,7 @@ const REFUSED: [(&str, usize, usize, &str); 36] = [
     ("impl Drop for A {}\n", 1, 1, "`impl` of `Drop`"),
     ("type A = Drop;\n", 1, 10, "`Drop`"),
     ("unsafe fn f() {}\n", 1, 1, "`unsafe`"),
+    ("let x = unsafe { y(z) };\n", 1, 9, "`unsafe`"),
     ("final fn f() {}\n", 1, 1, "`final`"),
     ("fn f() { prove!(a); }\n", 1, 10, "macro for proofs"),
     ("pub(in crate::a) fn f() {}\n", 1, 8, "`crate`"),
