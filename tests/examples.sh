@@ -1,7 +1,7 @@
 #!/usr/bin/env bash
-# Runs the examples: `cargo test` in each Cargo package of examples/, in rust/logos and in
-# rust/logos-derive, without a network and without a program of this repository. A quick test runs
-# those of a package again if it, the packages of rust/ or the crates have changed.
+# Runs the examples, and the tests of the packages: `cargo test` in each Cargo package of examples/
+# and rust/ that has tests, without a network and without a program of this repository. A quick test
+# runs those of a package again if it, the packages of rust/ or the crates have changed.
 #
 # Where cargo is missing, that is printed, and nothing is tested. The last line is `examples: N
 # passed, M failed`, with the number of tests that passed, and that of packages that failed.
@@ -9,7 +9,7 @@ set -uo pipefail
 
 root=$(cd "$(dirname "${BASH_SOURCE[0]}")/.." && pwd)
 . "$root/tests/kept.sh"
-packages=(rust/logos rust/logos-derive examples/json examples/template examples/highlight examples/ini)
+packages=(rust/erase rust/rattle-std rust/logos-codegen rust/logos rust/logos-derive examples/json examples/template examples/highlight examples/ini)
 room=$(mktemp -d)
 trap 'rm -rf "$room"' EXIT
 passed=0
