@@ -25,14 +25,13 @@ pub mod os;
 pub mod process;
 pub mod rt;
 pub mod simd;
-pub mod str;
 pub mod string;
 pub mod time;
 pub mod vec;
 
 pub use core::{
     any, array, ascii, borrow, cell, char, cmp, convert, default, error, fmt, hash, hint, iter,
-    marker, mem, num, ops, option, result, slice,
+    marker, mem, num, ops, option, result, slice, str,
 };
 
 /// The names that each erased file imports.
@@ -42,7 +41,6 @@ pub mod prelude {
     pub use crate::io::Print;
     pub use crate::methods::{AsciiLowercaseIn, ListIn, StringIn, VecIn};
     pub use crate::rt::{AllocGlobal, HostRuntime};
-    pub use crate::str::from_utf8_unchecked;
     pub use crate::string::String;
     pub use crate::vec::Vec;
     pub use crate::{eprint, eprintln, format, print, println, vec};
