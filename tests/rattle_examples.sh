@@ -1,8 +1,7 @@
 #!/usr/bin/env bash
 # Runs the examples in Rattle, and the first one of the guide.
 #
-#   bash tests/rattle_examples.sh [FOLDER]    runs them as tests/programs.py has built them in this folder, out/quick/examples if it is not given.
-#                                             Nothing is proved
+#   bash tests/rattle_examples.sh [FOLDER]    runs them as they lie in this folder, out/cargo/release if it is not given. Nothing is proved
 #   bash tests/rattle_examples.sh --proved    proves each example by `rt ci`, as another repository would: as a crate of its own, in a folder with a
 #                                             copy of crates/ and the lines of crates.txt; and runs it. This is not in the gate
 #
@@ -14,7 +13,7 @@ set -uo pipefail
 
 root=$(cd "$(dirname "${BASH_SOURCE[0]}")/.." && pwd)
 mode=run
-built=$root/out/quick/examples
+built=$root/out/cargo/release
 case ${1-} in
     --proved) mode=proved ;;
     ?*) built=$(realpath -m "$1") ;;

@@ -18,7 +18,6 @@ crate=views
 uses='logos_token logos_enum logos_attribute'
 
 here=$(cd "$(dirname "${BASH_SOURCE[0]}")" && pwd)
-. "$here/../kept.sh"
 copy=$(mktemp -d)
 trap 'rm -rf "$copy"' EXIT
 
@@ -68,7 +67,7 @@ try_files() {
 }
 
 lay_out
-{ python3 "$here/front_end.py" --inputs "$copy" "$crate"; cat "$here/run.sh" "$here"/*.edit; } | kept "$copy/borrows" try_files || exit 1
+try_files
 cat "$copy/borrows"
 shown=$(wc -l < "$copy/borrows")
 echo "borrows: none of $shown views that outlive their buffers compiles, and the same code without the fault does"

@@ -1,5 +1,13 @@
-"""Makes sources, inputs and edits, and has the program compare the items after each edit with those
-of the whole input."""
+"""Edits inputs of the sources that tests/generated makes, and compares the items after each edit
+with those of a lexer of the whole input.
+
+  python3 tests/edits/main.py PROGRAM [SEED ..]
+
+Each accepted source gets an input of more than two windows, made of the inputs that tests/generated
+makes for it, and edits at random points: bytes that are put in, dropped and replaced, texts of its
+leaves, whole or cut short, and in UTF-8 mode pieces of characters, after which the edit has to be
+refused and the items have to be as they were. Half of the edits stand near the one before. Seeds
+ask for those sources alone."""
 
 import os
 import subprocess

@@ -28,13 +28,13 @@
 # and the end; and the tokens of some hundred expressions.
 #
 # It needs Python 3 without packages, the program as the gate leaves it in out/programs, and the
-# program of calls in out/quick, where `tests/quick.sh` leaves it, or the first and the second
+# program of calls in out/cargo, where `tests/quick.sh` leaves it, or the first and the second
 # argument. Seeds after them ask for those sources alone.
 set -euo pipefail
 
 here=$(cd "$(dirname "${BASH_SOURCE[0]}")" && pwd)
 program=$(realpath "${1:-$here/../../out/programs/logos}")
-calls=$(realpath "${2:-$here/../../out/quick/calls}")
+calls=$(realpath "${2:-$here/../../out/cargo/release/calls}")
 shift $(($# < 2 ? $# : 2))
 export PYTHONDONTWRITEBYTECODE=1
 . "$here/../kept.sh"

@@ -5,11 +5,8 @@
 
 Each crate of `crates.txt` has to be as `rt fmt` leaves it. Files of the toolchain stand in the
 folders `src`, `specs` and `proofs` of crates alone, and a list of crates at the top alone: other
-sources have names that end with `.in`. In a quick test a crate that was found to be so is looked at
-again where its files or the toolchain have changed. The last line is `sources: N passed, M failed`:
-one for each crate, and one for the places of files."""
-import hashlib
-import json
+sources have names that end with `.in`. The last line is `sources: N passed, M failed`: one for each
+crate, and one for the places of files."""
 import os
 import re
 import subprocess
@@ -20,8 +17,6 @@ ROOT = os.path.dirname(os.path.dirname(os.path.dirname(os.path.realpath(__file__
 sys.path.insert(0, f"{ROOT}/tools")
 import crates
 
-# Where a quick test keeps the sums of the crates that are as they have to be.
-KEPT = os.environ.get("KEPT_BUILDS") and f"{os.environ['KEPT_BUILDS']}/sources"
 # Where files of the toolchain may stand.
 PLACES = re.compile(r"crates/\w+/(src/.*\.rt|(specs|proofs)/.*\.antt)|crates\.txt")
 
@@ -56,41 +51,11 @@ def unformatted(at, names):
             yield from found
 
 
-def sum_of(name, at):
-    """Returns the sum of what decides how `rt fmt` leaves a crate, and of the crate."""
-    made = hashlib.sha256()
-    paths = [os.path.realpath(__file__), f"{at}/KIT-ID", *files_of(name)]
-    for path in paths:
-        with open(path, "rb") as it:
-            made.update(f"{os.path.relpath(path, ROOT)} {hashlib.sha256(it.read()).hexdigest()}\n".encode())
-    return made.hexdigest()
-
-
-def kept():
-    """Returns the sums of the crates that an earlier run found to be as they have to be."""
-    if not KEPT or not os.path.exists(KEPT):
-        return {}
-    with open(KEPT, encoding="utf-8") as it:
-        return json.load(it)
-
-
-def keep(sums):
-    if KEPT:
-        os.makedirs(os.path.dirname(KEPT), exist_ok=True)
-        with open(f"{KEPT}.part", "w", encoding="utf-8") as out:
-            json.dump(sums, out)
-        os.replace(f"{KEPT}.part", KEPT)
-
-
 def main():
     names = sorted(name for name in os.listdir(f"{ROOT}/crates") if os.path.isdir(f"{ROOT}/crates/{name}/src"))
-    at, before = crates.kit(), kept()
-    sums = {name: sum_of(name, at) for name in names}
-    changed_names = [name for name in names if before.get(name) != sums[name]]
-    changed = {name: [] for name in changed_names}
-    for path, wrong in unformatted(at, changed_names):
+    changed = {name: [] for name in names}
+    for path, wrong in unformatted(crates.kit(), names):
         changed[os.path.relpath(path, f"{ROOT}/crates").split("/")[0]].append(f"{os.path.relpath(path, ROOT)}: {wrong}")
-    keep({**sums, **{name: "" for name, lines in changed.items() if lines}})
     wrong = [f"{path} may not stand there: files of the toolchain stand in crates alone" for path in misplaced()]
     for line in [*wrong, *(line for lines in changed.values() for line in lines)]:
         print(f"sources: {line}")
