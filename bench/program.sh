@@ -43,8 +43,8 @@ add_crate() {
 }
 
 # Makes a toolchain in $copy/kit: the one that is installed, but that its compiler keeps jumps from
-# crossing 32 bytes. Where a jump does, many processors decode the code around it anew each time, and
-# which jump does is luck.
+# crossing 32 bytes. Where a jump does, many processors decode the code around it anew each time,
+# and which jump does is luck.
 make_kit() {
     local kit file
     [ ! -e "$copy/kit" ] || return 0

@@ -8,9 +8,9 @@ The file `rows` of the folder has three lines and then the rows, with a blank li
 name, and below it, behind four spaces, what the row measures.
 
 - `libraries:` names the crates that the program uses.
-- `kind:` is `args`, where a row has the arguments of the program; `source`, where `source.py` of the
-  folder makes a file of a kind and a size; or `halves`, where it has a call, a kind and a size, and
-  is measured for half the size, too. The first two run three times, and the fastest run counts.
+- `kind:` is `args`, where a row has the arguments of the program; `source`, where `source.py` of
+  the folder makes a file of a kind and a size; or `halves`, where it has a call, a kind and a size,
+  and is measured for half the size, too. The first two run three times, and the fastest run counts.
 - `columns:` has the heading of the names, and then for each column its heading and which number
   that the program prints it shows: the second one as `2`, divided as `3/1024`, as the divisor in
   `16.7/1`, and after a space with how many decimals.
