@@ -32,7 +32,7 @@ fn data<'s>(lexer: &mut Lexer<'s, Frame<'s>>) -> Result<&'s [u8], Fault> {
 }
 
 fn main() {
-    let input = b"\x06\x02hi\xFF\x03\x10\x00\x03\x06\x02\x03\x99\x10\x00\x0Aab\x02z";
+    let input = b"\x06\x02hi\xFF\x03\x10\x00\x03\x06\x02\x03\x99\x10\xFF\x0Aab\x02z";
     for (item, span) in Frame::lexer(input.as_slice()).spanned() {
         println!("{span:?} {item:?}");
     }
