@@ -87,12 +87,6 @@ impl<T: fmt::Debug> fmt::Debug for Box<T> {
     }
 }
 
-impl<T: fmt::Display> fmt::Display for Box<T> {
-    fn fmt(&self, f: &mut fmt::Formatter<'_>) -> fmt::Result {
-        (**self).fmt(f)
-    }
-}
-
 impl<T: Clone> Clone for Box<T> {
     fn clone(&self) -> Result<Box<T>, AllocError> {
         Ok(Box::new(Global, (**self).clone()?)?)

@@ -50,6 +50,5 @@ pub mod prelude {
 #[doc(hidden)]
 pub mod called_by_macros {
     pub use crate::methods::{formatted, listed, repeated};
-    pub use crate::rt::{print, print_error};
     pub use core::format_args;
 }

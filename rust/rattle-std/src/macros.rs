@@ -27,13 +27,7 @@ macro_rules! vec {
 #[macro_export]
 macro_rules! println {
     ($rt:expr; $($part:tt)*) => {
-        $crate::called_by_macros::print(
-            &$rt,
-            $crate::called_by_macros::format_args!(
-                "{}\n",
-                $crate::called_by_macros::format_args!($($part)*)
-            ),
-        )
+        $crate::print!($rt; "{}\n", $crate::called_by_macros::format_args!($($part)*))
     };
 }
 
@@ -41,8 +35,8 @@ macro_rules! println {
 #[macro_export]
 macro_rules! print {
     ($rt:expr; $($part:tt)*) => {
-        $crate::called_by_macros::print(
-            &$rt,
+        $crate::io::Write::write_fmt(
+            &mut $crate::io::Print::stdout(&$rt),
             $crate::called_by_macros::format_args!($($part)*),
         )
     };
@@ -52,13 +46,7 @@ macro_rules! print {
 #[macro_export]
 macro_rules! eprintln {
     ($rt:expr; $($part:tt)*) => {
-        $crate::called_by_macros::print_error(
-            &$rt,
-            $crate::called_by_macros::format_args!(
-                "{}\n",
-                $crate::called_by_macros::format_args!($($part)*)
-            ),
-        )
+        $crate::eprint!($rt; "{}\n", $crate::called_by_macros::format_args!($($part)*))
     };
 }
 
@@ -66,8 +54,8 @@ macro_rules! eprintln {
 #[macro_export]
 macro_rules! eprint {
     ($rt:expr; $($part:tt)*) => {
-        $crate::called_by_macros::print_error(
-            &$rt,
+        $crate::io::Write::write_fmt(
+            &mut $crate::io::Print::stderr(&$rt),
             $crate::called_by_macros::format_args!($($part)*),
         )
     };

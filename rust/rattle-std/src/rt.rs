@@ -1,8 +1,7 @@
 //! Stands in for Rattle's `std::rt`: the system that a program runs on.
 
 use crate::alloc::Global;
-use crate::io::{self, Print, Stderr, Stdin, Stdout, Write};
-use core::fmt;
+use crate::io::{Stderr, Stdin};
 
 pub use crate::env::Env;
 pub use crate::fs::Files;
@@ -18,19 +17,9 @@ pub trait AllocGlobal {
 pub struct HostRuntime;
 
 impl HostRuntime {
-    /// Returns the allocator.
-    pub fn alloc(&self) -> Global {
-        Global
-    }
-
     /// Returns standard input.
     pub fn stdin(&self) -> Stdin {
         Stdin(std::io::stdin())
-    }
-
-    /// Returns standard output.
-    pub fn stdout(&self) -> Stdout {
-        Stdout(std::io::stdout())
     }
 
     /// Returns standard error.
@@ -43,22 +32,4 @@ impl AllocGlobal for HostRuntime {
     fn alloc(&self) -> Global {
         Global
     }
-}
-
-/// Prints what is formatted to standard output. `println!` calls it.
-///
-/// # Errors
-///
-/// Returns the error of the system.
-pub fn print<P: Print>(to: &P, text: fmt::Arguments<'_>) -> io::Result<()> {
-    to.stdout().write_fmt(text)
-}
-
-/// Prints what is formatted to standard error. `eprintln!` calls it.
-///
-/// # Errors
-///
-/// Returns the error of the system.
-pub fn print_error<P: Print>(to: &P, text: fmt::Arguments<'_>) -> io::Result<()> {
-    to.stderr().write_fmt(text)
 }

@@ -193,29 +193,21 @@ impl WordBytes {
     }
 }
 
-impl<const N: usize> BitAnd for Simd<u8, N> {
-    type Output = Self;
+macro_rules! operators {
+    ($($operator:ident $method:ident $function:ident;)*) => {
+        $(impl<const N: usize> $operator for Simd<u8, N> {
+            type Output = Self;
 
-    #[inline(always)]
-    fn bitand(self, other: Self) -> Self {
-        self.by_blocks(other, blocks::and)
-    }
+            #[inline(always)]
+            fn $method(self, other: Self) -> Self {
+                self.by_blocks(other, blocks::$function)
+            }
+        })*
+    };
 }
 
-impl<const N: usize> BitOr for Simd<u8, N> {
-    type Output = Self;
-
-    #[inline(always)]
-    fn bitor(self, other: Self) -> Self {
-        self.by_blocks(other, blocks::or)
-    }
-}
-
-impl<const N: usize> Shr for Simd<u8, N> {
-    type Output = Self;
-
-    #[inline(always)]
-    fn shr(self, other: Self) -> Self {
-        self.by_blocks(other, blocks::shifted)
-    }
+operators! {
+    BitAnd bitand and;
+    BitOr bitor or;
+    Shr shr shifted;
 }

@@ -46,12 +46,6 @@ impl String {
         }
     }
 
-    /// Returns one of Rust's strings with the text.
-    pub fn into_std(mut self) -> std::string::String {
-        release(self.0.capacity());
-        core::mem::take(&mut self.0)
-    }
-
     /// Makes room for `additional` bytes after the text, by a new block.
     #[cold]
     fn grow(&mut self, additional: usize) -> Result<(), AllocError> {

@@ -3,11 +3,12 @@
 mod traits;
 
 use crate::alloc::{AllocError, AllocFailed, Global, grown, release};
-use core::ops::{Bound, RangeBounds};
+use core::ops::RangeBounds;
 
 pub use std::vec::IntoIter;
 
 /// A vector. Its growth asks the budget first.
+#[derive(PartialEq, Eq, PartialOrd, Ord, Hash)]
 pub struct Vec<T>(std::vec::Vec<T>);
 
 impl<T> Vec<T> {
@@ -101,12 +102,6 @@ impl<T> Vec<T> {
         &self.0
     }
 
-    /// Returns the values.
-    #[inline]
-    pub fn as_mut_slice(&mut self) -> &mut [T] {
-        &mut self.0
-    }
-
     /// Appends a value.
     ///
     /// # Errors
@@ -138,16 +133,6 @@ impl<T> Vec<T> {
         }
         self.0.insert(index, element);
         Ok(())
-    }
-
-    /// Removes the value at an index and returns it.
-    pub fn remove(&mut self, index: usize) -> T {
-        self.0.remove(index)
-    }
-
-    /// Removes the value at an index and returns it. The last value takes its place.
-    pub fn swap_remove(&mut self, index: usize) -> T {
-        self.0.swap_remove(index)
     }
 
     /// Removes all values.
@@ -222,21 +207,6 @@ impl<T> Vec<T> {
         Ok(())
     }
 
-    /// Appends copies of the values in a range.
-    ///
-    /// # Errors
-    ///
-    /// Returns `AllocError` if memory is refused. Then the vector is unchanged.
-    pub fn extend_from_within<R: RangeBounds<usize>>(&mut self, range: R) -> Result<(), AllocError>
-    where
-        T: Copy,
-    {
-        let (start, end) = bounds(&range, self.0.len());
-        self.reserve(end.saturating_sub(start))?;
-        self.0.extend_from_within(start..end);
-        Ok(())
-    }
-
     /// Appends the items of an iterator.
     ///
     /// # Errors
@@ -261,35 +231,15 @@ impl<T> Vec<T> {
         range: R,
         items: I,
     ) -> Result<IntoIter<T>, AllocError> {
-        let (start, end) = bounds(&range, self.0.len());
+        let range = (range.start_bound().cloned(), range.end_bound().cloned());
         let mut new = Vec::new(Global);
         new.extend(items)?;
-        let mut removed = Vec::with_capacity(Global, end - start)?;
+        let mut removed = Vec::with_capacity(Global, self.0[range].len())?;
         self.reserve(new.len())?;
-        let tail = self.0.len() - end;
-        removed.0.extend(self.0.drain(start..end));
-        let added = new.len();
-        self.0.append(&mut new.0);
-        // The new values come after the tail: they are moved in front of it.
-        self.0[start..].rotate_left(tail);
-        debug_assert_eq!(self.0.len(), start + added + tail);
+        // There is room for all, so that Rust's own has nothing to allocate.
+        removed.0.extend(self.0.splice(range, new.into_std()));
         Ok(removed.into_iter())
     }
-}
-
-/// Returns where a range begins and ends in a slice of `len` values.
-fn bounds<R: RangeBounds<usize>>(range: &R, len: usize) -> (usize, usize) {
-    let start = match range.start_bound() {
-        Bound::Included(start) => *start,
-        Bound::Excluded(before) => before + 1,
-        Bound::Unbounded => 0,
-    };
-    let end = match range.end_bound() {
-        Bound::Included(last) => last + 1,
-        Bound::Excluded(end) => *end,
-        Bound::Unbounded => len,
-    };
-    (start, end)
 }
 
 impl<T> Drop for Vec<T> {

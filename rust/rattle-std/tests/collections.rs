@@ -71,16 +71,13 @@ fn maps() {
     for number in mixed(1000) {
         map.insert(number, 2 * number).unwrap();
     }
-    *map.get_mut(&7).unwrap() += 1;
-    assert_eq!(
-        (map.get(&7), map.get(&1000), map.len()),
-        (Some(&15), None, 1000)
-    );
-    assert!(map.iter().map(|(key, _)| *key).eq(mixed(1000)) && !map.is_empty());
+    assert_eq!(map.insert(7, 15).unwrap(), Some(14));
+    assert_eq!((map.get(&7), map.get(&1000)), (Some(&15), None));
+    assert!(map.iter().map(|(key, _)| *key).eq(mixed(1000)));
 }
 
 #[test]
-fn a_hash_set_is_shown_in_one_order() {
+fn a_hash_set_is_shown_in_the_order_of_its_indices() {
     let mut set = HashSet::new(Global);
     set.reserve(3).unwrap();
     for text in ["c", "a", "b"] {
@@ -89,6 +86,6 @@ fn a_hash_set_is_shown_in_one_order() {
     assert!(!set.insert("a").unwrap() && set.contains("b") && !set.contains("d"));
     assert_eq!(
         format!(in Global; "{set:?}").unwrap().as_str(),
-        r#"{"a", "b", "c"}"#
+        r#"{"c", "a", "b"}"#
     );
 }

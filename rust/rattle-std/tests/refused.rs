@@ -6,8 +6,8 @@
 
 use rattle_std::alloc::{AllocError, Global};
 use rattle_std::boxed::Box;
-use rattle_std::collections::{BTreeSet, HashMap, HashSet};
-use rattle_std::crates::indexmap::{IndexMap, IndexSet};
+use rattle_std::collections::{BTreeSet, HashMap};
+use rattle_std::crates::indexmap::IndexSet;
 use rattle_std::crates::json::Writer;
 use rattle_std::crates::unicode::{perl, sets};
 use rattle_std::io::{self, BufWriter, Read};
@@ -17,7 +17,6 @@ use rattle_std::vec::Vec;
 use rattle_std::{format, vec};
 use std::alloc::{GlobalAlloc, Layout, System};
 use std::cell::Cell;
-use std::fmt::Debug;
 
 thread_local! {
     /// How many more requests of this thread are granted before one is refused.
@@ -102,7 +101,6 @@ fn vectors() {
     assert_eq!(on_vector(|v| v.reserve(1)), 1);
     assert_eq!(on_vector(|v| v.resize(9, 0)), 1);
     assert_eq!(on_vector(|v| v.extend_from_slice(&[5])), 1);
-    assert_eq!(on_vector(|v| v.extend_from_within(..)), 1);
     assert_eq!(on_vector(|v| v.extend([5].into_iter())), 1);
     assert_eq!(on_vector(|v| v.split_off(2)), 1);
     assert_eq!(on_vector(|v| v.splice(1..2, [7, 8])), 3);
@@ -199,11 +197,6 @@ fn sets_and_maps() {
         |it, n| it.contains(&n),
     );
     fill(
-        || HashSet::new(Global),
-        |it, n| it.insert(n).is_ok(),
-        |it, n| it.contains(&n),
-    );
-    fill(
         || BTreeSet::new(Global),
         |it, n| it.insert(n).is_ok(),
         |it, n| it.contains(&n),
@@ -213,28 +206,6 @@ fn sets_and_maps() {
         |it, n| it.insert(n, n).is_ok(),
         |it, n| it.get(&n) == Some(&n),
     );
-    fill(
-        || IndexMap::new(Global),
-        |it, n| it.insert(n, n).is_ok(),
-        |it, n| it.get(&n) == Some(&n),
-    );
-}
-
-#[test]
-fn a_shown_set_says_so() {
-    let mut set = HashSet::new(Global);
-    set.insert("a").unwrap();
-    let shown = |set: &HashSet<&str>| {
-        use std::fmt::Write;
-        struct Nowhere;
-        impl Write for Nowhere {
-            fn write_str(&mut self, _text: &str) -> std::fmt::Result {
-                Ok(())
-            }
-        }
-        write!(Nowhere, "{:?}", set as &dyn Debug)
-    };
-    assert!(on_nothing(|| shown(&set)) >= 2);
 }
 
 /// Tests a call of a writer whose first, second and so on request is refused.

@@ -1,16 +1,56 @@
 //! Stands in for the kit's `indexmap`: sets and maps whose entries have indices, 0 for the one that
 //! was added first.
 
+mod folded;
 mod map;
 mod set;
 
 pub use map::IndexMap;
 pub use set::IndexSet;
 
-use crate::alloc::{AllocError, Global};
+use crate::alloc::{AllocError, AllocFailed, Global};
 use crate::vec::Vec;
-use core::hash::{BuildHasher, Hash};
-use std::hash::RandomState;
+use core::hash::{Hash, Hasher};
+use folded::Folded;
+
+/// Entries, and their indices by the hashes of their keys.
+struct Entries<E> {
+    list: Vec<E>,
+    table: Table,
+}
+
+impl<E> Entries<E> {
+    fn new(alloc: Global) -> Entries<E> {
+        Entries {
+            list: Vec::new(alloc),
+            table: Table::new(alloc),
+        }
+    }
+
+    /// Makes room for `additional` entries.
+    fn reserve(&mut self, additional: usize) -> Result<(), AllocError> {
+        self.table.reserve(self.list.len(), additional)?;
+        self.list.reserve(additional)
+    }
+
+    /// Returns the index of the entry with a hash that passes a test.
+    #[inline]
+    fn find(&self, hash: u32, is_it: impl Fn(&E) -> bool) -> Option<usize> {
+        self.table.find(hash, |index| is_it(&self.list[index]))
+    }
+
+    /// Adds an entry that is new, and returns its index.
+    #[inline]
+    fn push(&mut self, hash: u32, entry: E) -> Result<usize, AllocFailed<E>> {
+        let index = self.list.len();
+        if self.table.reserve(index, 1).is_err() {
+            return Err(AllocFailed { value: entry });
+        }
+        self.list.push(entry)?;
+        self.table.set(hash, index);
+        Ok(index)
+    }
+}
 
 /// A hash, and 1 more than the index of the entry that has it. An empty place has index 0.
 #[derive(Clone, Copy)]
@@ -24,24 +64,26 @@ const EMPTY: Place = Place { hash: 0, entry: 0 };
 /// The indices of entries by their hashes: a power of two of places, at most half of them used. A
 /// place that is used by another entry is passed over for the next one.
 ///
-/// The keys of the hashes are random, so that nobody can choose entries with equal ones. No result
-/// depends on them, since entries are only listed by their indices.
+/// The hashes differ from run to run. No result depends on them, since entries are only listed by
+/// their indices.
 struct Table {
     places: Vec<Place>,
-    state: RandomState,
+    nothing: Folded,
 }
 
 impl Table {
     fn new(alloc: Global) -> Table {
         Table {
             places: Vec::new(alloc),
-            state: RandomState::new(),
+            nothing: Folded::new(),
         }
     }
 
     #[inline]
     fn hash_of<Q: ?Sized + Hash>(&self, key: &Q) -> u32 {
-        self.state.hash_one(key) as u32
+        let mut hash = self.nothing;
+        key.hash(&mut hash);
+        hash.finish() as u32
     }
 
     /// Returns the index of the entry with a hash that passes a test.

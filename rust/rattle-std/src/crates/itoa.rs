@@ -13,43 +13,70 @@ const fn pairs() -> [[u8; 2]; 100] {
     pairs
 }
 
-/// Writes bytes at the end of others, and returns those in front of them.
-#[inline(always)]
-fn write_last<const N: usize>(buf: &mut [u8], bytes: [u8; N]) -> &mut [u8] {
-    match buf.split_last_chunk_mut() {
-        Some((front, last)) => {
-            *last = bytes;
-            front
-        }
-        None => panic!("there is no room for the digits of a number"),
-    }
-}
-
 /// Writes the digits of a number to the bytes that end at an index, and returns where they begin.
 /// The other bytes stay.
 ///
 /// # Panics
 ///
 /// Panics if there are more digits than bytes in front of the index.
-#[inline]
+#[inline(always)]
 pub fn write_digits(number: u64, buf: &mut [u8], end: usize) -> usize {
-    let mut front = &mut buf[..end];
-    let mut left = number;
-    while left >= 10_000 {
-        let four = (left % 10_000) as usize;
-        left /= 10_000;
-        let ([a, b], [c, d]) = (PAIRS[four / 100], PAIRS[four % 100]);
-        front = write_last(front, [a, b, c, d]);
+    // One test of the room is enough for all digits of a number that has at most eight.
+    if number < 100_000_000
+        && let Some([a, b, c, d, e, f, g, h]) = buf[..end].last_chunk_mut()
+    {
+        let number = number as u32;
+        if number < 10_000 {
+            return end - 4 + write_four(number, [e, f, g, h]);
+        }
+        let low = number % 10_000;
+        ([*e, *f], [*g, *h]) = (pair(low / 100), pair(low % 100));
+        return end - 8 + write_four(number / 10_000, [a, b, c, d]);
     }
-    let mut left = left as usize;
-    if left >= 100 {
-        front = write_last(front, PAIRS[left % 100]);
-        left /= 100;
+    let from = write_each(number, buf, end);
+    // This tells the compiler where the digits are, so that it leaves out tests of the caller.
+    assert!(from < end && end - from <= 20);
+    from
+}
+
+/// Returns the two digits of a number below 100.
+#[inline(always)]
+fn pair(number: u32) -> [u8; 2] {
+    PAIRS[number as usize]
+}
+
+/// Writes the digits of a number below 10,000, and returns how many bytes are left in front.
+#[inline(always)]
+fn write_four(number: u32, [a, b, c, d]: [&mut u8; 4]) -> usize {
+    if number < 100 {
+        return 2 + write_two(number, [c, d]);
     }
-    if left >= 10 {
-        front = write_last(front, PAIRS[left]);
-    } else {
-        front = write_last(front, [b'0' + left as u8]);
+    [*c, *d] = pair(number % 100);
+    write_two(number / 100, [a, b])
+}
+
+/// Does what `write_four` does, for a number below 100.
+#[inline(always)]
+fn write_two(number: u32, [a, b]: [&mut u8; 2]) -> usize {
+    if number < 10 {
+        *b = b'0' + number as u8;
+        return 1;
     }
-    front.len()
+    [*a, *b] = pair(number);
+    0
+}
+
+/// Does what `write_digits` does, one digit at a time.
+#[cold]
+#[inline(never)]
+fn write_each(number: u64, buf: &mut [u8], end: usize) -> usize {
+    let (mut left, mut at) = (number, end);
+    loop {
+        at -= 1;
+        buf[at] = b'0' + (left % 10) as u8;
+        left /= 10;
+        if left == 0 {
+            return at;
+        }
+    }
 }

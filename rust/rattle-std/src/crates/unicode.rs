@@ -11,7 +11,6 @@ pub mod sets {
     use crate::alloc::{AllocError, Global};
     use crate::crates::unicode_tables::{ASSIGNED, NAMES};
     use crate::vec::Vec;
-    use core::fmt;
 
     /// A set of code points that a property names.
     #[derive(Clone, Copy, Debug, PartialEq, Eq, Hash)]
@@ -49,14 +48,6 @@ pub mod sets {
         /// No property has the name.
         PropertyNotFound,
     }
-
-    impl fmt::Display for LookupError {
-        fn fmt(&self, f: &mut fmt::Formatter<'_>) -> fmt::Result {
-            f.write_str("Unicode property not found")
-        }
-    }
-
-    impl core::error::Error for LookupError {}
 
     /// Returns the set of a binary property, a general category or a script by its normalized name.
     ///

@@ -68,64 +68,35 @@ pub fn set_permissions<R: Files>(_rt: &R, path: &str, to: Permissions) -> io::Re
     Ok(std::fs::set_permissions(path, to.0)?)
 }
 
-/// What Unix knows of a file besides. Elsewhere a file is the one that its whole path names.
-pub trait MetadataExt {
+macro_rules! known_to_unix {
+    ($($(#[$doc:meta])* $name:ident: $type:ty, $elsewhere:expr;)*) => {
+        /// What Unix knows of a file besides. Elsewhere a file is the one that its whole path names.
+        pub trait MetadataExt {
+            $($(#[$doc])* fn $name(&self) -> $type;)*
+        }
+
+        impl MetadataExt for Metadata {
+            $(fn $name(&self) -> $type {
+                #[cfg(unix)]
+                return std::os::unix::fs::MetadataExt::$name(&self.found);
+                #[cfg(not(unix))]
+                return ($elsewhere)(self);
+            })*
+        }
+    };
+}
+
+known_to_unix! {
     /// Returns the number of the device.
-    fn dev(&self) -> u64;
+    dev: u64, |_| 0;
     /// Returns the number of the file on its device.
-    fn ino(&self) -> u64;
+    ino: u64, |file: &Metadata| file.name;
     /// Returns the number of the owner.
-    fn uid(&self) -> u32;
+    uid: u32, |_| 0;
     /// Returns the number of the group.
-    fn gid(&self) -> u32;
+    gid: u32, |_| 0;
     /// Returns the kind of file, and who may read, write and run it.
-    fn mode(&self) -> u32;
-}
-
-#[cfg(unix)]
-impl MetadataExt for Metadata {
-    fn dev(&self) -> u64 {
-        std::os::unix::fs::MetadataExt::dev(&self.found)
-    }
-
-    fn ino(&self) -> u64 {
-        std::os::unix::fs::MetadataExt::ino(&self.found)
-    }
-
-    fn uid(&self) -> u32 {
-        std::os::unix::fs::MetadataExt::uid(&self.found)
-    }
-
-    fn gid(&self) -> u32 {
-        std::os::unix::fs::MetadataExt::gid(&self.found)
-    }
-
-    fn mode(&self) -> u32 {
-        std::os::unix::fs::MetadataExt::mode(&self.found)
-    }
-}
-
-#[cfg(not(unix))]
-impl MetadataExt for Metadata {
-    fn dev(&self) -> u64 {
-        0
-    }
-
-    fn ino(&self) -> u64 {
-        self.name
-    }
-
-    fn uid(&self) -> u32 {
-        0
-    }
-
-    fn gid(&self) -> u32 {
-        0
-    }
-
-    fn mode(&self) -> u32 {
-        0
-    }
+    mode: u32, |_| 0;
 }
 
 /// The permissions of Unix.

@@ -105,8 +105,6 @@ kinds! {
     IsADirectory,
     /// A part of the path has to be a folder.
     NotADirectory,
-    /// A folder that has to be empty has entries.
-    DirectoryNotEmpty,
     /// A name is too long, or has characters that the system does not take.
     InvalidFilename,
     /// A parameter is none that the system takes.
@@ -131,8 +129,6 @@ kinds! {
     TimedOut,
     /// A call to write wrote nothing.
     WriteZero,
-    /// The data ends too early.
-    UnexpectedEof,
     /// The system has no such call.
     Unsupported,
     /// Memory is refused.

@@ -32,7 +32,7 @@ pub trait Print {
 
 impl Print for HostRuntime {
     fn stdout(&self) -> Stdout {
-        HostRuntime::stdout(self)
+        Stdout(std::io::stdout())
     }
 
     fn stderr(&self) -> Stderr {

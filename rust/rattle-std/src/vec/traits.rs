@@ -4,9 +4,7 @@ use super::{IntoIter, Vec};
 use crate::alloc::{AllocError, Global};
 use crate::clone::Clone;
 use core::borrow::Borrow;
-use core::cmp::Ordering;
 use core::fmt;
-use core::hash::{Hash, Hasher};
 use core::ops::{Deref, DerefMut, Index, IndexMut};
 use core::slice::{Iter, IterMut, SliceIndex};
 
@@ -42,34 +40,6 @@ impl<T, I: SliceIndex<[T]>> IndexMut<I> for Vec<T> {
     }
 }
 
-impl<T: PartialEq> PartialEq for Vec<T> {
-    #[inline]
-    fn eq(&self, other: &Vec<T>) -> bool {
-        self.0 == other.0
-    }
-}
-
-impl<T: Eq> Eq for Vec<T> {}
-
-impl<T: PartialOrd> PartialOrd for Vec<T> {
-    fn partial_cmp(&self, other: &Vec<T>) -> Option<Ordering> {
-        self.0.partial_cmp(&other.0)
-    }
-}
-
-impl<T: Ord> Ord for Vec<T> {
-    fn cmp(&self, other: &Vec<T>) -> Ordering {
-        self.0.cmp(&other.0)
-    }
-}
-
-impl<T: Hash> Hash for Vec<T> {
-    #[inline]
-    fn hash<H: Hasher>(&self, state: &mut H) {
-        self.0.hash(state);
-    }
-}
-
 impl<T: fmt::Debug> fmt::Debug for Vec<T> {
     fn fmt(&self, f: &mut fmt::Formatter<'_>) -> fmt::Result {
         self.0.fmt(f)
@@ -88,12 +58,6 @@ impl<T: Clone> Clone for Vec<T> {
 
 impl<T> Borrow<[T]> for Vec<T> {
     fn borrow(&self) -> &[T] {
-        &self.0
-    }
-}
-
-impl<T> AsRef<[T]> for Vec<T> {
-    fn as_ref(&self) -> &[T] {
         &self.0
     }
 }

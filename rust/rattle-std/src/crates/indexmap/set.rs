@@ -1,25 +1,20 @@
 //! A set whose values have indices.
 
-use super::Table;
+use super::Entries;
 use crate::alloc::{AllocError, AllocFailed, Global};
-use crate::vec::{IntoIter, Vec};
+use crate::vec::IntoIter;
 use core::borrow::Borrow;
+use core::fmt;
 use core::hash::Hash;
 use core::slice::Iter;
 
 /// A set whose values have indices.
-pub struct IndexSet<T> {
-    values: Vec<T>,
-    table: Table,
-}
+pub struct IndexSet<T>(Entries<T>);
 
 impl<T: Eq + Hash> IndexSet<T> {
     /// Returns an empty set.
     pub fn new(alloc: Global) -> IndexSet<T> {
-        IndexSet {
-            values: Vec::new(alloc),
-            table: Table::new(alloc),
-        }
+        IndexSet(Entries::new(alloc))
     }
 
     /// Returns the allocator.
@@ -33,36 +28,35 @@ impl<T: Eq + Hash> IndexSet<T> {
     ///
     /// Returns `AllocError` if memory is refused.
     pub fn reserve(&mut self, additional: usize) -> Result<(), AllocError> {
-        self.table.reserve(self.values.len(), additional)?;
-        self.values.reserve(additional)
+        self.0.reserve(additional)
     }
 
     /// Returns how many values there are.
     #[inline]
     pub fn len(&self) -> usize {
-        self.values.len()
+        self.0.list.len()
     }
 
     /// Returns whether there is no value.
     pub fn is_empty(&self) -> bool {
-        self.values.is_empty()
+        self.0.list.is_empty()
     }
 
     /// Returns the values by their indices.
     #[inline]
     pub fn as_slice(&self) -> &[T] {
-        &self.values
+        &self.0.list
     }
 
     /// Returns the values by their indices.
     pub fn iter(&self) -> Iter<'_, T> {
-        self.values.iter()
+        self.0.list.iter()
     }
 
     /// Returns the value with an index.
     #[inline]
     pub fn get_index(&self, index: usize) -> Option<&T> {
-        self.values.get(index)
+        self.0.list.get(index)
     }
 
     /// Returns the index of a value.
@@ -71,10 +65,8 @@ impl<T: Eq + Hash> IndexSet<T> {
     where
         T: Borrow<Q>,
     {
-        let hash = self.table.hash_of(value);
-        let values = &self.values;
-        self.table
-            .find(hash, |index| values[index].borrow() == value)
+        let hash = self.0.table.hash_of(value);
+        self.0.find(hash, |it| it.borrow() == value)
     }
 
     /// Returns whether the set has a value.
@@ -101,33 +93,32 @@ impl<T: Eq + Hash> IndexSet<T> {
     /// Returns the value if memory is refused. Then the set is unchanged.
     #[inline]
     pub fn insert_full(&mut self, value: T) -> Result<(usize, bool), AllocFailed<T>> {
-        let hash = self.table.hash_of(&value);
-        let values = &self.values;
-        if let Some(index) = self.table.find(hash, |index| values[index] == value) {
-            return Ok((index, false));
+        let hash = self.0.table.hash_of(&value);
+        match self.0.find(hash, |it| *it == value) {
+            Some(index) => Ok((index, false)),
+            None => Ok((self.0.push(hash, value)?, true)),
         }
-        let index = self.values.len();
-        if self.table.reserve(index, 1).is_err() {
-            return Err(AllocFailed { value });
-        }
-        self.values.push(value)?;
-        self.table.set(hash, index);
-        Ok((index, true))
     }
 
     /// Removes all values.
     pub fn clear(&mut self) {
-        self.values.clear();
-        self.table.clear();
+        self.0.list.clear();
+        self.0.table.clear();
     }
 
     /// Keeps the first `len` values.
     pub fn truncate(&mut self, len: usize) {
-        for index in (len..self.values.len()).rev() {
-            self.table
-                .remove(self.table.hash_of(&self.values[index]), index);
+        for index in (len..self.len()).rev() {
+            let hash = self.0.table.hash_of(&self.0.list[index]);
+            self.0.table.remove(hash, index);
         }
-        self.values.truncate(len);
+        self.0.list.truncate(len);
+    }
+}
+
+impl<T: fmt::Debug> fmt::Debug for IndexSet<T> {
+    fn fmt(&self, f: &mut fmt::Formatter<'_>) -> fmt::Result {
+        f.debug_set().entries(self).finish()
     }
 }
 
@@ -136,7 +127,7 @@ impl<'v, T> IntoIterator for &'v IndexSet<T> {
     type IntoIter = Iter<'v, T>;
 
     fn into_iter(self) -> Iter<'v, T> {
-        self.values.iter()
+        self.0.list.iter()
     }
 }
 
@@ -145,6 +136,6 @@ impl<T> IntoIterator for IndexSet<T> {
     type IntoIter = IntoIter<T>;
 
     fn into_iter(self) -> IntoIter<T> {
-        self.values.into_iter()
+        self.0.list.into_iter()
     }
 }
