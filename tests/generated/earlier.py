@@ -15,9 +15,9 @@ FOLDER = os.environ.get('KEPT_BUILDS')
 
 @cache
 def sum_of(kind):
-    """The sum of all scripts that decide what is found."""
+    """The sum of all scripts and tables that decide what is found."""
     made = hashlib.sha256(sys.version.encode())
-    for name in sorted([*glob(f'{HERE}/*.py'), *glob(f'{path.dirname(HERE)}/{kind}/*.py')]):
+    for name in sorted([*glob(f'{HERE}/*.py'), *glob(f'{HERE}/*.toml'), *glob(f'{path.dirname(HERE)}/{kind}/*.py')]):
         with open(name, 'rb') as script:
             made.update(script.read())
     return made.digest()

@@ -16,14 +16,14 @@ from random import Random
 from byte_sets import partners, runs_of_categories
 from charts import judge_chart
 from earlier import FOLDER, earlier, keep
-from faults import SHAPES, TEXTS
+from faults import texts
 from inputs import make_input
-from kept import KEPT
 from matching import TooLarge
 from patterns import FORMS, LOOKS, MET
 from reading import Reading
 from small_sets import SmallSetMaker, inputs_of_patterns, inputs_of_words
 from sources import SourceMaker
+from tables import table
 
 SOURCES, INPUTS = 600, 2
 # Seeds from here on make small sets of patterns, and then of words; so many of their inputs stand
@@ -222,7 +222,7 @@ def judge(program, calls, seed):
 def judge_kept(program):
     """Compares the program with the lines that are written down, and the reader with them too."""
     with tempfile.TemporaryDirectory(dir=place()) as room:
-        for source, faults in KEPT:
+        for source, faults in map(dict.values, table('kept').KEPT):
             write(f'{room}/source', source.encode())
             found = run(program, room, 'mermaid', 'source')
             expect(source, (1, [''], ended(faults)), found)
@@ -250,7 +250,7 @@ def main(program, calls, seeds):
             refused, accepted, compared, streamed = refused + bool(found), accepted + (not found), compared + comparisons, streamed + streams
     print('generated:', ', '.join(f'{code} {codes[code]}' for code in sorted(codes)))
     print('generated: accepted sources with', ', '.join(f'{form} {forms[form]}' for form in FORMS))
-    missed = [code for code in (*TEXTS, *SHAPES) if code not in codes]
+    missed = [code for code in (*texts.TEXTS, *texts.SHAPES) if code not in codes]
     missed += [form for form in FORMS if forms[form] < (CHARTS if form in LOOKS else ACCEPTED)]
     if missed and len(seeds) == len(ALL):
         print('generated: too few sources had', ', '.join(missed), file=sys.stderr)

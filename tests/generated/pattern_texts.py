@@ -1,19 +1,8 @@
 """Makes the texts of patterns and literals."""
 
-LETTERS = ['a', 'b', 'c', 'd', 'x', 'y', '0', '1', ' ', 'k', '-', '=', '\n', '\'']
-ESCAPES = ['\\.', '\\n', '\\x41', '\\u0041', '\\u{62}', '\\-', '\\\\', '\\t', '\\+']
-CLASSES = ['[a-c]', '[0-9]', '[a-e&&[^c]]', '[0-9a-f]', '[[:digit:]x]', '[a-e--b]', '[a-d~~c-f]', '[\\]a]', '[-a]', '[a-]', '[]a]', '[^\\x00-z]',
-           '[[:alpha:]--[a-y]]', '[x&&y]', '[k]', '[a-c[x-z]]', '[--/]', '[^[:^digit:]]', '[a-z-9]', '[\\n\\t ]', '[&a]', '[a--]']
-WIDE = ['[é-ü]', '[^a]', '\\s', '\\S', '.', '(?s:.)', '[^a-z\\n]', '[α-ω]', '(?i:k)', '(?i:[a-k])', '(?i:é)', '[\\u{1F600}-\\u{1F64F}]', 'é', 'ß', 'λ', '(?i)s',
-        '[^\\s\\x21-\\x{10FFFE}]', '(?i:[^k])']
-ASCII = ['(?-u:\\d)', '(?-u:\\w)', '(?-u:[a-c])', '(?-u:\\s)', '(?-u)b', '(?i-u:k)', '(?-u:[[:upper:]])', '(?i:x)', '(?i-u:[a-c])']
-OPERATORS = ['*', '+', '?', '{2}', '{1,3}', '{2,}', '*?', '+?', '??', '{0,2}?', '{0}', '{1}']
-LOOKS = ['$', '(?-u:\\b)', '(?m:$)', '(?-u:\\B)', '\\z', '(?Rm:$)', '(?-u:\\b)x', '(?m:^)', '(?Rm:^)']
-FAULTY = ['(', 'a)', '*a', '[z-a]', 'a{3,2}', '\\q', '(?x)a', 'a\\b', '[a', 'a{,2}', '(?<1>a)', '\\xZZ', 'a{', '(?i)*', '[[:foo:]', 'a{4294967296}', '(?=a)',
-          '(?-u:é)[é', '\\', '(?P=n)', '(?<n>a)(?<n>b)', '[\\b]', '\\x{D800}', '(?i-)', '(?ii)a', '(?)', 'a**?+{', '(?-u:[é])', '\\<', '(?<n', '\\u{110000}']
-STRANGE = ['.*', '.+x', '[^\\n]*a', '(a.*)+', 'a*', '', '^a', 'a*$', '(?-u:\\xFF)', '(?-u:[^a])', '(?-u:\\xC3\\xA9)', 'x|.*?', '(?s:.)+', '$', 'a|',
-           '(?:(?:a{4294967295}){4294967295}){4294967295}', '(?:(?:a{4294967295}){4294967295}.*){4294967295}', '(?-u:.*)', '([a&&b])*', '(?U).*', '(?U).*?x',
-           '(?:(?:a{4294967295}){4294967295}){4294967295}|x', 'a{0}', '(?R).+', '[\\s\\S]+', '(?-u:\\xC3)(?-u:\\xA9)', '(?:^)?a', '(?:x|^)a', '(|a)(b|)']
+from tables import table
+
+texts = table('pattern_texts')
 
 
 class PatternMaker:
@@ -37,11 +26,11 @@ class PatternMaker:
     def atom(self, depth):
         kind = self.random.random()
         if kind < 0.5 or depth == 0:
-            return self.pick(LETTERS[:6]) if kind < 0.4 else self.pick(ESCAPES) if kind < 0.45 else self.pick(CLASSES)
+            return self.pick(texts.LETTERS[:6]) if kind < 0.4 else self.pick(texts.ESCAPES) if kind < 0.45 else self.pick(texts.CLASSES)
         if kind < 0.55:
-            return self.pick(WIDE)
+            return self.pick(texts.WIDE)
         if kind < 0.64:
-            return self.pick(ASCII)
+            return self.pick(texts.ASCII)
         if kind < 0.74 and self.names:
             return f'(?&{self.pick(self.names)})'
         return self.pick(['(', '(?:', '(?:', '(?<n>' if depth == 2 else '(?:', '(?i:']) + self.branches(depth - 1) + ')'
@@ -53,20 +42,20 @@ class PatternMaker:
         out = ''
         for _ in range(self.pick([1, 2, 2, 3])):
             atom = self.atom(depth)
-            out += atom + (self.pick(OPERATORS) if self.chance(0.25) and not atom.startswith('(?-u)') and not atom.startswith('(?i)') else '')
+            out += atom + (self.pick(texts.OPERATORS) if self.chance(0.25) and not atom.startswith('(?-u)') and not atom.startswith('(?i)') else '')
         return out
 
     def pattern(self):
         """A pattern that no rule of the grammar refuses."""
-        text = self.pick(LETTERS[:6]) + self.branches(2) if self.chance(0.7) else self.branches(2)
-        return text + self.pick(LOOKS) if self.chance(0.06) else text
+        text = self.pick(texts.LETTERS[:6]) + self.branches(2) if self.chance(0.7) else self.branches(2)
+        return text + self.pick(texts.LOOKS) if self.chance(0.06) else text
 
     def word(self):
-        return ''.join(self.pick(LETTERS) for _ in range(self.pick([1, 1, 2, 3]))) + ('é' if self.chance(0.05) else '')
+        return ''.join(self.pick(texts.LETTERS) for _ in range(self.pick([1, 1, 2, 3]))) + ('é' if self.chance(0.05) else '')
 
     def faulty_pattern(self):
-        text = self.next_wrong(FAULTY if self.chance(0.4) else STRANGE)
-        return self.pick(LETTERS) + text if self.chance(0.2) and not text.startswith('*') else text
+        text = self.next_wrong(texts.FAULTY if self.chance(0.4) else texts.STRANGE)
+        return self.pick(texts.LETTERS) + text if self.chance(0.2) and not text.startswith('*') else text
 
 
 class LiteralMaker(PatternMaker):

@@ -49,7 +49,7 @@ python3 "$here/main.py" "$program" "$calls" "$@" | tee "$room/sources"
 [ $# = 0 ] || exit 0
 
 for rows in changed automata expressions; do
-    { python3 --version; cat "$here"/*.py; } | kept "$room/generated_$rows" write_rows "$rows"
+    { python3 --version; cat "$here"/*.{py,toml}; } | kept "$room/generated_$rows" write_rows "$rows"
     if "$calls" < "$room/generated_$rows" > "$room/$rows"; then
         echo "generated: the rows of $rows.py are answered as the plain reader has it"
     else

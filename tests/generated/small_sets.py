@@ -2,23 +2,12 @@
 of all forms, and words that repeat."""
 
 from itertools import product
+from tables import table
 
 LETTERS = ['a', 'b', '\\n', 'é', 'k', '-']
 # Each look, as it may be written where the flag `u` is off.
 LOOKS = ['$', '\\z', '(?m:$)', '(?Rm:$)', '\\b', '\\B', '(?m:^)', '(?Rm:^)', '^', '\\A', '(?m)$', '(?mR)^', '(?-m:$)']
-# Classes of all forms, with the flag `u` or without it.
-OF_BOTH = [
-    '[ab]', '[^a]', '.', '[a&&b]', '(?s:.)', '(?R:.)', '(?sR:.)', '[a-c]', '[^a-c\\n]', '[]a]', '[^]a]', '[-a]', '[a-]', '[--/a]', '[a-c[x-z]]', '[^a[^b]]',
-    '[a-e&&[^c]]', '[a-e--b]', '[a-d~~b-f]', '[a-k&&b-z--d]', '[\\n\\t ]', '[\\x61-\\x63]', '[\\x{61}b]', '[\\u0061]', '[\\U00000061b]', '[\\a\\f\\v\\r]',
-    '[\\]\\-\\\\]', '(?i:k)', '(?i:[a-c])', '(?i:[^k])', '(?i:[[:lower:]])', '\\s', '\\S', '[\\sa]', '[^\\S]', '[\\x{A}-\\x{D}]', '\\x62', '\\u{61}', '\\u0062', '\\U00000061',
-    '[[:alnum:]]', '[[:alpha:]]', '[[:ascii:]]', '[[:blank:]]', '[[:cntrl:]]', '[[:digit:]]', '[[:graph:]]', '[[:lower:]]', '[[:print:]]', '[[:punct:]]',
-    '[[:space:]]', '[[:upper:]]', '[[:word:]]', '[[:xdigit:]]', '[[:^alpha:]]', '[[:^space:]a]', '[^[:^digit:]]',
-]
-OF_CHARACTERS = [
-    '[é-ü]', '[α-ω]', '[\\u{1F600}-\\u{1F64F}]', '(?i:é)', '(?i:ß)', '[^é]', '[é&&[^a]]', '\\xE9', '[\\xE9]', '[\\p{L}&&[a-zà-ö0-9]]', '[\\pL&&[\\x00-\\x7f]]',
-    '[\\P{L}&&[a-z0-9é]]', '[\\p{Lu}&&[A-Ya-y]]', '[\\p{Nd}&&[0-9a-z]]', '[[^\\PL]&&[a-cé]]', '[\\d&&[0-9a-zé]]', '[\\w&&[ -~é]]', '[\\W&&[ -~é]]', '[\\D&&[0-9a-cé]]',
-]
-OF_BYTES = ['\\xC3', '\\xA9', '[\\x80-\\xFF]', '[^\\x80-\\xFF]', '[\\xC3\\xA9]', '\\d', '\\D', '\\w', '\\W', '[\\d\\xC3]', '[^\\w]', '[\\W&&\\D]', '(?i:[\\xC3k])']
+classes = table('small_sets')
 OPERATORS = ['', '', '', '*', '+', '?', '{2}', '{1,2}', '{2,}', '*?', '+?', '??', '{0,2}?']
 WORDS = ['a', 'b', 'é']
 
@@ -33,7 +22,7 @@ class SmallSetMaker:
 
     def __init__(self, random, turn):
         self.random, self.turn, self.unicode = random, turn * 7, random.random() < 0.4
-        self.classes = OF_BOTH + (OF_CHARACTERS if self.unicode else OF_BYTES)
+        self.classes = classes.OF_BOTH + (classes.OF_CHARACTERS if self.unicode else classes.OF_BYTES)
 
     def pick(self, choices):
         return self.random.choice(choices)

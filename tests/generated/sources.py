@@ -2,9 +2,12 @@
 wrong pieces."""
 
 import re
-import forms
 from pattern_texts import LiteralMaker
+from tables import table
 
+forms = table('forms')
+# Without commas outside of groups, as an argument of an attribute wants them.
+VALUE_TYPES = [form for form in forms.TYPES if form.count(',') == form.count('( T , U )')]
 GAPS = [' ', ' ', ' ', '\n', '\t', '  ', '/* c */', '// c\n', '/* a /* b */ c */', '\r\n', '\u200e', '\u2028', '/**/',
         '////x\n', '\x0b', '/***/', '// c\r\n']
 SIGNS = '~!@#$%^&*-=+|;:,<.>?'
@@ -111,8 +114,8 @@ class SourceMaker(LiteralMaker):
 
     def type_option(self, parameter):
         if self.is_wrong():
-            return lexemes(f'type {parameter} = {self.next_wrong(forms.NO_TYPES + forms.VALUE_TYPES)}')
-        plain = [form for form in forms.VALUE_TYPES if not {'T', 'U'} & set(form.split(' '))]
+            return lexemes(f'type {parameter} = {self.next_wrong(forms.NO_TYPES + VALUE_TYPES)}')
+        plain = [form for form in VALUE_TYPES if not {'T', 'U'} & set(form.split(' '))]
         return lexemes(f'type {parameter} = {self.pick(plain)}')
 
     def option(self):

@@ -14,6 +14,7 @@ from concurrent.futures import ThreadPoolExecutor
 from random import Random
 from earlier import earlier, keep
 from stripped import stripped
+from tables import table
 from tokens import printed, tokenize
 
 FILES = 240
@@ -23,20 +24,7 @@ GAPS = [' ', '\n', '\n\n', '\t', '\r\n', ' // line\n', ' /* block */ ', ' /* a /
 FRONTS = [('', ''), ('//! One.\n', '// One.\n'), ('/*! Block\n lines */\n', '/* Block\n lines */\n'), ('#![allow(a)]\n', '/* #![allow(a)] */\n'),
           ('//!/ odd\n', '// / odd\n'), ('/*!*/ ', '/* */ '), ('/*!* x */', '/* * x */'), ('//!! y\n', '// ! y\n'),
           ('# /* b */ ! [c(\n"]",\n")")] // d\n', '/* # /* b */ ! [c(\n"]",\n")")] */ // d\n'), ('// plain\n', '// plain\n'), ('\ufeff', None)]
-# Items that are no lexers, with what looks like one inside of them.
-ITEMS = ['use a::{b, c as d};', 'mod m;', 'pub(in a::b) mod n { use x; fn f() {} }', 'fn f<\'a>(x: &\'a str) -> u8 { let \'l: u8 = b\'}\'; 0 }',
-         'fn g() { #[derive(Logos)] enum Inside { #[token("a")] A } }', 'm! { #[derive(Logos)] enum InMacro { #[token("a")] A } }',
-         'macro_rules! n { ($a:ident) => { #[derive(Logos)] enum $a { #[token("a")] A } } }', '#[derive(Logos)] struct S { a: u8 }',
-         '#[derive(Debug)] pub enum Plain<T> { #[token("a")] A(T), B { c: u8 } = 3 }', 'enum Empty {}', '#[derive(my::Logos)] enum Other { A }',
-         'const T: &str = "#[derive(Logos)] enum E { \\" }";', 'const R: &str = r##"enum "# { } "##;', 'static C: char = \'"\';', 'union U { a: u8 }',
-         'impl<\'s> Tr for X<\'s> { const C: u8 = 1; type T = [u8; { 1 }]; }', 'trait Tr { fn f(); }', 'type A = B<{ 1 + 1 }>;', 'extern "C" { fn x(); }',
-         '/// Outer.\n#[cfg_attr(a, derive(Logos))]\nenum Conditional { #[token("a")] A }', 'pub struct Größe(u8, #[a] u16);', 'fn h() { if a < b && c > d { } }',
-         'const B: [u8; 2] = [0x1F, b\'\\\'\'];', ';', 'unsafe impl !Send for A {}', 'async fn k() -> impl Fn(u8) -> u8 { |x| x }']
-# Attributes of an enum besides its derive.
-ATTRIBUTES = ['/// Words.', '#[repr(u8)]', '#[logos(skip " ")]', '#[logos(skip("\\t", priority = 9))]', '#[allow(dead_code)]', '#[cfg(all(a, b))]', '// note\n',
-              '/** Block. */', '#[logos(subpattern d = "[0-9]")]', '#[non_exhaustive]']
-DERIVES = ['Logos', 'logos::Logos', '::logos::Logos', 'Debug, Logos', 'Logos, Clone', 'Copy,Clone ,Logos,', 'A, /* b */ logos :: Logos, C', 'a::B, ::logos::Logos']
-CALLBACKS = ['', '', '', ', f', ', |lex| lex.slice().len()', ', callback = a::b::<u8>', ', |_| { let x = "}"; (x, \'{\') }', ', priority = 30']
+made_of = table('whole_files')
 
 
 class FileMaker:
@@ -56,7 +44,7 @@ class FileMaker:
         """A variant with patterns that no other variant has."""
         self.serial += 1
         name = f'V{self.serial}'
-        lines = [f'#[token("{name}"{self.pick(CALLBACKS)})]', f'#[regex(r"{name}(?:x|y)+"{self.pick(CALLBACKS)})]', '/// A variant.', '#[doc(hidden)]']
+        lines = [f'#[token("{name}"{self.pick(made_of.CALLBACKS)})]', f'#[regex(r"{name}(?:x|y)+"{self.pick(made_of.CALLBACKS)})]', '/// A variant.', '#[doc(hidden)]']
         chosen = [lines[0], *self.random.sample(lines[1:], self.random.randrange(3))]
         self.random.shuffle(chosen)
         field = self.pick(['', '', '(u8)', f' = {self.serial}'])
@@ -64,7 +52,7 @@ class FileMaker:
         return ''.join(line + end for line, end in ends.items()) + name + field
 
     def enum(self):
-        attributes = self.random.sample(ATTRIBUTES, self.random.randrange(4)) + [f'#[derive({self.pick(DERIVES)})]']
+        attributes = self.random.sample(made_of.ATTRIBUTES, self.random.randrange(4)) + [f'#[derive({self.pick(made_of.DERIVES)})]']
         self.random.shuffle(attributes)
         head = ''.join(attribute + self.pick(['\n', ' \n', '\r\n', '\n    ']) for attribute in attributes)
         variants = ',\n    '.join(self.variant() for _ in range(self.random.randrange(1, 4)))
@@ -77,7 +65,7 @@ class FileMaker:
         self.serial += 1
         text, depth = f'/* mark {self.serial} */', self.depth
         for _ in range(self.random.randrange(4)):
-            text += self.gap() + self.pick(ITEMS)
+            text += self.gap() + self.pick(made_of.ITEMS)
         while depth and (end or self.random.random() < 0.4):
             text, depth = text + self.gap() + '}', depth - 1
         if not end and self.random.random() < 0.4:
