@@ -4,6 +4,7 @@ use rattle_std::alloc::Global;
 use rattle_std::collections::{BTreeSet, HashMap, HashSet};
 use rattle_std::crates::indexmap::{IndexMap, IndexSet};
 use rattle_std::format;
+use rattle_std::vec::Vec;
 
 /// Returns numbers that come in no order and none twice: multiples of a number prime to the count.
 fn mixed(count: u64) -> impl Iterator<Item = u64> {
@@ -56,7 +57,7 @@ fn an_index_set_is_truncated() {
     assert!(set.is_empty() && !set.contains(&0));
     assert_eq!(set.insert_full(7).unwrap(), (0, true));
     assert_eq!(set.as_slice(), [7]);
-    assert_eq!(set.into_iter().collect::<Vec<_>>(), [7]);
+    assert_eq!(set.into_iter().collect::<std::vec::Vec<_>>(), [7]);
 }
 
 #[test]
@@ -88,4 +89,17 @@ fn a_hash_set_is_shown_in_the_order_of_its_indices() {
         format!(in Global; "{set:?}").unwrap().as_str(),
         r#"{"c", "a", "b"}"#
     );
+}
+
+#[test]
+fn an_index_set_spreads_keys_that_are_alike() {
+    let mut tables = IndexSet::new(Global);
+    let mut lists = IndexSet::new(Global);
+    for number in 0..20_000u32 {
+        let bits: [bool; 256] = core::array::from_fn(|k| k < 15 && number >> k & 1 == 1);
+        assert!(tables.insert(bits).unwrap());
+        let list = Vec::from_slice(Global, &[number << 16, 0, number]).unwrap();
+        assert!(lists.insert(list).unwrap());
+    }
+    assert_eq!((tables.len(), lists.len()), (20_000, 20_000));
 }

@@ -22,7 +22,17 @@ fn digits() {
         let from = write_digits(number, &mut buf, 22);
         assert_eq!(&buf[from..22], format!("{number}").as_bytes());
         assert_eq!(&buf[22..], b"..");
+        assert!(buf[..from].iter().all(|byte| *byte == b'.'));
+        let mut exact = vec![b'.'; 22 - from];
+        assert_eq!(write_digits(number, &mut exact, 22 - from), 0);
+        assert_eq!(exact, format!("{number}").as_bytes());
     }
+}
+
+#[test]
+#[should_panic]
+fn digits_that_have_no_room() {
+    write_digits(1000, &mut [0; 8], 3);
 }
 
 #[test]
