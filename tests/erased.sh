@@ -1,7 +1,7 @@
 #!/usr/bin/env bash
 # Builds the programs of the tests by Cargo, from the crates without their contracts, into
-# out/cargo/release: quickly, optimised, and with Rust's checks of overflow and its debug assertions,
-# which a proof makes needless.
+# out/cargo/release: quickly, optimised, and with Rust's checks of overflow and its debug
+# assertions, which a proof makes needless.
 #
 #   bash tests/erased.sh              builds them
 #   bash tests/erased.sh install ..   runs `cargo install ..` with what was built so

@@ -1,5 +1,5 @@
-# Read by scripts that count which of their expectations are met. It gives them `room`, a folder that
-# is removed at their end.
+# Read by scripts that count which of their expectations are met. It gives them `room`, a folder
+# that is removed at their end.
 passed=0
 failed=0
 room=$(mktemp -d)

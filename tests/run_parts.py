@@ -27,7 +27,8 @@ import time
 ROOT = os.path.dirname(os.path.dirname(os.path.realpath(__file__)))
 LIST = f"{ROOT}/tests/parts"
 PROVED, RATTLE, CARGO = f"{ROOT}/out/programs", f"{ROOT}/out/rattle", f"{ROOT}/out/cargo/release"
-# What commands name: programs, the folder of the examples in Rattle, and that of the three programs.
+# What commands name: programs, the folder of the examples in Rattle, and that of the three
+# programs.
 TOOLS = {"logos": "logos", "logos_cli": "logos_cli", "logos_show": "logos_show", "built": "."}
 FOR_TESTS = {"calls": "calls", "evidence": "evidence", "edits": "edits"}
 # The part that makes the programs of each compiler, and the tool that it needs.

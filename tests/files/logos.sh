@@ -5,8 +5,8 @@
 # are missing or whose files cannot be made, or not whole: then what was there stays. Each time the
 # status and every byte that is written must be as stated here.
 #
-# It needs the compiler of the program, `rattle` or `cargo`, and the program, which is the proved one
-# in out/programs if there are no arguments.
+# It needs the compiler of the program, `rattle` or `cargo`, and the program, which is the proved
+# one in out/programs if there are no arguments.
 set -euo pipefail
 
 compiler=${1:-rattle}

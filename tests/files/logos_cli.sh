@@ -4,8 +4,8 @@
 # written whole or not at all: what stood in its place stays, and no other file is left. Links,
 # permissions and devices stay what they are.
 #
-# It needs the compiler of the program, `rattle` or `cargo`, and the program, which is the proved one
-# in out/programs if there are no arguments.
+# It needs the compiler of the program, `rattle` or `cargo`, and the program, which is the proved
+# one in out/programs if there are no arguments.
 set -euo pipefail
 
 compiler=${1:-rattle}

@@ -1,7 +1,8 @@
 //! Stands in for Rattle's `std::fs`.
 //!
 //! Paths are texts as Unix has them. Elsewhere some paths of Linux that the crates name have their
-//! meaning too: `/dev/stdin` is standard input, and `/proc/self` leads to the number of the process.
+//! meaning too: `/dev/stdin` is standard input, and `/proc/self` leads to the number of the
+//! process.
 
 mod metadata;
 

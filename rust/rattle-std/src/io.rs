@@ -64,8 +64,8 @@ pub trait Read {
     }
 }
 
-/// Appends zeros to a vector, in whose place bytes are read: as many as there is room for, or as the
-/// vector has.
+/// Appends zeros to a vector, in whose place bytes are read: as many as there is room for, or as
+/// the vector has.
 fn lengthen(buf: &mut Vec<u8>) -> core::result::Result<(), AllocError> {
     let len = buf.len();
     let room = match buf.capacity() - len {

@@ -28,11 +28,13 @@ pub fn set_budget(bytes: Option<usize>) {
     BUDGET.store(bytes.unwrap_or(usize::MAX), Relaxed);
 }
 
-/// Sets the budget that the variable `LOGOS_MEMORY` names, or [`DEFAULT_BUDGET`] where it is not set.
+/// Sets the budget that the variable `LOGOS_MEMORY` names, or [`DEFAULT_BUDGET`] where it is not
+/// set.
 ///
 /// # Errors
 ///
-/// Returns an error if the variable names no number of bytes. Then the budget is [`DEFAULT_BUDGET`].
+/// Returns an error if the variable names no number of bytes. Then the budget is
+/// [`DEFAULT_BUDGET`].
 pub fn set_budget_of_program() -> Result<(), BudgetError> {
     set_budget(Some(DEFAULT_BUDGET));
     if let Some(text) = std::env::var_os(VARIABLE) {
@@ -42,7 +44,8 @@ pub fn set_budget_of_program() -> Result<(), BudgetError> {
     Ok(())
 }
 
-/// Returns the number of bytes that a text names: digits, and `M` for MiB or `G` for GiB after them.
+/// Returns the number of bytes that a text names: digits, and `M` for MiB or `G` for GiB after
+/// them.
 pub fn budget_of(text: &str) -> Option<usize> {
     let (digits, unit) = match text.as_bytes() {
         [.., b'M'] => (&text[..text.len() - 1], 1 << 20),

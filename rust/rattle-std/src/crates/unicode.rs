@@ -26,8 +26,8 @@ pub mod sets {
     }
 
     impl Set {
-        /// Returns the members as ranges in order, each by its first and its last one. They may have
-        /// surrogates.
+        /// Returns the members as ranges in order, each by its first and its last one. They may
+        /// have surrogates.
         ///
         /// # Errors
         ///

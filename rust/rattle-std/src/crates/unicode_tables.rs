@@ -1,8 +1,8 @@
 //! Tables of Unicode, printed by `tests/unicode/run.sh --write` from the libraries of Rattle.
 //!
 //! Ranges of characters are pairs of numbers: how many characters lie between the range before and
-//! this one, and by how many the last of the range is above its first. Numbers are written five bits
-//! a character, the lowest ones first: the last five as a character from `0` on, and those before as
+//! this one, and by how many the last of the range is above its first. A character has five bits of
+//! a number, the lowest ones first: the last five as a character from `0` on, and those before as
 //! characters from `]` on.
 
 /// The sets by their names, in the order of these.
@@ -1256,7 +1256,7 @@ pub(super) static FOLDS: &[u8] = b"\
     21`21`21`21`21`21`21`21`21`21`21`21`21`21`21`21`21`21`21`21`21`21`21`21`21`21`21`21`21`21`21`21\
     `21`2";
 
-/// The widths of characters: how many in turn have one, and the width, or 4 for those that have none.
+/// The widths of characters: how many in turn have one, and the width, or 4 for those without one.
 pub(super) static WIDTHS: &[u8] = b"\
     ]14|21^14=110oB1m30p8170d81j101110112011201130x1110:1;01110k11E0@110b3170216021201140^11101110N\
     1K0x21;0w11909110H140119011301150h1130q11205190g11v10t11101110418041103170:120M110w111011102140\

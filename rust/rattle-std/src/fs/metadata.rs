@@ -70,7 +70,8 @@ pub fn set_permissions<R: Files>(_rt: &R, path: &str, to: Permissions) -> io::Re
 
 macro_rules! known_to_unix {
     ($($(#[$doc:meta])* $name:ident: $type:ty, $elsewhere:expr;)*) => {
-        /// What Unix knows of a file besides. Elsewhere a file is the one that its whole path names.
+        /// What Unix knows of a file besides. Elsewhere a file is the one that its whole path
+        /// names.
         pub trait MetadataExt {
             $($(#[$doc])* fn $name(&self) -> $type;)*
         }
