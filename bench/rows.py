@@ -8,9 +8,9 @@ The file `rows` of the folder has three lines and then the rows, with a blank li
 name, and below it, behind four spaces, what the row measures.
 
 - `libraries:` names the crates that the program uses.
-- `kind:` is `args`, where a row has the arguments of the program; `source`, where `source.py` of
-  the folder makes a file of a kind and a size; or `halves`, where it has a call, a kind and a size,
-  and is measured for half the size, too. The first two run three times, and the fastest run counts.
+- `kind:` is `args`, where a row has the arguments of the program; `source`, where it has a kind and
+  a size, of which `sources.py` makes a file; or `halves`, where a call stands in front of these and
+  half the size is measured, too. The first two run three times, and the fastest run counts.
 - `columns:` has the heading of the names, and then for each column its heading and which number
   that the program prints it shows: the second one as `2`, divided as `3/1024`, as the divisor in
   `16.7/1`, and after a space with how many decimals.
@@ -22,6 +22,9 @@ import re
 import subprocess
 import sys
 import tempfile
+
+sys.dont_write_bytecode = True
+from sources import source as made  # noqa: E402
 
 BENCH = os.path.dirname(os.path.realpath(__file__))
 
@@ -56,8 +59,8 @@ def runs(folder, kind, rows, file):
             continue
         *call, source, size = given
         for part in [int(size) // 2, int(size)] if kind == "halves" else [int(size)]:
-            with open(file, "wb") as out:
-                subprocess.run([sys.executable, f"{folder}/source.py", source, str(part)], stdout=out, check=True)
+            with open(file, "w", encoding="utf-8") as out:
+                out.write(made(folder, source, part))
             yield f"{name}, {part}" if kind == "halves" else name, [*call, file], 1 if kind == "halves" else 3
 
 
