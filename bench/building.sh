@@ -33,10 +33,11 @@ fastest() {
     done | sort -n | head -n 1
 }
 
-# NAME KIND SIZE [MOST]: a row of the table, which may take at most MOST times as long as the row of
-# 4000 keywords.
+# NAME KIND SIZE MOST: a row of the table, which may take at most MOST times as long as the row of
+# 4000 keywords, or any time where that is 0. The rows stand in the file `rows` of bench/building: a
+# kind, a size, that bound, and a name.
 measure() {
-    fastest "$2" "$3" | awk -v name="$1" -v linear="$linear" -v most="${4:-0}" -v slow="$copy/slow" '{
+    fastest "$2" "$3" | awk -v name="$1" -v linear="$linear" -v most="$4" -v slow="$copy/slow" '{
         printf "| %s | %.3f | %s | %.0f | %.2f |\n", name, $1, $2, $3 / 1024, $1 / linear
         if (most > 0 && $1 > most * linear) print name ": more than " most " times 4000 keywords" > slow
     }'
@@ -44,28 +45,9 @@ measure() {
 
 linear=$(fastest keywords 4000 | cut -d " " -f 1)
 print_head "Source" "Seconds" "States" "Memory in MiB" "Times 4000 keywords"
-for count in 1000 2000 4000 8000; do
-    measure "$count keywords" keywords "$count"
-done
-measure "4000 keywords, names and numbers" beside_names 4000
-measure "20000 words of two to four letters" short 20000
-measure "1000 words in one regex" one_regex 1000
-measure "4000 words in one regex" one_regex 4000
-measure "\`a{65000}\`" repeated 65000
-measure "100000 variants, one with a token" plain 100000
-measure "100000 variants with a token each" short 100000
-measure "1000 keywords, names of all scripts" unicode_names 1000 2.5
-measure "SQL: 400 keywords in any case, names in ASCII" sql 400 1
-measure "SQL: 400 keywords in any case, names of all scripts" sql_unicode 400 2
-measure "a language like Rust, names of all scripts" rust_like 0 1
-measure "20 rules of class sets" class_sets 20 7.5
-measure "80 rules of class sets" class_sets 80 7.5
-measure "200 regexes that begin alike" beginnings 200 0.5
-measure "what stands in log lines" log_lines 0 0.2
-measure "249 groups around 520000 branches" groups 520000 2
-measure "\`(?:\w?){300}!\`" optional_words 300 19
-measure "\`(?:a?){4000}b\`" optional_letters 4000 7
-measure "10 leaves of overlapping sets" overlapping 10 0.2
+while read -r kind size most name; do
+    measure "$name" "$kind" "$size" "$most" < /dev/null
+done < "$bench/building/rows"
 
 # COMMAND ..: the least processor seconds of five runs, or a dash where the program is missing or
 # refuses what it gets.

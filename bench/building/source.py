@@ -2,9 +2,13 @@
 and of the size that the second one says. With a third argument, `flex` or `re2c`, it writes the
 same words as a source of that program; this is there for `keywords` and `one_regex`."""
 import itertools
+import os
 import random
 import sys
+import tomllib
 
+with open(f"{os.path.dirname(os.path.realpath(__file__))}/lists.toml", "rb") as it:
+    LISTS = tomllib.load(it)
 LETTERS = "abcdefghijklmnopqrstuvwxyz"
 
 
@@ -68,53 +72,30 @@ def sql_words(rng, count):
     return [f'    #[token("{word}", ignore(case))]\n    V{number},\n' for number, word in enumerate(long_words(rng, count))]
 
 
-SQL_REST = [r"[0-9]+(\.[0-9]+)?", r"'([^']|'')*'", r"--[^\n]*", r"[ \t\r\n]+", r"<=|>=|<>|\|\||[-+*/%=<>(),.;]"]
-
-
 def sql(rng, count):
     """Keywords in any case, names in ASCII, numbers, strings, comments and operators."""
-    return sql_words(rng, count) + regexes([r"[a-zA-Z_][a-zA-Z_0-9$]*", *SQL_REST])
+    return sql_words(rng, count) + regexes([r"[a-zA-Z_][a-zA-Z_0-9$]*", *LISTS["sql"]])
 
 
 def sql_unicode(rng, count):
     """The same with names of all scripts."""
-    return sql_words(rng, count) + regexes([r"[\p{XID_Start}_][\p{XID_Continue}$]*", *SQL_REST])
-
-
-RUST_WORDS = """abstract as async await become box break const continue crate do dyn else enum extern false final fn for gen if impl in let loop
-macro macro_rules match mod move mut override priv pub raw ref return safe self Self static struct super trait true try type typeof union unsafe
-unsized use virtual where while yield""".split()
-RUST_SIGNS = """+ - * / % ^ ! & | && || << >> += -= *= /= %= ^= &= |= <<= >>= = == != > < >= <= @ . .. ... ..= , ; : :: -> <- => # $ ? ~
-( ) [ ] { }""".split()
+    return sql_words(rng, count) + regexes([r"[\p{XID_Start}_][\p{XID_Continue}$]*", *LISTS["sql"]])
 
 
 def rust_like(rng, count):
     """The words and signs of a language like Rust, with its literals, comments, lifetimes and names
     of all scripts. The size says nothing."""
-    patterns = [
-        r"[_\p{XID_Start}]\p{XID_Continue}*",
-        r"'[_\p{XID_Start}]\p{XID_Continue}*",
-        r"[0-9][0-9_]*([uif](8|16|32|64|128|size))?",
-        r"0x[0-9a-fA-F_]+|0o[0-7_]+|0b[01_]+",
-        r"[0-9][0-9_]*\.[0-9][0-9_]*([eE][+-]?[0-9_]+)?(f32|f64)?",
-        r'b?"([^"\\]|\\.)*"',
-        r"b?'([^'\\]|\\[^u\n]|\\u\{[0-9a-fA-F]{1,6}\})'",
-        r"//[^\n]*",
-        r"\s+",
-    ]
-    return tokens(RUST_WORDS + RUST_SIGNS) + regexes(patterns)
+    return tokens(LISTS["rust_tokens"].split()) + regexes(LISTS["rust"])
 
 
-SCRIPTS = """Arabic Armenian Balinese Bengali Bopomofo Braille Buginese Canadian_Aboriginal Cherokee Coptic Cyrillic Devanagari Ethiopic Georgian
-Glagolitic Gothic Greek Gujarati Gurmukhi Han Hangul Hebrew Hiragana Javanese Kannada Katakana Khmer Lao Latin Lisu Malayalam Mongolian Myanmar
-Ogham Oriya Runic Sinhala Syriac Tamil Thai""".split()
 SETS = [r"[\p{{L}}--\p{{{0}}}]", r"[\p{{L}}\p{{N}}~~\p{{{0}}}]", r"[\p{{L}}&&\P{{{0}}}]"]
 
 
 def class_sets(rng, count):
     """Repeated sets of characters, each of two properties, with a number after them that keeps the
     rules apart."""
-    return regexes([SETS[number % 3].format(SCRIPTS[number % len(SCRIPTS)]) + f"+#{number}" for number in range(count)])
+    scripts = LISTS["scripts"].split()
+    return regexes([SETS[number % 3].format(scripts[number % len(scripts)]) + f"+#{number}" for number in range(count)])
 
 
 def beginnings(rng, count):
@@ -129,22 +110,7 @@ def log_lines(rng, count):
     """What stands in lines of a log: dates, addresses, identifiers, paths, levels, words. The size
     says nothing."""
     levels = ["TRACE", "DEBUG", "INFO", "WARN", "ERROR", "FATAL"]
-    patterns = [
-        r"[0-9]{4}-[01][0-9]-[0-3][0-9][T ][0-2][0-9]:[0-5][0-9]:[0-5][0-9](\.[0-9]{1,9})?(Z|[+-][0-2][0-9]:[0-5][0-9])?",
-        r"[0-9]{1,3}\.[0-9]{1,3}\.[0-9]{1,3}\.[0-9]{1,3}(:[0-9]{1,5})?",
-        r"[0-9a-fA-F]{8}-[0-9a-fA-F]{4}-[0-9a-fA-F]{4}-[0-9a-fA-F]{4}-[0-9a-fA-F]{12}",
-        r"(/[A-Za-z0-9_.-]+)+",
-        r"[A-Za-z0-9_.+-]+@[A-Za-z0-9-]+(\.[A-Za-z0-9-]+)+",
-        r"https?://[A-Za-z0-9.-]+(:[0-9]+)?(/[^ \t\n]*)?",
-        r"[0-9]+(\.[0-9]+)?(ns|us|ms|s|B|kB|MB)?",
-        r"0x[0-9a-fA-F]+",
-        r'"([^"\\\n]|\\.)*"',
-        r"[A-Za-z_][A-Za-z_0-9]*=?",
-        r"[ \t]+",
-        r"\n",
-        r"[^A-Za-z0-9_ \t\n]",
-    ]
-    return tokens(levels) + regexes(patterns)
+    return tokens(levels) + regexes(LISTS["log"])
 
 
 def groups(rng, count):
@@ -179,23 +145,11 @@ KINDS = {
 }
 
 
-# What stands before the rules of another program, between the words and the number of their rule,
-# after that number, and after the rules.
-FRAMES = {
-    "flex": ("%option noyywrap\n%%\n", " return ", ";\n", ".|\\n return 0;\n%%\n"),
-    "re2c": (
-        "int lex(const unsigned char *YYCURSOR) {\nconst unsigned char *YYMARKER;\n/*!re2c\n"
-        "re2c:define:YYCTYPE = 'unsigned char';\nre2c:yyfill:enable = 0;\n",
-        " { return ", "; }\n", "* { return 0; }\n*/\n}\n",
-    ),
-}
-
-
 def other_source(program, kind, count):
     """Returns the words of a kind as rules of another program: one rule, or one for each."""
     words = [f'"{word}"' for word in long_words(random.Random(1), count)]
     rules = words if kind == "keywords" else ["|".join(words)]
-    head, before, after, foot = FRAMES[program]
+    head, before, after, foot = LISTS["frames"][program]
     return head + "".join(f"{rule}{before}{number + 1}{after}" for number, rule in enumerate(rules)) + foot
 
 
