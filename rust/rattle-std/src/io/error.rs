@@ -107,8 +107,6 @@ kinds! {
     NotADirectory,
     /// A name is too long, or has characters that the system does not take.
     InvalidFilename,
-    /// A parameter is none that the system takes.
-    InvalidInput,
     /// The data is not as it has to be.
     InvalidData,
     /// The disk is full.
