@@ -1,11 +1,10 @@
-//! The budget of memory: how many bytes a thread may have in use.
+//! The budget of memory: how many bytes may be in use.
 //!
 //! A program or a macro that takes input of others sets it. Past it growth is refused as if memory
 //! ran out. Everything that this crate allocates is counted, by capacity; the overhead of the
 //! system's allocator is not.
 
 use super::AllocError;
-use core::cell::Cell;
 use core::fmt;
 use core::sync::atomic::{AtomicUsize, Ordering::Relaxed};
 
@@ -15,16 +14,13 @@ pub const DEFAULT_BUDGET: usize = 1 << 30;
 /// The variable of the environment that names another budget.
 const VARIABLE: &str = "LOGOS_MEMORY";
 
-/// The most bytes that a thread may have in use. The greatest number stands for no budget.
+/// The most bytes that may be in use. The greatest number stands for no budget.
 static BUDGET: AtomicUsize = AtomicUsize::new(usize::MAX);
 
-thread_local! {
-    /// The bytes in use that this thread claimed while there was a budget. A counter for all threads
-    /// would take longer than the rest of a small allocation, and the crates have no threads.
-    static IN_USE: Cell<usize> = const { Cell::new(0) };
-}
+/// The bytes in use that were claimed while there was a budget.
+static IN_USE: AtomicUsize = AtomicUsize::new(0);
 
-/// Sets how many bytes each thread may have in use, or that there is no budget, as at the start.
+/// Sets how many bytes may be in use, or that there is no budget, as at the start.
 ///
 /// What is allocated before is not counted, so this is called first. The setting is that of the
 /// process.
@@ -85,12 +81,12 @@ pub(crate) fn claim(bytes: usize) -> Result<(), AllocError> {
     if budget == usize::MAX {
         return Ok(());
     }
-    let sum = IN_USE.get().wrapping_add(bytes);
+    let before = IN_USE.fetch_add(bytes, Relaxed);
     // Bytes of the time before the budget may have been released, so the sum may be below zero.
-    if sum as isize > budget.min(isize::MAX as usize) as isize {
+    if (before.wrapping_add(bytes) as isize) > budget.min(isize::MAX as usize) as isize {
+        IN_USE.fetch_sub(bytes, Relaxed);
         return Err(AllocError);
     }
-    IN_USE.set(sum);
     Ok(())
 }
 
@@ -98,6 +94,6 @@ pub(crate) fn claim(bytes: usize) -> Result<(), AllocError> {
 #[inline]
 pub(crate) fn release(bytes: usize) {
     if bytes != 0 && BUDGET.load(Relaxed) != usize::MAX {
-        IN_USE.set(IN_USE.get().wrapping_sub(bytes));
+        IN_USE.fetch_sub(bytes, Relaxed);
     }
 }
