@@ -9,10 +9,9 @@ line is `bodies_pages: N passed, M failed`."""
 import sys
 from pathlib import Path
 
-ROOT = Path(__file__).resolve().parents[2]
-sys.path.insert(0, str(ROOT / "tests" / "wrong_bodies"))
-sys.dont_write_bytecode = True
+from common import ROOT, finish
 
+sys.path.insert(0, f"{ROOT}/tests/wrong_bodies")
 from bodies import BadPage, bodies_of  # noqa: E402
 
 PAGES = ("gate.md", "others.md")
@@ -30,21 +29,15 @@ def faults_of(folder):
 
 
 def main():
-    passed = failed = 0
-    for folder in sorted((ROOT / "crates").iterdir()):
-        if not folder.is_dir():
-            continue
-        count, faults = faults_of(folder)
-        for fault in faults:
-            print(f"bodies_pages: {fault}")
-        failed += len(faults)
-        passed += count - len(faults)
+    passed, failed = 0, []
+    for folder in sorted(Path(ROOT, "crates").iterdir()):
+        if folder.is_dir():
+            count, faults = faults_of(folder)
+            failed += faults
+            passed += count - len(faults)
     if passed < LEAST:
-        print(f"bodies_pages: {passed} passed, and {LEAST} have to")
-        failed += 1
-    print(f"bodies_pages: {passed} passed, {failed} failed")
-    sys.exit(failed != 0)
+        failed.append(f"{passed} passed, and {LEAST} have to")
+    finish("bodies_pages", passed, failed)
 
 
-if __name__ == "__main__":
-    main()
+main()

@@ -11,10 +11,10 @@ module counts as found where it has such a function, and a trait's word where so
 one. The last line is `contracts: N passed, M failed`."""
 import pathlib
 import re
-import sys
 
-TOP = pathlib.Path(__file__).resolve().parents[2]
-CRATES = TOP / "crates"
+from common import ROOT, finish, has_option, items, read
+
+CRATES = pathlib.Path(ROOT, "crates")
 # With fewer that pass, rows were lost, or are no longer read.
 LEAST = 270
 FUNCTION = re.compile(r"^( *)(?:pub(?:\([^)]*\))? )?(?:const )?fn (\w+)", re.M)
@@ -78,19 +78,6 @@ def rows(text):
             yield number, crates, item.rpartition(" By ")[2] if " By " in item else None
 
 
-def items(text):
-    """Yields the headings, paragraphs and items of lists of a page, each with its first line and as
-    one line."""
-    number, part = 0, []
-    for at, line in enumerate([*text.split("\n"), ""], 1):
-        if part and (not line.strip() or re.match(r" *- |#", line)):
-            yield number, " ".join(part)
-            part = []
-        if line.strip():
-            number = number if part else at
-            part.append(line.rstrip() if not part else line.strip())
-
-
 def faults_of(cell, known):
     """Yields, for each name among the contracts of an item, what is wrong with it, or None."""
     if cell is None:
@@ -109,20 +96,16 @@ def faults_of(cell, known):
 
 
 def main():
-    if sys.argv[1:]:
-        sys.exit(__doc__)
+    has_option()
     crates = {folder.name: Crate(folder) for folder in CRATES.glob("logos_*")}
     passed, faults = 0, []
-    for number, named, cell in rows((TOP / "docs/PROOFS.md").read_text(encoding="utf-8")):
+    for number, named, cell in rows(read("docs/PROOFS.md")):
         missing = [name for name in named if name not in crates]
         known = [crates[name] for name in named if name in crates] or list(crates.values())
         for fault in [*(f"no crate {name}" for name in missing), *faults_of(cell, known)]:
             passed += fault is None
             faults += [f"docs/PROOFS.md:{number}: {fault}"] if fault else []
-    for fault in faults:
-        print(f"contracts: {fault}")
-    print(f"contracts: {passed} passed, {len(faults)} failed")
-    sys.exit(1 if faults or passed < LEAST else 0)
+    finish("contracts", passed, faults, LEAST)
 
 
 main()

@@ -11,10 +11,10 @@ What a crate is for is the first paragraph of the comment at the top of its `src
 `crates_page: N passed, M failed`: a crate counts as one, and so does the page."""
 import os
 import re
-import sys
 import textwrap
 
-ROOT = os.path.dirname(os.path.dirname(os.path.dirname(os.path.realpath(__file__))))
+from common import ROOT, finish, has_option, read
+
 PAGE = f"{ROOT}/crates/README.md"
 LEAST = 37
 WIDTH = 100
@@ -36,14 +36,13 @@ def rooms():
     """Returns the rooms of `crates.txt`: the title of each, and its crates with the libraries that
     they use."""
     found = []
-    with open(f"{ROOT}/crates.txt", encoding="utf-8") as lines:
-        for line in lines:
-            title = re.fullmatch(r"# (\w+): (.*)\n", line)
-            name, colon, below = line.split("#")[0].partition(":")
-            if title:
-                found.append((title[1], title[2], {}))
-            elif colon and found:
-                found[-1][2][name.split()[0]] = below.split()
+    for line in read("crates.txt").split("\n"):
+        title = re.fullmatch(r"# (\w+): (.*)", line)
+        name, colon, below = line.split("#")[0].partition(":")
+        if title:
+            found.append((title[1], title[2], {}))
+        elif colon and found:
+            found[-1][2][name.split()[0]] = below.split()
     return found
 
 
@@ -53,8 +52,7 @@ def purpose(crate):
     for name in ("lib.rt", "main.rt"):
         path = f"{ROOT}/crates/{crate}/src/{name}"
         if os.path.exists(path):
-            with open(path, encoding="utf-8") as it:
-                comment = re.match(r"(?://! .*\n)+", it.read())
+            comment = re.match(r"(?://! .*\n)+", read(path))
             return " ".join(re.findall(r"//! (.*)", comment[0])) if comment else ""
     return ""
 
@@ -84,11 +82,10 @@ def page(found):
 
 
 def main():
-    if sys.argv[1:] not in ([], ["--write"]):
-        sys.exit(__doc__)
+    is_written = has_option("--write")
     found = rooms()
     text = page(found)
-    if sys.argv[1:]:
+    if is_written:
         with open(PAGE, "w", encoding="utf-8") as out:
             out.write(text)
     named = [name for _, _, crates in found for name in crates]
@@ -96,13 +93,9 @@ def main():
               if os.path.isdir(f"{ROOT}/crates/{name}/src") and name not in named]
     faults += [f"{name} has no comment at its top" for name in named if not purpose(name)]
     faults += [f"{name} is named twice in crates.txt" for name in set(named) if named.count(name) > 1]
-    if not os.path.exists(PAGE) or open(PAGE, encoding="utf-8").read() != text:
+    if not os.path.exists(PAGE) or read(PAGE) != text:
         faults.append("crates/README.md is not what the crates give: run crates_page.py --write")
-    for fault in faults:
-        print(f"crates_page: {fault}")
-    passed = max(len(named) + 1 - len(faults), 0)
-    print(f"crates_page: {passed} passed, {len(faults)} failed")
-    sys.exit(1 if faults or passed < LEAST else 0)
+    finish("crates_page", max(len(named) + 1 - len(faults), 0), faults, LEAST)
 
 
 main()

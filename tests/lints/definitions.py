@@ -21,9 +21,10 @@ from; all functions count of the crates that do what a program does. The last li
 `definitions: N passed, M failed`."""
 import pathlib
 import re
-import sys
 
-TOP = pathlib.Path(__file__).resolve().parents[2]
+from common import ROOT, finish, has_option, items, read
+
+TOP = pathlib.Path(ROOT)
 CRATES = TOP / "crates"
 PAGE = "docs/DEFINITIONS.md"
 # With fewer that pass, lines were lost, or are no longer read.
@@ -157,27 +158,14 @@ def public_files(crate):
     return found
 
 
-def items(text):
-    """Yields the headings, paragraphs and lines of lists of a page, each with its first line and as
-    one line."""
-    number, part = 0, []
-    for at, line in enumerate([*text.split("\n"), ""], 1):
-        if part and (not line.strip() or line.startswith(("- ", "#"))):
-            yield number, " ".join(part)
-            part = []
-        if line.strip():
-            number = number if part else at
-            part.append(line.strip())
-
-
 class Page:
     """What is looked up on the page: its files, its reading orders, its codes, its other names."""
 
     def __init__(self):
-        self.passed, self.failed = 0, 0
+        self.passed, self.faults = 0, []
         self.listed, self.orders, self.codes, self.others = {}, [], {}, []
         crate, heading = None, ""
-        for number, text in items((TOP / PAGE).read_text(encoding="utf-8")):
+        for number, text in items(read(PAGE)):
             if text.startswith("#"):
                 heading = text
                 found = re.search(r"`crates/(\w+)/specs`", text)
@@ -193,11 +181,9 @@ class Page:
                 self.others += [(number, name) for name in re.findall(r"`([^`]*)`", text)]
 
     def count(self, found, number, what):
-        """Counts something, and reports it where it was not found."""
+        """Counts something, and notes it where it was not found."""
         self.passed += bool(found)
-        self.failed += not found
-        if not found:
-            print(f"definitions: {PAGE}:{number}: {what}")
+        self.faults += [] if found else [f"{PAGE}:{number}: {what}"]
 
     def add_files(self, number, crate, text):
         """Adds the files of a line."""
@@ -232,7 +218,7 @@ class Page:
         """Looks up what the page has, apart from its files."""
         for number, path in self.orders:
             self.count(path in self.listed, number, f"a file of a reading order that is not listed: {path}")
-        enum = (CRATES / "logos_token/src/error/fault_code.rt").read_text(encoding="utf-8").split("pub enum FaultCode {", 1)[1]
+        enum = read("crates/logos_token/src/error/fault_code.rt").split("pub enum FaultCode {", 1)[1]
         codes = set(re.findall(r"^    ([A-Z]\w*),", enum.split("\n}", 1)[0], re.M))
         for code in sorted(codes | set(self.codes)):
             self.count(code in codes and code in self.codes, 0, f"a code that the page or the enum lacks: {code}")
@@ -253,8 +239,7 @@ class Page:
 
 
 def main():
-    if sys.argv[1:]:
-        sys.exit(__doc__)
+    has_option()
     page, definitions, cited = Page(), Definitions(), {}
     page.look_up(definitions)
     for crate in sorted(CRATES.glob("logos_*")):
@@ -266,8 +251,7 @@ def main():
     for path, name in sorted(definitions.all_needed(cited)):
         page.count(path in page.listed, 0, f"not listed: {path}, for {name}")
     print(f"definitions: {len(page.listed)} files, {len(cited)} definitions that contracts cite")
-    print(f"definitions: {page.passed} passed, {page.failed} failed")
-    return 1 if page.failed or page.passed < LEAST else 0
+    finish("definitions", page.passed, page.faults, LEAST)
 
 
-sys.exit(main())
+main()

@@ -15,7 +15,8 @@ import subprocess
 import sys
 import tempfile
 
-ROOT = os.path.dirname(os.path.dirname(os.path.dirname(os.path.realpath(__file__))))
+from common import ROOT, finish, read
+
 PAGE = f"{ROOT}/docs/FAULTS.md"
 SHOWN = f"{ROOT}/tests/rows/logos_cli/faults.rows"
 REPORTS = f"{ROOT}/tests/rows/logos_cli/*.rows"
@@ -26,8 +27,7 @@ KINDS = [(f"{ROOT}/crates/logos_lexeme/src/lexeme.rt", "LexicalKind"), (f"{ROOT}
 
 def variants(path, name):
     """Returns the names of an enum's variants."""
-    with open(path, encoding="utf-8") as source:
-        body = re.search(rf"pub enum {name} \{{\n(.*?)\n\}}", source.read(), re.S)
+    body = re.search(rf"pub enum {name} \{{\n(.*?)\n\}}", read(path), re.S)
     return re.findall(r"^    ([A-Z]\w*)", body.group(1), re.M) if body else []
 
 
@@ -78,10 +78,8 @@ def rows(page):
 def shown():
     """Returns the codes that a row of `logos_cli` shows: it is named after the code, and its
     messages have a line for it."""
-    with open(SHOWN, encoding="utf-8") as it:
-        rows = it.read().split("\n=== the fault ")[1:]
     found = set()
-    for row in rows:
+    for row in read(SHOWN).split("\n=== the fault ")[1:]:
         code, _, rest = row.partition("\n")
         messages = rest.partition("\n--- stderr\n")[2]
         # The place of an earlier text is a note of the fault in front of it.
@@ -95,9 +93,7 @@ def reports():
     """Yields the code, the message and the help or None of each error in a report of the rows of
     `logos_cli`."""
     for path in sorted(glob.glob(REPORTS)):
-        with open(path, encoding="utf-8") as it:
-            rows = it.read()
-        for messages in re.findall(r"\n--- stderr\n(.*?)(?=\n(?:---|===) |\Z)", rows, re.S):
+        for messages in re.findall(r"\n--- stderr\n(.*?)(?=\n(?:---|===) |\Z)", read(path), re.S):
             for report in messages.split("\n\n"):
                 head = re.match(r"error\[(\w+)\]: (.*)", report)
                 help_line = re.search(r"^ += help: (.*)", report, re.M)
@@ -136,10 +132,8 @@ def help_faults(page):
 def main():
     program = os.path.realpath((sys.argv[1:] or [f"{ROOT}/out/programs/logos"])[0])
     if not os.access(program, os.X_OK):
-        print(f"faults: the program {program} is missing\nfaults: 0 passed, 1 failed")
-        sys.exit(1)
-    with open(PAGE, encoding="utf-8") as it:
-        page = it.read()
+        finish("faults", 0, [f"the program {program} is missing"])
+    page = read(PAGE)
     asked = [*entries(page), *[(kind, source, None, line + "\n") for kind, source, line in rows(page)]]
     printed_by_cli = shown()
     met = {it[0].strip("`") for it in asked}
@@ -155,10 +149,7 @@ def main():
                 passed += 1
             else:
                 failed.append(f"{heading}: wanted\n{lines}but this is printed:\n{found}")
-    for line in failed:
-        print(f"faults: {line}")
-    print(f"faults: {passed} passed, {len(failed)} failed")
-    sys.exit(1 if failed or not passed else 0)
+    finish("faults", passed, failed)
 
 
 main()

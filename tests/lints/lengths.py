@@ -9,12 +9,11 @@ A function has at most 40 lines, from its name to its last brace, and a file at 
 `ghost use` lines, at the top of a file or of an `impl`, has at most four. A number of three digits
 or more in a clause has a name, but for 256. Each bound counts once for each crate. All blocks
 together have at most 900 lines. The last line is `lengths: N passed, M failed`."""
-import glob
 import os
 import re
-import sys
 
-ROOT = os.path.dirname(os.path.dirname(os.path.dirname(os.path.realpath(__file__))))
+from common import ROOT, finish, has_option, read, sources
+
 OF_A_FUNCTION = 40
 OF_A_FILE = 400
 OF_A_BLOCK = 4
@@ -28,14 +27,13 @@ FUNCTION = re.compile(r"\s*(?:pub(?:\([a-z]+\))? )?(?:const )?(?:unsafe )?fn (\w
 def lines_of_code(path):
     """Yields the lines of a file that are code. Braces of contracts can stand on several lines."""
     depth = 0
-    with open(path, encoding="utf-8") as lines:
-        for line in lines:
-            if depth > 0:
-                depth += line.count("{") - line.count("}")
-            elif GHOST.match(line):
-                depth = max(0, line.count("{") - line.count("}"))
-            elif line.strip() and not line.strip().startswith("//"):
-                yield line.rstrip("\n")
+    for line in read(path).split("\n"):
+        if depth > 0:
+            depth += line.count("{") - line.count("}")
+        elif GHOST.match(line):
+            depth = max(0, line.count("{") - line.count("}"))
+        elif line.strip() and not line.strip().startswith("//"):
+            yield line
 
 
 def functions(lines):
@@ -56,33 +54,28 @@ def blocks(path):
     """Yields the number of the first line of each block of `ghost use` lines of a file, and how
     many lines it has."""
     count = 0
-    with open(path, encoding="utf-8") as lines:
-        for number, line in enumerate([*lines, ""], 1):
-            if line.strip().startswith("ghost use "):
-                count += 1
-            elif count:
-                yield number - count, count
-                count = 0
+    for number, line in enumerate(read(path).split("\n"), 1):
+        if line.strip().startswith("ghost use "):
+            count += 1
+        elif count:
+            yield number - count, count
+            count = 0
 
 
 def numbers(path):
     """Yields the line of each number of three digits or more in a clause."""
     depth = 0
-    with open(path, encoding="utf-8") as lines:
-        for at, line in enumerate(lines, 1):
-            if depth > 0 or CLAUSE.match(line):
-                depth += line.count("{") - line.count("}")
-                yield from (at for _ in NUMBER.finditer(line.split("//")[0]))
+    for at, line in enumerate(read(path).split("\n"), 1):
+        if depth > 0 or CLAUSE.match(line):
+            depth += line.count("{") - line.count("}")
+            yield from (at for _ in NUMBER.finditer(line.split("//")[0]))
 
 
 def main():
-    names = sys.argv[1:] == ["--names"]
-    if sys.argv[1:] and not names:
-        sys.exit(__doc__)
+    names = has_option("--names")
     passed, failed, of_blocks = 0, [], 0
-    for folder in [*sorted(glob.glob(f"{ROOT}/crates/*/src")), f"{ROOT}/tests/calls/src"]:
-        crate = os.path.relpath(folder, ROOT).removeprefix("crates/").removesuffix("/src")
-        files = {path: list(lines_of_code(path)) for path in sorted(glob.glob(f"{folder}/**/*.rt*", recursive=True))}
+    for crate, folder, paths in sources():
+        files = {path: list(lines_of_code(path)) for path in paths}
         found = sorted(((count, name, path) for path, lines in files.items() for name, count in functions(lines)), reverse=True)
         longest = max((len(lines), path) for path, lines in files.items())
         print(f"{crate:22} {len(found):5} functions, the longest {found[0][0] if found else 0:3}; the longest file {longest[0]:4}")
@@ -100,10 +93,7 @@ def main():
     if of_blocks > OF_ALL_BLOCKS:
         failed.append(f"all blocks of ghost use have {of_blocks} lines, more than {OF_ALL_BLOCKS}")
     passed += of_blocks <= OF_ALL_BLOCKS
-    for line in failed:
-        print(f"lengths: {line}")
-    print(f"lengths: {passed} passed, {len(failed)} failed")
-    sys.exit(1 if failed or not passed else 0)
+    finish("lengths", passed, failed)
 
 
 main()

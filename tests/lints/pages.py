@@ -12,10 +12,9 @@ file, once on that page. Each page counts as one, and so does each path, link an
 line is `pages: N passed, M failed`."""
 import os
 import re
-import subprocess
-import sys
 
-ROOT = os.path.dirname(os.path.dirname(os.path.dirname(os.path.realpath(__file__))))
+from common import ROOT, finish, has_option, listed, read
+
 WIDTH = 100
 # With fewer that pass, pages or rows were lost, or are no longer read.
 LEAST = 200
@@ -26,13 +25,6 @@ ALL_WORDS = 45000
 MADE = "crates/README.md"
 # The most functions of the walk.
 WALK = 42
-
-
-def pages():
-    """Returns the pages of the repository."""
-    listed = subprocess.run(["git", "ls-files", "--cached", "--others", "--exclude-standard", "*.md"], cwd=ROOT, stdout=subprocess.PIPE,
-                            text=True, check=True)
-    return [path for path in listed.stdout.split("\n") if path and os.path.exists(f"{ROOT}/{path}")]
 
 
 def prose(text):
@@ -83,8 +75,7 @@ def link_faults(path, text):
         place = os.path.normpath(f"{ROOT}/{os.path.dirname(path)}/{name}") if name else f"{ROOT}/{path}"
         is_there = os.path.exists(place)
         if is_there and heading:
-            with open(place, encoding="utf-8") as it:
-                is_there = heading in headings(it.read())
+            is_there = heading in headings(read(place))
         yield None if is_there else f"{path}: nothing is at {name}{'#' if heading else ''}{heading}"
 
 
@@ -93,8 +84,7 @@ def walk_faults(text):
     walk = text.split("## From `main` to the first item")[1].split("\n## ")[0]
     count = 0
     for names, place in re.findall(r"^\| (`[^|]+`) \| `([^`]+)` \|$", walk, re.M):
-        with open(f"{ROOT}/crates/{place}", encoding="utf-8") as it:
-            code = it.read()
+        code = read(f"crates/{place}")
         for name in re.findall(r"`(\w+)`", names):
             count += 1
             yield None if re.search(rf"\bfn {name}\b", code) else f"docs/MAP.md: {place} has no function {name}"
@@ -103,12 +93,10 @@ def walk_faults(text):
 
 
 def main():
-    if sys.argv[1:]:
-        sys.exit(__doc__)
+    has_option()
     passed, faults, words = 0, [], 0
-    for path in pages():
-        with open(f"{ROOT}/{path}", encoding="utf-8") as it:
-            text = it.read()
+    for path in listed("*.md"):
+        text = read(path)
         found = [*width_faults(path, text), *length_faults(path, text)]
         passed += not found
         faults += found
@@ -122,11 +110,8 @@ def main():
                 faults += [fault] if fault else []
     if words > ALL_WORDS:
         faults.append(f"all pages: {words} words, at most {ALL_WORDS}")
-    for fault in faults:
-        print(f"pages: {fault}")
     print(f"pages: {words} words")
-    print(f"pages: {passed} passed, {len(faults)} failed")
-    sys.exit(1 if faults or passed < LEAST else 0)
+    finish("pages", passed, faults, LEAST)
 
 
 main()

@@ -9,12 +9,10 @@ No function may have more than six parameters, no crate more than ten functions 
 and the library as a whole no more than four in a hundred. The program of tests/calls, which only
 answers rows, is not counted in the whole. Each bound that holds for a crate counts as one, and so
 does that of the whole. The last line is `parameters: N passed, M failed`."""
-import glob
-import os
 import re
-import sys
 
-ROOT = os.path.dirname(os.path.dirname(os.path.dirname(os.path.realpath(__file__))))
+from common import finish, has_option, read, sources
+
 MANY = 5
 MOST = 6
 IN_A_CRATE = 10
@@ -54,8 +52,7 @@ def parameters(text, at):
 
 def functions(path):
     """Yields the name of each function of a file, and its number of parameters."""
-    with open(path, encoding="utf-8") as it:
-        text = re.sub(r"//[^\n]*", "", it.read())
+    text = re.sub(r"//[^\n]*", "", read(path))
     for found in re.finditer(r"\bfn\s+(\w+)", text):
         at = after_generics(text, found.end())
         if at < len(text) and text[at] == "(":
@@ -63,14 +60,11 @@ def functions(path):
 
 
 def main():
-    names = sys.argv[1:] == ["--names"]
-    if sys.argv[1:] and not names:
-        sys.exit(__doc__)
+    names = has_option("--names")
     passed, failed = 0, []
     whole = whole_many = 0
-    for folder in [*sorted(glob.glob(f"{ROOT}/crates/*/src")), f"{ROOT}/{TESTS}/src"]:
-        crate = os.path.relpath(folder, ROOT).removeprefix("crates/").removesuffix("/src")
-        found = [it for path in sorted(glob.glob(f"{folder}/**/*.rt*", recursive=True)) for it in functions(path)]
+    for crate, _, paths in sources():
+        found = [it for path in paths for it in functions(path)]
         many = [it for it in found if it[1] >= MANY]
         six = sum(count >= MOST for _, count in many)
         print(f"{crate:22} {len(found):5} functions  {MANY} or more {len(many):3}  {MOST} {six:3}")
@@ -90,10 +84,7 @@ def main():
         passed += 1
     else:
         failed.append(f"{share:.1f} in a hundred functions have {MANY} parameters or more")
-    for line in failed:
-        print(f"parameters: {line}")
-    print(f"parameters: {passed} passed, {len(failed)} failed")
-    sys.exit(1 if failed or not whole else 0)
+    finish("parameters", passed if whole else 0, failed)
 
 
 main()

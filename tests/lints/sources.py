@@ -13,7 +13,8 @@ import subprocess
 import sys
 from concurrent.futures import ThreadPoolExecutor
 
-ROOT = os.path.dirname(os.path.dirname(os.path.dirname(os.path.realpath(__file__))))
+from common import ROOT, listed
+
 sys.path.insert(0, f"{ROOT}/tools")
 import crates
 
@@ -23,9 +24,8 @@ PLACES = re.compile(r"crates/\w+/(src/.*\.rt|(specs|proofs)/.*\.antt)|crates\.tx
 
 def misplaced():
     """Returns the paths of the files of the toolchain that stand where none may."""
-    listed = subprocess.run(["git", "ls-files", "-co", "--exclude-standard", "-z"], cwd=ROOT, stdout=subprocess.PIPE, text=True, check=True)
-    return [path for path in listed.stdout.split("\0")
-            if (path.endswith((".rt", ".antt")) or os.path.basename(path) in ("crates.txt", "BUILD.bazel", "MODULE.bazel")) and not PLACES.fullmatch(path)]
+    of_toolchain = ("crates.txt", "BUILD.bazel", "MODULE.bazel")
+    return [path for path in listed() if (path.endswith((".rt", ".antt")) or os.path.basename(path) in of_toolchain) and not PLACES.fullmatch(path)]
 
 
 def files_of(name):

@@ -12,9 +12,9 @@ import collections
 import glob
 import os
 import re
-import sys
 
-ROOT = os.path.dirname(os.path.dirname(os.path.dirname(os.path.realpath(__file__))))
+from common import ROOT, finish, has_option, read
+
 # With fewer names that pass, sources were lost, or are no longer read.
 LEAST = 300
 TYPE = re.compile(r"^ *(?:pub(?:\([a-z ]+\))? )?(?:struct|enum|trait) ([A-Z]\w*)", re.M)
@@ -33,8 +33,7 @@ def declared():
     found = collections.defaultdict(lambda: collections.defaultdict(list))
     for path in sorted(glob.glob(f"{ROOT}/crates/*/src/**/*.rt", recursive=True)):
         crate = os.path.relpath(path, f"{ROOT}/crates").split("/")[0]
-        with open(path, encoding="utf-8") as it:
-            text = it.read()
+        text = read(path)
         for name in TYPE.finditer(text):
             line = text.count("\n", 0, name.start(1)) + 1
             found[name[1]][crate].append(f"{os.path.relpath(path, ROOT)}:{line}")
@@ -51,9 +50,7 @@ def fault(name, crates):
 
 
 def main():
-    where = sys.argv[1:] == ["--where"]
-    if sys.argv[1:] and not where:
-        sys.exit(__doc__)
+    where = has_option("--where")
     found = declared()
     several = {name: crates for name, crates in sorted(found.items()) if len(crates) > 1}
     for name, crates in several.items():
@@ -62,11 +59,7 @@ def main():
             print("".join(f"    {place}\n" for places in crates.values() for place in places), end="")
     print(f"{len(found)} names of types, {len(several)} in several crates")
     failed = [it for it in (fault(name, found.get(name, {})) for name in sorted({*found, *STAYS})) if it]
-    passed = len({*found, *STAYS}) - len(failed)
-    for line in failed:
-        print(f"type_names: {line}")
-    print(f"type_names: {passed} passed, {len(failed)} failed")
-    sys.exit(1 if failed or passed < LEAST else 0)
+    finish("type_names", len({*found, *STAYS}) - len(failed), failed, LEAST)
 
 
 main()

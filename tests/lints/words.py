@@ -21,11 +21,11 @@ import collections
 import io
 import os
 import re
-import subprocess
 import sys
 import tokenize
 
-ROOT = os.path.dirname(os.path.dirname(os.path.dirname(os.path.realpath(__file__))))
+from common import ROOT, has_option, listed, read
+
 GLOSSARY = "docs/GLOSSARY.md"
 # With fewer that pass, files or rows were lost, or are no longer read.
 LEAST = 250
@@ -67,12 +67,6 @@ PART = re.compile(r"[A-Z]?[a-z0-9]+|[A-Z]+(?![a-z])")
 RATTLE = re.compile(r'(?P<comment>//[^\n]*)|b?r(?P<hashes>#*)".*?"(?P=hashes)|b?"(?:\\.|[^"\\])*"|b?\'(?:\\[^\n]*?|[^\\\n])\'', re.S)
 DEFINITION = re.compile(r'(?P<comment>--[^\n]*)|"(?:\\.|[^"\\])*"', re.S)
 LISTS_A_FAULT = re.compile(r"\bfn (list_\w+)")
-
-
-def read(path):
-    """Returns the text of a file below the top."""
-    with open(f"{ROOT}/{path}", encoding="utf-8") as it:
-        return it.read()
 
 
 def in_name(name, listing):
@@ -262,12 +256,10 @@ def form_faults(path):
 def others(found):
     """Returns the other files of the repository that have comments: those of each room at the top,
     and the proofs of each crate."""
-    listed = subprocess.run(["git", "ls-files", "--cached", "--others", "--exclude-standard"],
-                            cwd=ROOT, stdout=subprocess.PIPE, text=True, check=True)
     known = {path for paths in found.values() for path in paths}
     rooms = collections.defaultdict(list)
-    for path in listed.stdout.split("\n"):
-        if (path.endswith(COMMENTED) or path in LISTS) and path not in known and os.path.exists(f"{ROOT}/{path}"):
+    for path in listed():
+        if (path.endswith(COMMENTED) or path in LISTS) and path not in known:
             parts = path.split("/")
             rooms["/".join(parts[:2]) if parts[0] in ("crates", "tests") else parts[0]].append(path)
     return rooms
@@ -302,8 +294,7 @@ def word_faults(found):
 
 
 def main():
-    if sys.argv[1:]:
-        sys.exit(__doc__)
+    has_option()
     found = units()
     checked = [*word_faults(found)]
     for crate in (it for it in found if "." not in it):
