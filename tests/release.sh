@@ -55,7 +55,7 @@ builds_with_it() {
 }
 
 replaces_itself() {
-    installs "$room/release" && [ -z "$(find "$room/release" -name '*.part' -o -name 'logos.*')" ]
+    installs "$room/release" && [ "$(ls "$room/release/share")" = logos ]
 }
 
 # Nothing changes where a file that no release has put there is in the way, or one that was changed.
