@@ -1,8 +1,8 @@
 #!/usr/bin/env bash
 # Builds the programs of the tests by Cargo, from the crates without their contracts, into
 # out/cargo/release: quickly, optimised, and with Rust's checks of overflow and its debug
-# assertions, which a proof makes needless. As the proved ones they name no commit, since rows compare
-# the version.
+# assertions, which a proof makes needless. As the proved ones they name no commit, since rows
+# compare the version.
 #
 #   bash tests/erased.sh              builds them
 #   bash tests/erased.sh install ..   runs `cargo install ..` with what was built so

@@ -14,12 +14,15 @@ const RENAMED: [(&str, &str); 6] = [
     ("cloned", "clones"),
 ];
 
-/// Returns the sources below a folder of the repository.
+/// Returns the sources below a folder of the repository, without what builds leave in folders `out`.
 fn sources(folder: &str) -> Vec<PathBuf> {
     let mut left = vec![Path::new(env!("CARGO_MANIFEST_DIR")).join("../..").join(folder)];
     let mut found = Vec::new();
     while let Some(path) = left.pop() {
         if path.is_dir() {
+            if path.ends_with("out") {
+                continue;
+            }
             left.extend(fs::read_dir(&path).unwrap().map(|entry| entry.unwrap().path()));
         } else if path.to_string_lossy().trim_end_matches(".in").ends_with(".rt") {
             found.push(path);
