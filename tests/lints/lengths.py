@@ -5,26 +5,29 @@ blank lines are not code.
   lengths.py           prints for each crate the lines of its longest function and file
   lengths.py --names   prints the ten longest functions of each crate too
 
-A function has at most 40 lines, from its name to its last brace, and a file at most 400. A block of
-`ghost use` lines, at the top of a file or of an `impl`, has at most four. A number of three digits
-or more in a clause has a name, but for 256. Each bound counts once for each crate. All blocks
-together have at most 900 lines. The last line is `lengths: N passed, M failed`."""
+A function has at most 40 lines, from its name to its last brace, a file at most 400, and a crate at
+most 1,500. A block of `ghost use` lines, at the top of a file or of an `impl`, has at most four, and
+those of a crate have at most 8, and 35 more for each thousand lines of its code. A number of three
+digits or more in a clause has a name, but for 256. Each bound counts once for each crate. The last
+line is `lengths: N passed, M failed`."""
 import os
 import re
 
 from common import ROOT, finish, has_option, read, sources
 
+TESTS = "tests/calls"
 OF_A_FUNCTION = 40
 OF_A_FILE = 400
+OF_A_CRATE = 1500
 OF_A_BLOCK = 4
-OF_ALL_BLOCKS = 900
+OF_SMALL_CRATES, OF_A_THOUSAND = 8, 35
 CLAUSE = re.compile(r"\s*(?:ensures|requires|invariant)\b")
 NUMBER = re.compile(r"(?<![\w.])(?!256\b)\d{3,}(?!\w)")
 GHOST = re.compile(r"\s*(ghost\b|ensures\b|requires\b|invariant\b|decreases\b|#!?\[tactic)")
 FUNCTION = re.compile(r"\s*(?:pub(?:\([a-z]+\))? )?(?:const )?(?:unsafe )?fn (\w+)")
 
 
-def lines_of_code(path):
+def lines_of_crate(path):
     """Yields the lines of a file that are code. Braces of contracts can stand on several lines."""
     depth = 0
     for line in read(path).split("\n"):
@@ -73,26 +76,26 @@ def numbers(path):
 
 def main():
     names = has_option("--names")
-    passed, failed, of_blocks = 0, [], 0
+    passed, failed = 0, []
     for crate, folder, paths in sources():
-        files = {path: list(lines_of_code(path)) for path in paths}
+        files = {path: list(lines_of_crate(path)) for path in paths}
         found = sorted(((count, name, path) for path, lines in files.items() for name, count in functions(lines)), reverse=True)
         longest = max((len(lines), path) for path, lines in files.items())
-        print(f"{crate:22} {len(found):5} functions, the longest {found[0][0] if found else 0:3}; the longest file {longest[0]:4}")
+        of_crate = sum(len(lines) for lines in files.values())
+        print(f"{crate:22} {of_crate:5} lines, {len(found):4} functions, the longest {found[0][0] if found else 0:3}; the longest file {longest[0]:4}")
         if names:
             print("".join(f"    {count:3} {name} ({os.path.relpath(path, folder)})\n" for count, name, path in found[:10]), end="")
         long = [f"{crate}: {name} in {os.path.relpath(path, folder)} has {count} lines" for count, name, path in found if count > OF_A_FUNCTION]
         walls = [(path, *block) for path in files for block in blocks(path)]
-        of_blocks += sum(count for _, _, count in walls)
+        of_walls = sum(count for _, _, count in walls)
+        most = OF_SMALL_CRATES + OF_A_THOUSAND * of_crate // 1000
+        large = [f"{crate} has {of_crate} lines"] * (of_crate > OF_A_CRATE and crate != TESTS)
+        large += [f"{crate} has {of_walls} lines of ghost use, at most {most}"] * (of_walls > most)
         high = [f"{os.path.relpath(path, ROOT)}:{line}: {count} lines of ghost use" for path, line, count in walls if count > OF_A_BLOCK]
         bare = [f"{os.path.relpath(path, ROOT)}:{line}: a number without a name stands in a clause" for path in files for line in numbers(path)]
-        for faults in high, bare, long, [f"{os.path.relpath(path, ROOT)} has {len(lines)} lines" for path, lines in files.items() if len(lines) > OF_A_FILE]:
+        for faults in large, high, bare, long, [f"{os.path.relpath(path, ROOT)} has {len(lines)} lines" for path, lines in files.items() if len(lines) > OF_A_FILE]:
             passed += not faults
             failed += faults
-    print(f"all blocks of ghost use: {of_blocks} lines")
-    if of_blocks > OF_ALL_BLOCKS:
-        failed.append(f"all blocks of ghost use have {of_blocks} lines, more than {OF_ALL_BLOCKS}")
-    passed += of_blocks <= OF_ALL_BLOCKS
     finish("lengths", passed, failed)
 
 
