@@ -6,10 +6,10 @@ blank lines are not code.
   lengths.py --names   prints the ten longest functions of each crate too
 
 A function has at most 40 lines, from its name to its last brace, a file at most 400, and a crate at
-most 1,500. A block of `ghost use` lines, at the top of a file or of an `impl`, has at most four, and
-those of a crate have at most 8, and 35 more for each thousand lines of its code. A number of three
-digits or more in a clause has a name, but for 256. Each bound counts once for each crate. The last
-line is `lengths: N passed, M failed`."""
+most 1,500. A block of `ghost use` lines, at the top of a file or of an `impl`, has at most four,
+and those of a crate have at most 8, and 35 more for each thousand lines of its code. A number of
+three digits or more in a clause has a name, but for 256. Each bound counts once for each crate. The
+last line is `lengths: N passed, M failed`."""
 import os
 import re
 
