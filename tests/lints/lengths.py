@@ -5,20 +5,18 @@ blank lines are not code.
   lengths.py           prints for each crate the lines of its longest function and file
   lengths.py --names   prints the ten longest functions of each crate too
 
-A function has at most 40 lines, from its name to its last brace, a file at most 400, and a crate at
-most 1,500. A block of `ghost use` lines, at the top of a file or of an `impl`, has at most four,
-and those of a crate have at most 8, and 35 more for each thousand lines of its code. A number of
-three digits or more in a clause has a name, but for 256. Each bound counts once for each crate. The
-last line is `lengths: N passed, M failed`."""
+A function has at most 40 lines, from its name to its last brace, and a file at most 400. A block of
+`ghost use` lines, at the top of a file or of an `impl`, has at most four, and those of a crate have
+at most 8, and 35 more for each thousand lines of its code. A number of three digits or more in a
+clause has a name, but for 256. Each bound counts once for each crate. The last line is `lengths: N
+passed, M failed`."""
 import os
 import re
 
 from common import ROOT, finish, has_option, read, sources
 
-TESTS = "tests/calls"
 OF_A_FUNCTION = 40
 OF_A_FILE = 400
-OF_A_CRATE = 1500
 OF_A_BLOCK = 4
 OF_SMALL_CRATES, OF_A_THOUSAND = 8, 35
 CLAUSE = re.compile(r"\s*(?:ensures|requires|invariant)\b")
@@ -89,8 +87,7 @@ def main():
         walls = [(path, *block) for path in files for block in blocks(path)]
         of_walls = sum(count for _, _, count in walls)
         most = OF_SMALL_CRATES + OF_A_THOUSAND * of_crate // 1000
-        large = [f"{crate} has {of_crate} lines"] * (of_crate > OF_A_CRATE and crate != TESTS)
-        large += [f"{crate} has {of_walls} lines of ghost use, at most {most}"] * (of_walls > most)
+        large = [f"{crate} has {of_walls} lines of ghost use, at most {most}"] * (of_walls > most)
         high = [f"{os.path.relpath(path, ROOT)}:{line}: {count} lines of ghost use" for path, line, count in walls if count > OF_A_BLOCK]
         bare = [f"{os.path.relpath(path, ROOT)}:{line}: a number without a name stands in a clause" for path in files for line in numbers(path)]
         for faults in large, high, bare, long, [f"{os.path.relpath(path, ROOT)} has {len(lines)} lines" for path, lines in files.items() if len(lines) > OF_A_FILE]:
