@@ -7,7 +7,7 @@
 # most of the numbers were chosen, keywords took 1.67 times as long. The groups execute the same
 # instructions as then, so theirs went up with that, from 1.2 to 2.
 #
-# A second table has ASCII words beside what flex and re2c need for the same rules, in processor
+# A second table has ASCII rules beside what flex and re2c need for the same ones, in processor
 # seconds of the whole programs, of the user and of the system. 4000 words may take 1.2 times as
 # long as the faster of the two.
 #
@@ -83,10 +83,14 @@ beside() {
 }
 
 echo
-print_head "Words" "Seconds" "flex -CF" "re2c" "By the faster one"
+print_head "Rules" "Seconds" "flex -CF" "re2c" "By the faster one"
 beside "1000 keywords" keywords 1000
 beside "4000 keywords" keywords 4000 1.2
 beside "4000 words in one regex" one_regex 4000 1.2
+beside '`[a-z]{1,200}x`' letters_up_to 200
+beside '`[a-z]{1,400}x`' letters_up_to 400
+beside '`(?:a?){200}b`' optional_letters 200
+beside '`(?:a?){400}b`' optional_letters 400
 if [ -e "$copy/slow" ]; then
     cat "$copy/slow" >&2
     exit 1

@@ -118,6 +118,24 @@ gives "100 characters" 0 'error 0..2' ''
 regex 'a{70000}'
 gives "70000 letters" 1 '' '0..33 LimitStates: limit LimitStates passed'
 
+# What repetitions take grows with their states: the first of these took 25 seconds and 2.7 GB when
+# each block of states was looked at as often as it was split.
+(
+    ulimit -v 200000 -t 10
+    regex '[a-z]{1,12800}x'
+    gives "at most 12800 letters" 0 'error 0..2' ''
+    regex '(?:a?){4000}b'
+    gives "4000 optional letters" 0 'error 0..2' ''
+    regex '.{0,1600}z'
+    gives "at most 1600 characters" 0 'error 0..2' ''
+)
+(
+    ulimit -v 300000 -t 20
+    regex '(?:\\w?){300}!'
+    gives "300 optional characters" 1 '' '0..39 LimitStates: limit LimitStates passed'
+)
+met=$((met + 8))
+
 great='(?:(?:a{4294967295}){4294967295}){4294967295}'
 printf 'enum E { #[regex("%s", priority = 1)] A }' "$great" > source
 gives "a great repetition with a priority" 1 '' '0..84 LimitSize: limit LimitSize passed'

@@ -1,6 +1,7 @@
 """Writes the source of an enum to the standard output: of the kind that the first argument names,
 and of the size that the second one says. With a third argument, `flex` or `re2c`, it writes the
-same words as a source of that program; this is there for `keywords` and `one_regex`."""
+same rules as a source of that program; this is there for `keywords`, `one_regex`, `letters_up_to`
+and `optional_letters`."""
 import itertools
 import os
 import random
@@ -130,6 +131,16 @@ def optional_letters(rng, count):
     return regexes(["(?:a?){%d}b" % count])
 
 
+def letters_up_to(rng, count):
+    """At most so many letters, of which the last is a certain one."""
+    return regexes(["[a-z]{1,%d}x" % count])
+
+
+def characters_up_to(rng, count):
+    """At most so many characters, of which the last is a certain one."""
+    return regexes([".{0,%d}z" % count])
+
+
 def overlapping(rng, count):
     """Rules of the same letters, each without one of them, so that any two or more meet."""
     letters = LETTERS[:count]
@@ -140,15 +151,24 @@ KINDS = {
     kind.__name__: kind
     for kind in (
         keywords, beside_names, short, one_regex, repeated, plain, unicode_names, sql, sql_unicode, rust_like, class_sets, beginnings, log_lines, groups,
-        optional_words, optional_letters, overlapping,
+        optional_words, optional_letters, letters_up_to, characters_up_to, overlapping,
     )
 }
 
 
-def other_source(program, kind, count):
-    """Returns the words of a kind as rules of another program: one rule, or one for each."""
+def other_rules(program, kind, count):
+    """Returns the rules of a kind as another program spells them."""
+    if kind == "letters_up_to":
+        return ['[a-z]{1,%d} "x"' % count if program == "re2c" else '[a-z]{1,%d}x' % count]
+    if kind == "optional_letters":
+        return ['("a"?){%d} "b"' % count if program == "re2c" else "(a?){%d}b" % count]
     words = [f'"{word}"' for word in long_words(random.Random(1), count)]
-    rules = words if kind == "keywords" else ["|".join(words)]
+    return words if kind == "keywords" else ["|".join(words)]
+
+
+def other_source(program, kind, count):
+    """Returns the rules of a kind as a source of another program."""
+    rules = other_rules(program, kind, count)
     head, before, after, foot = LISTS["frames"][program]
     return head + "".join(f"{rule}{before}{number + 1}{after}" for number, rule in enumerate(rules)) + foot
 

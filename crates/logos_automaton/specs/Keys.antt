@@ -36,6 +36,10 @@ start_state = record { places = []; kind = kind.Start; matches = [] }
 abbrev pub dead_state : State
 dead_state = record { places = []; kind = kind.Unseen; matches = [] }
 
+-- The state after the end that lists these patterns.
+abbrev pub ended_state : List ℕ → State
+ended_state matches = record { places = []; kind = kind.Unseen; matches = matches }
+
 -- What is remembered of the byte x, read at these places: its kind, if there are places and some
 -- tree has a look.
 abbrev pub next_kind : Bool → List ℕ → ℕ → ByteKind

@@ -113,6 +113,21 @@ pub fn end_key(trees: &Trees<'_>, key: &Key) -> Result<Key, AllocError>
     })
 }
 
+/// Returns the key of the state after the end that lists these trees.
+///
+/// # Errors
+///
+/// Returns `AllocError` if memory runs out.
+pub fn ended_key(alloc: Global, matches: &[usize]) -> Result<Key, AllocError>
+    ensures { IfOk result (λ made. keys.state_of made ≡ keys.ended_state matches.now) }
+{
+    Ok(Key {
+        places: Vec::new(alloc),
+        kind: ByteKind::Unseen,
+        matches: Vec::from_slice(alloc, matches)?,
+    })
+}
+
 /// Returns the number of a state, which is added if it is new.
 ///
 /// # Errors

@@ -1,12 +1,12 @@
 //! The targets of states, while the automaton is built. The loop of `dfa::build` asks for those of
 //! each state in turn.
 
-ghost use Rattle.std.specs.Prelude.{Bool, List, ℕ, ◌≡◌, ◌^◌, ◌<◌, ◌≤◌, ◌+◌, IfOk, IfSome, IsFalse, OnOk, length, slice_index};
+ghost use Rattle.std.specs.Prelude.{Bool, List, ℕ, ◌≡◌, ◌^◌, ◌<◌, ◌≤◌, ◌+◌, IfOk, IfSome, IsFalse, OnOk, false, length, slice_index};
 ghost use Rattle.logos_automaton.specs.Views.{Core, AreKindBytes, IsCacheOf, IsPrepared, cores_of, Foresees, IsNotStart, state_after, AreRising, AreReached, AreFirstIn, Extends, Grows, IsAt, LeadsTo, EndsIn, IsRow};
 
 use crate::alike::first_bytes;
 use crate::cache::{LiveTree, StateSteps, StepCache};
-use crate::key::{Key, end_key, is_start, number_of, step_key};
+use crate::key::{Key, end_key, ended_key, is_start, number_of, step_key};
 use crate::trees::Trees;
 use indexmap::IndexSet;
 use std::alloc::AllocError;
@@ -55,11 +55,7 @@ fn target_of(
 /// # Errors
 ///
 /// Returns `AllocError` if memory runs out.
-pub fn end_of(
-    trees: &Trees<'_>,
-    states: &mut IndexSet<Key>,
-    state: usize,
-) -> Result<u32, AllocError>
+fn end_of(trees: &Trees<'_>, states: &mut IndexSet<Key>, state: usize) -> Result<u32, AllocError>
     requires prepared { IsPrepared trees.now }
     requires within { state < length states.old.keys }
     requires rising { AreRising states.old.keys }
@@ -75,6 +71,64 @@ pub fn end_of(
     };
     let target = number_of(states, made)?;
     Ok(target as u32)
+}
+
+/// Returns the target of a state by the end, if no tree has a look. The leaves that match before
+/// the end are those that match before a byte, so they are listed by `by_zero`, the target by the
+/// byte 0. The target by the end is added if it is new.
+///
+/// # Errors
+///
+/// Returns `AllocError` if memory runs out.
+fn end_as_by_zero(
+    trees: &Trees<'_>,
+    states: &mut IndexSet<Key>,
+    state: usize,
+    by_zero: u32,
+) -> Result<u32, AllocError>
+    requires prepared { IsPrepared trees.now }
+    requires free { trees.now.looks ≡ false }
+    requires few { length states.old.keys < 2 ^ 31 }
+    requires leads { LeadsTo (cores_of trees.now) trees.now.looks states.old.keys state 0 by_zero }
+    ensures extends { (looks : Bool) →
+        OnOk result (Extends (cores_of trees.now) looks states.old.keys states.new.keys 1) }
+    ensures ends { IfOk result (λ target.
+        EndsIn (cores_of trees.now) states.new.keys state target) }
+{
+    let made = match states.get_index(by_zero as usize) {
+        Some(key) => ended_key(trees.alloc, &key.matches)?,
+        None => unreachable!(),
+    };
+    let target = number_of(states, made)?;
+    Ok(target as u32)
+}
+
+/// Returns the target of a state by the end. `by_zero` is its target by the byte 0. The target by
+/// the end is added if it is new.
+///
+/// # Errors
+///
+/// Returns `AllocError` if memory runs out.
+pub fn end_after(
+    trees: &Trees<'_>,
+    states: &mut IndexSet<Key>,
+    state: usize,
+    by_zero: u32,
+) -> Result<u32, AllocError>
+    requires prepared { IsPrepared trees.now }
+    requires within { state < length states.old.keys }
+    requires rising { AreRising states.old.keys }
+    requires few { length states.old.keys < 2 ^ 31 }
+    requires leads { LeadsTo (cores_of trees.now) trees.now.looks states.old.keys state 0 by_zero }
+    ensures extends { (looks : Bool) →
+        OnOk result (Extends (cores_of trees.now) looks states.old.keys states.new.keys 1) }
+    ensures ends { IfOk result (λ target.
+        EndsIn (cores_of trees.now) states.new.keys state target) }
+{
+    if trees.looks {
+        return end_of(trees, states, state);
+    }
+    end_as_by_zero(trees, states, state, by_zero)
 }
 
 /// Returns the target of a state by a byte: the one that is known, if there is one.

@@ -4,7 +4,7 @@ use Rattle.std.proofs.lemmas.List.{get_or-set_other}
 use Rattle.std.proofs.lemmas.Grind.{get_or-set_at}
 use Rattle.logos_automaton.specs.inside.Alike.{AreReadAlike}
 use Rattle.logos_places.specs.Core.{Core}
-use Rattle.logos_automaton.specs.Keys.{State, Grows, Extends, LeadsTo, EndsIn, IsAt, IsNext, IsRow, next_kind, is_start, state_of}
+use Rattle.logos_automaton.specs.Keys.{State, Grows, Extends, LeadsTo, EndsIn, IsAt, IsLast, IsNext, IsRow, ended_state, next_kind, is_start, state_of}
 use Rattle.logos_automaton.specs.Rules.{AreFree}
 use Rattle.logos_places.specs.Kinds.{kind_of_byte, test_at}
 use Rattle.logos_places.specs.Several.{ReadBy, LeftBy}
@@ -150,3 +150,11 @@ at_more a b row after n target g lt all new x below =
   where
     below_or_same_at : (a b : ℕ) → a < b + 1 → (a < b) ⊎ (a ≡ b)
     below_or_same_at a b lt = grind arith
+
+-- without looks, the patterns that match before a byte match before the end
+pub last_as_next : (ts : List Core) (looks : Bool) → AreFree ts → (s next made : State) (x : ℕ) → IsNext ts looks s x next → made ≡ ended_state next.matches → IsLast ts s made
+last_as_next ts looks free s next made x n e = rw e (record {
+  places = refl;
+  matches = record { set = n.matches.set; has = λ k. iff_trans (n.matches.has k) (ExitsIn-free ts k free _ _ _ _, ExitsIn-free ts k free _ _ _ _) };
+  kind = refl;
+})

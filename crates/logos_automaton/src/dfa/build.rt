@@ -11,7 +11,7 @@ use crate::cache::StepCache;
 use crate::errors::BuildError;
 use crate::key::{Key, number_of, start_key};
 use crate::nodes::nodes_of;
-use crate::row::{Row, end_of, narrowed, row_of};
+use crate::row::{Row, end_after, narrowed, row_of};
 use crate::rule::{RuleView, some_look};
 use crate::trees::Trees;
 use indexmap::IndexSet;
@@ -74,7 +74,7 @@ fn fill_next(
 {
     let state = rows.len();
     let row = row_of(trees, cache, states, state)?;
-    let end = end_of(trees, states, state)?;
+    let end = end_after(trees, states, state, row[0])?;
     if states.len() > MAX_STATES {
         return Err(BuildError::LimitStates);
     }

@@ -1,12 +1,12 @@
 -- Copies that are neither entered nor marked are passed.
-use Rattle.std.proofs.Common.{◌≡◌, ℕ, zero, suc, ◌+◌, ◌-◌, ◌*◌, ◌<◌, ◌≤◌, ◌↔◌, ◌⊎◌, ◌||◌, Bool, true, false, IsTrue, List, [], ◌∷◌, length, refl, sym, subst, true≢false, arith}
+use Rattle.std.proofs.Common.{◌≡◌, ℕ, zero, suc, ◌+◌, ◌-◌, ◌*◌, ◌<◌, ◌≤◌, ◌↔◌, ◌⊎◌, ◌||◌, Bool, true, false, IsTrue, List, [], ◌∷◌, length, refl, sym, ◌∙◌, subst, true≢false, arith}
 use Rattle.std.proofs.Math.Nat.{mul-le-mul_left}
 use Rattle.logos_places.specs.Core.{Core, width, Exits}
 use Rattle.logos_places.specs.Marks.{Has}
 use Rattle.logos_places.specs.Repeat.{in_front, up_to, spelled}
 use Rattle.logos_hir.specs.declared.hir.Look.{Look}
 use Rattle.logos_places.proofs.steps.PlaceLemmas.{Exits-map}
-use Rattle.logos_places.proofs.steps.StepLemmas.{iff_trans, iff_refl, Exits-from, Exits-past, Exits-past_up_to}
+use Rattle.logos_places.proofs.steps.StepLemmas.{iff_trans, iff_refl, Exits-iff, Exits-from, Exits-past, Exits-past_up_to}
 use Rattle.logos_places.proofs.steps.SteppedLemmas.{Exits-void}
 
 out : IsTrue false → ⊥
@@ -55,6 +55,30 @@ module _ (test : Look → Bool) (xs : List ℕ) (a : Core) (w base : ℕ) (is : 
       let e : next ≡ done + (next - done) = omega arith in
       rw e (front_pass b (next - done) done count (omega arith) (rw e at none))
 
+  -- copies that have the same places as one, and are entered as it is, can be left as it can
+  pub alike_here : (done start each : ℕ) (entered enters left : Bool) (n : ℕ) → start ≡ base + w * done → each ≡ w → enters ≡ entered → (0 < n → left ≡ enters) →
+      IsTrue left ↔ ExitsAt a done entered →
+      ((k q : ℕ) → k < n → q < each → Has xs (start + each * (k + 1) + q) ↔ Has xs (start + q)) →
+      (k : ℕ) → k < n → IsTrue left ↔ ExitsAt a (done + 1 + k) left
+  alike_here done start each entered enters left n begins same as_was stays first alike k lt =
+      let e : left ≡ entered = stays (omega (arith, lt)) ∙ as_was in
+      let there : start + w * (k + 1) ≡ base + w * (done + 1 + k) = omega (arith, begins) in
+      let moved : (q : ℕ) → Has xs (start + w * (k + 1) + q) ↔ Has xs (base + w * (done + 1 + k) + q) = λ q. rw there (iff_refl _) in
+      let home : (q : ℕ) → Has xs (start + q) ↔ Has xs (base + w * done + q) = λ q. rw begins (iff_refl _) in
+      let here : (q : ℕ) → q < w → Has xs (start + w * (k + 1) + q) ↔ Has xs (start + q) = λ q below. (rw same at alike) k q lt below in
+      iff_trans first
+      (Exits-iff a test _ _ _ _
+      (λ q below. let near = here q (omega (arith, below, is)) in (λ h. (moved q).0 (near.1 ((home q).1 h)), λ h. (home q).0 (near.0 ((moved q).1 h))))
+      (rw e (iff_refl _)))
+
+  pub front_more : (b : Core) (n done count : ℕ) (left : Bool) → done + n ≤ count → ((k : ℕ) → k < n → IsTrue left ↔ ExitsAt a (done + k) left) →
+      ExitsAt (in_front (count - (done + n)) a b) (done + n) left ↔ ExitsAt (in_front (count - done) a b) done left
+  front_more b zero done count left le same = let e : done + 0 ≡ done = omega arith in rw e (iff_refl _)
+  front_more b (suc n) done count left le same =
+      let e : done + suc n ≡ done + n + 1 = omega arith in
+      rw e (iff_trans (front_step b (done + n) count left left (omega arith) (same n (omega arith)))
+      (front_more b n done count left (omega arith) (λ k lt. same k (omega (arith, lt)))))
+
   -- the same of at most so many copies; `any` says that the whole can be left before
   abbrev OrAt : ℕ → ℕ → Bool → Bool → Type 0
   OrAt n done any left = IsTrue any ⊎ ExitsAt (up_to n a) done left
@@ -84,6 +108,16 @@ module _ (test : Look → Bool) (xs : List ℕ) (a : Core) (w base : ℕ) (is : 
   up_to_skip done next count any false le fits stays none =
       let e : next ≡ done + (next - done) = omega arith in
       rw e (up_to_pass (next - done) done count any (omega arith) (rw e at none))
+
+  pub up_to_more : (n done count : ℕ) (any left : Bool) → done + n ≤ count → (0 < n → (any || left) ≡ any) → ((k : ℕ) → k < n → IsTrue left ↔ ExitsAt a (done + k) left) →
+      OrAt (count - (done + n)) (done + n) any left ↔ OrAt (count - done) done any left
+  up_to_more zero done count any left le stays same = let e : done + 0 ≡ done = omega arith in rw e (iff_refl _)
+  up_to_more (suc n) done count any left le stays same =
+      let e : done + suc n ≡ done + n + 1 = omega arith in
+      rw e (iff_trans
+      (subst (λ (t : Bool). OrAt (count - (done + n + 1)) (done + n + 1) t left ↔ OrAt (count - (done + n)) (done + n) any left) (stays (omega arith))
+      (up_to_step (done + n) count any left left (omega arith) (same n (omega arith))))
+      (up_to_more n done count any left (omega arith) (λ some. stays (omega arith)) (λ k lt. same k (omega (arith, lt)))))
 
 -- a literal is left where its last place is marked
 pub exits_spelled : (test : Look → Bool) (M : ℕ → Type 0) (d : Type 0) (text : List ℕ) → 0 < length text →

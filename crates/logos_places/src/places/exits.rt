@@ -7,7 +7,7 @@ ghost use Rattle.logos_places.specs.Core as core;
 
 use crate::node::{Copies, Node, TreeSpot, width};
 use crate::places::look::{Context, holds};
-use crate::places::set::{OwnPlaces, any_mark, has_mark, next_copy, own_places};
+use crate::places::set::{OwnPlaces, alike_copies, any_mark, has_mark, next_copy, own_places};
 
 /// Returns whether a tree can be left, where `marks` are the places that read the byte before.
 #[cycle(exits)]
@@ -171,6 +171,23 @@ fn exits_at_least(body: &Node, copies: Copies, marks: &[usize], at: Context) -> 
     exits(body, marks, copies.at(fronts.count, front), at)
 }
 
+/// Returns how many copies after the first one have the same places and are entered as it is, so
+/// that they can be left as it can. `left` says whether the first copy can be left.
+fn alike_exits(marks: &[usize], rest: Copies, left: bool) -> usize
+    requires rising { IsRising marks.now }
+    requires fits { rest.base + rest.each * rest.count < 2 ^ 64 }
+    requires some { 0 < rest.count }
+    ensures few { result < rest.count }
+    ensures same { 0 < result → left ≡ rest.entered }
+    ensures alike { (k q : ℕ) → k < result → q < rest.each →
+        Has marks.now (rest.base + rest.each * (k + 1) + q) ↔ Has marks.now (rest.base + q) }
+{
+    if left != rest.entered {
+        return 0;
+    }
+    alike_copies(marks, rest)
+}
+
 /// Returns whether all of the copies can be left, whatever comes after them.
 #[cycle(exits)]
 fn exits_copies(body: &Node, copies: Copies, marks: &[usize], at: Context) -> bool
@@ -187,8 +204,10 @@ fn exits_copies(body: &Node, copies: Copies, marks: &[usize], at: Context) -> bo
     let mut done = next_copy(marks, copies, 0, copies.entered);
     let mut left = copies.entered;
     while done < copies.count {
+        let rest = copies.from(done, left);
         left = exits(body, marks, copies.at(done, left), at);
-        done = next_copy(marks, copies, done + 1, left);
+        let more = alike_exits(marks, rest, left);
+        done = next_copy(marks, copies, done + 1 + more, left);
     }
     left
 }
@@ -208,8 +227,10 @@ fn exits_up_to(body: &Node, copies: Copies, marks: &[usize], at: Context) -> boo
     let mut any = false;
     while done < copies.count {
         any = any | left;
+        let rest = copies.from(done, left);
         left = exits(body, marks, copies.at(done, left), at);
-        done = next_copy(marks, copies, done + 1, left);
+        let more = alike_exits(marks, rest, left);
+        done = next_copy(marks, copies, done + 1 + more, left);
     }
     any | left
 }

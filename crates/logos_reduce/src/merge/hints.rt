@@ -14,10 +14,15 @@ pub struct Hints {
     sizes: Vec<usize>,
     /// For each block whether it is still to be looked at.
     pending: Vec<bool>,
+    /// For each block the first symbol by which it is still to be looked at.
+    first: Vec<usize>,
     /// The blocks that are still to be looked at.
     todo: Vec<usize>,
+    /// The block that is looked at.
+    looked: Option<usize>,
     ghost counts_len: { vec_len counts ≡ vec_len sizes },
     ghost pending_len: { vec_len pending ≡ vec_len sizes },
+    ghost first_len: { vec_len first ≡ vec_len sizes },
     ghost todo_in: { (i : ℕ) → i < vec_len todo → slice_index todo.items i < vec_len sizes },
 }
 
@@ -35,20 +40,24 @@ impl Hints {
     {
         let counts = vec![in alloc; 0; room]?;
         let mut sizes: Vec<usize> = vec![in alloc; 0; room]?;
-        let pending = vec![in alloc; true; room]?;
+        let mut pending = vec![in alloc; false; room]?;
+        let first = vec![in alloc; 0; room]?;
         let mut todo = Vec::new(alloc);
         for s in 0..blocks.len() {
             let b = blocks[s];
             sizes[b] = sizes[b].saturating_add(1);
         }
         for b in 0..count {
+            pending[b] = true;
             todo.push(b)?;
         }
         Ok(Hints {
             counts,
             sizes,
             pending,
+            first,
             todo,
+            looked: None,
         })
     }
 
@@ -68,26 +77,92 @@ impl Hints {
         0 < self.counts[block] && self.counts[block] < self.sizes[block]
     }
 
-    /// Gives the hits of a block a number of their own, and notes the smaller part.
-    pub fn part(&mut self, block: usize, twin: usize) -> Result<(), AllocError>
-        requires block_in { block < vec_len self.old.sizes }
-        requires twin_in { twin < vec_len self.old.sizes }
+    /// Returns whether the block is still to be looked at.
+    pub fn is_pending(&self, block: usize) -> bool {
+        block < self.pending.len() && self.pending[block]
+    }
+
+    /// Returns the first symbol by which the block is to be looked at.
+    pub fn first_symbol(&self, block: usize) -> usize {
+        if block < self.first.len() {
+            return self.first[block];
+        }
+        0
+    }
+
+    /// Notes that the block is to be looked at by the symbols from `first` on.
+    ///
+    /// # Errors
+    ///
+    /// Returns `AllocError` if memory runs out.
+    fn note(&mut self, block: usize, first: usize) -> Result<(), AllocError>
+        requires { block < vec_len self.old.sizes }
         ensures todo { vec_len self.new.todo ≤ vec_len self.old.todo + 1 }
         ensures sizes { vec_len self.new.sizes ≡ vec_len self.old.sizes }
+    {
+        self.first[block] = first;
+        if self.pending[block] {
+            return Ok(());
+        }
+        self.pending[block] = true;
+        self.todo.push(block)?;
+        Ok(())
+    }
+
+    /// Moves the hits of a block to the block `twin`, and returns the larger one of the two and the
+    /// smaller one.
+    fn divide(&mut self, block: usize, twin: usize) -> (usize, usize)
+        requires block_in { block < vec_len self.old.sizes }
+        requires twin_in { twin < vec_len self.old.sizes }
+        ensures todo { vec_len self.new.todo ≡ vec_len self.old.todo }
+        ensures sizes { vec_len self.new.sizes ≡ vec_len self.old.sizes }
+        ensures larger { result.0 < vec_len self.old.sizes }
+        ensures smaller { result.1 < vec_len self.old.sizes }
     {
         let hits = self.counts[block];
         let rest = self.sizes[block].saturating_sub(hits);
         self.counts[block] = 0;
         self.sizes[block] = rest;
         self.sizes[twin] = hits;
-        let next = if self.pending[block] || hits <= rest {
-            twin
+        if hits <= rest {
+            (block, twin)
         } else {
-            block
-        };
-        self.pending[next] = true;
-        self.todo.push(next)?;
-        Ok(())
+            (twin, block)
+        }
+    }
+
+    /// Returns the first symbol by which the block is still to be looked at, if there is one, where
+    /// `symbol` is the one by which the block that is looked at splits others now.
+    fn symbol_left(&self, block: usize, symbol: usize) -> Option<usize>
+        requires { block < vec_len self.now.sizes }
+    {
+        if self.pending[block] {
+            return Some(self.first[block]);
+        }
+        if self.looked == Some(block) {
+            return Some(symbol.saturating_add(1));
+        }
+        None
+    }
+
+    /// Notes which parts of a block are to be looked at, once its hits are in the block `twin`: the
+    /// smaller part by all symbols, and the larger part by those that are left for the block.
+    ///
+    /// # Errors
+    ///
+    /// Returns `AllocError` if memory runs out.
+    pub fn part(&mut self, block: usize, twin: usize, symbol: usize) -> Result<(), AllocError>
+        requires block_in { block < vec_len self.old.sizes }
+        requires twin_in { twin < vec_len self.old.sizes }
+        ensures todo { vec_len self.new.todo ≤ vec_len self.old.todo + 2 }
+        ensures sizes { vec_len self.new.sizes ≡ vec_len self.old.sizes }
+    {
+        let left = self.symbol_left(block, symbol);
+        let (larger, smaller) = self.divide(block, twin);
+        if let Some(first) = left {
+            self.note(larger, first)?;
+        }
+        self.note(smaller, 0)
     }
 
     /// Forgets the hits of a block.
@@ -104,14 +179,17 @@ impl Hints {
         ensures some { OnSome result (vec_len self.new.todo + 1 ≡ vec_len self.old.todo) }
         ensures sizes { vec_len self.new.sizes ≡ vec_len self.old.sizes }
     {
-        self.todo.pop()
+        let block = self.todo.pop()?;
+        self.begin(block);
+        Some(block)
     }
 
-    /// Notes that a block was looked at.
-    pub fn finish(&mut self, block: usize)
+    /// Notes that a block is looked at now.
+    fn begin(&mut self, block: usize)
         ensures todo { vec_len self.new.todo ≡ vec_len self.old.todo }
         ensures sizes { vec_len self.new.sizes ≡ vec_len self.old.sizes }
     {
+        self.looked = Some(block);
         if block < self.pending.len() {
             self.pending[block] = false;
         }

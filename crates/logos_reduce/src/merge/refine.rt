@@ -100,6 +100,8 @@ fn leads_into(table: &Table, blocks: &Vec<usize>, s: usize, b: usize, k: usize) 
 #[derive(Drop)]
 struct Splitter {
     block: usize,
+    /// The first symbol by which the block is looked at.
+    first: usize,
     sources: Vec<usize>,
     used: Symbols,
 }
@@ -177,7 +179,8 @@ fn symbols_into(parts: &Refinement, symbols: &Vec<Symbols>, b: usize) -> Symbols
     used
 }
 
-/// Splits the blocks by the states that lead into a block, symbol by symbol.
+/// Splits the blocks by the states that lead into a block, symbol by symbol, until the block itself
+/// is split. Its parts are then still to be looked at.
 fn split_by_block(
     alloc: Global,
     table: &Table,
@@ -197,9 +200,12 @@ fn split_by_block(
     ensures falls { IfOk result (λ w. steps_left w ≤ steps_left parts) }
 {
     let mut split = parts;
-    let mut k = 0;
+    let mut k = by.first;
     while k < WIDTH {
         split = split_by_symbol(alloc, table, split, by, k)?;
+        if split.cuts.hints.is_pending(by.block) {
+            return Ok(split);
+        }
         k = by.used.after(k);
     }
     Ok(split)
@@ -215,16 +221,6 @@ impl Refinement {
         ensures lists { self.new.filing.lists ≡ self.old.filing.lists }
     {
         self.cuts.hints.next()
-    }
-
-    /// Notes that a block was looked at.
-    fn finish(&mut self, block: usize)
-        ensures todo { vec_len self.new.cuts.hints.todo ≡ vec_len self.old.cuts.hints.todo }
-        ensures blocks { self.new.filing.blocks ≡ self.old.filing.blocks }
-        ensures splits { self.new.cuts.splits ≡ self.old.cuts.splits }
-        ensures lists { self.new.filing.lists ≡ self.old.filing.lists }
-    {
-        self.cuts.hints.finish(block);
     }
 
     /// Returns the blocks alone.
@@ -291,8 +287,7 @@ struct Edges {
     symbols: Vec<Symbols>,
 }
 
-/// Splits the blocks by the states that lead into a block, if there is such a block, and notes that
-/// it was looked at.
+/// Splits the blocks by the states that lead into a block, if there is such a block.
 fn look_at(
     alloc: Global,
     table: &Table,
@@ -316,12 +311,11 @@ fn look_at(
     let used = symbols_into(&parts, &edges.symbols, b);
     let by = Splitter {
         block: b,
+        first: parts.cuts.hints.first_symbol(b),
         sources,
         used,
     };
-    let mut split = split_by_block(alloc, table, parts, &by)?;
-    split.finish(b);
-    Ok(split)
+    split_by_block(alloc, table, parts, &by)
 }
 
 /// Splits the blocks by each block that is still to be looked at.

@@ -67,8 +67,8 @@ fn add_twin(cuts: &mut Cuts, fresh: usize, block: usize, symbol: usize) -> Resul
     ensures len { vec_len cuts.new.twins ≡ vec_len cuts.old.twins }
     ensures sizes { vec_len cuts.new.hints.sizes ≡ vec_len cuts.old.hints.sizes }
     ensures fits { OnOk result (vec_len cuts.new.splits ≤ vec_len cuts.old.twins) }
-    ensures todo { OnOk result (vec_len cuts.new.hints.todo + vec_len cuts.old.splits
-        ≤ vec_len cuts.old.hints.todo + vec_len cuts.new.splits) }
+    ensures todo { OnOk result (vec_len cuts.new.hints.todo + 2 * vec_len cuts.old.splits
+        ≤ vec_len cuts.old.hints.todo + 2 * vec_len cuts.new.splits) }
     ensures below { OnOk result ((c : ℕ) →
         slice_index cuts.new.twins.items c < vec_len cuts.new.splits) }
     ensures twins { OnOk result (AreTwins fresh symbol cuts.new.twins.items cuts.new.splits.items) }
@@ -76,7 +76,7 @@ fn add_twin(cuts: &mut Cuts, fresh: usize, block: usize, symbol: usize) -> Resul
 {
     let twin = cuts.splits.len();
     if twin < cuts.twins.len() && cuts.twins[block] < fresh && cuts.hints.is_cut(block) {
-        cuts.hints.part(block, twin)?;
+        cuts.hints.part(block, twin, symbol)?;
         cuts.splits.push(Split {
             parent: block,
             symbol: Some(symbol),
@@ -96,8 +96,8 @@ fn add_twins(cuts: &mut Cuts, homes: &Vec<usize>, symbol: usize) -> Result<(), A
     ensures len { vec_len cuts.new.twins ≡ vec_len cuts.old.twins }
     ensures sizes { vec_len cuts.new.hints.sizes ≡ vec_len cuts.old.hints.sizes }
     ensures fits { OnOk result (vec_len cuts.new.splits ≤ vec_len cuts.old.twins) }
-    ensures todo { OnOk result (vec_len cuts.new.hints.todo + vec_len cuts.old.splits
-        ≤ vec_len cuts.old.hints.todo + vec_len cuts.new.splits) }
+    ensures todo { OnOk result (vec_len cuts.new.hints.todo + 2 * vec_len cuts.old.splits
+        ≤ vec_len cuts.old.hints.todo + 2 * vec_len cuts.new.splits) }
     ensures below { OnOk result ((c : ℕ) →
         slice_index cuts.new.twins.items c < vec_len cuts.new.splits) }
     ensures twins { OnOk result

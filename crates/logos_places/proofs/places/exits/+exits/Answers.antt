@@ -1,4 +1,4 @@
-use Rattle.std.proofs.Common.{slice_index, ◌≡◌, ◌≤◌, ◌+◌, ◌-◌, ◌*◌, inr, ⊎_elim, Bool, IsTrue, true, false, not, refl, true≢false, sym, ap, ◌∙◌, arith, rules, ◌<◌, ◌^◌}
+use Rattle.std.proofs.Common.{slice_index, ◌≡◌, ◌≤◌, ◌+◌, ◌-◌, ◌*◌, inr, ⊎_elim, Bool, ◌||◌, IsTrue, true, false, not, refl, true≢false, sym, ap, ◌∙◌, arith, rules, ◌<◌, ◌^◌}
 use Rattle.logos_places.specs.Core as core
 use Rattle.logos_places.specs.Core.{width}
 use Rattle.logos_places.specs.Kinds.{test_at}
@@ -9,8 +9,9 @@ use Rattle.logos_places.specs.declared.node.Node.{the_lemmas}
 use Rattle.logos_places.proofs.trees.NodeLemmas.{core-Void, core-Empty, core-Literal, core-Bytes, core-Characters, core-Look, core-Cat, core-Alt, core-Repeat, width-Literal, width-Cat, width-Alt, pair-Cat, pair-Alt, repeat-Repeat, width-Repeat}
 use Rattle.logos_places.proofs.steps.BranchLemmas.{some_between, ends_before, begins_after, back_some, exits_first, exits_second}
 use Rattle.logos_places.proofs.steps.StepLemmas.{iff_trans, exits_cat, exits_alt}
+use Rattle.logos_places.proofs.steps.AlikeLemmas.{stays_any}
 use Rattle.logos_places.proofs.steps.SteppedLemmas.{at_least-some}
-use Rattle.logos_places.proofs.steps.JumpLemmas.{exits_nothing, front_step, front_skip, up_to_step, up_to_skip}
+use Rattle.logos_places.proofs.steps.JumpLemmas.{exits_nothing, alike_here, front_step, front_skip, front_more, up_to_step, up_to_skip, up_to_more}
 use Rattle.logos_places.proofs.places.exits.+exits.Goals as goal
 
 off : (b : Bool) → not b ≡ true → b ≡ false
@@ -98,15 +99,25 @@ exits_copies-loop-done-preserved t c =
     let a = core_of c.args.body.now in
     let n = c.next_copy-done-in-loop-done.ensures in
     let test = test_at c.args.at in
+    let done = c.loop-done.done in
+    let more = c.alike_exits-more.result in
+    let alike = c.alike_exits-more.ensures in
+    let rest = c.from-rest.ensures in
+    let first = rw (c.at.ensures.base, c.at.ensures.entered) at c.exits-left.ensures in
+    let fits : done + 1 + more ≤ c.args.copies.count = omega (arith, alike.few, rest.count) in
     record {
       within = n.bound;
       same = λ b. iff_trans
-          (front_skip test c.args.marks.now a c.args.copies.each c.args.copies.base c.requires.each b (c.loop-done.done + 1) c.next_copy-done-in-loop-done.result c.args.copies.count
+          (front_skip test c.args.marks.now a c.args.copies.each c.args.copies.base c.requires.each b (done + 1 + more) c.next_copy-done-in-loop-done.result c.args.copies.count
           c.exits-left.result n.after n.bound n.stays n.unmarked)
           (iff_trans
-          (front_step test c.args.marks.now a c.args.copies.each c.args.copies.base c.requires.each b c.loop-done.done c.args.copies.count c.loop-done.left c.exits-left.result
-          c.loop-done-test.true (rw (c.at.ensures.base, c.at.ensures.entered) at c.exits-left.ensures))
-          (c.loop-done.invariant.same b));
+          (front_more test c.args.marks.now a c.args.copies.each c.args.copies.base c.requires.each b more (done + 1) c.args.copies.count c.exits-left.result fits
+          (alike_here test c.args.marks.now a c.args.copies.each c.args.copies.base c.requires.each done c.from-rest.result.base c.from-rest.result.each
+          c.loop-done.left c.from-rest.result.entered c.exits-left.result more rest.base rest.each rest.entered alike.same first alike.alike))
+          (iff_trans
+          (front_step test c.args.marks.now a c.args.copies.each c.args.copies.base c.requires.each b done c.args.copies.count c.loop-done.left c.exits-left.result
+          c.loop-done-test.true first)
+          (c.loop-done.invariant.same b)));
     }
 
 pub exits_copies-returns : goal.exits_copies-returns
@@ -134,15 +145,27 @@ exits_up_to-loop-done-preserved t c =
     let a = core_of c.args.body.now in
     let n = c.next_copy-done-in-loop-done.ensures in
     let test = test_at c.args.at in
+    let done = c.loop-done.done in
+    let more = c.alike_exits-more.result in
+    let alike = c.alike_exits-more.ensures in
+    let rest = c.from-rest.ensures in
+    let any = c.loop-done.any || c.loop-done.left in
+    let first = rw (c.at.ensures.base, c.at.ensures.entered) at c.exits-left.ensures in
+    let fits : done + 1 + more ≤ c.args.copies.count = omega (arith, alike.few, rest.count) in
     record {
       within = n.bound;
       same = iff_trans
-          (up_to_skip test c.args.marks.now a c.args.copies.each c.args.copies.base c.requires.each (c.loop-done.done + 1) c.next_copy-done-in-loop-done.result c.args.copies.count
-          _ c.exits-left.result n.after n.bound n.stays n.unmarked)
+          (up_to_skip test c.args.marks.now a c.args.copies.each c.args.copies.base c.requires.each (done + 1 + more) c.next_copy-done-in-loop-done.result c.args.copies.count
+          any c.exits-left.result n.after n.bound n.stays n.unmarked)
           (iff_trans
-          (up_to_step test c.args.marks.now a c.args.copies.each c.args.copies.base c.requires.each c.loop-done.done c.args.copies.count c.loop-done.any c.loop-done.left c.exits-left.result
-          c.loop-done-test.true (rw (c.at.ensures.base, c.at.ensures.entered) at c.exits-left.ensures))
-          c.loop-done.invariant.same);
+          (up_to_more test c.args.marks.now a c.args.copies.each c.args.copies.base c.requires.each more (done + 1) c.args.copies.count any c.exits-left.result fits
+          (λ some. stays_any c.loop-done.any c.loop-done.left c.exits-left.result (alike.same some ∙ rest.entered))
+          (alike_here test c.args.marks.now a c.args.copies.each c.args.copies.base c.requires.each done c.from-rest.result.base c.from-rest.result.each
+          c.loop-done.left c.from-rest.result.entered c.exits-left.result more rest.base rest.each rest.entered alike.same first alike.alike))
+          (iff_trans
+          (up_to_step test c.args.marks.now a c.args.copies.each c.args.copies.base c.requires.each done c.args.copies.count c.loop-done.any c.loop-done.left c.exits-left.result
+          c.loop-done-test.true first)
+          c.loop-done.invariant.same));
     }
 
 pub exits_node-exits-left-requires : goal.exits_node-exits-left-requires
