@@ -3,13 +3,12 @@
 ghost use Rattle.std.specs.Prelude.{IfErr};
 ghost use Rattle.logos_items.specs.Words.{IsNoMisuse};
 
-use crate::blocks::print_bytes;
 use crate::inputs::{ItemBlock, write_all};
 use crate::lines::{ERROR, Lines, head_at, milliseconds, no_lines, now, push_totals};
 use logos_answers::{Totals, note_of, push_item};
 use logos_codegen::Generated;
 use logos_codegen::machine::Item;
-use logos_host::Failure;
+use logos_host::{Failure, print_bytes};
 use logos_lines::Cursor;
 use std::alloc::{AllocError, Global};
 use std::io::Write;

@@ -3,13 +3,13 @@
 ghost use Rattle.std.specs.Prelude.{◌<◌, IfErr};
 ghost use Rattle.logos_items.specs.Words.{IsNoMisuse, KeepsCode, unread_length};
 
-use crate::blocks::{print_bytes, write_if_full};
+use crate::blocks::write_if_full;
 use crate::lines::{ERROR, Lines, head_at, milliseconds, no_lines, now, push_totals};
 use logos_answers::{Totals, note_of, push_item};
 use logos_codegen::Generated;
 use logos_codegen::leaf::LeafId;
 use logos_codegen::machine::Action;
-use logos_host::{Failure, Reason, write_through};
+use logos_host::{Failure, Reason, print_bytes, write_through};
 use logos_lines::Position;
 use logos_options::STANDARD_INPUT;
 use logos_stream::{Stream, StreamItem, Streamed};
