@@ -38,10 +38,15 @@ export_line NoPath = codes "no export path\n"
 export_line Dot = codes "DOT export is left out\n"
 export_line Extension = codes "Export path must end in '.dot' or '.mmd', or it must be a directory.\n"
 
+-- A text has the lines of the faults of a refusal.
+abbrev pub IsTextOf : List ℕ → Refusal → Type 0
+IsTextOf text (refusals.Errors faults) = text ≡ fault_lines faults
+IsTextOf text refusals.Memory = ⊥
+
 -- The failure of a source that is refused: its text has the lines of the faults, unless memory ran
 -- out.
 abbrev pub IsRefusalOf : Refusal → Failure → Type 0
-IsRefusalOf (refusals.Errors faults) (Refused text) = string_bytes text ≡ fault_lines faults
+IsRefusalOf refusal (Refused text) = IsTextOf (string_bytes text) refusal
 IsRefusalOf refusal Memory = Unit {0}
 IsRefusalOf refusal failure = ⊥
 

@@ -118,9 +118,12 @@ RefusesLexer source Chart failure = ShowsFaultsOf (IsRefused source) failure
 RefusesLexer source Export failure = ShowsFaultsOf (IsRefused source) failure ⊎ ShowsReasonOf (IsUnexported source) failure
 
 -- Why the items of an input are refused: the faults of the source, or that the input is not a text.
+abbrev pub IsTornInput : List ℕ → List ℕ → Failure → Type 0
+IsTornInput source input (NotUtf8 valid_up_to) = IsTorn source input valid_up_to
+IsTornInput source input failure = ⊥
+
 abbrev pub RefusesInput : List ℕ → List ℕ → Failure → Type 0
-RefusesInput source input (NotUtf8 valid_up_to) = IsTorn source input valid_up_to
-RefusesInput source input failure = ShowsFaultsOf (IsRefused source) failure
+RefusesInput source input failure = ShowsFaultsOf (IsRefused source) failure ⊎ IsTornInput source input failure
 
 -- Why a source is not stripped: its one fault.
 abbrev pub RefusesStripping : List ℕ → Failure → Type 0

@@ -2,7 +2,7 @@
 pub use Rattle.logos_code.specs.declared.action.Action.{Action}
 pub use Rattle.logos_enum.specs.Values.{ident_slice}
 pub use Rattle.logos_graph.specs.Mermaid.{mermaid_of}
-pub use Rattle.logos_host.specs.Failures.{status_of}
+pub use Rattle.logos_host.specs.Failures.{IsNoMisuse, IsOutputFailure, status_of}
 pub use Rattle.logos_host.specs.Writers.{AppendsFront}
 pub use Rattle.logos_host.specs.declared.failure.Failure.{Failure}
 pub use Rattle.logos_machine.specs.LexerValue.{answers_of, item_of}

@@ -1,7 +1,7 @@
 //! The path of the file that the chart of an enum is written to.
 
 ghost use Rattle.std.specs.Prelude.{◌≡◌, IfErr, IfOk, option_copied, string_bytes};
-ghost use Rattle.logos_commands.specs.Views.{with_separator, destination, extension, file_at, file_in, refusal_by, FailsAt};
+ghost use Rattle.logos_commands.specs.Views.{with_separator, destination, extension, file_at, file_in, refusal_by, FailsAt, IsNoMisuse};
 
 use crate::refusals::{ExportRefusal, refused_export};
 use logos_host::{Failure, file_name};
@@ -18,6 +18,7 @@ pub(super) fn chart_path(alloc: Global, path: &str, name: &str) -> Result<String
     ensures file { IfOk result (λ chart.
         file_at (string_bytes chart) ≡ destination path.now name.now) }
     ensures failure { IfErr result (FailsAt (destination path.now name.now)) }
+    ensures known { IfErr result IsNoMisuse }
 {
     let Some(extension) = extension_of(file_name(path)) else {
         return Ok(path_in(alloc, path, name)?);

@@ -1,7 +1,7 @@
 //! The command `lex`: a line for each item of an input, written in blocks while the input is lexed.
 
 ghost use Rattle.std.specs.Prelude.{◌≡◌, ◌++◌, ◌+◌, ◌<◌, ◌≤◌, ℕ, List, [], IfErr, OnOk, IsTrue, IsUtf8, vec_len, vec_capacity};
-ghost use Rattle.logos_commands.specs.Views.{Appends, Keeps, Action as Answer, answers_of, item_of, WritesLines, emits, line_of, AppendsFront, status_of, IsTornBy, PrintsItems, PrintsItemsOf, RefusesInput, RefusesItems};
+ghost use Rattle.logos_commands.specs.Views.{Appends, Keeps, Action as Answer, answers_of, item_of, WritesLines, emits, line_of, AppendsFront, status_of, IsNoMisuse, IsOutputFailure, IsTornBy, PrintsItems, PrintsItemsOf, RefusesInput, RefusesItems};
 
 use crate::lines::{LONGEST, write_line};
 use crate::refusals::refused_source;
@@ -46,6 +46,7 @@ pub(super) fn lex<'w, F: Files, O: Write>(
         files.new failure) }
     ensures silent { IfErr result (λ failure. status_of failure ≡ 1 →
         Keeps (O.contents out.old) (O.contents out.new)) }
+    ensures known { IfErr result IsNoMisuse }
 {
     let source = read_text(request.source, files)?;
     let bytes = read_bytes(request.input, files)?;
@@ -72,6 +73,7 @@ fn lex_by_source<O: Write>(
         RefusesInput source.now input.now failure) }
     ensures silent { IfErr result (λ failure. status_of failure ≡ 1 →
         Keeps (O.contents out.old) (O.contents out.new)) }
+    ensures known { IfErr result IsNoMisuse }
 {
     match generate(alloc, source, config) {
         Ok(made) => lex_by_code(alloc, &made.code, input, out),
@@ -93,6 +95,7 @@ fn lex_by_code<O: Write>(
         IsTornBy code.now input.now failure) }
     ensures silent { IfErr result (λ failure. status_of failure ≡ 1 →
         Keeps (O.contents out.old) (O.contents out.new)) }
+    ensures known { IfErr result IsNoMisuse }
 {
     let mut block = Vec::with_capacity(alloc, BLOCK + LONGEST)?;
     let emit = |_leaf: LeafId, _slice: &[u8]| Action::Emit;
@@ -123,7 +126,8 @@ fn write_by_chunks<C: Fn(LeafId, &[u8]) -> Action, O: Write>(
     requires room { (vec_len block.old < BLOCK) × (BLOCK + LONGEST ≤ vec_capacity block.old) }
     ensures lines { OnOk result (WritesLines folded.now.code (answers_of C.Fn callback.now)
         input.now 0 block.old.items (O.contents out.old) (O.contents out.new)) }
-    ensures failed { IfErr result (λ failure. status_of failure ≡ 3) }
+    ensures failed { IfErr result IsOutputFailure }
+    ensures status { IfErr result (λ failure. status_of failure ≡ 3) }
 {
     let reading = Reading::new(folded, input);
     let mut chunk = ChunkEntries::new();
@@ -147,7 +151,8 @@ fn write_lines<C: Fn(LeafId, &[u8]) -> Action, O: Write>(
     ensures lines { OnOk result (WritesLines lexer.old.code
         (answers_of C.Fn lexer.old.callback) lexer.old.input lexer.old.to block.old.items
         (O.contents out.old) (O.contents out.new)) }
-    ensures failed { IfErr result (λ failure. status_of failure ≡ 3) }
+    ensures failed { IfErr result IsOutputFailure }
+    ensures status { IfErr result (λ failure. status_of failure ≡ 3) }
 {
     while let Some(item) = lexer.next() {
         push_line(block, item);
@@ -162,7 +167,8 @@ fn write_if_full<O: Write>(block: &mut Vec<u8>, out: &mut O) -> Result<(), Failu
     ensures room { vec_capacity block.new ≡ vec_capacity block.old }
     ensures written { OnOk result (AppendsFront (O.contents out.old) (O.contents out.new)
         block.old.items block.new.items) }
-    ensures failure { IfErr result (λ failure. status_of failure ≡ 3) }
+    ensures failed { IfErr result IsOutputFailure }
+    ensures status { IfErr result (λ failure. status_of failure ≡ 3) }
 {
     match write_full(block, BLOCK, out) {
         Ok(()) => Ok(()),

@@ -1,7 +1,7 @@
 //! The outcomes of commands, each made as a whole before any of it is written.
 
 ghost use Rattle.std.specs.Prelude.{◌≡◌, ◌≢◌, ◌++◌, ◌∷◌, [], IfErr, IfOk, option_map, string_bytes};
-ghost use Rattle.logos_commands.specs.Views.{ident_slice, mermaid_of, StandInOrder, texts_of, export_destination, file_at, EndsWithLine, FailsAt, effect_of, status_of, IsLeft, IsPart, IsPartOf, ReadsSource, prints, shape_of, RefusesExport, RefusesLexer, RefusesStripping};
+ghost use Rattle.logos_commands.specs.Views.{ident_slice, mermaid_of, StandInOrder, texts_of, export_destination, file_at, EndsWithLine, FailsAt, IsNoMisuse, effect_of, status_of, IsLeft, IsPart, IsPartOf, ReadsSource, prints, shape_of, RefusesExport, RefusesLexer, RefusesStripping};
 
 use crate::chart_path::chart_path;
 use crate::refusals::{ExportRefusal, refused_export, refused_source};
@@ -49,6 +49,7 @@ pub(super) fn of_file<'w, F: Files>(
     ensures denied { IfErr result (λ failure. status_of failure ≡ 1 →
         ReadsSource F.read_gives file.now files.old files.new
         (λ source. RefusesLexer source asked failure)) }
+    ensures known { IfErr result IsNoMisuse }
 {
     let source = read_text(file, files)?;
     of_source(alloc, source.as_str(), asked)
@@ -59,6 +60,7 @@ fn of_source(alloc: Global, source: &str, asked: Asked) -> Result<CommandOutcome
     ensures done { IfOk result (λ outcome. IsPartOf asked source.now (effect_of outcome)) }
     ensures denied { IfErr result (λ failure. status_of failure ≡ 1 →
         RefusesLexer source.now asked failure) }
+    ensures known { IfErr result IsNoMisuse }
 {
     match generate(alloc, source, shape_of(asked)) {
         Ok(made) => of_lexer(alloc, &made, asked),
@@ -89,6 +91,7 @@ fn of_lexer(
     ensures export { IfErr result (λ failure. status_of failure ≡ 1 → RefusesExport
         (export_destination (option_map string_bytes made.now.export_path) made.now.name.text.now)
         failure) }
+    ensures known { IfErr result IsNoMisuse }
 {
     match asked {
         Asked::Text(_) => Ok(CommandOutcome::Text(text_of_lexer(alloc, made)?)),
@@ -102,6 +105,7 @@ fn text_of_lexer(alloc: Global, made: &Generated<'_>) -> Result<String, Failure<
     ensures text { IfOk result (λ text. EndsWithLine (StandInOrder (texts_of made.now.code))
         (string_bytes text)) }
     ensures failed { IfErr result (λ failure. status_of failure ≡ 3) }
+    ensures known { IfErr result IsNoMisuse }
 {
     let mut text = made.text(alloc)?;
     text.push('\n')?;
@@ -119,6 +123,7 @@ pub(super) fn stripped<'w, F: Files>(
     ensures denied { IfErr result (λ failure. status_of failure ≡ 1 →
         ReadsSource F.read_gives file.now files.old files.new
         (λ source. RefusesStripping source failure)) }
+    ensures known { IfErr result IsNoMisuse }
 {
     let source = read_text(file, files)?;
     match stripped_source(alloc, source.as_str()) {
@@ -132,6 +137,7 @@ fn stripped_source(alloc: Global, source: &str) -> Result<String, Failure<'stati
     ensures done { IfOk result (λ text. IsLeft source.now (prints (string_bytes text))) }
     ensures denied { IfErr result (λ failure. status_of failure ≡ 1 →
         RefusesStripping source.now failure) }
+    ensures known { IfErr result IsNoMisuse }
 {
     let left = match strip_attributes(alloc, source) {
         Ok(left) => left,
@@ -150,8 +156,12 @@ fn export_of_lexer(alloc: Global, made: &Generated<'_>) -> Result<CommandOutcome
     ensures denied { IfErr result (λ failure. status_of failure ≡ 1 → RefusesExport
         (export_destination (option_map string_bytes made.now.export_path) made.now.name.text.now)
         failure) }
+    ensures known { IfErr result IsNoMisuse }
 {
-    let path = path_of_chart(alloc, made)?;
+    let path = match path_of_chart(alloc, made) {
+        Ok(path) => path,
+        Err(failure) => return Err(failure),
+    };
     let text = tested_chart(alloc, &made.graph)?;
     Ok(CommandOutcome::Chart { path, text })
 }
@@ -162,6 +172,7 @@ fn path_of_chart(alloc: Global, made: &Generated<'_>) -> Result<String, Failure<
         (option_map string_bytes made.now.export_path) made.now.name.text.now) }
     ensures failure { IfErr result (FailsAt (export_destination
         (option_map string_bytes made.now.export_path) made.now.name.text.now)) }
+    ensures known { IfErr result IsNoMisuse }
 {
     match &made.export_path {
         Some(path) => chart_path(alloc, path.as_str(), made.name.text),
@@ -173,6 +184,7 @@ fn path_of_chart(alloc: Global, made: &Generated<'_>) -> Result<String, Failure<
 fn tested_chart(alloc: Global, graph: &Graph<'_>) -> Result<String, Failure<'static>>
     ensures chart { IfOk result (λ text. string_bytes text ≡ mermaid_of graph.now.states) }
     ensures failed { IfErr result (λ failure. status_of failure ≡ 3) }
+    ensures known { IfErr result IsNoMisuse }
 {
     test_neighbours(alloc, graph)?;
     Ok(graph.get_mermaid(alloc)?)
@@ -180,7 +192,7 @@ fn tested_chart(alloc: Global, graph: &Graph<'_>) -> Result<String, Failure<'sta
 
 /// Refuses a graph in which a state is like the next.
 fn test_neighbours(alloc: Global, graph: &Graph<'_>) -> Result<(), Failure<'static>>
-    ensures { IfErr result (λ failure. status_of failure ≡ 3) }
+    ensures failed { IfErr result (λ failure. status_of failure ≡ 3) }
 {
     let mut before: Option<State> = None;
     for state in graph.iter_states() {

@@ -2,7 +2,7 @@
 //! exported.
 
 ghost use Rattle.std.specs.Prelude.{◌≡◌, ◌++◌, IfOk, OnOk, string_bytes};
-ghost use Rattle.logos_commands.specs.Views.{IsRefusalOf, IsUnexportedBy, export_line, fault_head, fault_line, fault_lines, fault_of, faults_of, flat_map, line_character, on_one_line};
+ghost use Rattle.logos_commands.specs.Views.{IsNoMisuse, IsRefusalOf, IsUnexportedBy, export_line, fault_head, fault_line, fault_lines, fault_of, faults_of, flat_map, line_character, on_one_line};
 
 use logos_codegen::Refusal;
 use logos_codegen::error::{Errors, Memory, SpannedError};
@@ -22,7 +22,8 @@ pub(super) enum ExportRefusal {
 
 /// Returns the failure of a source that is refused, or `Memory` if memory runs out.
 pub(super) fn refused_source(refusal: Refusal) -> Failure<'static>
-    ensures { IsRefusalOf refusal.entry result }
+    ensures refusal { IsRefusalOf refusal.entry result }
+    ensures known { IsNoMisuse result }
 {
     let Refusal::Errors(errors) = refusal else {
         return Failure::Memory;
@@ -35,7 +36,8 @@ pub(super) fn refused_source(refusal: Refusal) -> Failure<'static>
 
 /// Returns the failure of a chart that is not exported, or `Memory` if memory runs out.
 pub(super) fn refused_export(alloc: Global, why: ExportRefusal) -> Failure<'static>
-    ensures { IsUnexportedBy why result }
+    ensures refusal { IsUnexportedBy why result }
+    ensures known { IsNoMisuse result }
 {
     match String::from_str(alloc, export_line(why)) {
         Ok(text) => Failure::Refused(text),

@@ -191,7 +191,7 @@ pub(crate) const ROWS: [OptionRow; OPTIONS] = [
         has_value: true,
         role: OptionRole::Setting,
         cli: Some(
-            "      --color WHEN  always, never or auto (on a terminal; the default)
+            "      --color WHEN   always, never or auto (on a terminal; the default)
 ",
         ),
         show: Some(
