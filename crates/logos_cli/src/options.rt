@@ -5,7 +5,9 @@ ghost use Rattle.logos_cli.specs.Views.{arguments_value, asked, file_given, is_f
 
 use logos_codegen::generator::Config;
 use logos_host::{Color, Failure, MessageFormat};
-use logos_options::{Arguments, MessageStyle, OptionName, Program, arguments_of, misuse};
+use logos_options::{
+    Arguments, MessageStyle, OptionName, Program, arguments_of, misuse, style_given,
+};
 use logos_tables::Shape;
 
 /// What is requested.
@@ -99,7 +101,7 @@ fn order_given<'w>(
     let Some(input) = arguments.first else {
         return Err(misuse("no input file", ""));
     };
-    let style = match MessageStyle::given(&arguments.settings) {
+    let style = match style_given(&arguments.settings) {
         Ok(style) => style,
         Err(failure) => return Err(failure),
     };

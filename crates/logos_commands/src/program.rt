@@ -1,10 +1,10 @@
 //! The program `logos`, from its arguments to an exit status. `main` calls it.
 
 ghost use Rattle.std.specs.Prelude.{◌≡◌, ◌≢◌, ◌≤◌, ◌⊎◌, ◌↔◌, None, map, string_bytes, IfErr, IfOk, IfSome, OnOk};
-ghost use Rattle.logos_commands.specs.Views.{Appends, Carries, Failure as Why, HasEffect, IsDenied, IsDone, IsLeft, IsPartOf, Keeps, PrintsItems, ReadsSource, RefusesItems, RefusesLexer, RefusesStripping, asked, effect_of, status_of};
+ghost use Rattle.logos_commands.specs.Views.{Appends, Carries, Failure as Why, HasEffect, IsDenied, IsDone, IsLeft, IsPartOf, Keeps, ReadsSource, RefusesLexer, RefusesStripping, asked, effect_of, status_of};
 
 use crate::command::{Command, command_of};
-use crate::item_lines::{LexRequest, lex};
+use crate::item_lines::lex;
 use crate::outcome::{Asked, CommandOutcome, of_file, stripped};
 use logos_host::{Failure, Files, print_bytes, report_plainly, write_file};
 use std::alloc::Global;
@@ -75,7 +75,10 @@ pub fn run<F: Files, O: Write, E: Write>(
         return failed(&NO_COMMAND, err);
     };
     match command {
-        Command::Items(request) => run_lex(alloc, request, files, out, err),
+        Command::Items(request) => match lex(alloc, request, files, out) {
+            Ok(()) => 0,
+            Err(failure) => failed(&failure, err),
+        },
         Command::Text { file, config } => {
             run_part(alloc, (file, Asked::Text(config)), files, out, err)
         }
@@ -90,27 +93,6 @@ const NO_COMMAND: Failure<'static> = Failure::Misuse {
     what: "no command",
     word: "",
 };
-
-/// Writes the items of an input, and returns the exit status.
-fn run_lex<F: Files, O: Write, E: Write>(
-    alloc: Global,
-    request: LexRequest<'_>,
-    files: &mut F,
-    out: &mut O,
-    err: &mut E,
-) -> u8
-    ensures done { result ≡ 0 → PrintsItems F.read_gives request.entry.source.now
-        request.entry.input.now files.old files.new (O.contents out.old) (O.contents out.new) }
-    ensures denied { result ≡ 1 → (failure : Why) × RefusesItems F.read_gives
-        request.entry.source.now request.entry.input.now files.old files.new failure }
-    ensures silent { result ≡ 1 → Keeps (O.contents out.old) (O.contents out.new) }
-    ensures known { (result ≤ 3) × (result ≢ 2) }
-{
-    match lex(alloc, request, files, out) {
-        Ok(()) => 0,
-        Err(failure) => failed(&failure, err),
-    }
-}
 
 /// Writes a part of the lexer of the source in a file, and returns the exit status.
 fn run_part<F: Files, O: Write, E: Write>(

@@ -8,7 +8,8 @@ use crate::failure::Failure;
 use std::io;
 use std::io::Write;
 
-/// Writes the message of a failure, and flushes the writer. After invalid arguments `usage` follows.
+/// Writes the message of a failure, and flushes the writer. That of invalid arguments ends with
+/// `usage`.
 ///
 /// # Errors
 ///

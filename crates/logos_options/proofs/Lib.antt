@@ -1,2 +1,3 @@
+mod OrderLemmas
 mod SplitLemmas
 mod WordLemmas

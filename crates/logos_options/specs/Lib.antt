@@ -5,4 +5,5 @@ pub mod Options
 pub mod Paths
 pub mod Programs
 pub mod Styles
+pub mod WholeOptions
 pub mod Words

@@ -20,8 +20,8 @@ pub struct HelpText {
 ///
 /// # Errors
 ///
-/// Returns `Output` if writing fails, or `Closed` if the reader has closed the output. Then a part of the help
-/// may be written.
+/// Returns `Output` if writing fails, or `Closed` if the reader has closed the output. Then a part
+/// of the help may be written.
 pub fn print_help<'w, O: Write>(
     program: Program,
     help: HelpText,

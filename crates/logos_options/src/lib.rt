@@ -1,10 +1,11 @@
-//! The table of the options of `logos_cli` and `logos_show`, and how their arguments are read by it.
+//! The table of the options of `logos_cli` and `logos_show`, and the reading of their arguments.
 
 #![tactic(auto)]
 
 mod argument_steps;
 mod arguments;
 mod help;
+pub mod laws;
 mod message_style;
 mod nearest_option;
 mod options;
@@ -15,7 +16,7 @@ mod version;
 pub use argument_steps::{ArgumentProgress, ArgumentStep, GivenOption, Use, next_step};
 pub use arguments::{Arguments, Settings, arguments_of, misuse};
 pub use help::{HelpText, print_help};
-pub use message_style::MessageStyle;
+pub use message_style::{MessageStyle, style_given};
 pub use nearest_option::with_nearest;
 pub use options::{OptionName, OptionRole};
 pub use paths::{STANDARD_INPUT, path_by_word, paths_of};

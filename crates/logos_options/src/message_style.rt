@@ -15,31 +15,24 @@ pub struct MessageStyle {
     pub color: Color,
 }
 
-impl MessageStyle {
-    ghost use Rattle.std.specs.Prelude.{◌≡◌, IfErr, IfOk, None, Some};
-    ghost use Rattle.logos_host.specs.Failures.{status_of};
-    ghost use Rattle.logos_options.specs.Arguments.{settings_value};
-    ghost use Rattle.logos_options.specs.Styles.{style_given};
-
-    /// Returns the style that is given: without settings a report, with colors on a terminal.
-    ///
-    /// # Errors
-    ///
-    /// Returns `Misuse` if a value is not that of a color or of a format.
-    pub fn given<'w>(settings: &Settings<'w>) -> Result<MessageStyle, Failure<'w>>
-        ensures given { IfOk result (λ style.
-            style_given (settings_value settings.now) ≡ Some style) }
-        ensures misuse { IfErr result (λ failure.
-            (style_given (settings_value settings.now) ≡ None) × (status_of failure ≡ 2)) }
-    {
-        let color = match color_given(settings.value(OptionName::Color)) {
-            Ok(color) => color,
-            Err(failure) => return Err(failure),
-        };
-        match format_given(settings.value(OptionName::MessageFormat)) {
-            Ok(format) => Ok(MessageStyle { format, color }),
-            Err(failure) => Err(failure),
-        }
+/// Returns the style that settings give: without them a report, with colors on a terminal.
+///
+/// # Errors
+///
+/// Returns `Misuse` if a value is not that of a color or of a format.
+pub fn style_given<'w>(settings: &Settings<'w>) -> Result<MessageStyle, Failure<'w>>
+    ensures given { IfOk result (λ style.
+        style_given (settings_value settings.now) ≡ Some style) }
+    ensures misuse { IfErr result (λ failure.
+        (style_given (settings_value settings.now) ≡ None) × (status_of failure ≡ 2)) }
+{
+    let color = match color_given(settings.value(OptionName::Color)) {
+        Ok(color) => color,
+        Err(failure) => return Err(failure),
+    };
+    match format_given(settings.value(OptionName::MessageFormat)) {
+        Ok(format) => Ok(MessageStyle { format, color }),
+        Err(failure) => Err(failure),
     }
 }
 

@@ -1,5 +1,5 @@
-//! The programs `logos`, `logos_cli` and `logos_show`: one executable, which runs as the program whose
-//! name it is called by. It is built and checked once, since most of it is shared.
+//! The programs `logos`, `logos_cli` and `logos_show`: one executable, which runs as the program by
+//! whose name it is called. It is built and checked once, since most of it is shared.
 
 #![tactic(auto)]
 

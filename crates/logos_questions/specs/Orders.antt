@@ -16,8 +16,8 @@ use Rattle.logos_questions.specs.declared.questions.ShowRequest.{ShowRequest}
 use Rattle.logos_questions.specs.declared.questions.ShowRequest.TheVariants.{Help, Version, Show}
 
 -- What is asked of the lexers of a file: their leaves; the items of an input, by its path; what
--- matches from a position of an input; examples of what leaves find; at most a number of inputs that
--- together pass all edges; or whether the lexer of another file, by its path, is the same.
+-- matches from a position of an input; examples of what leaves find; at most a number of inputs
+-- that together pass all edges; or whether the lexer of another file, by its path, is the same.
 pub data QuestionValue : Type 0 where
   leaves : QuestionValue
   items : (input : List ℕ) → QuestionValue

@@ -8,6 +8,7 @@ use logos_host::Failure;
 use logos_lines::Position;
 use logos_options::{
     Arguments, GivenOption, MessageStyle, OptionName, Program, Settings, arguments_of, misuse,
+    style_given,
 };
 
 /// What is requested.
@@ -89,7 +90,7 @@ fn order_given(arguments: Arguments<'_>) -> Result<ShowRequest<'_>, Failure<'_>>
     let Some(file) = arguments.first else {
         return Err(misuse("no file", ""));
     };
-    let style = match MessageStyle::given(&arguments.settings) {
+    let style = match style_given(&arguments.settings) {
         Ok(style) => style,
         Err(failure) => return Err(failure),
     };

@@ -218,8 +218,7 @@ fn answer_about<'w, F: Files, C: Clock + StandardInput, O: Write, E: Write + IsT
         Question::Items(STANDARD_INPUT) if !is_json(task.order) => lex_stream(
             task, source, host, out,
         ),
-        Question::Items(input) => lex(task, source, input, None, host, out),
-        Question::Matches(input, place) => lex(task, source, input, Some(place), host, out),
+        Question::Items(_) | Question::Matches(..) => lex(task, source, host, out),
         Question::Comparison(other) => return compare(task, source, other, host, out),
     };
     as_same(done)
@@ -325,25 +324,33 @@ fn most_of(question: Question<'_>) -> usize {
     }
 }
 
-/// Writes the items of an input, or what matches from a point of it.
+/// Writes the items of an input, or what matches from a line and column of it.
 fn lex<'w, F: Files, C: Clock, O: Write, E: Write + IsTerminal>(
     task: Task<'w>,
     source: &Source<'_>,
-    input: &'w str,
-    place: Option<Position>,
     host: &mut Host<'_, F, C, E>,
     out: &mut O,
 ) -> Result<(), Failure<'w>>
     ensures { IfErr result IsNoMisuse }
 {
-    let bytes = read_bytes(input, host.files)?;
+    let (path, place) = input_of(task.order.question);
+    let bytes = read_bytes(path, host.files)?;
     let input = Input {
-        path: input,
+        path,
         bytes: bytes.as_slice(),
         place,
         is_json: is_json(task.order),
     };
     lex_by_file(task, source, input, host, out)
+}
+
+/// Returns the path of the input of a question, and the line and column in it that are asked for.
+fn input_of<'w>(question: Question<'w>) -> (&'w str, Option<Position>) {
+    match question {
+        Question::Items(input) => (input, None),
+        Question::Matches(input, place) => (input, Some(place)),
+        _ => ("", None),
+    }
 }
 
 /// Writes the items of an input or what matches from a point of it, by the lexer of a file that is
