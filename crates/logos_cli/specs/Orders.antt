@@ -78,6 +78,7 @@ shaped_given words arguments input style (Some shape) =
     (record { input = input; output = setting options.Output arguments.settings; is_check = is_set options.Check arguments.settings; shape = shape; format = style.format; denies = is_set options.DenyWarnings arguments.settings; color = style.color })
     (setting options.Output arguments.settings) arguments.second
 
+-- Files to expand, with messages in this style, in the shape that is given.
 abbrev pub file_given : List (List ℕ) → ArgumentsValue → List ℕ → MessageStyle → Option Asked
 file_given words arguments input style = shaped_given words arguments input style (named_shape (setting options.Shape arguments.settings))
 
@@ -90,6 +91,7 @@ abbrev pub order_given : List (List ℕ) → ArgumentsValue → Option (List ℕ
 order_given words arguments None = None
 order_given words arguments (Some input) = style_asked words arguments input (style_given arguments.settings)
 
+-- A text, or files to expand.
 abbrev pub request_given : List (List ℕ) → ArgumentsValue → Option OptionName → Option Asked
 request_given words arguments (Some options.Version) = Some asks_version
 request_given words arguments (Some option) = Some asks_help

@@ -38,10 +38,11 @@ IsWritingFailure path (errors.NotText valid_up_to) Memory = Unit {0}
 IsWritingFailure path errors.Memory Memory = Unit {0}
 IsWritingFailure path error failure = ⊥
 
--- A file at a path is not read, or not written: the failure names the path, or memory ran out.
+-- A file at a path is not read: the failure names the path, or memory ran out.
 abbrev pub IsUnread : List ℕ → Failure → Type 0
 IsUnread path failure = (error : FileError) × IsReadingFailure path error failure
 
+-- A file at a path is not written: the failure names the path, or memory ran out.
 abbrev pub IsUnwritten : List ℕ → Failure → Type 0
 IsUnwritten path failure = (error : FileError) × IsWritingFailure path error failure
 

@@ -88,6 +88,7 @@ abbrev pub order_given : ArgumentsValue → Option (List ℕ) → Option Asked
 order_given arguments None = None
 order_given arguments (Some file) = style_asked arguments file (style_given arguments.settings)
 
+-- A text, or a file to show.
 abbrev pub request_given : ArgumentsValue → Option OptionName → Option Asked
 request_given arguments (Some options.Version) = Some asks_version
 request_given arguments (Some option) = Some asks_help
