@@ -102,10 +102,10 @@ fn run_part<F: Files, O: Write, E: Write>(
     out: &mut O,
     err: &mut E,
 ) -> u8
-    ensures done { result ≡ 0 → Carries F.read_gives F.write_makes request.0.now files.old files.new
-        (O.contents out.old) (O.contents out.new) (IsPartOf request.1) }
-    ensures denied { result ≡ 1 → (failure : Why) × ReadsSource F.read_gives request.0.now files.old
-        files.new (λ source. RefusesLexer source request.1 failure) }
+    ensures done { result ≡ 0 → Carries F.read_gives F.write_makes request.entry.0.now files.old files.new
+        (O.contents out.old) (O.contents out.new) (IsPartOf request.entry.1) }
+    ensures denied { result ≡ 1 → (failure : Why) × ReadsSource F.read_gives request.entry.0.now files.old
+        files.new (λ source. RefusesLexer source request.entry.1 failure) }
     ensures silent { result ≡ 1 → Keeps (O.contents out.old) (O.contents out.new) }
     ensures known { (result ≤ 3) × (result ≢ 2) }
 {

@@ -22,7 +22,7 @@ pub(super) enum ExportRefusal {
 
 /// Returns the failure of a source that is refused, or `Memory` if memory runs out.
 pub(super) fn refused_source(refusal: Refusal) -> Failure<'static>
-    ensures refusal { IsRefusalOf refusal.entry result }
+    ensures refusal { IsRefusalOf refusal result }
     ensures known { IsNoMisuse result }
 {
     let Refusal::Errors(errors) = refusal else {

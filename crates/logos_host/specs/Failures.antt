@@ -40,11 +40,16 @@ IsWritingFailure path error failure = ⊥
 
 -- A file at a path is not read: the failure names the path, or memory ran out.
 abbrev pub IsUnread : List ℕ → Failure → Type 0
-IsUnread path failure = (error : FileError) × IsReadingFailure path error failure
+IsUnread path (Read at why) = at.now ≡ path
+IsUnread path (NotText at length) = at.now ≡ path
+IsUnread path Memory = Unit {0}
+IsUnread path failure = ⊥
 
 -- A file at a path is not written: the failure names the path, or memory ran out.
 abbrev pub IsUnwritten : List ℕ → Failure → Type 0
-IsUnwritten path failure = (error : FileError) × IsWritingFailure path error failure
+IsUnwritten path (Write at why) = at.now ≡ path
+IsUnwritten path Memory = Unit {0}
+IsUnwritten path failure = ⊥
 
 -- Standard output is not written.
 abbrev pub IsOutputFailure : Failure → Type 0

@@ -1,7 +1,7 @@
 //! The ways in which a program fails.
 
 ghost use Rattle.std.specs.Prelude.{◌≡◌, ◌≢◌};
-ghost use Rattle.logos_host.specs.Views.{Closed, IsOutputFailure, IsReadingFailure, IsWritingFailure, Output, status_of, Memory as OutOfMemory};
+ghost use Rattle.logos_host.specs.Views.{Closed, IsOutputFailure, IsReadingFailure, IsUnread, IsUnwritten, IsWritingFailure, Output, status_of, Memory as OutOfMemory};
 
 use crate::files::FileError;
 use crate::reason::Reason;
@@ -89,6 +89,7 @@ impl Failure<'_> {
     /// Returns the failure of a file at a path that is not read.
     pub fn of_reading<'w>(path: &'w str, error: FileError) -> Failure<'w>
         ensures failure { IsReadingFailure path.now error result }
+        ensures unread { IsUnread path.now result }
         ensures status { status_of result ≡ 3 }
     {
         match error {
@@ -101,6 +102,7 @@ impl Failure<'_> {
     /// Returns the failure of a file at a path that is not written.
     pub fn of_writing<'w>(path: &'w str, error: FileError) -> Failure<'w>
         ensures failure { IsWritingFailure path.now error result }
+        ensures unwritten { IsUnwritten path.now result }
         ensures status { status_of result ≡ 3 }
     {
         match error {
