@@ -11,5 +11,6 @@ mod records;
 mod streams;
 
 pub use items::write_items;
+pub use lines::ItemOrder;
 pub use records::write_item_records;
 pub use streams::write_streamed;

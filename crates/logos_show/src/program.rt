@@ -16,7 +16,7 @@ use logos_codegen::graph::Graph;
 use logos_codegen::{Generated, generate};
 use logos_file_warnings::Showing;
 use logos_host::{ComparableFiles, Failure, Files, print_bytes, read_bytes, read_text, report};
-use logos_items::{write_item_records, write_items};
+use logos_items::{ItemOrder, write_item_records, write_items};
 use logos_lines::Position;
 use logos_options::{
     HelpText, OptionName, Program, STANDARD_INPUT, path_by_word, print_help, print_version,
@@ -339,7 +339,7 @@ fn lex<'w, F: Files, C: Clock, O: Write, E: Write + IsTerminal>(
         path,
         bytes: bytes.as_slice(),
         place,
-        is_json: is_json(task.order),
+        settings: task.order.settings,
     };
     lex_by_file(task, source, input, host, out)
 }
@@ -397,7 +397,13 @@ fn lex_by_lexer<'w, F: Files, C: Clock, O: Write, E: Write + IsTerminal>(
             bytes: input.bytes,
             place,
         };
-        return match_by_lexer(alloc, &made.graph, point, input.is_json, out);
+        return match_by_lexer(
+            alloc,
+            &made.graph,
+            point,
+            input.settings.has(OptionName::Json),
+            out,
+        );
     }
     let note = items_by_lexer(alloc, made, input, host.clock, out)?;
     write_note(host.err, note.as_bytes());
@@ -414,11 +420,14 @@ fn items_by_lexer<C: Clock, O: Write>(
 ) -> Result<String, Failure<'static>>
     ensures { IfErr result IsNoMisuse }
 {
-    if input.is_json {
-        write_item_records(alloc, &made.code, input.bytes, out)
-    } else {
-        write_items(alloc, made, input.bytes, clock, out)
+    if input.settings.has(OptionName::Json) {
+        return write_item_records(alloc, &made.code, input.bytes, out);
     }
+    let order = ItemOrder {
+        alloc,
+        settings: input.settings,
+    };
+    write_items(order, made, input.bytes, clock, out)
 }
 
 /// Writes what matches from a point of an input.

@@ -11,6 +11,7 @@ use logos_answers::{
 use logos_codegen::graph::Graph;
 use logos_host::{Failure, print_bytes};
 use logos_lines::Position;
+use logos_options::Settings;
 use logos_records::{
     JsonLines, input_records, match_records, push_difference_record, push_modes_record,
     push_same_record,
@@ -32,8 +33,8 @@ pub(crate) struct Input<'w, 'i> {
     pub(crate) path: &'w str,
     pub(crate) bytes: &'i [u8],
     pub(crate) place: Option<Position>,
-    /// Whether the answer is JSON.
-    pub(crate) is_json: bool,
+    /// The settings that are given.
+    pub(crate) settings: Settings<'w>,
 }
 
 /// A point of an input: the path and the bytes of the input, and the point.

@@ -9,7 +9,7 @@ use crate::program::{Host, Task, part_of};
 use crate::refusals::{refused, text_of, write_note};
 use logos_codegen::generate;
 use logos_host::{Failure, Files};
-use logos_items::write_streamed;
+use logos_items::{ItemOrder, write_streamed};
 use logos_report::Source;
 use std::io::{Input, IsTerminal, Write};
 use std::time::Clock;
@@ -24,10 +24,14 @@ pub(crate) fn lex_stream<'w, F: Files, C: Clock + Input, O: Write, E: Write + Is
     ensures { IfErr result IsNoMisuse }
 {
     let alloc = task.showing.alloc;
+    let order = ItemOrder {
+        alloc,
+        settings: task.order.settings,
+    };
     let one = lexer_in(alloc, task, source, host.err)?;
     let part = part_of(source, one);
     let lexed = match generate(alloc, text_of(source, one), SHAPE) {
-        Ok(made) => write_streamed(alloc, &made, host.clock, out),
+        Ok(made) => write_streamed(order, &made, host.clock, out),
         Err(refusal) => Err(refused(alloc, part, task.showing, refusal)),
     };
     print_note(lexed, host.err)
