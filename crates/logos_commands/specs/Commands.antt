@@ -7,8 +7,9 @@ use Rattle.logos_options.specs.declared.options.OptionName.TheVariants as option
 use Rattle.logos_commands.specs.declared.command.Command.{Command}
 use Rattle.logos_commands.specs.declared.command.Command.TheVariants.{Text, Items, Chart, Export, Strip}
 
--- What the arguments request: the Rust text of the lexer in a file, the items of an input, the chart
--- of the lexer's graph, here or in a file, or the enum without what belongs to the derive macro.
+-- What the arguments request: the Rust text of the lexer in a file, the items of an input, the
+-- chart of the lexer's graph, here or in a file, or the enum without what belongs to the derive
+-- macro.
 pub data Asked : Type 0 where
   asks_text : (file : List ℕ) → (shape : Config) → Asked
   asks_items : (file input : List ℕ) → (shape : Config) → Asked
