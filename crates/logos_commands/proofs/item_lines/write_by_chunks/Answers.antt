@@ -34,4 +34,4 @@ returns-clause-lines g c =
     let read = c.new-reading.ensures in
     all_done _ (answers_of g.C.Fn c.args.callback.now) c.args.folded.now.code c.args.input.now _ _ 0 _ _ _ _ _
     c.in_default.ensures.item read.code read.input (λ leaf slice answer w. w) c.loop-item.invariant.goes_on
-    c.write_rest.result (rw c.deref.ensures.value at c.write_rest.ensures.written)
+    c.print_bytes.result (rw c.deref.ensures.value at c.print_bytes.ensures.printed)

@@ -25,4 +25,4 @@ pub returns-clause-lines : goal.returns-clause-lines
 returns-clause-lines g c =
     all_done _ (answers_of g.C.Fn c.args.lexer.now.callback) c.args.lexer.now.code c.args.lexer.now.input _ _ c.args.lexer.now.to _ _ _ _ _
     (rw c.loop-item.invariant.same_callback at c.in_default.ensures.item) c.loop-item.invariant.same_code c.loop-item.invariant.same_input
-    (λ leaf slice answer w. w) c.loop-item.invariant.goes_on c.write_rest.result (rw c.deref.ensures.value at c.write_rest.ensures.written)
+    (λ leaf slice answer w. w) c.loop-item.invariant.goes_on c.print_bytes.result (rw c.deref.ensures.value at c.print_bytes.ensures.printed)
