@@ -1,6 +1,6 @@
 //! The messages of failures in `logos`: one line, without a reason.
 
-ghost use Rattle.std.specs.Prelude.{OnOk};
+ghost use Rattle.std.specs.Prelude.{◌++◌, OnOk, codes};
 ghost use Rattle.logos_host.specs.Views.{Appends, plain_message_of};
 
 use crate::failure::Failure;
@@ -32,11 +32,19 @@ fn write_plainly<E: Write>(failure: &Failure<'_>, usage: &str, err: &mut E) -> i
         Failure::OwnOutput(_) => err.write_all(usage.as_bytes()),
         Failure::Refused(text) => err.write_all(text.as_bytes()),
         Failure::NotUtf8 { valid_up_to } => writeln!(err, "NotUtf8 {valid_up_to}"),
-        Failure::NotText { path, .. } => writeln!(err, "cannot read {path}"),
-        Failure::Read(path, _) => writeln!(err, "cannot read {path}"),
+        Failure::NotText { path, .. } => write_unread(path, err),
+        Failure::Read(path, _) => write_unread(path, err),
         Failure::Write(path, _) => writeln!(err, "cannot write {path}"),
         Failure::Output => err.write_all(b"cannot write standard output\n"),
         Failure::Closed => err.write_all(b"cannot write standard output\n"),
         Failure::Memory => err.write_all(b"out of memory\n"),
     }
+}
+
+/// Writes that the file at a path is not read.
+fn write_unread<E: Write>(path: &str, err: &mut E) -> io::Result<()>
+    ensures { OnOk result (Appends (E.contents err.old) (E.contents err.new)
+        (codes "cannot read " ++ (path.now ++ codes "\n"))) }
+{
+    writeln!(err, "cannot read {path}")
 }

@@ -87,21 +87,7 @@ fn read_words(program: Program, words: &[String]) -> Result<Arguments<'_>, Failu
     ensures misuse { IfErr result (λ failure. (with_words program (Some nothing_given)
         (map string_bytes words.now) ≡ None) × (status_of failure ≡ 2)) }
 {
-    let mut arguments = no_arguments();
-    for word in words {
-        arguments = match read_word(program, arguments, word.as_str()) {
-            Ok(next) => next,
-            Err(failure) => return Err(failure),
-        };
-    }
-    Ok(arguments)
-}
-
-/// Returns the arguments of an empty command line.
-fn no_arguments<'w>() -> Arguments<'w>
-    ensures { arguments_value result ≡ nothing_given }
-{
-    Arguments {
+    let mut arguments = Arguments {
         first: None,
         second: None,
         settings: Settings {
@@ -113,7 +99,14 @@ fn no_arguments<'w>() -> Arguments<'w>
             pending: None,
             is_over: false,
         },
+    };
+    for word in words {
+        arguments = match read_word(program, arguments, word.as_str()) {
+            Ok(next) => next,
+            Err(failure) => return Err(failure),
+        };
     }
+    Ok(arguments)
 }
 
 /// Returns all arguments, unless an option waits for a value.
