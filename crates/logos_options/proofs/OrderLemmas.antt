@@ -12,23 +12,23 @@ use Rattle.logos_options.specs.declared.options.OptionRole.TheVariants.{Setting,
 use Rattle.logos_options.specs.declared.program.Program.{Program}
 
 -- Arguments of which all are read, with no text.
-held : Option (List ℕ) → Option (List ℕ) → List (Option (List ℕ)) → Option OptionValue → ArgumentsValue
+abbrev held : Option (List ℕ) → Option (List ℕ) → List (Option (List ℕ)) → Option OptionValue → ArgumentsValue
 held first second settings question = record { first = first; second = second; settings = settings; question = question; text = None; progress = not_begun }
 
 -- One more option, which the program takes or not and which does this.
-given_by : Bool → OptionRole → ArgumentsValue → OptionValue → Option ArgumentsValue
+abbrev given_by : Bool → OptionRole → ArgumentsValue → OptionValue → Option ArgumentsValue
 given_by b role arguments one = if b then with_role arguments one role else None
 
-then_by : Bool → OptionRole → OptionValue → Option ArgumentsValue → Option ArgumentsValue
+abbrev then_by : Bool → OptionRole → OptionValue → Option ArgumentsValue → Option ArgumentsValue
 then_by b role one None = None
 then_by b role one (Some arguments) = given_by b role arguments one
 
 -- One more option after these arguments, if they were valid.
-after : Program → Option ArgumentsValue → OptionValue → Option ArgumentsValue
+abbrev after : Program → Option ArgumentsValue → OptionValue → Option ArgumentsValue
 after program arguments one = then_by (takes program one.option) (role_of one.option) one arguments
 
 -- These options, one after another.
-with_options : Program → Option ArgumentsValue → List OptionValue → Option ArgumentsValue
+abbrev with_options : Program → Option ArgumentsValue → List OptionValue → Option ArgumentsValue
 with_options program arguments [] = arguments
 with_options program arguments (one ∷ rest) = with_options program (after program arguments one) rest
 
@@ -71,6 +71,8 @@ held_after program (Some arguments) one (holds first second settings question) n
 reads : (program : Program) (words : List (List ℕ)) (list : List OptionValue) → AreWhole words list → AreSettled list → (r : Option ArgumentsValue) → IsHeld r →
     with_words program r words ≡ with_options program r list
 reads program [] [] nothing s r h = refl
+reads program [] (one ∷ rest) w s r h = elim w [ ]
+reads program (word ∷ words) [] w s r h = elim w [ ]
 reads program (word ∷ words) (one ∷ rest) (in_one e m) s None refused = sym (none_after program rest)
 reads program (word ∷ words) (one ∷ rest) (in_one e m) s (Some arguments) (holds f g v q) =
     ap (λ o. with_words program (with_step program (held f g v q) o) words) e
@@ -81,7 +83,7 @@ reads program (word ∷ value ∷ words) (one ∷ rest) (in_two e m) s (Some arg
     ∙ reads program words rest m s.1 (with_given program (held f g v q) one) (still_held program f g v q one s.0)
 
 -- Two options may change their places.
-chain : Bool → Bool → ArgumentsValue → Option ArgumentsValue
+abbrev chain : Bool → Bool → ArgumentsValue → Option ArgumentsValue
 chain s t end = if s then None else (if t then None else Some end)
 
 both : (s t t' s' : Bool) (end other : ArgumentsValue) → t' ≡ t → s' ≡ s → end ≡ other → chain s t' end ≡ chain t s' other
@@ -103,10 +105,10 @@ chained role one true a = refl
 chained role one false a = refl
 
 module _ (f g : Option (List ℕ)) (v : List (Option (List ℕ))) (q : Option OptionValue) (x y : OptionValue) (apart : number x.option ≢ number y.option) where
-  x_first : List (Option (List ℕ))
+  abbrev x_first : List (Option (List ℕ))
   x_first = set v (number x.option) (Some x.value)
 
-  y_first : List (Option (List ℕ))
+  abbrev y_first : List (Option (List ℕ))
   y_first = set v (number y.option) (Some y.value)
 
   y_as_before : is_set y.option x_first ≡ is_set y.option v
@@ -168,6 +170,8 @@ rotated program r h (x ∷ xs) ys s t apart =
 
 whole_both : (one other : List (List ℕ)) (xs ys : List OptionValue) → AreWhole one xs → AreWhole other ys → AreWhole (one ++ other) (xs ++ ys)
 whole_both [] other [] ys nothing w = w
+whole_both [] other (x ∷ xs) ys v w = elim v [ ]
+whole_both (word ∷ words) other [] ys v w = elim v [ ]
 whole_both (word ∷ words) other (x ∷ xs) ys (in_one e m) w = in_one e (whole_both words other xs ys m w)
 whole_both (word ∷ value ∷ words) other (x ∷ xs) ys (in_two e m) w = in_two e (whole_both words other xs ys m w)
 
