@@ -1,5 +1,5 @@
 -- A try that looks at none but the first bytes finds the same in each input that has them.
-use Rattle.std.proofs.Common.{◌≡◌, ◌∙◌, ℕ, zero, suc, ◌+◌, ◌<◌, ◌≤◌, inl, inr, Bool, true, false, cond, eqb, ◌&&◌, ◌==◌, IsTrue, IsCharBoundary, List, [], ◌∷◌, ◌++◌, length, take, drop, Option, Some, None, slice_get, refl, sym, ap, subst, arith}
+use Rattle.std.proofs.Common.{◌≡◌, ◌∙◌, ℕ, zero, suc, ◌+◌, ◌<◌, ◌≤◌, inl, inr, ⊎_elim, Bool, true, false, cond, eqb, ◌&&◌, ◌==◌, IsTrue, IsCharBoundary, List, [], ◌∷◌, ◌++◌, length, take, drop, Option, Some, None, slice_get, refl, sym, ap, subst, arith}
 use Rattle.std.proofs.lemmas.List.{append-nil, take-append-drop, drop-append-le, length-append, length-take-le, length-drop, get_or_append_left}
 use Rattle.std.proofs.lemmas.List.Folds.{length-prefix_len, prefix_len-append}
 use Rattle.std.proofs.lemmas.Bool.{cases_lt}
@@ -8,7 +8,8 @@ use Rattle.logos_automaton.specs.Munch.{Found, ended, matched, failed}
 use Rattle.logos_code.specs.Bytes.{passes_test}
 use Rattle.logos_code.specs.Code.{CodeValue, CodeState}
 use Rattle.logos_code.specs.Runs.{Stand, Turn, enters, acts, looped, marked, forked, turn, Does, EndsError, Acts, Goes, goes_on, acts_on, Tries}
-use Rattle.logos_machine.specs.Streams.{stop_at, StopsWithin, EndsWithin, GoesWithin, leads_within, acts_within, TriesWithin, TriesAgree}
+use Rattle.logos_machine.specs.Streams.{stop_at, IsClosed, StopsWithin, EndsWithin, GoesWithin, leads_within, acts_within, TriesWithin, TriesAgree}
+use Rattle.logos_machine.proofs.StepLemmas.{closed_turn}
 
 -- ---- lists with the same front
 
@@ -63,14 +64,17 @@ module _ (code : CodeValue) (front one other : List ℕ) (start : ℕ) where
 
   stops_agree : (seen : ℕ) (at : Stand) → seen ≤ length front → StopsWithin code (front ++ one) start seen at → StopsWithin code (front ++ other) start seen at
   stops_agree seen at fits s =
-      let stops = s.2 in
-      (s.0, s.1, omega (arith, stops, loop_agrees s.0.fast_loop at.offset (omega (arith, stops, fits))))
+      (s.0, s.1, ⊎_elim (λ stops. inl (omega (arith, stops, loop_agrees s.0.fast_loop at.offset (omega (arith, stops, fits))))) (λ closed. inr closed) s.2)
 
   does_agrees : (seen : ℕ) (at : Stand) (what : Turn) → seen ≤ length front → StopsWithin code (front ++ one) start seen at → Does code (front ++ one) start at what → Does code (front ++ other) start at what
   does_agrees seen at what fits s d =
-      let stops = s.2 in
       let same = same_state (slice_get code.states at.state) s.0 d.0 s.1 d.1 in
-      (d.0, d.1, turn_agrees d.0 at (subst (λ (state : CodeState). stop_at code (front ++ one) state at.offset < length front) same (omega (arith, stops, fits))) ∙ d.2)
+      ⊎_elim
+      (λ stops. (d.0, d.1, turn_agrees d.0 at (subst (λ (state : CodeState). stop_at code (front ++ one) state at.offset < length front) same (omega (arith, stops, fits))) ∙ d.2))
+      (λ closed.
+      let is_closed : IsClosed d.0 = subst (λ (state : CodeState). IsClosed state) same closed.0 in
+      (d.0, d.1, closed_turn code (front ++ other) start at d.0 is_closed closed.1 ∙ sym (closed_turn code (front ++ one) start at d.0 is_closed closed.1) ∙ d.2))
+      s.2
 
   ends_agree : (seen offset to : ℕ) → seen ≤ length front → (IsTrue code.utf8 → to < seen) → EndsError code (front ++ one) start offset to → EndsError code (front ++ other) start offset to
   ends_agree seen offset to fits within e = record {

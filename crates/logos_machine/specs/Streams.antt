@@ -1,7 +1,7 @@
 -- Runs on an input that grows, and on a part of an input.
-use Rattle.std.specs.Prelude.{◌≡◌, ℕ, suc, ◌+◌, ◌<◌, ◌≤◌, List, [], ◌∷◌, ◌++◌, length, take, drop, map, Option, Some, None, slice_get, slice_range, IsTrue}
+use Rattle.std.specs.Prelude.{◌≡◌, ℕ, suc, ◌+◌, ◌<◌, ◌≤◌, ◌⊎◌, List, [], ◌∷◌, ◌++◌, length, take, drop, map, Option, Some, None, slice_get, slice_range, IsSome, IsTrue}
 use Rattle.logos_automaton.specs.Munch.{Use, Found, ended, matched, failed}
-use Rattle.logos_code.specs.Code.{CodeValue, CodeState}
+use Rattle.logos_code.specs.Code.{CodeValue, CodeState, Fork, by_conditions, by_table}
 use Rattle.logos_code.specs.Headline.{IsSound}
 use Rattle.logos_code.specs.Items.{Callback, Search, Item, token, error, MayAnswer, items_of}
 use Rattle.logos_code.specs.Runs.{Stand, enters, acts, looped, Does, EndsError, Acts, Tries, CodeFinds, Runs, RunsOn}
@@ -15,10 +15,34 @@ first_stand code start = record { state = code.root; offset = start; context = N
 abbrev pub stop_at : CodeValue → List ℕ → CodeState → ℕ → ℕ
 stop_at code bytes state offset = offset + looped code state.fast_loop (drop offset bytes)
 
+-- The fork has no branch.
+abbrev pub NoBranches : Fork → Type 0
+NoBranches (by_conditions []) = Unit {0}
+NoBranches (by_conditions (branch ∷ branches)) = ⊥
+NoBranches (by_table entries) = ⊥
+
+-- The fork has a branch.
+abbrev pub HasBranches : Fork → Type 0
+HasBranches (by_conditions []) = ⊥
+HasBranches (by_conditions (branch ∷ branches)) = Unit {0}
+HasBranches (by_table entries) = Unit {0}
+
+-- No byte leads on from the state or stays in it, and the end of the input does not lead on either:
+-- what the state does is the same whatever follows.
+pub record IsClosed (state : CodeState) : Type 0 where
+  pub fast_loop : state.fast_loop ≡ None
+  pub fork : NoBranches state.fork
+  pub at_end : state.at_end ≡ None
+
+-- A byte leads on from the state or stays in it, or the end of the input leads on.
+abbrev pub IsOpen : CodeState → Type 0
+IsOpen state = IsSome state.fast_loop ⊎ (HasBranches state.fork ⊎ IsSome state.at_end)
+
 module _ (code : CodeValue) (bytes : List ℕ) (start seen : ℕ) where
-  -- The state looks at none but the first `seen` bytes: its fast loop ends before one of them.
+  -- What the state does depends on none but the first `seen` bytes: its fast loop ends before one
+  -- of them, or the state is closed, after the first byte of the match attempt.
   abbrev pub StopsWithin : Stand → Type 0
-  StopsWithin at = (state : CodeState) × (slice_get code.states at.state ≡ Some state) × (stop_at code bytes state at.offset < seen)
+  StopsWithin at = (state : CodeState) × (slice_get code.states at.state ≡ Some state) × ((stop_at code bytes state at.offset < seen) ⊎ (IsClosed state × (start < at.offset)))
 
   -- In UTF-8 mode an error ends before one of them.
   abbrev pub EndsWithin : Found → Type 0
@@ -26,8 +50,8 @@ module _ (code : CodeValue) (bytes : List ℕ) (start seen : ℕ) where
   EndsWithin (matched leaf to) = Unit {0}
   EndsWithin (failed to) = IsTrue code.utf8 → to < seen
 
-  -- From a stand on, the try finds this in so many states, and looks at none but the first `seen`
-  -- bytes.
+  -- From a stand on, the match attempt finds this in that many states, and depends on none but the
+  -- first `seen` bytes.
   pub data GoesWithin : Stand → Found → ℕ → Type 0 where
     leads_within : (at next : Stand) (found : Found) (n : ℕ) → StopsWithin at →
         Does code bytes start at (enters next) → GoesWithin next found n → GoesWithin at found (suc n)
@@ -38,11 +62,12 @@ module _ (code : CodeValue) (bytes : List ℕ) (start seen : ℕ) where
   abbrev pub TriesWithin : Found → ℕ → Type 0
   TriesWithin = GoesWithin (first_stand code start)
 
--- The try looks at the end of the bytes: a fast loop comes to it, or an error in UTF-8 mode ends
+-- What the match attempt finds is open at the end of the bytes: it comes there before its first
+-- byte, or in a state that is left by more bytes or by the end; or an error in UTF-8 mode ends
 -- there.
 pub data LooksPast (code : CodeValue) (bytes : List ℕ) (start : ℕ) : Stand → Type 0 where
   looks_here : (at : Stand) (state : CodeState) → slice_get code.states at.state ≡ Some state →
-      length bytes ≤ stop_at code bytes state at.offset → LooksPast code bytes start at
+      length bytes ≤ stop_at code bytes state at.offset → (at.offset ≤ start) ⊎ IsOpen state → LooksPast code bytes start at
   looks_later : (at next : Stand) → Does code bytes start at (enters next) → LooksPast code bytes start next → LooksPast code bytes start at
   looks_last : (at : Stand) (offset to : ℕ) → Does code bytes start at (acts None offset) → IsTrue code.utf8 →
       EndsError code bytes start offset to → length bytes ≤ to → LooksPast code bytes start at

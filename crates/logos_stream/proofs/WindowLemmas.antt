@@ -220,7 +220,7 @@ module _ (utf8 : Bool) (part : List ℕ) (most : ℕ) (was : Bool) (before first
     wanted = is.wanted;
   }
 
-  pub reads_on : {R : Type 0} (remaining : R → Option (List ℕ)) (reader new_reader : R) (offset bound wanted new_bound new_wanted : ℕ) (over : Bool) → IsFalse last → new_bound ≡ bound →
+  pub reads_on : {R : Type 0} (remaining : R → Option (List ℕ)) (reader new_reader : R) (offset bound wanted new_bound new_wanted : ℕ) (over : Bool) → IsFalse last → new_bound ≡ bound → new_wanted ≡ wanted →
       Consumes (remaining reader) (remaining new_reader) added → (IsFalse over → 0 < length added) → (IsTrue over → IsAtEnd (remaining new_reader)) →
       ReadsOn {R = R} remaining
       (record {
@@ -249,7 +249,7 @@ module _ (utf8 : Bool) (part : List ℕ) (most : ℕ) (was : Bool) (before first
         bound = new_bound;
         wanted = new_wanted;
       })
-  reads_on remaining reader new_reader offset bound wanted new_bound new_wanted over begun same consumed some end = record {
+  reads_on remaining reader new_reader offset bound wanted new_bound new_wanted over begun same same_wanted consumed some end = record {
     utf8 = refl;
     offset = refl;
     bound = same;
@@ -266,6 +266,7 @@ module _ (utf8 : Bool) (part : List ℕ) (most : ℕ) (was : Bool) (before first
     goes_on = λ h _. some h;
     over = λ h _. end h;
     ended = λ h. second tail.is_at_fault over h;
+    wanted = same_wanted;
   }
 
 nothing_consumed : (known : Option (List ℕ)) → Consumes known known []
@@ -287,4 +288,5 @@ reads_nothing remaining window h = record {
   goes_on = λ _ f. absurd (let g : false ≡ true = sym f ∙ h in cc);
   over = λ _ f. absurd (let g : false ≡ true = sym f ∙ h in cc);
   ended = λ _. h;
+  wanted = refl;
 }

@@ -93,6 +93,7 @@ pub record ReadsOn {R : Type 0} (remaining : R → Option (List ℕ)) (old new :
   pub goes_on : IsFalse new.is_over → IsFalse old.is_last → 0 < length added
   pub over : IsTrue new.is_over → IsFalse old.is_last → IsAtEnd (remaining new.reader)
   pub ended : IsTrue new.is_over → IsTrue new.is_last
+  pub wanted : new.wanted ≡ old.wanted
 
 -- Nothing was read, and the reader still has what it had.
 pub record StaysUnread {R : Type 0} (remaining : R → Option (List ℕ)) (old new : WindowValue R) : Type 0 where
@@ -104,3 +105,7 @@ pub record StaysUnread {R : Type 0} (remaining : R → Option (List ℕ)) (old n
   pub offset : new.offset ≡ old.offset
   pub bound : new.bound ≡ old.bound
   pub unread : Keeps (remaining old.reader) (remaining new.reader)
+  pub wanted : new.wanted ≡ old.wanted
+  -- The bytes that were passed are dropped.
+  pub skipped : new.skipped ≡ []
+  pub slice : new.slice ≡ []

@@ -1,12 +1,12 @@
 //! Lexing of a part of an input, whose rest is not known. `logos_stream` calls it for each item,
 //! and `logos_relex` for the items of a chunk.
 
-ghost use Rattle.std.specs.Prelude.{◌≡◌, ◌+◌, ◌<◌, ◌≤◌, length, false, MatchOption};
-ghost use Rattle.logos_machine.specs.Views.{IsStand, answers_of, stand_of, DoesWithin, EndsHere, EndsOpen, GivesWithin, IsSettled, KeepsGiven, Moves, Waits};
+ghost use Rattle.std.specs.Prelude.{◌≡◌, ◌<◌, ◌≤◌, ◌+◌, drop, length, false, List, ℕ, MatchBool, MatchOption};
+ghost use Rattle.logos_machine.specs.Views.{IsStand, answers_of, fork_of, looped, stand_of, state_at, DoesWithin, EndsHere, EndsOpen, HasBranches, IsClosed, IsOpen, IsSettled, KeepsGiven, Moves, NoBranches, TakesMatches};
 
 use super::attempt::{Stand, error_end, marked, stop_of};
 use super::{Action, Item, Lexer, error, matched_item};
-use logos_code::code::Code;
+use logos_code::code::{Code, Fork};
 use logos_hir::leaf::LeafId;
 use logos_token::token::Span;
 
@@ -15,22 +15,24 @@ use logos_token::token::Span;
 pub enum Within<'i> {
     /// An item. It is the next one whatever follows the part.
     Item(Item<'i>),
-    /// What comes next depends on the bytes after the part.
+    /// The next match attempt has come to the end of the part in a state from which more bytes, or
+    /// the end of the input, lead on.
     More,
     /// The end of the input.
     End,
 }
 
 impl<'c, 's, 'i, C: Fn(LeafId, &[u8]) -> Action> Lexer<'c, 's, 'i, C> {
-    /// Returns the next item of an input of which the lexer has a part. If it is the last part,
-    /// this does what `next` does. If more may follow, an item is returned only if it is the next
-    /// one whatever follows the part.
+    /// Returns the next item of an input of which the lexer has a part. On the last part, this
+    /// does the same as `next`. If more bytes may follow, it returns an item only if that is the
+    /// next one whatever follows the part.
     ///
-    /// After `More`, the lexer stands after the matches that give no item, with an empty span, and
-    /// what the next try finds depends on what follows. To go on, put more bytes after `remainder`,
+    /// After `More`, the lexer is after the matches that yield no item, with an empty span. The
+    /// next match attempt has come to the end of the part and can go on from there, or in UTF-8
+    /// mode it is an error up to the end of the part. To go on, put more bytes after `remainder`,
     /// and make a lexer of these.
     pub fn next_within(&mut self, last: bool) -> Within<'i>
-        requires { C.IsAlwaysCallable self.old.callback }
+        requires { TakesMatches C.Fn self.old.code self.old.callback }
         ensures keeps { KeepsGiven self.old self.new }
         ensures does { DoesWithin last (answers_of C.Fn self.old.callback) self.old self.new
             result }
@@ -46,7 +48,7 @@ impl<'c, 's, 'i, C: Fn(LeafId, &[u8]) -> Action> Lexer<'c, 's, 'i, C> {
 
     /// Returns the next item, if it is the same whatever follows the part.
     fn next_in_part(&mut self) -> Within<'i>
-        requires { C.IsAlwaysCallable self.old.callback }
+        requires { TakesMatches C.Fn self.old.code self.old.callback }
         ensures keeps { KeepsGiven self.old self.new }
         ensures does { DoesWithin false (answers_of C.Fn self.old.callback) self.old self.new
             result }
@@ -84,7 +86,7 @@ enum Move {
     Enters(Stand),
     /// The try is over at this offset, with this last mark.
     Acts(Option<(LeafId, usize)>, usize),
-    /// It looks at the end of the part.
+    /// The match attempt comes to the end of the part, and can go on from there.
     Waits,
 }
 
@@ -95,18 +97,18 @@ enum Settled {
     Matched(LeafId, usize, usize),
     /// No match. The error ends at this offset.
     Failed(usize, usize),
-    /// It looks at the end of the part.
+    /// The match attempt comes to the end of the part, and what it finds is open.
     Open,
 }
 
-/// Does what the entered state does, if it stops before a byte of the part.
+/// Does what the entered state does, if no byte after the part can change it.
 fn move_in_part(code: &Code, part: &[u8], start: usize, at: Stand) -> Move
     requires { IsStand code.now part.now start (stand_of at) }
     ensures { Moves code.now part.now start (stand_of at) result }
 {
     let stop = stop_of(code, part, at.state, at.offset);
     let Some(target) = stop.target else {
-        return Move::Waits;
+        return move_at_end(code, part, start, at);
     };
     let context = marked(code.sign(at.state), stop.offset, at.context);
     match target {
@@ -116,6 +118,47 @@ fn move_in_part(code: &Code, part: &[u8], start: usize, at: Stand) -> Move
             context,
         }),
         None => Move::Acts(context, stop.offset),
+    }
+}
+
+/// Does what a state does whose fast loop comes to the end of the part. A state that nothing leads
+/// on from acts at once: so the match of `;` needs no byte after it.
+fn move_at_end(code: &Code, part: &[u8], start: usize, at: Stand) -> Move
+    requires stand { IsStand code.now part.now start (stand_of at) }
+    requires past { length part.now
+        ≤ at.offset + looped code.now (state_at code.now at.state).fast_loop (drop at.offset part.now) }
+    ensures { Moves code.now part.now start (stand_of at) result }
+{
+    if at.offset <= start || !is_closed(code, at.state) {
+        return Move::Waits;
+    }
+    Move::Acts(
+        marked(code.sign(at.state), at.offset, at.context),
+        at.offset,
+    )
+}
+
+/// Returns whether no byte leads on from the state or stays in it, and neither does the end of the
+/// input lead on.
+fn is_closed(code: &Code, state: usize) -> bool
+    requires { state < length code.now.states }
+    ensures { MatchBool result (IsClosed (state_at code.now state))
+        (IsOpen (state_at code.now state)) }
+{
+    if code.fast_loop(state).is_some() || code.at_end(state).is_some() {
+        return false;
+    }
+    !has_branches(&code.parts().states[state].fork)
+}
+
+/// Returns whether a fork has a branch.
+fn has_branches(fork: &Fork) -> bool
+    ensures { (tables : List (List ℕ)) → MatchBool result
+        (HasBranches (fork_of tables fork.now)) (NoBranches (fork_of tables fork.now)) }
+{
+    match fork {
+        Fork::Conditions(branches) => !branches.is_empty(),
+        Fork::Table(_) => true,
     }
 }
 

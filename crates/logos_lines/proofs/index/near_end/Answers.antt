@@ -7,4 +7,5 @@ loop-end-preserved c =
     let i = c.loop-end.invariant in
     let l = c.loop-end-test.true in
     let step = goes_on c.as_bytes-bytes.result.now c.loop-end.end l (sym c.ends_line.ensures ∙ c.if-not-ends_line.true) in
-    record { after = omega (arith, i.after); inside = omega (arith, l); value = omega (arith, i.value, step) }
+    let few = c.if-end-most.false in
+    record { after = omega (arith, i.after); inside = omega (arith, l); near = omega (arith, i.after, few); value = omega (arith, i.value, step) }
