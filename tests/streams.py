@@ -109,7 +109,8 @@ def decided_items_come_at_the_end():
     """An item that ends with what was read is there if nothing can make it longer."""
     with program('Prompt') as running:
         for text, wanted in ((b'quit;\n', ['1:1  Word  "quit"\n', '1:5  End  ";"\n', '1:6  Newline  "\\n"\n']), (b'a ->', ['2:1  Word  "a"\n', '2:3  Arrow  "->"\n']),
-                             (b"'b c'", ['2:5  Text  "\'b c\'"\n']), (b'-', []), (b';', ['2:10  <error>  "-"\n', '2:11  End  ";"\n'])):
+                             (b"'b c'", ['2:5  Text  "\'b c\'"\n']), (b'-', []), (b';', ['2:10  <error>  "-"\n', '2:11  End  ";"\n']),
+                             (b'?', ['2:12  <error>  "?"\n']), ('é'.encode(), ['2:13  <error>  "é"\n'])):
             os.write(running.stdin.fileno(), text)
             for item in wanted:
                 wants(f'after {text}', item, line(running))

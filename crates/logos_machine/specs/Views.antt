@@ -6,4 +6,4 @@ pub use Rattle.logos_machine.specs.Streams.{HasBranches, IsClosed, IsOpen, NoBra
 pub use Rattle.logos_machine.specs.Within.{DoesWithin, GivesWithin, KeepsGiven, Waits}
 pub use Rattle.logos_machine.specs.inside.Attempts.{context_of, found_of, stand_of, turn_of}
 pub use Rattle.logos_machine.specs.inside.Looks.{IsOutcome, LooksAhead, Reaches, StopsAt}
-pub use Rattle.logos_machine.specs.inside.Parts.{EndsHere, EndsOpen, IsSettled, Moves}
+pub use Rattle.logos_machine.specs.inside.Parts.{IsSettled, Moves}

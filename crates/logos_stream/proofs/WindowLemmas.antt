@@ -3,7 +3,7 @@ use Rattle.std.proofs.Common.{◌≡◌, ◌∙◌, ◌⊎◌, inl, inr, ⊎_eli
 use Rattle.std.specs.Io.KnownBytes.{Consumes, IsAtEnd}
 use Rattle.std.proofs.Math.Seq.{take-add}
 use Rattle.std.proofs.lemmas.List.{drop-append-le, drop-drop, drop-take, length-append, length-drop, length-take, take-append-drop, take-append-le, take-take, take_all}
-use Rattle.std.proofs.lemmas.Str.{IsCharBoundary-start, IsUtf8-append, IsUtf8-drop}
+use Rattle.std.proofs.lemmas.Str.{IsCharBoundary-start, IsUtf8-append, IsUtf8-drop, IsUtf8-nil}
 use Rattle.logos_stream.specs.Moves.{IsTorn}
 use Rattle.logos_stream.specs.Tails.{IsTail}
 use Rattle.logos_stream.specs.WindowValue.{GoesPast, HasEnded, IsWindow, ReadsOn, WindowValue}
@@ -262,6 +262,7 @@ module _ (utf8 : Bool) (part : List ℕ) (most : ℕ) (was : Bool) (before first
         ∙ ap (λ l. (slice_range part at ready ++ l) ++ added) (after_moved part at ready is.order is.within);
     grown = take tail.valid (drop (ready - at) next);
     lexed = lexed_now;
+    text = tells.text;
     last = λ h. absurd (let f : false ≡ true = sym begun ∙ h in cc);
     goes_on = λ h _. some h;
     over = λ h _. end h;
@@ -284,6 +285,7 @@ reads_nothing remaining window h = record {
   bytes = sym (append-nil (window.lexed ++ window.after));
   grown = [];
   lexed = sym (append-nil window.lexed);
+  text = λ _. IsUtf8-nil;
   last = λ _. (refl, h);
   goes_on = λ _ f. absurd (let g : false ≡ true = sym f ∙ h in cc);
   over = λ _ f. absurd (let g : false ≡ true = sym f ∙ h in cc);

@@ -1,8 +1,8 @@
 //! Lexing of a part of an input, whose rest is not known. `logos_stream` calls it for each item,
 //! and `logos_relex` for the items of a chunk.
 
-ghost use Rattle.std.specs.Prelude.{◌≡◌, ◌<◌, ◌≤◌, ◌+◌, drop, length, false, List, ℕ, MatchBool, MatchOption};
-ghost use Rattle.logos_machine.specs.Views.{IsStand, answers_of, fork_of, looped, stand_of, state_at, DoesWithin, EndsHere, EndsOpen, HasBranches, IsClosed, IsOpen, IsSettled, KeepsGiven, Moves, NoBranches, TakesMatches};
+ghost use Rattle.std.specs.Prelude.{◌≡◌, ◌<◌, ◌≤◌, ◌+◌, drop, length, false, List, ℕ, MatchBool};
+ghost use Rattle.logos_machine.specs.Views.{IsStand, answers_of, fork_of, looped, stand_of, state_at, DoesWithin, HasBranches, IsClosed, IsOpen, IsSettled, KeepsGiven, Moves, NoBranches, TakesMatches};
 
 use super::attempt::{Stand, error_end, marked, stop_of};
 use super::{Action, Item, Lexer, error, matched_item};
@@ -28,9 +28,8 @@ impl<'c, 's, 'i, C: Fn(LeafId, &[u8]) -> Action> Lexer<'c, 's, 'i, C> {
     /// next one whatever follows the part.
     ///
     /// After `More`, the lexer is after the matches that yield no item, with an empty span. The
-    /// next match attempt has come to the end of the part and can go on from there, or in UTF-8
-    /// mode it is an error up to the end of the part. To go on, put more bytes after `remainder`,
-    /// and make a lexer of these.
+    /// next match attempt has come to the end of the part, and more bytes or the end of the input
+    /// lead on from there. To go on, put more bytes after `remainder`, and make a lexer of these.
     pub fn next_within(&mut self, last: bool) -> Within<'i>
         requires { TakesMatches C.Fn self.old.code self.old.callback }
         ensures keeps { KeepsGiven self.old self.new }
@@ -162,22 +161,7 @@ fn has_branches(fork: &Fork) -> bool
     }
 }
 
-/// Returns the end of an error that has come to the offset, if it is the same whatever follows the
-/// part: in UTF-8 mode the character at the part's end may not be whole.
-fn error_end_in_part(code: &Code, part: &[u8], start: usize, offset: usize) -> Option<usize>
-    requires start { start < length part.now }
-    requires offset { offset ≤ length part.now }
-    ensures { MatchOption result (EndsOpen code.now part.now start offset)
-        (EndsHere code.now part.now start offset) }
-{
-    let to = error_end(code, part, start, offset);
-    if code.is_utf8() & (to >= part.len()) {
-        return None;
-    }
-    Some(to)
-}
-
-/// Returns what is found from a point on by a try that looks at the part alone.
+/// Returns what a match attempt from a point on finds that depends on the part alone.
 fn attempt_in_part(code: &Code, part: &[u8], start: usize) -> Settled
     requires { start ≤ length part.now }
     ensures { IsSettled code.now part.now start result }
@@ -193,10 +177,7 @@ fn attempt_in_part(code: &Code, part: &[u8], start: usize) -> Settled
             Move::Enters(next) => at = next,
             Move::Acts(Some((leaf, to)), _) => return Settled::Matched(leaf, to, before + 1),
             Move::Acts(None, offset) => {
-                return match error_end_in_part(code, part, start, offset) {
-                    Some(to) => Settled::Failed(to, before + 1),
-                    None => Settled::Open,
-                };
+                return Settled::Failed(error_end(code, part, start, offset), before + 1);
             }
             Move::Waits => return Settled::Open,
         }

@@ -43,5 +43,5 @@ returns-in-Ok-clause-accepted g c =
     let below : LookBelow c.args.edit.replaced.from (take start.index old.chunks.items) =
     subst (λ (l : List Chunk). LookBelow c.args.edit.replaced.from (take start.index l)) c.deref.ensures.value c.untouched-start.ensures.below in
     from_ok c.put.result _ _ (λ puts utf8.
-        let lexed : IsLexed code answers c.args.edit.input.now c.put.new.self = relexed code answers old c.put.new.self c.args.edit.input.now c.args.edit.replaced start c.in-Ok.made c.requires.former border below c.in-Ok.ensures puts in
-        made_text code answers utf8 c.args.edit.input.now c.put.new.self.chunks.items c.put.new.self.last.items lexed.made) c.put.ensures.puts
+    let lexed : IsLexed code answers c.args.edit.input.now c.put.new.self = relexed code answers old c.put.new.self c.args.edit.input.now c.args.edit.replaced start c.in-Ok.made c.requires.former border below c.in-Ok.ensures puts in
+    made_text code answers utf8 c.args.edit.input.now c.put.new.self.chunks.items c.put.new.self.last.items lexed.made) c.put.ensures.puts
