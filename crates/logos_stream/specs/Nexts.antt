@@ -44,8 +44,8 @@ module _ {R : Type 0} (code : CodeValue) (callback : Callback) (old new : Window
     pub over : Runs code callback old.lexed 0 []
     pub past : GoesPast (length old.lexed) old new
 
-  -- What comes next ends inside a character, and nothing is passed. The code of no source does
-  -- this.
+  -- What comes next ends inside a character, and nothing is passed. The items of a code that
+  -- `generate` returns end between characters; no law takes this case from that.
   pub record Splits : Type 0 where
     pub to : ℕ
     pub why : ((item : Item) × FindsUpTo code callback old.lexed old.is_last item to) ⊎ ((more : List ℕ) → MayFollow code more → RunsOver code callback (old.lexed ++ more) 0 to)
