@@ -31,7 +31,7 @@ impl<'c, 's> Model for Folded<'c, 's> {
 }
 
 impl<'c, 's> Folded<'c, 's> {
-    /// Folds the rows of a code. Returns `None` exactly if it has more states than folded entries can
+    /// Folds the rows of a code. Returns `None` only if it has more states than folded entries can
     /// name: more than 3,855.
     ///
     /// # Errors
