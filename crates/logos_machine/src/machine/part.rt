@@ -128,13 +128,14 @@ fn move_at_end(code: &Code, part: &[u8], start: usize, at: Stand) -> Move
         ≤ at.offset + looped code.now (state_at code.now at.state).fast_loop (drop at.offset part.now) }
     ensures { Moves code.now part.now start (stand_of at) result }
 {
-    if at.offset <= start || !is_closed(code, at.state) {
+    if at.offset <= start {
         return Move::Waits;
     }
-    Move::Acts(
-        marked(code.sign(at.state), at.offset, at.context),
-        at.offset,
-    )
+    if is_closed(code, at.state) {
+        let context = marked(code.sign(at.state), at.offset, at.context);
+        return Move::Acts(context, at.offset);
+    }
+    Move::Waits
 }
 
 /// Returns whether no byte leads on from the state or stays in it, and neither does the end of the
@@ -144,10 +145,16 @@ fn is_closed(code: &Code, state: usize) -> bool
     ensures { MatchBool result (IsClosed (state_at code.now state))
         (IsOpen (state_at code.now state)) }
 {
-    if code.fast_loop(state).is_some() || code.at_end(state).is_some() {
+    if code.fast_loop(state).is_some() {
         return false;
     }
-    !has_branches(&code.parts().states[state].fork)
+    if code.at_end(state).is_some() {
+        return false;
+    }
+    if has_branches(&code.parts().states[state].fork) {
+        return false;
+    }
+    true
 }
 
 /// Returns whether a fork has a branch.
