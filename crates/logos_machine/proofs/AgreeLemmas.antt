@@ -136,7 +136,7 @@ tries_agree code bytes others start seen n found fits same whole t =
     let is_one : front ++ drop seen bytes ≡ bytes = take-append-drop seen bytes in
     let is_other : front ++ drop seen others ≡ others = ap (λ l. l ++ drop seen others) same ∙ take-append-drop seen others in
     let one : TriesWithin code (front ++ drop seen bytes) start seen found n = subst (λ (l : List ℕ). TriesWithin code l start seen found n) (sym is_one) t in
-    let cut = λ utf8. subst (λ (l : List ℕ). IsCharBoundary l seen) (sym is_other) (whole utf8) in
+    let cut : IsTrue code.utf8 → IsCharBoundary (front ++ drop seen others) seen = λ utf8. subst (λ (l : List ℕ). IsCharBoundary l seen) (sym is_other) (whole utf8) in
     let other : TriesWithin code others start seen found n = subst (λ (l : List ℕ). TriesWithin code l start seen found n) is_other (goes_agree code front (drop seen bytes) (drop seen others) start seen (omega (arith, long)) cut one) in
     (other, goes_within code others start seen other)
 
@@ -144,7 +144,7 @@ tries_agree code bytes others start seen n found fits same whole t =
 pub tries_whatever_follows : (code : CodeValue) (part rest : List ℕ) (start n : ℕ) (found : Found) → MayFollow code rest → TriesWithin code part start (length part) found n → Tries code (part ++ rest) start found n
 tries_whatever_follows code part rest start n found follows t =
     let one : TriesWithin code (part ++ []) start (length part) found n = subst (λ (l : List ℕ). TriesWithin code l start (length part) found n) (sym (append-nil part)) t in
-    let cut = λ utf8. IsCharBoundary-at_seam (part ++ rest) part rest refl (follows utf8) in
+    let cut : IsTrue code.utf8 → IsCharBoundary (part ++ rest) (length part) = λ utf8. IsCharBoundary-at_seam (part ++ rest) part rest refl (follows utf8) in
     goes_within code (part ++ rest) start (length part) (goes_agree code part [] rest start (length part) (omega arith) cut one)
 
 -- ---- a try that is open at the end of the bytes does not depend on them alone
