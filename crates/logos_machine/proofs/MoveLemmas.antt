@@ -1,7 +1,11 @@
 -- One state of a try on a part of an input.
-use Rattle.std.proofs.Common.{◌≡◌, ◌∙◌, ℕ, ◌+◌, ◌<◌, ◌≤◌, inl, inr, ⊎_elim, IfSome, IsTrue, List, length, drop, Option, Some, None, option_map, slice_get, refl, sym, ap, arith}
+use Rattle.std.proofs.Common.{◌≡◌, ◌∙◌, ℕ, ◌+◌, ◌<◌, ◌≤◌, inl, inr, ⊎_elim, IfSome, IsTrue, List, length, drop, Option, Some, None, option_map, slice_get, get_or, refl, sym, ap, subst, arith}
+use Rattle.std.proofs.lemmas.List.{get_or-map, length-map}
 use Rattle.std.proofs.lemmas.Option.{slice_get_within, slice_get_cases}
 use Rattle.logos_code.specs.Code.{CodeValue, CodeState, Mark}
+use Rattle.logos_code.specs.CodeView.{code_of, fork_of, no_state, state_at, state_of}
+use Rattle.logos_code.specs.declared.code.CodeParts.{CodeParts}
+use Rattle.logos_code.specs.declared.code.CodeState.{CodeState as TheState}
 use Rattle.logos_code.specs.Runs.{Stand, acts, led, target, looped, marked, Does}
 use Rattle.logos_machine.specs.Streams.{IsClosed, StopsWithin}
 use Rattle.logos_machine.proofs.StepLemmas.{closed_turn, does_lead}
@@ -43,3 +47,13 @@ pub acts_closed : (code : CodeValue) (part : List ℕ) (start : ℕ) (at : Stand
     context ≡ marked state.mark at.offset at.context → StopsWithin code part start (length part) at × Does code part start at (acts context at.offset)
 acts_closed code part start at state context is closed past kept =
     ((state, is, inr (closed, past)), (state, is, closed_turn code part start at state closed past ∙ ap (λ c. acts c at.offset) (sym kept)))
+
+-- the fork of a state, by the parts of its code
+pub fork_at : (parts : CodeParts) (code : CodeValue) (s : ℕ) (state : TheState) → code_of parts ≡ code → s < length code.states → state ≡ get_or parts.states.items s state →
+    (state_at code s).fork ≡ fork_of parts.jump_tables.items state.fork
+fork_at parts code s state is there at =
+    let f = state_of parts.jump_tables.items in
+    let inside : s < length (code_of parts).states = subst (λ (c : CodeValue). s < length c.states) (sym is) there in
+    let h : s < length parts.states.items = omega (arith, inside, length-map parts.states.items f) in
+    let same : state_at (code_of parts) s ≡ f state = get_or-map f parts.states.items s state no_state h ∙ ap f (sym at) in
+    subst (λ (c : CodeValue). (state_at c s).fork ≡ fork_of parts.jump_tables.items state.fork) is (ap (λ (t : CodeState). t.fork) same)
