@@ -82,7 +82,7 @@ fn flags_of(trace: &[u32], at: usize) -> (u64, u64)
 }
 
 impl ChunkEntries {
-    /// Makes a chunk. A run writes its entries and flags before it reads them.
+    /// Makes a chunk without flags.
     pub fn new() -> ChunkEntries {
         ChunkEntries {
             entries: [0; 4608],

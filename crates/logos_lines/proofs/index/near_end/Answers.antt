@@ -7,5 +7,13 @@ loop-end-preserved c =
     let i = c.loop-end.invariant in
     let l = c.loop-end-test.true in
     let step = goes_on c.as_bytes-bytes.result.now c.loop-end.end l (sym c.ends_line.ensures ∙ c.if-not-ends_line.true) in
-    let few = c.if-end-most.false in
+    let few = c.if-end-start.false in
     record { after = omega (arith, i.after); inside = omega (arith, l); near = omega (arith, i.after, few); value = omega (arith, i.value, step) }
+
+pub returns-then-end-start-clause-value : goal.returns-then-end-start-clause-value
+returns-then-end-start-clause-value c =
+    let i = c.loop-end.invariant in
+    let l = c.loop-end-test.true in
+    let step = goes_on c.as_bytes-bytes.result.now c.loop-end.end l (sym c.ends_line.ensures ∙ c.if-not-ends_line.true) in
+    let far = c.if-end-start.true in
+    omega (arith, i.value, i.after, step, far)
