@@ -1,4 +1,5 @@
-use Rattle.std.proofs.Common.{sym, ◌∙◌, arith}
+use Rattle.std.proofs.Common.{◌≡◌, ◌∙◌, ℕ, List, drop, ap, sym, arith}
+use Rattle.logos_lines.specs.Places.{line_length}
 use Rattle.logos_lines.proofs.LineLemmas.{goes_on}
 use Rattle.logos_lines.proofs.index.near_end.Goals as goal
 
@@ -16,4 +17,6 @@ returns-then-end-start-clause-value c =
     let l = c.loop-end-test.true in
     let step = goes_on c.as_bytes-bytes.result.now c.loop-end.end l (sym c.ends_line.ensures ∙ c.if-not-ends_line.true) in
     let far = c.if-end-start.true in
-    omega (arith, i.value, i.after, step, far)
+    let same : line_length (drop c.args.start c.as_bytes-bytes.result.now) ≡ line_length (drop c.args.start c.args.text.now) =
+    ap (λ (l : List ℕ). line_length (drop c.args.start l)) c.as_bytes-bytes.ensures.value in
+    omega (arith, i.value, i.after, step, far, same)
