@@ -45,7 +45,7 @@ pub(crate) fn implementation_of(
     ensures { IfOk result (IsMadeOf shape made.now.code source.now) }
 {
     let text = lexer_text(alloc, shape, made)?;
-    let parts = printed_parts(alloc, source, &made.code)?;
+    let parts = printed_parts(alloc, source, shape, &made.code)?;
     let texts = Texts {
         source,
         text: text.as_str(),

@@ -1,6 +1,5 @@
 //! What the library answers about an enum, in types of Rust's own library.
 
-use crate::packed::packed;
 use crate::question::Question;
 use logos_codegen::logos_codegen::generator::Config;
 use logos_codegen::logos_derive as library;
@@ -115,9 +114,8 @@ fn answer(derivation: &library::Derivation) -> Answer {
 }
 
 fn implementation(found: &library::Implementation) -> Implementation {
-    let end = found.pieces.last().map_or(0, |piece| piece.to);
     Implementation {
-        text: packed(found.text.as_str(), end),
+        text: found.text.as_str().into(),
         pieces: found.pieces.iter().map(piece).collect(),
     }
 }

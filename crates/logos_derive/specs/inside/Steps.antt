@@ -9,6 +9,7 @@ use Rattle.logos_derive.specs.declared.implementation.Implementation.{Implementa
 use Rattle.logos_derive.specs.declared.implementation.Piece.{Piece}
 use Rattle.logos_tables.specs.Shapes.{IsShown}
 use Rattle.logos_tables.specs.declared.shape.Shape.{Shape}
+use Rattle.logos_text.specs.Fronts.{AroundValue}
 use Rattle.logos_token.specs.Faults.{Fault}
 
 -- With pieces from an offset on, these and those are the pieces of a text.
@@ -17,7 +18,8 @@ Completes source text offset pieces = (rest : List Piece) → ArePieces source t
 
 -- This is the implementation that is printed from a code, with pieces of a source.
 pub record IsMadeOf (shape : Shape) (code : CodeValue) (source : List ℕ) (made : Implementation) : Type 0 where
-  pub shown : IsShown shape code (string_bytes made.text)
+  pub around : AroundValue
+  pub shown : IsShown shape around code (string_bytes made.text)
   pub pieces : ArePieces source (string_bytes made.text) 0 made.pieces.items
 
 -- This is the derivation of a source with this code, which is accepted.
