@@ -1,6 +1,6 @@
 //! Prints lists of numbers as fields of the tables. `lexer` and `parts` call it.
 
-ghost use Rattle.std.specs.Prelude.{◌≡◌, ◌++◌, ◌∷◌, [], OnOk, string_bytes};
+ghost use Rattle.std.specs.Prelude.{◌≡◌, ◌++◌, ◌∷◌, [], OnOk, map, string_bytes};
 ghost use Rattle.logos_tables.specs.Words.{Appends, field_head, field_text, runs_texts};
 
 use crate::bytes::{push_entries, size_of};
@@ -42,17 +42,34 @@ fn push_head(text: &mut String, name: &str, size: usize) -> Result<(), Memory>
 pub(crate) fn push_runs(
     alloc: Global,
     text: &mut String,
-    names: (&str, &str),
+    lengths_name: &str,
+    numbers_name: &str,
     runs: &[Run],
 ) -> Result<(), Memory>
-    ensures { OnOk result (Appends (runs_texts names.0.now names.1.now runs.now)
+    ensures { OnOk result (Appends (runs_texts lengths_name.now numbers_name.now runs.now)
+        (string_bytes text.old) (string_bytes text.new)) }
+{
+    push_lengths(alloc, text, lengths_name, runs)?;
+    push_steps(alloc, text, numbers_name, runs)?;
+    Ok(())
+}
+
+/// Appends a field with the lengths of runs.
+fn push_lengths(alloc: Global, text: &mut String, name: &str, runs: &[Run]) -> Result<(), Memory>
+    ensures { OnOk result (Appends (field_text name.now (map (λ run. run.0) runs.now) ∷ [])
         (string_bytes text.old) (string_bytes text.new)) }
 {
     let lengths = lengths_of(alloc, runs)?;
-    push_field(text, names.0, &lengths)?;
+    push_field(text, name, &lengths)
+}
+
+/// Appends a field with the number of each run.
+fn push_steps(alloc: Global, text: &mut String, name: &str, runs: &[Run]) -> Result<(), Memory>
+    ensures { OnOk result (Appends (field_text name.now (map (λ run. run.1) runs.now) ∷ [])
+        (string_bytes text.old) (string_bytes text.new)) }
+{
     let steps = steps_in(alloc, runs)?;
-    push_field(text, names.1, &steps)?;
-    Ok(())
+    push_field(text, name, &steps)
 }
 
 /// Appends a part.

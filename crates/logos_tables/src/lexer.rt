@@ -62,8 +62,8 @@ fn push_steps(alloc: Global, text: &mut String, made: &CodeTables) -> Result<(),
     ensures { OnOk result (Appends (step_texts made.now.class_runs.items made.now.runs.items
         made.now.rows.places.items) (string_bytes text.old) (string_bytes text.new)) }
 {
-    push_runs(alloc, text, ("class_lengths", "classes"), &made.class_runs)?;
-    push_runs(alloc, text, ("lengths", "steps"), &made.runs)?;
+    push_runs(alloc, text, "class_lengths", "classes", &made.class_runs)?;
+    push_runs(alloc, text, "lengths", "steps", &made.runs)?;
     push_field(text, "rows", &made.rows.places)?;
     Ok(())
 }

@@ -24,8 +24,9 @@ pub struct Data {
     pub root: usize,
     /// The number of classes.
     pub width: usize,
-    /// The classes of all symbols as runs: the number of equal classes in each, and the class.
+    /// The number of symbols in each run of symbols of one class.
     pub class_lengths: Numbers,
+    /// The class of each such run.
     pub classes: Numbers,
     /// The number of equal steps in each run of the rows, which follow one another.
     pub lengths: Numbers,
@@ -92,6 +93,19 @@ const fn number(numbers: &Numbers, n: usize) -> usize {
 }
 
 impl Data {
+    /// The tables of an enum that is refused. No constant can be made of them.
+    pub const NOTHING: Data = Data {
+        root: 0,
+        width: 0,
+        class_lengths: (1, &[]),
+        classes: (1, &[]),
+        lengths: (1, &[]),
+        steps: (1, &[]),
+        rows: (1, &[]),
+        marks: (1, &[]),
+        skips: (1, &[]),
+    };
+
     /// Returns the number of states.
     pub(crate) const fn states(&self) -> usize {
         count(&self.rows)

@@ -1,0 +1,7 @@
+use Rattle.std.proofs.Common.{◌≡◌, ◌-◌, ◌++◌, string_bytes}
+use Rattle.logos_tables.specs.Texts.{entry_text}
+use Rattle.logos_tables.proofs.bytes.push_entry.Given as goal
+
+-- the bytes that are left complete the text
+abbrev pub invariant-loop-_ : goal.invariant-loop-_
+invariant-loop-_ l = string_bytes l.text ++ entry_text (l.size - l._) l.rest ≡ string_bytes l.initial.text ++ entry_text l.size l.number
