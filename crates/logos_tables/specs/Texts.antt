@@ -43,8 +43,8 @@ field_text name numbers = field_head name (size_number numbers) ++ entries_text 
 abbrev pub runs_texts : List ℕ → List ℕ → List (ℕ × ℕ) → List (List ℕ)
 runs_texts lengths numbers runs = field_text lengths (map (λ run. run.0) runs) ∷ field_text numbers (map (λ run. run.1) runs) ∷ []
 
--- The texts of the tables of steps: the classes of symbols, the rows by classes, and the row of each
--- state.
+-- The texts of the tables of steps: the classes of symbols, the rows by classes, and the row of
+-- each state.
 abbrev pub step_texts : List (ℕ × ℕ) → List (ℕ × ℕ) → List ℕ → List (List ℕ)
 step_texts class_runs runs places =
     runs_texts (codes "class_lengths") (codes "classes") class_runs
@@ -66,8 +66,8 @@ head_text this =
 abbrev pub data_text : ℕ → ℕ → List ℕ
 data_text root width = codes "const DATA: _Data = _Data { root: " ++ decimal root ++ codes ", width: " ++ decimal width ++ codes ", "
 
--- The end of the tables, and the type of what they are unpacked to, by the numbers of the states and
--- of the runs.
+-- The end of the tables, and the type of what they are unpacked to, by the numbers of the states
+-- and of the runs.
 abbrev pub unpacked_text : ℕ → ℕ → List ℕ
 unpacked_text states runs =
     codes "};\ntype Unpacked = _Unpacked<" ++ decimal states ++ codes ", " ++ decimal runs
@@ -90,7 +90,12 @@ folded_text entries = codes "const FOLDED: &'static [u32] = &Self::UNPACKED.fold
 -- What follows the tables: how the runtime calls the functions before them, and the call of its
 -- loop.
 abbrev pub end_text : List ℕ
-end_text = codes "fn bytes(source: &'s <Self as Logos<'s>>::Source) -> &'s [u8] { source.as_ref() }\nfn plain(leaf: usize) -> _Option<Self> { _token(leaf) }\nfn act(lex: &mut _Lexer<'s>, leaf: usize) -> CallbackResult<'s, Self> { _get_action(lex, leaf) }\nfn error(lex: &mut _Lexer<'s>) -> <Self as Logos<'s>>::Error { _make_error(lex) }\n}\n_Tables::run(lex)\n} }\n"
+end_text =
+    codes "fn bytes(source: &'s <Self as Logos<'s>>::Source) -> &'s [u8] { source.as_ref() }\n"
+    ++ codes "fn plain(leaf: usize) -> _Option<Self> { _token(leaf) }\n"
+    ++ codes "fn act(lex: &mut _Lexer<'s>, leaf: usize) -> CallbackResult<'s, Self> { _get_action(lex, leaf) }\n"
+    ++ codes "fn error(lex: &mut _Lexer<'s>) -> <Self as Logos<'s>>::Error { _make_error(lex) }\n"
+    ++ codes "}\n_Tables::run(lex)\n} }\n"
 
 -- How many entries and masks the runtime makes of the tables. It refuses other numbers than its own
 -- when the text is compiled.
@@ -116,12 +121,12 @@ made_texts code tables sizes =
 abbrev pub joined : List (List ℕ) → List ℕ
 joined texts = flat_map (λ text. text) texts
 
--- The whole text behind the front of an implementation by tables.
+-- The whole text after the front of an implementation by tables.
 abbrev pub tables_text : CodeValue → Tables → Sizes → List ℕ
 tables_text code tables sizes = head_text (printed_type (type_tree code.header.this)) ++ (joined (made_texts code tables sizes) ++ end_text)
 
 -- The text is that of a lexer by tables that hold what the code does: the front of an implementation
--- for the type of the enum, with these texts around its function, and right behind it the tables,
+-- for the type of the enum, with these texts around its function, and right after it the tables,
 -- which are all that follows.
 pub record HoldsTables (around : AroundValue) (code : CodeValue) (text : List ℕ) : Type 0 where
   pub tables : Tables

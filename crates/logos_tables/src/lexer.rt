@@ -4,7 +4,7 @@ ghost use Rattle.std.specs.Prelude.{◌∷◌, [], IfOk, OnOk, length, string_by
 ghost use Rattle.logos_tables.specs.Views.{Appends, AppendsMade, AppendsNumbers, AppendsTables, HoldsTables, around_made, marks_text, skips_text, step_texts};
 
 use crate::fields::{push_field, push_runs};
-use crate::made::{CodeTables, tables_of};
+use crate::made::{PrintedTables, tables_of};
 use crate::marks::{marks_of, skips_of};
 use crate::numbers::{entry_count, folded_count, mask_count};
 use crate::parts::{
@@ -17,8 +17,8 @@ use logos_type::print_type;
 use std::alloc::Global;
 
 /// Returns the Rust text of an implementation of `Logos` for the enum, whose function that lexes
-/// has tables for the loop of the runtime. The tables hold what each byte, and the end of the input,
-/// does in each state of the code, and the mark of each state.
+/// has tables for the loop of the runtime. The tables hold what each byte, and the end of the
+/// input, does in each state of the code, and the mark of each state.
 ///
 /// # Errors
 ///
@@ -58,7 +58,7 @@ fn push_code(alloc: Global, text: &mut String, code: &Code<'_>) -> Result<(), Me
 }
 
 /// Appends the tables of steps.
-fn push_steps(alloc: Global, text: &mut String, made: &CodeTables) -> Result<(), Memory>
+fn push_steps(alloc: Global, text: &mut String, made: &PrintedTables) -> Result<(), Memory>
     ensures { OnOk result (Appends (step_texts made.now.class_runs.items made.now.runs.items
         made.now.rows.places.items) (string_bytes text.old) (string_bytes text.new)) }
 {
@@ -87,7 +87,7 @@ fn push_skips(alloc: Global, text: &mut String, code: &Code<'_>) -> Result<(), M
 }
 
 /// Appends the constants that are made of the tables.
-fn push_numbers(text: &mut String, made: &CodeTables, leaves: usize) -> Result<(), Memory>
+fn push_numbers(text: &mut String, made: &PrintedTables, leaves: usize) -> Result<(), Memory>
     ensures { OnOk result (AppendsNumbers (length made.now.rows.places.items)
         (length made.now.runs.items) (string_bytes text.old) (string_bytes text.new)) }
 {

@@ -11,7 +11,7 @@ use std::alloc::{AllocError, Global};
 
 /// The tables of a code.
 #[derive(Drop)]
-pub(crate) struct CodeTables {
+pub(crate) struct PrintedTables {
     /// The rows of all states.
     pub(crate) rows: StepRows,
     /// The classes of the symbols.
@@ -27,7 +27,7 @@ pub(crate) struct CodeTables {
 /// # Errors
 ///
 /// Returns an error if memory runs out.
-pub(crate) fn tables_of(alloc: Global, code: &Code<'_>) -> Result<CodeTables, AllocError>
+pub(crate) fn tables_of(alloc: Global, code: &Code<'_>) -> Result<PrintedTables, AllocError>
     ensures { IfOk result (λ made. AreMade code.now made.classes.numbers.items
         made.classes.symbols.items made.rows.places.items made.rows.distinct.keys
         made.class_runs.items made.runs.items) }
@@ -36,7 +36,7 @@ pub(crate) fn tables_of(alloc: Global, code: &Code<'_>) -> Result<CodeTables, Al
     let classes = classes_of(alloc, rows.distinct.as_slice())?;
     let class_runs = runs_of(alloc, &classes.numbers)?;
     let runs = row_runs(alloc, rows.distinct.as_slice(), &classes.symbols)?;
-    Ok(CodeTables {
+    Ok(PrintedTables {
         rows,
         classes,
         class_runs,

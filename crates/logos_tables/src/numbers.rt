@@ -1,7 +1,7 @@
 //! How many entries the runtime makes of the tables. `lexer` prints these numbers, and the compiler
 //! refuses others.
 
-use crate::made::CodeTables;
+use crate::made::PrintedTables;
 use crate::steps::Steps;
 
 /// The most states for which the rows of the runtime have an entry for each byte.
@@ -19,7 +19,7 @@ const MOST_LEAVES: usize = 1023;
 const BESIDE: usize = 1024;
 
 /// Returns the number of columns of a row, where a row by classes has `more` beside the classes.
-fn columns(tables: &CodeTables, more: usize) -> usize {
+fn columns(tables: &PrintedTables, more: usize) -> usize {
     if tables.rows.places.len() <= FEW {
         BYTES
     } else {
@@ -28,7 +28,7 @@ fn columns(tables: &CodeTables, more: usize) -> usize {
 }
 
 /// Returns the number of entries of all rows.
-fn row_entries(tables: &CodeTables, more: usize) -> usize {
+fn row_entries(tables: &PrintedTables, more: usize) -> usize {
     tables
         .rows
         .places
@@ -37,12 +37,12 @@ fn row_entries(tables: &CodeTables, more: usize) -> usize {
 }
 
 /// Returns the number of entries that the loop of the runtime reads.
-pub(crate) fn entry_count(tables: &CodeTables) -> usize {
+pub(crate) fn entry_count(tables: &PrintedTables) -> usize {
     row_entries(tables, 0).saturating_add(256)
 }
 
 /// Returns the number of entries that `scan` reads, for a number of leaves.
-pub(crate) fn folded_count(tables: &CodeTables, leaves: usize) -> usize {
+pub(crate) fn folded_count(tables: &PrintedTables, leaves: usize) -> usize {
     let entries = row_entries(tables, 1);
     if (entries > MOST_ENTRIES) | (leaves > MOST_LEAVES) {
         return BESIDE + 1;
@@ -52,7 +52,7 @@ pub(crate) fn folded_count(tables: &CodeTables, leaves: usize) -> usize {
 
 /// Returns the number of masks: a power of two that is not below the number of rows in which a byte
 /// stays.
-pub(crate) fn mask_count(tables: &CodeTables) -> usize {
+pub(crate) fn mask_count(tables: &PrintedTables) -> usize {
     power_of_two(loop_count(tables.rows.distinct.as_slice()))
 }
 

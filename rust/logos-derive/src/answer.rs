@@ -5,9 +5,9 @@ use logos_codegen::logos_codegen::generator::Config;
 use logos_codegen::logos_derive as library;
 use logos_codegen::logos_tables::Shape;
 use logos_codegen::logos_token::token::Span;
-use rattle_std::alloc::{Global, set_budget_of_program};
+use rattle_std::alloc::{set_budget_of_program, Global};
 use std::ops::Range;
-use std::panic::{AssertUnwindSafe, catch_unwind};
+use std::panic::{catch_unwind, AssertUnwindSafe};
 
 /// What the library answers: the implementation, if the enum is accepted, and faults and warnings.
 pub struct Answer {

@@ -1,7 +1,7 @@
 //! The implementation for an enum that is refused. It finds nothing; it is there so that the uses
 //! of the enum as a lexer are no errors beside the faults.
 
-use crate::generics::{Generics, Types, read_generics, with_lifetime};
+use crate::generics::{read_generics, with_lifetime, Generics, Types};
 use crate::type_syntax::{is_path, is_type};
 use proc_macro::{Delimiter, Group, TokenStream, TokenTree};
 use std::collections::HashMap;

@@ -129,8 +129,8 @@ const NONE: Ranges = {
     Ranges([range; MOST_RANGES], 0)
 };
 
-/// Returns the bits of a block. Sums of bits that differ are their union, and keep the compiler from
-/// making one long chain of all eight.
+/// Returns the bits of a block. Sums of bits that differ are their union, and keep the compiler
+/// from making one long chain of all eight.
 #[inline(always)]
 fn bits(mask: &Mask, block: &[u8; 8]) -> u8 {
     let low = mask[block[0] as usize][0] | mask[block[1] as usize][1];
@@ -149,7 +149,9 @@ fn past(ranges: &Ranges, most: usize, block: &[u8; 16]) -> u128 {
         let (mut least, mut n) = (255u8, 0);
         while n < most {
             let Range { lowest, length } = &ranges.0[n];
-            let far = block[k].wrapping_sub(lowest.0[k]).saturating_sub(length.0[k]);
+            let far = block[k]
+                .wrapping_sub(lowest.0[k])
+                .saturating_sub(length.0[k]);
             least = if far < least { far } else { least };
             n += 1;
         }

@@ -133,7 +133,10 @@ impl<const STATES: usize, const RUNS: usize> Unpacked<STATES, RUNS> {
                     if runs[run].step >= 2 {
                         let next = runs[run].step - 2;
                         let met = met(before[next], after);
-                        if met[0] != before[next][0] || met[1] != before[next][1] || met[2] != before[next][2] {
+                        if met[0] != before[next][0]
+                            || met[1] != before[next][1]
+                            || met[2] != before[next][2]
+                        {
                             before[next] = met;
                             (is_new[next], changed) = (true, true);
                         }
@@ -149,8 +152,8 @@ impl<const STATES: usize, const RUNS: usize> Unpacked<STATES, RUNS> {
 }
 
 /// The last match before a state, without the match of the state itself: by bytes before, by bytes
-/// after the start, and [`FORTH`] more than the bytes since the start. All are 0 for a state that no
-/// bytes are known to lead to.
+/// after the start, and [`FORTH`] more than the bytes since the start. All are 0 for a state that
+/// no bytes are known to lead to.
 type Before = [u32; 3];
 
 /// Returns the last match in a state, and what is known before the states after it.
@@ -163,7 +166,11 @@ const fn last_in(mark: u32, loops: bool, before: Before) -> (u32, Before) {
     if mark == 0 {
         back = if loops && back > VARIES { VARIES } else { back };
     } else {
-        back = if loops && late == 1 { VARIES } else { leaf | late };
+        back = if loops && late == 1 {
+            VARIES
+        } else {
+            leaf | late
+        };
         forth = if since < FORTH + late {
             VARIES
         } else {
@@ -172,10 +179,18 @@ const fn last_in(mark: u32, loops: bool, before: Before) -> (u32, Before) {
     }
     let last = if back == VARIES { forth } else { back };
     if back > VARIES {
-        back = if back & 255 < FARTHEST { back + 1 } else { VARIES };
+        back = if back & 255 < FARTHEST {
+            back + 1
+        } else {
+            VARIES
+        };
     }
     if since != VARIES {
-        since = if since < FORTH + FARTHEST { since + 1 } else { VARIES };
+        since = if since < FORTH + FARTHEST {
+            since + 1
+        } else {
+            VARIES
+        };
     }
     (last, [back, forth, since])
 }

@@ -248,7 +248,10 @@ impl<'source, T: Tables<'source>> Run<'source> for T {}
 const fn classes(classes: &[u16; 257]) -> [u8; 256] {
     let (mut all, mut byte) = ([0; 256], 0);
     while byte < 256 {
-        assert!(classes[byte] < 256, "the class of a byte is one of the first");
+        assert!(
+            classes[byte] < 256,
+            "the class of a byte is one of the first"
+        );
         all[byte] = classes[byte] as u8;
         byte += 1;
     }

@@ -64,7 +64,11 @@ trait Apart<'source>: Scan<'source> {
 
     /// Returns what becomes of a match of the leaf, or of an error if no leaf has the number.
     /// `None` means that nothing does.
-    fn act_on(lexer: &mut Lexer<'source, Self>, leaf: usize, end: usize) -> Option<Found<'source, Self>>;
+    fn act_on(
+        lexer: &mut Lexer<'source, Self>,
+        leaf: usize,
+        end: usize,
+    ) -> Option<Found<'source, Self>>;
 }
 
 impl<'source, T: Scan<'source>> Apart<'source> for T {

@@ -1,6 +1,6 @@
 //! `Scan`, by tables that are written by hand. `tests/rust_text` has those of printed lexers.
 
-use logos::internal::{CallbackResult, LexerInternal, _Data, _Ranges, _Tables, _Unpacked};
+use logos::internal::{_Data, _Ranges, _Tables, _Unpacked, CallbackResult, LexerInternal};
 use logos::{Lexer, Logos, Scan, Scanner, Span};
 
 /// The classes: no other, letters, `(`, blanks, digits, `.`, `<`.
