@@ -101,7 +101,7 @@ fn push_tokens(text: &mut String, leaves: &[CodeLeaf<'_>], names: Names<'_>) -> 
     let this = names.this;
     write!(
         text,
-        "# [ inline ] # [ allow ( clippy :: match_single_binding ) ] fn _token < 's > ( leaf : usize ) -> _Option < {this} > {{ match leaf {{ "
+        "# [ inline ] # [ allow ( clippy :: extra_unused_lifetimes , clippy :: match_single_binding ) ] fn _token < 's > ( leaf : usize ) -> _Option < {this} > {{ match leaf {{ "
     )?;
     push_token_arms(text, leaves, names.name)
 }
