@@ -47,8 +47,8 @@ held code numbers symbols places distinct class_runs runs made = record {
   steps = steps_held tables symbols distinct (λ state symbol. step_number code (state_at code state) symbol) (length code.states) refl many made.placed
       (λ state symbol l m. (made.rows.are state l).are symbol m) made.classes;
   wide = wide_held symbols distinct;
-  class_runs = made.class_runs;
-  runs = runs_held symbols _ distinct made.runs;
+  class_runs = made.of_classes;
+  runs = runs_held symbols _ distinct made.of_rows;
 }
   where
     tables : Tables

@@ -47,7 +47,7 @@ pub(crate) fn push_unpacked(text: &mut String, states: usize, runs: usize) -> Re
 {
     write!(
         text,
-        "}};\ntype Unpacked = _Unpacked<{states}, {runs}>;\nconst UNPACKED: &'static Self::Unpacked = &Self::DATA.unpacked();\n"
+        "}};\ntype Unpacked = _Unpacked<{states}, {runs}>;\nconst UNPACKED: &'static Self::Unpacked = &<Self::Unpacked>::new::<Self>();\n"
     )?;
     Ok(())
 }
@@ -59,7 +59,7 @@ pub(crate) fn push_entries_size(text: &mut String, entries: usize) -> Result<(),
 {
     write!(
         text,
-        "const ROWS: &'static [u32] = &Self::UNPACKED.rows::<{entries}>();\nconst LASTS: &'static [u32] = &Self::UNPACKED.lasts();\n"
+        "const ROWS: &'static [u32] = &<Self::Unpacked>::rows::<Self, {entries}>();\nconst LASTS: &'static [u32] = &<Self::Unpacked>::lasts::<Self>();\n"
     )?;
     Ok(())
 }
@@ -70,7 +70,7 @@ pub(crate) fn push_masks(text: &mut String, masks: usize) -> Result<(), Memory>
 {
     write!(
         text,
-        "const MASKS: &'static [[[u8; 8]; 256]] = &Self::UNPACKED.masks::<{masks}>();\nconst RANGES: &'static [_Ranges] = &_Ranges::of::<{masks}>(Self::MASKS);\n"
+        "const MASKS: &'static [[[u8; 8]; 256]] = &<Self::Unpacked>::masks::<Self, {masks}>();\nconst RANGES: &'static [_Ranges] = &_Ranges::of::<Self, {masks}>();\n"
     )?;
     Ok(())
 }
@@ -81,7 +81,7 @@ pub(crate) fn push_folded(text: &mut String, entries: usize) -> Result<(), Memor
 {
     write!(
         text,
-        "const FOLDED: &'static [u32] = &Self::UNPACKED.folded::<{entries}>(Self::LASTS);\n"
+        "const FOLDED: &'static [u32] = &<Self::Unpacked>::folded::<Self, {entries}>();\n"
     )?;
     Ok(())
 }

@@ -1,5 +1,8 @@
 //! The tables of a lexer as generated code has them, and what they are unpacked to.
 
+use crate::internal::Tables;
+use crate::loops::Mask;
+
 /// The symbols: each byte, and the end of the input.
 pub(crate) const SYMBOLS: usize = 257;
 /// The symbol that is the end of the input.
@@ -74,6 +77,51 @@ pub struct Unpacked<const STATES: usize, const RUNS: usize> {
     pub(crate) marks: [u32; STATES],
     /// The number of distinct rows in which a byte stays.
     pub(crate) loops: usize,
+}
+
+/// What the constants of a lexer are. Each is a function of the enum, and not of a constant: rustc
+/// evaluates those that a constant names when it checks a package, and these in builds alone.
+///
+/// # Panics
+///
+/// All panic if a number is not the one of the tables.
+impl<const STATES: usize, const RUNS: usize> Unpacked<STATES, RUNS> {
+    /// Returns the tables of a lexer, unpacked.
+    pub const fn new<'source, T: Tables<'source>>() -> Self {
+        T::DATA.unpacked()
+    }
+
+    /// Returns the rows of a lexer: an entry for each state and each of its columns, and 256 more.
+    pub const fn rows<'source, T, const N: usize>() -> [u32; N]
+    where
+        T: Tables<'source, Unpacked = Self>,
+    {
+        T::UNPACKED.all_rows()
+    }
+
+    /// Returns the last match in each state of a lexer.
+    pub const fn lasts<'source, T>() -> [u32; STATES]
+    where
+        T: Tables<'source, Unpacked = Self>,
+    {
+        T::UNPACKED.all_lasts()
+    }
+
+    /// Returns the masks of the loops of a lexer. Their number is a power of two.
+    pub const fn masks<'source, T, const LOOPS: usize>() -> [Mask; LOOPS]
+    where
+        T: Tables<'source, Unpacked = Self>,
+    {
+        T::UNPACKED.all_masks()
+    }
+
+    /// Returns the folded tables of a lexer.
+    pub const fn folded<'source, T, const N: usize>() -> [u32; N]
+    where
+        T: Tables<'source, Unpacked = Self>,
+    {
+        T::UNPACKED.all_folded(T::LASTS)
+    }
 }
 
 /// Returns the number of numbers.
@@ -165,7 +213,7 @@ impl Data {
     ///
     /// Panics if these are not the numbers of the states and of the runs, or if the tables name a
     /// class, a row, a state or a leaf that is not there.
-    pub const fn unpacked<const STATES: usize, const RUNS: usize>(&self) -> Unpacked<STATES, RUNS> {
+    const fn unpacked<const STATES: usize, const RUNS: usize>(&self) -> Unpacked<STATES, RUNS> {
         assert!(STATES == self.states() && STATES == count(&self.marks));
         let (classes, runs) = (self.classes(), self.runs());
         let (distinct, height, loops) = self.distinct(&runs, &bytes_before(&classes));
@@ -192,11 +240,25 @@ impl Data {
     const fn runs<const RUNS: usize>(&self) -> [Run; RUNS] {
         assert!(RUNS == count(&self.lengths) && RUNS == count(&self.steps));
         let (mut runs, mut n) = ([Run { length: 0, step: 0 }; RUNS], 0);
+        let ((long, lengths), (size, steps)) = (self.lengths, self.steps);
+        let (mut at, past) = (0, self.states() + 2);
+        // There are many runs, and each call takes the compiler long: so short numbers are read
+        // here.
         while n < RUNS {
-            let (length, step) = (number(&self.lengths, n), number(&self.steps, n));
-            assert!(step < self.states() + 2, "the next state is there");
+            let length = match long {
+                1 => lengths[n] as usize,
+                _ => number(&self.lengths, n),
+            };
+            let step = match size {
+                1 => steps[at] as usize,
+                2 => steps[at] as usize | (steps[at + 1] as usize) << 8,
+                _ => number(&self.steps, n),
+            };
+            if step >= past {
+                panic!("the next state is there");
+            }
             runs[n] = Run { length, step };
-            n += 1;
+            (n, at) = (n + 1, at + size);
         }
         runs
     }
@@ -208,6 +270,7 @@ impl Data {
         before: &[u16; SYMBOLS + 1],
     ) -> ([Row; STATES], usize, usize) {
         let (mut run, mut passed, mut height, mut number) = (0, 0, 0, 0);
+        let width = self.width;
         let mut rows = [Row {
             run,
             passed,
@@ -218,16 +281,18 @@ impl Data {
         while run < runs.len() {
             let (mut leads, mut staying, mut class) = (false, 0, 0);
             let first = (run, passed);
-            while class < self.width {
-                let left = runs[run].length - passed;
-                let is_over = left <= self.width - class;
-                let end = if is_over { class + left } else { self.width };
-                leads |= runs[run].step != 0;
-                if runs[run].step == 1 {
+            while class < width {
+                let Run { length, step } = runs[run];
+                let (mut end, next) = (class + length - passed, run + 1);
+                if end > width {
+                    (end, passed) = (width, passed + width - class);
+                } else {
+                    (run, passed) = (next, 0);
+                }
+                leads |= step != 0;
+                if step == 1 {
                     staying += before[end] - before[class];
                 }
-                passed = if is_over { 0 } else { passed + end - class };
-                run += is_over as usize;
                 class = end;
             }
             rows[height] = Row {

@@ -64,17 +64,17 @@ pub trait Tables<'source>: Logos<'source> {
     type Unpacked: 'static;
     const UNPACKED: &'static Self::Unpacked;
 
-    /// The rows that `lex` reads: see [`Unpacked::rows`](crate::internal::_Unpacked::rows).
+    /// The rows that `lex` reads: see [`_Unpacked::rows`].
     const ROWS: &'static [u32];
 
-    /// The last match in each state: see [`Unpacked::lasts`](crate::internal::_Unpacked::lasts).
+    /// The last match in each state: see [`_Unpacked::lasts`].
     const LASTS: &'static [u32];
 
     /// The loops over bytes that stay in a state, and their ranges.
     const MASKS: &'static [Mask];
     const RANGES: &'static [Ranges];
 
-    /// The tables that `scan` reads: see [`Unpacked::folded`](crate::internal::_Unpacked::folded).
+    /// The tables that `scan` reads: see [`_Unpacked::folded`].
     const FOLDED: &'static [u32];
 
     /// Returns the bytes of an input.

@@ -30,7 +30,7 @@ impl<const STATES: usize, const RUNS: usize> Unpacked<STATES, RUNS> {
     /// # Panics
     ///
     /// Panics if this is not a number of masks for all loops.
-    pub const fn masks<const LOOPS: usize>(&self) -> [Mask; LOOPS] {
+    pub(crate) const fn all_masks<const LOOPS: usize>(&self) -> [Mask; LOOPS] {
         assert!(LOOPS >= self.loops && LOOPS.is_power_of_two());
         let (mut masks, mut done, mut state) = ([[EACH; 256]; LOOPS], 0, 0);
         while state < STATES {
@@ -71,8 +71,13 @@ impl<const STATES: usize, const RUNS: usize> Unpacked<STATES, RUNS> {
 const EACH: [u8; 8] = [1, 2, 4, 8, 16, 32, 64, 128];
 
 impl Ranges {
-    /// Returns the ranges of all masks.
-    pub const fn of<const LOOPS: usize>(masks: &[Mask]) -> [Ranges; LOOPS] {
+    /// Returns the ranges of all masks of a lexer.
+    ///
+    /// # Panics
+    ///
+    /// Panics if this is not the number of the masks.
+    pub const fn of<'source, T: Tables<'source>, const LOOPS: usize>() -> [Ranges; LOOPS] {
+        let masks = T::MASKS;
         assert!(LOOPS == masks.len());
         let (mut ranges, mut n) = ([NONE; LOOPS], 0);
         while n < LOOPS {

@@ -39,7 +39,7 @@ impl<const STATES: usize, const RUNS: usize> Unpacked<STATES, RUNS> {
     /// # Panics
     ///
     /// Panics if this is not the number of the entries.
-    pub const fn rows<const N: usize>(&self) -> [u32; N] {
+    pub(crate) const fn all_rows<const N: usize>(&self) -> [u32; N] {
         let columns = self.data.columns(0);
         assert!(N == STATES * columns + 256, "the number of the entries");
         assert!(STATES * columns < STAYS as usize, "too many entries");
@@ -111,7 +111,7 @@ impl<const STATES: usize, const RUNS: usize> Unpacked<STATES, RUNS> {
     /// Returns for each state the last match of an attempt that is over there, where the byte leads
     /// nowhere: [`NEVER`], [`VARIES`], or else 256 times 1 more than the leaf, and where it ended:
     /// a number of bytes before, or [`FORTH`] more than a number of bytes after the start.
-    pub const fn lasts(&self) -> [u32; STATES] {
+    pub(crate) const fn all_lasts(&self) -> [u32; STATES] {
         let (mut before, mut is_new) = ([[0; 3]; STATES], [false; STATES]);
         let (mut lasts, mut changed, runs) = ([0; STATES], true, &self.runs);
         before[self.data.root] = [NEVER, NEVER, FORTH];
@@ -132,13 +132,13 @@ impl<const STATES: usize, const RUNS: usize> Unpacked<STATES, RUNS> {
                 while left > 0 {
                     if runs[run].step >= 2 {
                         let next = runs[run].step - 2;
-                        let met = met(before[next], after);
-                        if met[0] != before[next][0]
-                            || met[1] != before[next][1]
-                            || met[2] != before[next][2]
-                        {
-                            before[next] = met;
-                            (is_new[next], changed) = (true, true);
+                        let [back, forth, since] = before[next];
+                        if back != after[0] || forth != after[1] || since != after[2] {
+                            let [one, two, three] = met(before[next], after);
+                            if one != back || two != forth || three != since {
+                                before[next] = [one, two, three];
+                                (is_new[next], changed) = (true, true);
+                            }
                         }
                     }
                     left = left.saturating_sub(runs[run].length);

@@ -127,12 +127,12 @@ macro_rules! lexer {
                 skips: (1, &SKIPS),
             };
             type Unpacked = _Unpacked<$states, 56>;
-            const UNPACKED: &'static Self::Unpacked = &Self::DATA.unpacked();
-            const ROWS: &'static [u32] = &Self::UNPACKED.rows::<$entries>();
-            const LASTS: &'static [u32] = &Self::UNPACKED.lasts();
-            const MASKS: &'static [[[u8; 8]; 256]] = &Self::UNPACKED.masks::<4>();
-            const RANGES: &'static [_Ranges] = &_Ranges::of::<4>(Self::MASKS);
-            const FOLDED: &'static [u32] = &Self::UNPACKED.folded::<$folded>(Self::LASTS);
+            const UNPACKED: &'static Self::Unpacked = &<Self::Unpacked>::new::<Self>();
+            const ROWS: &'static [u32] = &<Self::Unpacked>::rows::<Self, $entries>();
+            const LASTS: &'static [u32] = &<Self::Unpacked>::lasts::<Self>();
+            const MASKS: &'static [[[u8; 8]; 256]] = &<Self::Unpacked>::masks::<Self, 4>();
+            const RANGES: &'static [_Ranges] = &_Ranges::of::<Self, 4>();
+            const FOLDED: &'static [u32] = &<Self::Unpacked>::folded::<Self, $folded>();
 
             fn bytes(source: &'s str) -> &'s [u8] {
                 source.as_bytes()

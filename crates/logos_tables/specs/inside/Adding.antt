@@ -35,5 +35,5 @@ pub record AreMade (code : CodeValue) (numbers symbols places : List ℕ) (disti
   pub rows : AreRows code (rows_at places distinct)
   pub placed : (i : ℕ) → i < length places → slice_index places i < length distinct
   pub classes : AreClasses distinct numbers symbols
-  pub class_runs : spread class_runs ≡ numbers
-  pub runs : spread runs ≡ flat_map (by_classes symbols) distinct
+  pub of_classes : spread class_runs ≡ numbers
+  pub of_rows : spread runs ≡ flat_map (by_classes symbols) distinct
