@@ -71,21 +71,21 @@ data_text root width = codes "const DATA: _Data = _Data { root: " ++ decimal roo
 abbrev pub unpacked_text : ℕ → ℕ → List ℕ
 unpacked_text states runs =
     codes "};\ntype Unpacked = _Unpacked<" ++ decimal states ++ codes ", " ++ decimal runs
-    ++ codes ">;\nconst UNPACKED: &'static Self::Unpacked = &<Self::Unpacked>::new::<Self>();\n"
+    ++ codes ">;\nconst UNPACKED: &'static Self::Unpacked = { ::core::assert!(Self::DATA.width > 0); &<Self::Unpacked>::new::<Self>() };\n"
 
 -- The constants that the runtime makes of the tables, with the numbers of their entries.
 abbrev pub entries_size_text : ℕ → List ℕ
 entries_size_text entries =
-    codes "const ROWS: &'static [u32] = &<Self::Unpacked>::rows::<Self, " ++ decimal entries
-    ++ codes ">();\nconst LASTS: &'static [u32] = &<Self::Unpacked>::lasts::<Self>();\n"
+    codes "const ROWS: &'static [u32] = { ::core::assert!(Self::DATA.width > 0); &<Self::Unpacked>::rows::<Self, " ++ decimal entries
+    ++ codes ">() };\nconst LASTS: &'static [u32] = { ::core::assert!(Self::DATA.width > 0); &<Self::Unpacked>::lasts::<Self>() };\n"
 
 abbrev pub masks_text : ℕ → List ℕ
 masks_text masks =
-    codes "const MASKS: &'static [[[u8; 8]; 256]] = &<Self::Unpacked>::masks::<Self, " ++ decimal masks
-    ++ codes ">();\nconst RANGES: &'static [_Ranges] = &_Ranges::of::<Self, " ++ decimal masks ++ codes ">();\n"
+    codes "const MASKS: &'static [[[u8; 8]; 256]] = { ::core::assert!(Self::DATA.width > 0); &<Self::Unpacked>::masks::<Self, " ++ decimal masks
+    ++ codes ">() };\nconst RANGES: &'static [_Ranges] = { ::core::assert!(Self::DATA.width > 0); &_Ranges::of::<Self, " ++ decimal masks ++ codes ">() };\n"
 
 abbrev pub folded_text : ℕ → List ℕ
-folded_text entries = codes "const FOLDED: &'static [u32] = &<Self::Unpacked>::folded::<Self, " ++ decimal entries ++ codes ">();\n"
+folded_text entries = codes "const FOLDED: &'static [u32] = { ::core::assert!(Self::DATA.width > 0); &<Self::Unpacked>::folded::<Self, " ++ decimal entries ++ codes ">() };\n"
 
 -- What follows the tables: how the runtime calls the functions before them, and the call of its
 -- loop.

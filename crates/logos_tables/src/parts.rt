@@ -6,6 +6,9 @@ ghost use Rattle.logos_tables.specs.Words.{Appends, data_text, end_text, entries
 use crate::fields::push_str;
 use logos_token::error::Memory;
 
+// rustc evaluates a reference to the value of a call when it checks a package, unless the constant
+// can end before the call. So each constant of the text begins with an assertion.
+
 /// What follows the tables.
 const END: &str = "fn bytes(source: &'s <Self as Logos<'s>>::Source) -> &'s [u8] { source.as_ref() }
 fn plain(leaf: usize) -> _Option<Self> { _token(leaf) }
@@ -47,7 +50,7 @@ pub(crate) fn push_unpacked(text: &mut String, states: usize, runs: usize) -> Re
 {
     write!(
         text,
-        "}};\ntype Unpacked = _Unpacked<{states}, {runs}>;\nconst UNPACKED: &'static Self::Unpacked = &<Self::Unpacked>::new::<Self>();\n"
+        "}};\ntype Unpacked = _Unpacked<{states}, {runs}>;\nconst UNPACKED: &'static Self::Unpacked = {{ ::core::assert!(Self::DATA.width > 0); &<Self::Unpacked>::new::<Self>() }};\n"
     )?;
     Ok(())
 }
@@ -59,7 +62,7 @@ pub(crate) fn push_entries_size(text: &mut String, entries: usize) -> Result<(),
 {
     write!(
         text,
-        "const ROWS: &'static [u32] = &<Self::Unpacked>::rows::<Self, {entries}>();\nconst LASTS: &'static [u32] = &<Self::Unpacked>::lasts::<Self>();\n"
+        "const ROWS: &'static [u32] = {{ ::core::assert!(Self::DATA.width > 0); &<Self::Unpacked>::rows::<Self, {entries}>() }};\nconst LASTS: &'static [u32] = {{ ::core::assert!(Self::DATA.width > 0); &<Self::Unpacked>::lasts::<Self>() }};\n"
     )?;
     Ok(())
 }
@@ -70,7 +73,7 @@ pub(crate) fn push_masks(text: &mut String, masks: usize) -> Result<(), Memory>
 {
     write!(
         text,
-        "const MASKS: &'static [[[u8; 8]; 256]] = &<Self::Unpacked>::masks::<Self, {masks}>();\nconst RANGES: &'static [_Ranges] = &_Ranges::of::<Self, {masks}>();\n"
+        "const MASKS: &'static [[[u8; 8]; 256]] = {{ ::core::assert!(Self::DATA.width > 0); &<Self::Unpacked>::masks::<Self, {masks}>() }};\nconst RANGES: &'static [_Ranges] = {{ ::core::assert!(Self::DATA.width > 0); &_Ranges::of::<Self, {masks}>() }};\n"
     )?;
     Ok(())
 }
@@ -81,7 +84,7 @@ pub(crate) fn push_folded(text: &mut String, entries: usize) -> Result<(), Memor
 {
     write!(
         text,
-        "const FOLDED: &'static [u32] = &<Self::Unpacked>::folded::<Self, {entries}>();\n"
+        "const FOLDED: &'static [u32] = {{ ::core::assert!(Self::DATA.width > 0); &<Self::Unpacked>::folded::<Self, {entries}>() }};\n"
     )?;
     Ok(())
 }

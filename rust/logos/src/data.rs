@@ -79,8 +79,9 @@ pub struct Unpacked<const STATES: usize, const RUNS: usize> {
     pub(crate) loops: usize,
 }
 
-/// What the constants of a lexer are. Each is a function of the enum, and not of a constant: rustc
-/// evaluates those that a constant names when it checks a package, and these in builds alone.
+/// What the constants of a lexer are. Each is made from the enum, and not from another constant:
+/// rustc evaluates constants that a constant names when it checks a package, and these in builds
+/// alone.
 ///
 /// # Panics
 ///
