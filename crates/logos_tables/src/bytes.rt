@@ -51,9 +51,11 @@ fn push_entry(text: &mut String, size: usize, number: usize) -> Result<(), Memor
     ensures { OnOk result (string_bytes text.new ≡ string_bytes text.old ++ entry_text size number) }
 {
     let mut rest = number;
-    for _ in 0..size {
+    let mut left = size;
+    while left > 0 {
         push_byte(text, (rest % 256) as u8)?;
         rest /= 256;
+        left -= 1;
     }
     Ok(())
 }

@@ -1,3 +1,4 @@
+use Rattle.std.proofs.Common.{◌∙◌}
 use Rattle.logos_tables.proofs.AddLemmas.{numbers_added}
 use Rattle.logos_tables.proofs.lexer.push_numbers.Goals as goal
 
