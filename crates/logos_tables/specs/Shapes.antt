@@ -19,8 +19,8 @@ abbrev pub config_of : Shape → Config
 config_of (Code config) = config
 config_of Tables = record { use_state_machine_codegen = true }
 
--- A text is that of a code as code, with these texts around its function: it begins with the head of
--- an implementation for the type of the enum, and the texts of all bit tables and those of all
+-- A text is that of a code as code, with these texts around its function: it begins with the head
+-- of an implementation for the type of the enum, and the texts of all bit tables and those of all
 -- conditions are in it.
 pub record IsCodeText (around : AroundValue) (code : CodeValue) (shown : List ℕ) : Type 0 where
   pub stand : StandInOrder (texts_of code) shown

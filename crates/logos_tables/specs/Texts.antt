@@ -125,9 +125,9 @@ joined texts = flat_map (λ text. text) texts
 abbrev pub tables_text : CodeValue → Tables → Sizes → List ℕ
 tables_text code tables sizes = head_text (printed_type (type_tree code.header.this)) ++ (joined (made_texts code tables sizes) ++ end_text)
 
--- The text is that of a lexer by tables that hold what the code does: the front of an implementation
--- for the type of the enum, with these texts around its function, and right after it the tables,
--- which are all that follows.
+-- The text is that of a lexer by tables that hold what the code does: the front of an
+-- implementation for the type of the enum, with these texts around its function, and right after it
+-- the tables, which are all that follows.
 pub record HoldsTables (around : AroundValue) (code : CodeValue) (text : List ℕ) : Type 0 where
   pub tables : Tables
   pub sizes : Sizes
