@@ -9,6 +9,7 @@ use crate::implementation::{Implementation, implementation_of};
 use crate::warnings::warnings_of;
 use logos_causes::{Explained, explain_enum, lexer_warnings};
 use logos_codegen::{Generated, Refusal, generate};
+use logos_help::add_helps;
 use logos_report::{Part, Source};
 use logos_tables::{Shape, config_of};
 use logos_token::error::{Errors, Memory};
@@ -75,7 +76,8 @@ fn warnings_by(alloc: Global, source: &str, made: &Generated<'_>) -> Result<Vec<
 fn refused(alloc: Global, source: &str, errors: &Errors) -> Result<Derivation, Memory>
     ensures { IfOk result (IsRefusedFor source.now errors.now) }
 {
-    let known = explain_enum(alloc, source, Origin::Macro)?;
+    let mut known = explain_enum(alloc, source, Origin::Macro)?;
+    add_helps(source, errors, &mut known.clues)?;
     let diagnostics = diagnostics_of(alloc, source, errors, &known)?;
     Ok(Derivation {
         implementation: None,

@@ -12,6 +12,7 @@ use logos_file_warnings::{
     Showing, add_lexer, add_missing, add_passed, add_text, add_warnings, denial_text, push_warned,
     text_of, warning_lines, warning_text,
 };
+use logos_help::add_helps;
 use logos_host::{Failure, MessageFormat};
 use logos_messages::push_refused_messages;
 use logos_report::{
@@ -67,7 +68,8 @@ fn refused_whole<'w>(source: &Source<'_>, showing: Showing, refusal: Refusal) ->
     ensures { (shape : Shape) → FailsFor showing.format showing.denies shape source.now result }
 {
     let mut refused = Vec::new(showing.alloc);
-    match push_refusal(&mut refused, 0, refusal, Clues::none(showing.alloc)) {
+    let clues = Clues::none(showing.alloc);
+    match push_refusal(&mut refused, source.text(), 0, refusal, clues) {
         Ok(()) => refused_file(source, showing, &refused, &[]),
         Err(Memory) => Failure::Memory,
     }
@@ -211,7 +213,7 @@ fn gather_enum(
         }
         Err(refusal) => {
             let clues = clues_of(source, span.from, warned)?;
-            push_refusal(&mut gathered.refused, span.from, refusal, clues)
+            push_refusal(&mut gathered.refused, source, span.from, refusal, clues)
         }
     }
 }
@@ -226,17 +228,20 @@ fn clues_of(text: &str, offset: usize, warned: &mut Vec<Warning>) -> Result<Clue
     Ok(clues)
 }
 
-/// Appends the faults of what begins at an offset of the file, with what is known of them.
+/// Appends the faults of a source that begins at an offset of the file, with what is known of them
+/// and what to do about them.
 fn push_refusal(
     refused: &mut Vec<Refused>,
+    source: &str,
     offset: usize,
     refusal: Refusal,
-    clues: Clues,
+    mut clues: Clues,
 ) -> Result<(), Memory>
     ensures { OnOk result (AddsRefusal offset refusal clues refused.old.items refused.new.items) }
 {
     match refusal {
         Refusal::Errors(errors) => {
+            add_helps(source, &errors, &mut clues)?;
             refused.push(Refused {
                 offset,
                 errors,

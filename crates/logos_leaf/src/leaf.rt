@@ -7,7 +7,7 @@ use crate::fault::{report_greedy_dot, report_overflow};
 use logos_definition::definition::Definition;
 use logos_pattern::leaf::{Leaf, VariantKind};
 use logos_pattern::pattern::{Literal, Pattern, token_priority};
-use logos_subpattern::fault::{ReadingMode, read_pattern};
+use logos_subpattern::fault::{Making, ReadingMode, read_pattern};
 use logos_subpattern::subpattern::{Subpatterns, pattern_text};
 use logos_token::error::{Errors, Memory};
 use std::alloc::Global;
@@ -82,7 +82,7 @@ fn folded_pattern<'s>(
         unicode: is_string(literal),
         ignore_case: true,
     };
-    read_pattern(text.as_str(), literal, mode, errors)
+    read_pattern(text.as_str(), literal, mode, Making::Escaped, errors)
 }
 
 /// Returns the leaf of a `token` whose letters match in either case. Returns `None` when its text
@@ -218,6 +218,7 @@ fn fitted_pattern<'s>(
 fn whole_pattern<'s>(
     definition: &Definition<'s>,
     text: &str,
+    subpatterns: &Subpatterns<'_>,
     errors: &mut Errors,
 ) -> Result<Option<(Pattern<'s>, usize)>, Memory>
     ensures made { IfOk result (λ fitted. (kind : KindValue) →
@@ -232,7 +233,8 @@ fn whole_pattern<'s>(
         unicode: is_string(&definition.literal),
         ignore_case: definition.ignore_flags.ignore_case,
     };
-    match read_pattern(text, &definition.literal, mode, errors) {
+    let making = Making::PutIn(subpatterns);
+    match read_pattern(text, &definition.literal, mode, making, errors) {
         Ok(Some(pattern)) => fitted_pattern(definition, pattern, errors),
         Ok(None) => {
             // It is reported already why the text is not a pattern.
@@ -275,7 +277,7 @@ fn regex_pattern<'s>(
     ensures regex { IfOk result (λ fitted. IfSome fitted (λ p. is_token p.0 ≡ false)) }
 {
     match whole_text(&definition.literal, subpatterns, errors) {
-        Ok(Some(text)) => whole_pattern(definition, text.as_str(), errors),
+        Ok(Some(text)) => whole_pattern(definition, text.as_str(), subpatterns, errors),
         Ok(None) => Ok(None),
         Err(Memory) => Err(Memory),
     }

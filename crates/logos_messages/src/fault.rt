@@ -7,22 +7,20 @@ use crate::head::push_head;
 use crate::notes::{push_notes, text_of};
 use crate::spans::{has_long_line, push_spans};
 use logos_json::JsonLines;
-use logos_report::{Member, Page, Part, Start, push_fault};
-use logos_token::error::SpannedError;
+use logos_report::{KnownFault, Member, Page, Part, Start, push_fault, push_put_in, put_in};
 use std::alloc::{AllocError, Global};
 
 /// A fault, with what belongs to it.
 #[derive(Clone, Copy)]
 pub(crate) struct FaultMessage<'f, 'p, 't> {
     pub(crate) part: Part<'p, 't>,
-    /// The faults of this part of the file.
-    pub(crate) faults: &'f [SpannedError],
-    /// The one that is shown.
-    pub(crate) fault: &'f SpannedError,
+    pub(crate) known: KnownFault<'f>,
     /// What it is in a set of ambiguous leaves of which something is known.
     pub(crate) member: Option<Member<'f>>,
     /// The patterns that explain it.
     pub(crate) starts: &'f [Start],
+    /// With which subpattern its byte counts.
+    pub(crate) put_in: Option<&'f str>,
 }
 
 /// Appends the line of a fault.
@@ -36,9 +34,14 @@ pub(crate) fn push_fault_line(
     message: FaultMessage<'_, '_, '_>,
 ) -> Result<(), AllocError>
     ensures { OnOk result (PutsFault message.entry.part.source.now message.entry.part.offset
-        (fault_of message.entry.fault.now) lines.old lines.new) }
+        (fault_of message.entry.known.fault.now) lines.old lines.new) }
 {
     let rendered = rendered(alloc, message)?;
+    let put_in = put_in_text(alloc, message)?;
+    let message = FaultMessage {
+        put_in: text_of(&put_in),
+        ..message
+    };
     push_message(lines, message, text_of(&rendered));
     lines.end_line();
     Ok(())
@@ -47,13 +50,13 @@ pub(crate) fn push_fault_line(
 /// Appends a fault, and this report of it.
 fn push_message(lines: &mut JsonLines, message: FaultMessage<'_, '_, '_>, rendered: Option<&str>)
     ensures { GivesMessage message.entry.part.source.now message.entry.part.offset
-        (fault_head (fault_of message.entry.fault.now)) message.entry.fault.now.span
-        message.entry.fault.now.also (option_map (λ t. t.now) rendered.entry)
+        (fault_head (fault_of message.entry.known.fault.now)) message.entry.known.fault.now.span
+        message.entry.known.fault.now.also (option_map (λ t. t.now) rendered.entry)
         lines.old lines.new }
 {
     lines.begin_object();
-    push_head(lines, message.fault);
-    push_spans(lines, message.part, message.fault.span, message.fault.also);
+    push_head(lines, message.known.fault);
+    push_spans(lines, message.part, message.known.fault.span, message.known.fault.also);
     push_notes(lines, message);
     lines.push_maybe_text("rendered", rendered);
     lines.end_object();
@@ -63,12 +66,25 @@ fn push_message(lines: &mut JsonLines, message: FaultMessage<'_, '_, '_>, render
 fn rendered(alloc: Global, message: FaultMessage<'_, '_, '_>) -> Result<Option<String>, AllocError>
     ensures { IfOk result (λ text. IfSome text (λ text. StandInOrder (fault_texts false
         message.entry.part.source.now message.entry.part.offset
-        (fault_of message.entry.fault.now)) (string_bytes text))) }
+        (fault_of message.entry.known.fault.now)) (string_bytes text))) }
 {
-    if has_long_line(message.part, message.fault.span) {
+    if has_long_line(message.part, message.known.fault.span) {
         return Ok(None);
     }
     let mut page = Page::new(alloc, false);
-    push_fault(&mut page, message.part, message.faults, message.fault);
+    push_fault(&mut page, message.part, message.known);
+    Ok(Some(page.finish()?))
+}
+
+/// Returns with which subpattern the byte of a fault counts, or `None` if it counts with none.
+fn put_in_text(
+    alloc: Global,
+    message: FaultMessage<'_, '_, '_>,
+) -> Result<Option<String>, AllocError> {
+    let Some(put) = put_in(message.part, message.known.fault) else {
+        return Ok(None);
+    };
+    let mut page = Page::new(alloc, false);
+    push_put_in(&mut page, message.part, put);
     Ok(Some(page.finish()?))
 }

@@ -10,6 +10,7 @@ use logos_codegen::token::Span;
 use logos_file_warnings::{
     Showing, add_warnings, push_warned, text_of as text_of_lines, warning_lines,
 };
+use logos_help::add_helps;
 use logos_host::{ComparableFiles, Failure, Files, MessageFormat, read_text};
 use logos_items::print_bytes;
 use logos_messages::push_messages;
@@ -63,7 +64,7 @@ pub(crate) fn refused(
     ensures { IsNoMisuse result }
 {
     match known_of(alloc, part) {
-        Ok(known) => refused_with(part, showing, refusal, &known),
+        Ok(known) => refused_with(part, showing, refusal, known),
         Err(Memory) => Failure::Memory,
     }
 }
@@ -85,7 +86,7 @@ pub(crate) fn refused_with(
     part: Part<'_, '_>,
     showing: Showing,
     refusal: Refusal,
-    known: &Explained,
+    known: Explained,
 ) -> Failure<'static>
     ensures { IsNoMisuse result }
 {
@@ -116,9 +117,10 @@ fn refusal_text(
     part: Part<'_, '_>,
     showing: Showing,
     errors: &Errors,
-    known: &Explained,
+    mut known: Explained,
 ) -> Result<String, Memory> {
     let alloc = showing.alloc;
+    add_helps(text_from(part), errors, &mut known.clues)?;
     let clues = &known.clues;
     match showing.format {
         MessageFormat::Human => {
@@ -134,6 +136,11 @@ fn refusal_text(
             text_of_lines(lines)
         }
     }
+}
+
+/// Returns the text of a file from where a part of it begins on.
+fn text_from<'t>(part: Part<'_, 't>) -> &'t str {
+    part.source.text().get(part.offset..).unwrap_or("")
 }
 
 /// Returns the text of the enum that begins where a part of a file does, or an empty one.

@@ -208,7 +208,7 @@ fn push_lexer(
         Ok(made) => push_made(alloc, pages, one, &made),
         Err(refusal) => {
             let known = known_after(alloc, pages, one)?;
-            Err(refused_with(one.part, pages.style.showing, refusal, &known))
+            Err(refused_with(one.part, pages.style.showing, refusal, known))
         }
     }
 }

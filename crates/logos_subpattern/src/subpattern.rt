@@ -1,11 +1,12 @@
 //! The subpatterns of a lexer, with their texts. `logos_leaf` makes them once, after all attributes
 //! of the enum are read.
 
-ghost use Rattle.std.specs.Prelude.{◌≡◌, ◌++◌, ◌∷◌, [], ◌<◌, IfOk, IfSome, OnOk, string_bytes, ℕ, List, map, option_map, OnErr, chars, vec_len, None};
+ghost use Rattle.std.specs.Prelude.{◌≡◌, ◌++◌, ◌∷◌, [], ◌<◌, IfOk, IfSome, OnOk, string_bytes, ℕ, List, map, option_map, OnErr, chars, vec_len, None, length};
 ghost use Rattle.logos_subpattern.specs.Words.{list_all, previous, ident_slice, literal_view, named_literal_view, AddsFault, is_word, is_name, flags_of, pattern_text, wrapped, subpattern_name, subpattern_twice, utf8_subpattern, utf8_text, Bor, IsReport, text_of, subst_report, stored_report, tested_report, IsAdded, AreAdded, IsTested, put_stored, stored_at, place_in, FindPlaces};
 ghost use Rattle.logos_subpattern.specs.StoredViews.{stored_of};
 
 use crate::fault::{ReadingMode, read_pattern};
+use crate::origin::Making;
 use crate::substitution::substituted;
 use logos_attribute::reporting::report_named;
 use logos_pattern::pattern::Literal;
@@ -75,7 +76,7 @@ fn is_name(text: &str) -> bool
 }
 
 /// Returns the text that opens the group of a subpattern, and sets its flags.
-fn flags_of(literal: &Literal<'_>) -> &'static str
+pub(crate) fn flags_of(literal: &Literal<'_>) -> &'static str
     ensures { result.now ≡ flags_of (literal_view literal.now).held }
 {
     match literal {
@@ -99,7 +100,7 @@ pub fn pattern_text(alloc: Global, literal: &Literal<'_>) -> Result<String, Memo
 }
 
 /// Returns the pattern text of a literal in a group that sets its flags, as other patterns use it.
-fn wrapped(alloc: Global, literal: &Literal<'_>) -> Result<String, Memory>
+pub(crate) fn wrapped(alloc: Global, literal: &Literal<'_>) -> Result<String, Memory>
     ensures { IfOk result (λ text. string_bytes text ≡ wrapped (literal_view literal.now).held) }
 {
     let regex = pattern_text(alloc, literal)?;
@@ -189,6 +190,17 @@ impl<'s> Subpatterns<'s> {
         Some(self.list[place].pattern.as_str())
     }
 
+    /// Returns the length of the text of the subpattern with this name, and the span of the name at
+    /// its definition, if there is one.
+    pub(crate) fn stored(&self, name: &str) -> Option<(usize, Span)>
+        ensures { result ≡ option_map (λ s. (length s.text, s.span))
+            (stored_at (names_of self.now) name.now) }
+    {
+        let place = self.place(name)?;
+        let subpattern = &self.list[place];
+        Some((subpattern.pattern.len(), subpattern.name.span))
+    }
+
     /// Adds a subpattern with a new name at the end. After an error the subpatterns are unchanged.
     fn push(&mut self, subpattern: Subpattern<'s>) -> Result<(), Memory>
         requires { place_in (names_of self.old) subpattern.name.text.now ≡ None }
@@ -262,7 +274,8 @@ impl<'s> Subpatterns<'s> {
             (IsTested utf8_mode (named_literal_view named.now) (string_bytes text)
             (names_of self.old) (names_of self.new) errors.old errors.new) }
     {
-        let read = read_pattern(text.as_str(), &named.1, TEST_MODE, errors)?;
+        let making = Making::Grouped(self);
+        let read = read_pattern(text.as_str(), &named.1, TEST_MODE, making, errors)?;
         let Some(pattern) = read else {
             return Ok(());
         };

@@ -36,7 +36,7 @@ pub record AddsRefusal (offset : ℕ) (refusal : Refusal) (clues : Clues) (old n
   pub bad : Refused
   pub is_offset : bad.offset ≡ offset
   pub faults : AreFaultsOf refusal bad.errors
-  pub known : bad.clues ≡ clues
+  pub known : sizes_of bad.clues ≡ sizes_of clues
   pub are : new ≡ old ++ bad ∷ []
 
 -- These are tokens, and after LF the text of a lexer with this code and with attributes, laid out.

@@ -1,28 +1,31 @@
-//! The byte of a pattern in the literal that spells it.
+//! The characters of a literal at which its pattern is faulty, and the subpattern with which the
+//! byte of such a fault counts. Reports and the derive macro place their carets by it.
 
-use crate::sight::sight_at;
 use crate::source::Part;
-use logos_help::Sight;
-use logos_token::error::{FaultCode, SpannedError};
+use logos_token::error::{Detail, PatternDetail, SpannedError};
 use logos_token::token::Span;
 
-/// Returns what the carets of a fault stand under: the character of a literal at which its pattern
-/// is faulty, or else the span of the fault. What follows a subpattern that was put in is not
-/// looked for.
+/// Returns the span under which the carets of a fault stand: the character of a literal at which
+/// its pattern is faulty, or else the span of the fault.
 pub fn caret_span(part: Part<'_, '_>, fault: &SpannedError) -> Span {
-    let span = fault.span;
-    if !matches!(fault.code, FaultCode::Regex) {
-        return span;
+    match fault.detail {
+        Detail::Pattern(detail) => pattern_span(part, fault.span, detail),
+        _ => fault.span,
     }
-    let Some(byte) = byte_of(fault.message.as_str()) else {
-        return span;
+}
+
+/// Returns the span of the character at which a pattern is faulty, or that of its literal where the
+/// byte of the fault is not one that the literal spells.
+fn pattern_span(part: Part<'_, '_>, literal: Span, detail: PatternDetail) -> Span {
+    let Some(byte) = detail.origin.own else {
+        return literal;
     };
-    match piece_at(sight_at(part, span), byte) {
+    match piece_at(part.text_at(literal), byte) {
         Some(piece) => Span {
-            from: span.from.saturating_add(piece.from),
-            to: span.from.saturating_add(piece.to),
+            from: literal.from.saturating_add(piece.from),
+            to: literal.from.saturating_add(piece.to),
         },
-        None => span,
+        None => literal,
     }
 }
 
@@ -30,89 +33,37 @@ pub fn caret_span(part: Part<'_, '_>, fault: &SpannedError) -> Span {
 #[derive(Clone, Copy)]
 pub struct PutIn<'t> {
     pub name: &'t str,
-    /// Where it is defined, in bytes of the part of the file, if that is found.
-    pub definition: Option<usize>,
+    /// The offset of its name at its definition, in bytes of the part of the file.
+    pub definition: usize,
 }
 
 /// Returns the first subpattern that is put into the pattern of a fault in front of its byte, if
 /// there is one.
 pub fn put_in<'t>(part: Part<'_, 't>, fault: &SpannedError) -> Option<PutIn<'t>> {
-    if !matches!(fault.code, FaultCode::Regex) {
+    let Detail::Pattern(detail) = fault.detail else {
         return None;
-    }
-    let byte = byte_of(fault.message.as_str())?;
-    let sight = sight_at(part, fault.span);
-    if piece_at(sight, byte).is_some() {
-        return None;
-    }
-    let (_, rest) = sight.text.split_once("(?&")?;
-    let (name, _) = rest.split_once(')')?;
-    let front = sight.before.get(part.offset..)?;
+    };
+    let span = detail.origin.put_in?;
     Some(PutIn {
-        name,
-        definition: definition_in(front, name),
+        name: part.text_at(span),
+        definition: span.from,
     })
 }
 
-/// Returns where the name of a subpattern stands at its definition in a text.
-fn definition_in(text: &str, name: &str) -> Option<usize> {
-    let mut offset: usize = 0;
-    for piece in text.split("subpattern") {
-        let word = piece.trim_start();
-        if defines(word, name) {
-            return Some(offset.saturating_add(piece.len().saturating_sub(word.len())));
-        }
-        offset = offset.saturating_add(piece.len()).saturating_add(10);
-    }
-    None
-}
-
-/// Returns whether a text begins with a name and `=`.
-fn defines(text: &str, name: &str) -> bool {
-    match text.strip_prefix(name) {
-        Some(rest) => rest.trim_start().starts_with('='),
-        None => false,
-    }
-}
-
-/// Returns the byte that the message of a pattern fault names.
-fn byte_of(message: &str) -> Option<usize> {
-    let rest = message.strip_prefix("regex fault at byte ")?;
-    let parts = rest.split_once(':')?;
-    parts.0.parse::<usize>().ok()
-}
-
-/// Returns the piece of a literal that spells the byte with this number of the text that was read.
-fn piece_at(sight: Sight<'_>, byte: usize) -> Option<Span> {
-    let (prefix, rest) = sight.text.split_once('"')?;
+/// Returns the piece of a literal that spells the byte with this number of its pattern's text.
+fn piece_at(literal: &str, byte: usize) -> Option<Span> {
+    let (prefix, rest) = literal.split_once('"')?;
     let (inner, _) = rest.rsplit_once('"')?;
-    let is_bytes = prefix.contains('b');
     let reader = Reader {
         is_raw: prefix.contains('r'),
-        is_bytes,
+        is_bytes: prefix.contains('b'),
         state: LiteralState::Plain,
         piece: Span {
             from: prefix.len().saturating_add(1),
             to: prefix.len().saturating_add(1),
         },
     };
-    let at = byte.checked_sub(length_in_front(sight.before, is_bytes))?;
-    match inner.split_once("(?&") {
-        Some((front, _)) => find(reader, front, at),
-        None => find(reader, inner, at),
-    }
-}
-
-/// Returns how many bytes were put in front of a text before it was read, by what stands in front
-/// of its literal. A subpattern is read in a group with a flag.
-fn length_in_front(before: &str, is_bytes: bool) -> usize {
-    if !before.trim_end().ends_with('=') {
-        0
-    } else if is_bytes {
-        5
-    } else {
-        4
-    }
+    find(reader, inner, byte)
 }
 
 /// What a character of a literal continues.
@@ -203,8 +154,8 @@ impl Reader {
         }
     }
 
-    /// Returns the same of a character that begins a piece. CR is read only in front of LF, and is
-    /// left out.
+    /// Like `step`, for a character that begins a piece. CR is read only in front of LF, and is left
+    /// out.
     fn begin(self, character: char) -> (LiteralState, usize) {
         if (character == '\\') & !self.is_raw {
             (LiteralState::Escape, 0)
@@ -216,7 +167,7 @@ impl Reader {
     }
 }
 
-/// Returns the same of a character after a backslash.
+/// Like `Reader::step`, for a character after a backslash.
 fn escape(character: char) -> (LiteralState, usize) {
     match character {
         'x' => (LiteralState::Hex, 0),
@@ -227,7 +178,7 @@ fn escape(character: char) -> (LiteralState, usize) {
     }
 }
 
-/// Returns the same of a character in `\u{..}`.
+/// Like `Reader::step`, for a character in `\u{..}`, whose digits so far make `number`.
 fn digit(number: u32, character: char) -> (LiteralState, usize) {
     if character == '}' {
         return (LiteralState::Plain, utf8_length(number));
