@@ -145,7 +145,7 @@ pub(crate) fn help_for_dot(sight: Sight<'_>) -> &'static str {
     if is_block_comment(pattern) {
         "for a block comment write `/\\*([^*]|\\*+[^*/])*\\*+/` in a raw string"
     } else if is_to_line_end(pattern) {
-        "for a comment to the end of its line add `allow_greedy = true`, in a skip in parentheses"
+        "for a comment to the end of its line add `allow_greedy = true`, as in `skip(\"..\", allow_greedy = true)`"
     } else if is_delimited(pattern) {
         "write a class without the delimiter in place of the dot, as in `\"[^\"\\n]*\"`"
     } else {
