@@ -7,6 +7,7 @@ use Rattle.logos_token.specs.declared.error.fault_code.FaultCode.TheVariants.{Gr
 use Rattle.logos_token.specs.Faults.{Fault}
 use Rattle.logos_token.specs.Held.{Held, of_text, of_bytes}
 use Rattle.logos_pattern.specs.Leaf.{KindValue}
+use Rattle.logos_pattern.specs.declared.leaf.LeafOptions.{LeafOptions}
 use Rattle.logos_pattern.specs.Escaping.{escaped_text, escaped_bytes}
 use Rattle.logos_hir.specs.Hir.{literal_tree}
 use Rattle.logos_hir.specs.Measure.{fitted, has_greedy_dot}
@@ -20,7 +21,7 @@ use Rattle.logos_subpattern.specs.Substitution.{Stored, subst_report}
 use Rattle.logos_subpattern.specs.Subpatterns.{pattern_text}
 
 -- A leaf as contracts see it: the tree and the source of its pattern, its span, its priority, its
--- kind and its callback.
+-- kind, its callback and its options.
 pub record LeafView : Type 0 where
   pub is_token : Bool
   pub tree : Tree
@@ -29,6 +30,7 @@ pub record LeafView : Type 0 where
   pub priority : ℕ
   pub kind : KindValue
   pub callback : Option CallbackView
+  pub options : LeafOptions
 
 -- The bytes that a literal holds.
 abbrev pub bytes_of : Held → List ℕ
@@ -45,6 +47,10 @@ abbrev pub escaped_of : Held → List ℕ
 escaped_of (of_text value) = escaped_text true value
 escaped_of (of_bytes value) = escaped_bytes true value
 
+-- The options of a definition: `ignore(case)` and `allow_greedy = true`.
+abbrev pub options_of : DefinitionView → LeafOptions
+options_of d = record { ignores_case = d.ignore_case; allows_greedy = unwrap_or d.allow_greedy false }
+
 -- The leaf of a definition, with this tree and this priority.
 abbrev pub leaf_with : Bool → DefinitionView → KindValue → Tree → ℕ → LeafView
 leaf_with is_token d kind tree priority = record {
@@ -55,6 +61,7 @@ leaf_with is_token d kind tree priority = record {
   priority = priority;
   kind = kind;
   callback = d.callback;
+  options = options_of d;
 }
 
 -- ---- `token`.

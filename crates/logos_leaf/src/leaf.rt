@@ -1,16 +1,26 @@
 //! Leaves of definitions. Skips and attributes of variants call it, once for each leaf.
 
 ghost use Rattle.std.specs.Prelude.{◌≡◌, ◌++◌, IfOk, IfSome, OnOk, OnErr, true, false, option_map, chars, string_bytes};
-ghost use Rattle.logos_leaf.specs.Words.{literal_tree, KindValue, pattern_tree, source_of, is_token, kind_value, token_of, literal_view, IsReport, definition_view, IsRead, pattern_text, subst_report, names_of, bytes_of, is_string, escaped_of, leaf_with, token_priority, token_leaf, regex_priority, greedy_faults, tree_report, IsTokenLeaf, IsRegexLeaf, leaf_view, leaf_by, IsFoldedLeaf, IsWholeLeaf};
+ghost use Rattle.logos_leaf.specs.Words.{literal_tree, KindValue, pattern_tree, source_of, is_token, kind_value, token_of, literal_view, IsReport, definition_view, IsRead, pattern_text, subst_report, names_of, bytes_of, is_string, escaped_of, leaf_with, options_of, token_priority, token_leaf, regex_priority, greedy_faults, tree_report, IsTokenLeaf, IsRegexLeaf, leaf_view, leaf_by, IsFoldedLeaf, IsWholeLeaf};
 
 use crate::fault::{report_greedy_dot, report_overflow};
 use logos_definition::definition::Definition;
-use logos_pattern::leaf::{Leaf, VariantKind};
+use logos_pattern::leaf::{Leaf, LeafOptions, VariantKind};
 use logos_pattern::pattern::{Literal, Pattern, token_priority};
 use logos_subpattern::fault::{Making, ReadingMode, read_pattern};
 use logos_subpattern::subpattern::{Subpatterns, pattern_text};
 use logos_token::error::{Errors, Memory};
 use std::alloc::Global;
+
+/// Returns the options of a definition.
+fn options_of(definition: &Definition<'_>) -> LeafOptions
+    ensures { result ≡ options_of (definition_view definition.now) }
+{
+    LeafOptions {
+        ignores_case: definition.ignore_flags.ignore_case,
+        allows_greedy: definition.allow_greedy.unwrap_or(false),
+    }
+}
 
 /// Returns the leaf of a definition with this pattern and this priority.
 fn leaf_with<'s>(
@@ -25,10 +35,12 @@ fn leaf_with<'s>(
         (kind_value kind.entry) (pattern_tree pattern.entry) priority }
 {
     let span = definition.literal.span();
+    let options = options_of(&definition);
     Leaf::new(span, pattern)
         .variant_kind(kind)
         .priority(priority)
         .callback(definition.callback)
+        .options(options)
 }
 
 /// Returns the priority of a `token`: the given one, or twice the number of bytes that its literal
