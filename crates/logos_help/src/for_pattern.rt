@@ -2,7 +2,7 @@
 //! same words, and `tests/lints/faults.py` compares them.
 
 ghost use Rattle.std.specs.Prelude.{◌≡◌};
-ghost use Rattle.logos_help.specs.Patterns.{pattern_help, flag_help, escape_help, boundary_help, group_help, refers_back, is_digit, class_help, number_help};
+ghost use Rattle.logos_help.specs.Patterns.{boundary_help, class_help, escape_help, escapes, flag_help, group_help, is_digit, looks_ahead, looks_behind, opens_with, pattern_help, refers_back};
 
 use crate::sight::{Sight, between_quotes};
 use logos_token::error::{Front, PatternDetail, PatternKind};
@@ -58,14 +58,30 @@ fn help_for_class(kind: PatternKind) -> &'static str
     }
 }
 
+/// Returns whether a text begins with `(?` and this byte.
+fn opens_with(front: Front, third: u8) -> bool
+    ensures { result ≡ opens_with front third }
+{
+    (front.first == b'(') & (front.second == b'?') & (front.third == third)
+}
+
+/// Returns whether a text begins with a backslash and this byte.
+fn escapes(front: Front, second: u8) -> bool
+    ensures { result ≡ escapes front second }
+{
+    (front.first == b'\\') & (front.second == second)
+}
+
 /// Returns what to do about a group that does not begin with a flag, by its first bytes.
 fn help_for_flag(front: Front) -> &'static str
     ensures { result.now ≡ flag_help front }
 {
-    match (front.third, front.fourth) {
-        (b'P', b'=') => REFERENCE,
-        (b'#', _) => "leave the comment out",
-        _ => "write one of `i m s U u R`, as in `(?i)`, or `(?:..)` for a group",
+    if opens_with(front, b'P') & (front.fourth == b'=') {
+        REFERENCE
+    } else if opens_with(front, b'#') {
+        "leave the comment out"
+    } else {
+        "write one of `i m s U u R`, as in `(?i)`, or `(?:..)` for a group"
     }
 }
 
@@ -75,22 +91,16 @@ const REFERENCE: &str = "write again what may stand there: nothing refers back";
 fn help_for_escape(front: Front) -> &'static str
     ensures { result.now ≡ escape_help front }
 {
-    match front.second {
-        b'k' => REFERENCE,
-        b'h' => "write `[ \\t]` for a blank",
-        b'R' => "write `\\r?\\n` for a line end",
-        b'Z' => "write `\\z` for the end of the input",
-        b'Q' => "write a backslash in front of each special character",
-        _ => help_for_number(front),
-    }
-}
-
-/// Returns what to do about an escape that is not one of another language of patterns.
-fn help_for_number(front: Front) -> &'static str
-    ensures { result.now ≡ number_help front }
-{
-    if refers_back(front) {
+    if escapes(front, b'k') | refers_back(front) {
         REFERENCE
+    } else if escapes(front, b'h') {
+        "write `[ \\t]` for a blank"
+    } else if escapes(front, b'R') {
+        "write `\\r?\\n` for a line end"
+    } else if escapes(front, b'Z') {
+        "write `\\z` for the end of the input"
+    } else if escapes(front, b'Q') {
+        "write a backslash in front of each special character"
     } else {
         "write the character alone or by its number, as in `\\x1B`"
     }
@@ -102,14 +112,14 @@ fn refers_back(front: Front) -> bool
     ensures { result ≡ refers_back front }
 {
     let is_number = is_digit(front.second) & (front.second != b'0');
-    is_number & !(is_digit(front.third) & is_digit(front.fourth))
+    (front.first == b'\\') & is_number & !(is_digit(front.third) & is_digit(front.fourth))
 }
 
 /// Returns whether a byte is a digit.
 fn is_digit(byte: u8) -> bool
     ensures { result ≡ is_digit byte }
 {
-    (b'0' <= byte) & (byte <= b'9')
+    (b'/' < byte) & (byte < b':')
 }
 
 /// Returns what to do about a word boundary at this byte. At the front of a pattern it is not
@@ -117,9 +127,10 @@ fn is_digit(byte: u8) -> bool
 fn help_for_boundary(at: usize) -> &'static str
     ensures { result.now ≡ boundary_help at }
 {
-    match at {
-        0 => "leave it out: a match begins where the one before it ended",
-        _ => "write `(?-u:\\b)`, the boundary of ASCII words",
+    if at == 0 {
+        "leave it out: a match begins where the one before it ended"
+    } else {
+        "write `(?-u:\\b)`, the boundary of ASCII words"
     }
 }
 
@@ -127,16 +138,26 @@ fn help_for_boundary(at: usize) -> &'static str
 fn help_for_group(front: Front) -> &'static str
     ensures { result.now ≡ group_help front }
 {
-    match (front.third, front.fourth) {
-        (b'=', _) => LOOK_AROUND,
-        (b'!', _) => LOOK_AROUND,
-        (b'<', b'=') => LOOK_AROUND,
-        (b'<', b'!') => LOOK_AROUND,
-        _ => "write a name once, as in `(?<name>..)`, or `(?:..)` without one",
+    if looks_ahead(front) | looks_behind(front) {
+        "write a longer pattern and a priority in place of look-around"
+    } else {
+        "write a name once, as in `(?<name>..)`, or `(?:..)` without one"
     }
 }
 
-const LOOK_AROUND: &str = "write a longer pattern and a priority in place of look-around";
+/// Returns whether a group is `(?=..)` or `(?!..)`.
+fn looks_ahead(front: Front) -> bool
+    ensures { result ≡ looks_ahead front }
+{
+    opens_with(front, b'=') | opens_with(front, b'!')
+}
+
+/// Returns whether a group is `(?<=..)` or `(?<!..)`.
+fn looks_behind(front: Front) -> bool
+    ensures { result ≡ looks_behind front }
+{
+    opens_with(front, b'<') & ((front.fourth == b'=') | (front.fourth == b'!'))
+}
 
 /// Returns what to do about a greedy dot, by the shape of the pattern. None of the patterns that it
 /// recommends has one.

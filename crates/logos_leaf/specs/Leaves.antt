@@ -76,7 +76,7 @@ token_leaf d kind tree = leaf_with true d kind tree (token_priority d)
 -- The leaf of a `token` whose letters match in either case, by what reading its text gives.
 abbrev pub folded_report : DefinitionView → KindValue → Reading → Report (Option LeafView)
 folded_report d kind (spelled tree) = without_faults (Some (token_leaf d kind tree))
-folded_report d kind (broken kind_of at) = with_faults None (pattern_faults d.literal.token.span (broken kind_of at))
+folded_report d kind (broken cause detail) = with_faults None (pattern_faults d.literal.token.span (broken cause detail))
 folded_report d kind too_deep = with_faults None (pattern_faults d.literal.token.span too_deep)
 
 -- The leaf of a `token`. Its text is read only where letters match in either case.
@@ -122,7 +122,7 @@ tree_report d kind tree = and_then (with_faults tree (greedy_faults d tree)) (λ
 -- The leaf of a pattern, by what reading its text gives.
 abbrev pub reading_report : DefinitionView → KindValue → Reading → Report (Option LeafView)
 reading_report d kind (spelled tree) = tree_report d kind tree
-reading_report d kind (broken kind_of at) = with_faults None (pattern_faults d.literal.token.span (broken kind_of at))
+reading_report d kind (broken cause detail) = with_faults None (pattern_faults d.literal.token.span (broken cause detail))
 reading_report d kind too_deep = with_faults None (pattern_faults d.literal.token.span too_deep)
 
 -- The leaf of a pattern by its text with the subpatterns put in, if all of them are found.

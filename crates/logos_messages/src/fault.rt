@@ -56,7 +56,12 @@ fn push_message(lines: &mut JsonLines, message: FaultMessage<'_, '_, '_>, render
 {
     lines.begin_object();
     push_head(lines, message.known.fault);
-    push_spans(lines, message.part, message.known.fault.span, message.known.fault.also);
+    push_spans(
+        lines,
+        message.part,
+        message.known.fault.span,
+        message.known.fault.also,
+    );
     push_notes(lines, message);
     lines.push_maybe_text("rendered", rendered);
     lines.end_object();

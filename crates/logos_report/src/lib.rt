@@ -19,8 +19,8 @@ mod window;
 pub use clues::{Clues, Meeting, Member, NextFaults, Start, first_faults};
 pub use fault_set::{FaultSet, set_at};
 pub use faults::{
-    KnownFault, MOST, begins_error, count_errors, first_line, is_error, push_fault, push_faults, push_rest,
-    push_summary,
+    KnownFault, MOST, begins_error, count_errors, first_line, is_error, push_fault, push_faults,
+    push_rest, push_summary,
 };
 pub use frame::{digits, push_frame, push_place};
 pub use notes::push_put_in;

@@ -2,14 +2,12 @@
 //! with it.
 
 ghost use Rattle.std.specs.Prelude.{◌≡◌, ◌++◌, chars, drop, IfOk, IfSome, OnOk, OnErr, option_map, string_bytes};
-ghost use Rattle.logos_subpattern.specs.Words.{pattern_tree, source_of, is_token, token_of, AddsFault, fault, byte_in, detail_kind, front_in, kind_name, regex_fault, regex_text, IsRead, ReportsError};
+ghost use Rattle.logos_subpattern.specs.Words.{pattern_tree, source_of, is_token, token_of, AddsFault, byte_in, detail_kind, front_in, kind_name, regex_fault, regex_text, IsRead, ReportsError};
 
-use crate::origin::origin_of;
 pub use crate::origin::Making;
+use crate::origin::origin_of;
 use logos_pattern::pattern::{Kind, Literal, Pattern, PatternError};
-use logos_token::error::{
-    Detail, Errors, FaultCode, Front, Memory, PatternDetail, PatternKind,
-};
+use logos_token::error::{Detail, Errors, FaultCode, Front, Memory, PatternDetail, PatternKind};
 use logos_token::token::Span;
 use std::alloc::{AllocError, Global};
 
