@@ -15,9 +15,8 @@ use logos_file_warnings::{
 use logos_help::add_helps;
 use logos_host::{Failure, MessageFormat};
 use logos_messages::push_refused_messages;
-use logos_report::{
-    Clues, Page, Refused, Source, Warning, count_errors, push_refused, push_summary,
-};
+use logos_page::Page;
+use logos_report::{Clues, Refused, Source, Warning, count_errors, push_refused, push_summary};
 use logos_rust_file::{FoundEnum, Replacement, enums_in, replace};
 use logos_strip::stripping::strip_enum;
 use logos_tables::{Shape, config_of};

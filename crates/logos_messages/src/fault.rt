@@ -7,7 +7,8 @@ use crate::head::push_head;
 use crate::notes::{push_notes, text_of};
 use crate::spans::{has_long_line, push_spans};
 use logos_json::JsonLines;
-use logos_report::{KnownFault, Member, Page, Part, Start, push_fault, push_put_in, put_in};
+use logos_page::Page;
+use logos_report::{KnownFault, Member, Part, Start, push_fault, push_put_in, put_in};
 use std::alloc::{AllocError, Global};
 
 /// A fault, with what belongs to it.

@@ -7,11 +7,11 @@ use crate::clues::{Clues, NextFaults, first_faults};
 use crate::fault_set::{FaultSet, set_at};
 use crate::frame::{Marks, push_frame_with, push_offset};
 use crate::notes::{ShownFault, push_notes};
-use crate::page::{Page, Style};
 use crate::pattern_caret::caret_span;
 use crate::refused::{FaultListing, count_in, seen_in};
 use crate::sets::push_listed;
 use crate::source::Part;
+use logos_page::{Page, Style};
 use logos_token::error::{Errors, FaultCode, SpannedError};
 
 /// How many faults of one code are shown of a file.

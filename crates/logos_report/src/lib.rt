@@ -7,11 +7,9 @@ mod fault_set;
 mod faults;
 mod frame;
 mod notes;
-mod page;
 mod pattern_caret;
 mod refused;
 mod sets;
-mod shown;
 mod source;
 mod warnings;
 mod window;
@@ -22,9 +20,8 @@ pub use faults::{
     KnownFault, MOST, begins_error, count_errors, first_line, is_error, push_fault, push_faults,
     push_rest, push_summary,
 };
-pub use frame::{digits, push_frame, push_place};
+pub use frame::{push_frame, push_place};
 pub use notes::push_put_in;
-pub use page::{Page, Style};
 pub use pattern_caret::{PutIn, caret_span, put_in};
 pub use refused::{FaultListing, Refused, count_in, push_refused, seen_in};
 pub use source::{Part, Source};

@@ -1,13 +1,13 @@
 //! The lines under a fault: the rest of its message, its second span, and what to do.
 
 ghost use Rattle.std.specs.Prelude.{[]};
-ghost use Rattle.logos_report.specs.Pages.{Shows};
+ghost use Rattle.logos_page.specs.Pages.{Shows};
 
 use crate::faults::KnownFault;
 use crate::frame::push_place;
-use crate::page::{Page, Style};
 use crate::pattern_caret::{PutIn, put_in};
 use crate::source::Part;
+use logos_page::{Page, Style};
 use logos_token::error::SpannedError;
 
 /// A fault that was shown with its position. What belongs to it follows.

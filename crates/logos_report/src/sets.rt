@@ -8,8 +8,8 @@ use crate::clues::{Meeting, Member, NextFaults, Start};
 use crate::faults::{KnownFault, push_fault, push_head, push_marked};
 use crate::frame::{Marks, push_frame_with, push_offset};
 use crate::notes::{ShownFault, push_help, push_note, push_notes};
-use crate::page::{Page, Style};
 use crate::source::Part;
+use logos_page::{Page, Style};
 use logos_token::error::SpannedError;
 
 /// How many patterns are shown under a fault.

@@ -3,8 +3,8 @@ use Rattle.std.proofs.lemmas.Iterator.{YieldsList-from_chars}
 use Rattle.std.proofs.lemmas.List.{length_push}
 use Rattle.std.proofs.lemmas.Iterator.Consumers.{YieldsList-turn, YieldsList-end}
 use Rattle.std.specs.Str.{chars}
-use Rattle.logos_report.proofs.ShownLemmas.{one_more, no_more}
-use Rattle.logos_report.proofs.page.Page.push_shown.Goals as goal
+use Rattle.logos_page.proofs.ShownLemmas.{one_more, no_more}
+use Rattle.logos_page.proofs.page.Page.push_shown.Goals as goal
 
 pub loop-character-preserved : goal.loop-character-preserved
 loop-character-preserved c =

@@ -1,7 +1,7 @@
 //! A text that grows.
 
 ghost use Rattle.std.specs.Prelude.{◌≡◌, ◌↔◌, [], true, IfOk, IsOk, IsTrue, decimal, encode_utf8, string_bytes};
-ghost use Rattle.logos_report.specs.Views.{shown_char, shown_text, Gains, begun, ended, painted, style_text, times};
+ghost use Rattle.logos_page.specs.Views.{shown_char, shown_text, Gains, begun, ended, painted, style_text, times};
 
 use crate::shown::stand_in;
 use std::alloc::{AllocError, Global};
@@ -30,7 +30,7 @@ pub struct Page {
 
 impl Model for Page {
     ghost use Rattle.std.specs.Prelude.{string_bytes};
-    ghost use Rattle.logos_report.specs.Pages.{PageValue};
+    ghost use Rattle.logos_page.specs.Pages.{PageValue};
 
     ghost Value = { PageValue };
 

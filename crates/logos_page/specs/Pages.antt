@@ -1,7 +1,7 @@
 -- A text that grows, and what stands in it.
 use Rattle.std.specs.Prelude.{◌≡◌, ℕ, zero, suc, List, [], ◌∷◌, ◌++◌, Bool, true, false, IsTrue, codes}
-use Rattle.logos_report.specs.declared.page.Style.{Style}
-use Rattle.logos_report.specs.declared.page.Style.TheVariants.{Error, Warning, Frame, Strong}
+use Rattle.logos_page.specs.declared.page.Style.{Style}
+use Rattle.logos_page.specs.declared.page.Style.TheVariants.{Error, Warning, Frame, Strong}
 
 -- A page as a value: its text, whether it has colors, and whether it has all that was pushed.
 pub record PageValue : Type 0 where

@@ -1,6 +1,6 @@
 use Rattle.std.proofs.Common.{◌-◌, ◌≤◌}
-use Rattle.logos_report.specs.Pages.{Gains, times}
-use Rattle.logos_report.proofs.page.Page.push_times.Given as goal
+use Rattle.logos_page.specs.Pages.{Gains, times}
+use Rattle.logos_page.proofs.page.Page.push_times.Given as goal
 
 abbrev pub invariant-loop-pushed : goal.invariant-loop-pushed
 invariant-loop-pushed l = record { gained : Gains (times l.pushed l.text) l.initial.self l.self; within : l.pushed ≤ l.count }

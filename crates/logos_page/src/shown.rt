@@ -2,7 +2,7 @@
 //! it is, since some characters move its cursor, change its colors or the order of what it shows.
 
 ghost use Rattle.std.specs.Prelude.{◌≡◌, ◌<◌, ◌+◌};
-ghost use Rattle.logos_report.specs.Words.{is_in_range, is_unsafe, stand_in};
+ghost use Rattle.logos_page.specs.Words.{is_in_range, is_unsafe, stand_in};
 
 use unicode_width::UnicodeWidthChar;
 
@@ -62,7 +62,7 @@ fn is_in_range(code: u32, first: u32, last: u32) -> bool
 }
 
 /// Returns how many columns of a terminal a character is shown in.
-pub(crate) fn columns_of(character: char) -> usize {
+pub fn columns_of(character: char) -> usize {
     if character == '\t' {
         return TAB;
     }

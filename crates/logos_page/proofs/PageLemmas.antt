@@ -1,8 +1,8 @@
 -- What stands in a page that grows step by step.
 use Rattle.std.proofs.Common.{◌≡◌, ◌≤◌, ℕ, suc, ◌+◌, List, [], ◌∷◌, ◌++◌, append_assoc, sym, ap, ◌∙◌, refl, arith, subst, Bool}
 use Rattle.std.proofs.lemmas.List.{append-nil}
-use Rattle.logos_report.specs.Pages.{PageValue, StandInOrder, Gains, Adds, Shows, begun, ended, painted, times}
-use Rattle.logos_report.specs.declared.page.Style.{Style}
+use Rattle.logos_page.specs.Pages.{PageValue, StandInOrder, Gains, Adds, Shows, begun, ended, painted, times}
+use Rattle.logos_page.specs.declared.page.Style.{Style}
 
 -- texts that stand in a front and in what follows it stand in both
 stand_both : (one other : List (List ℕ)) (front back : List ℕ) → StandInOrder one front → StandInOrder other back → StandInOrder (one ++ other) (front ++ back)

@@ -2,9 +2,9 @@
 use Rattle.std.proofs.Common.{◌≡◌, ℕ, ◌+◌, ◌<◌, ◌≤◌, List, length, get_or, drop, sym, subst}
 use Rattle.std.proofs.lemmas.List.{at_drop_more, at_drop_all}
 use Rattle.std.specs.List.{flat_map}
-use Rattle.logos_report.specs.Pages.{PageValue, Gains}
-use Rattle.logos_report.specs.Shown.{shown_char}
-use Rattle.logos_report.proofs.PageLemmas.{gains_nothing, gains_then}
+use Rattle.logos_page.specs.Pages.{PageValue, Gains}
+use Rattle.logos_page.specs.Shown.{shown_char}
+use Rattle.logos_page.proofs.PageLemmas.{gains_nothing, gains_then}
 
 -- one character, and those after it
 pub one_more : (cs : List ℕ) (n c : ℕ) (old middle new : PageValue) → (n < length cs) × (c ≡ get_or cs n c) → Gains (shown_char c) old middle →
