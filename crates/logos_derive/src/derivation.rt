@@ -77,8 +77,7 @@ fn refused(alloc: Global, source: &str, errors: &Errors) -> Result<Derivation, M
     ensures { IfOk result (IsRefusedFor source.now errors.now) }
 {
     let mut known = explain_enum(alloc, source, Origin::Macro)?;
-    add_helps(source, errors, &mut known.clues)?;
-    let diagnostics = diagnostics_of(alloc, source, errors, &known)?;
+    let diagnostics = diagnostics_of(alloc, source, errors, &mut known)?;
     Ok(Derivation {
         implementation: None,
         diagnostics,
@@ -90,9 +89,9 @@ fn diagnostics_of(
     alloc: Global,
     source: &str,
     errors: &Errors,
-    known: &Explained,
+    known: &mut Explained,
 ) -> Result<Vec<Diagnostic>, Memory>
-    ensures { IfOk result (λ diagnostics. HasErrors (sizes_of known.now.clues) errors.now
+    ensures { IfOk result (λ diagnostics. HasErrors (sizes_of known.old.clues) errors.now
         diagnostics.items) }
 {
     let text = Source::new(alloc, "", source)?;
@@ -100,6 +99,7 @@ fn diagnostics_of(
         source: &text,
         offset: 0,
     };
+    add_helps(part, errors, &mut known.clues)?;
     let mut diagnostics = errors_of(alloc, part, errors.list(), &known.clues)?;
     let mut warnings = warnings_of(alloc, &known.warnings)?;
     diagnostics.append(&mut warnings)?;

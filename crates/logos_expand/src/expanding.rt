@@ -16,7 +16,9 @@ use logos_help::add_helps;
 use logos_host::{Failure, MessageFormat};
 use logos_messages::push_refused_messages;
 use logos_page::Page;
-use logos_report::{Clues, Refused, Source, Warning, count_errors, push_refused, push_summary};
+use logos_report::{
+    Clues, Part, Refused, Source, Warning, count_errors, push_refused, push_summary,
+};
 use logos_rust_file::{FoundEnum, Replacement, enums_in, replace};
 use logos_strip::stripping::strip_enum;
 use logos_tables::{Shape, config_of};
@@ -67,8 +69,8 @@ fn refused_whole<'w>(source: &Source<'_>, showing: Showing, refusal: Refusal) ->
     ensures { (shape : Shape) → FailsFor showing.format showing.denies shape source.now result }
 {
     let mut refused = Vec::new(showing.alloc);
-    let clues = Clues::none(showing.alloc);
-    match push_refusal(&mut refused, source.text(), 0, refusal, clues) {
+    let part = Part { source, offset: 0 };
+    match push_refusal(&mut refused, part, refusal, Clues::none(showing.alloc)) {
         Ok(()) => refused_file(source, showing, &refused, &[]),
         Err(Memory) => Failure::Memory,
     }
@@ -212,7 +214,11 @@ fn gather_enum(
         }
         Err(refusal) => {
             let clues = clues_of(source, span.from, warned)?;
-            push_refusal(&mut gathered.refused, source, span.from, refusal, clues)
+            let part = Part {
+                source: site.file,
+                offset: span.from,
+            };
+            push_refusal(&mut gathered.refused, part, refusal, clues)
         }
     }
 }
@@ -227,22 +233,21 @@ fn clues_of(text: &str, offset: usize, warned: &mut Vec<Warning>) -> Result<Clue
     Ok(clues)
 }
 
-/// Appends the faults of a source that begins at an offset of the file, with what is known of them
-/// and what to do about them.
+/// Appends the faults of a part of a file, with what is known of them and what to do about them.
 fn push_refusal(
     refused: &mut Vec<Refused>,
-    source: &str,
-    offset: usize,
+    part: Part<'_, '_>,
     refusal: Refusal,
     mut clues: Clues,
 ) -> Result<(), Memory>
-    ensures { OnOk result (AddsRefusal offset refusal clues refused.old.items refused.new.items) }
+    ensures { OnOk result
+        (AddsRefusal part.entry.offset refusal clues refused.old.items refused.new.items) }
 {
     match refusal {
         Refusal::Errors(errors) => {
-            add_helps(source, &errors, &mut clues)?;
+            add_helps(part, &errors, &mut clues)?;
             refused.push(Refused {
-                offset,
+                offset: part.offset,
                 errors,
                 clues,
             })?;

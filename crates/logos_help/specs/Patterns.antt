@@ -1,16 +1,18 @@
 -- What to do about a fault in a pattern, by what is known of the fault.
-use Rattle.std.specs.Prelude.{ℕ, ◌==◌, ◌&&◌, ◌||◌, nat_lt, not, Bool, List, codes, if◌then◌else◌}
-use Rattle.logos_token.specs.declared.error.detail.Front.{Front}
+use Rattle.std.specs.Prelude.{◌≡◌, ℕ, ◌==◌, ◌&&◌, ◌||◌, nat_lt, not, Bool, List, codes, Option, Some, if◌then◌else◌}
+use Rattle.logos_token.specs.declared.error.detail.Detail.{Detail}
+use Rattle.logos_token.specs.declared.error.detail.Detail.TheVariants.{Pattern, ErrorArgument}
+use Rattle.logos_token.specs.declared.error.detail.PatternFront.{PatternFront}
 use Rattle.logos_token.specs.declared.error.detail.PatternDetail.{PatternDetail}
 use Rattle.logos_token.specs.declared.error.detail.PatternKind.{PatternKind}
 use Rattle.logos_token.specs.declared.error.detail.PatternKind.TheVariants.{Unclosed, Unopened, NothingToRepeat, CountSyntax, CountOrder, CountTooLarge, FlagUnsupported, FlagSyntax, GroupSyntax, EscapeUnknown, HexSyntax, HexNotScalar, ClassRange, UnknownProperty, PropertyForm, NotInBytes, UnicodeWordBoundary, WordBoundaryForm}
 
 -- The text begins with `(?` and this byte.
-abbrev pub opens_with : Front → ℕ → Bool
+abbrev pub opens_with : PatternFront → ℕ → Bool
 opens_with front third = ((front.first == 40) && (front.second == 63)) && (front.third == third)
 
 -- The text begins with a backslash and this byte.
-abbrev pub escapes : Front → ℕ → Bool
+abbrev pub escapes : PatternFront → ℕ → Bool
 escapes front second = (front.first == 92) && (front.second == second)
 
 -- The byte is a digit, `0` to `9`.
@@ -18,30 +20,30 @@ abbrev pub is_digit : ℕ → Bool
 is_digit byte = nat_lt 47 byte && nat_lt byte 58
 
 -- The text begins with a backslash and one or two digits, of which the first is not `0`.
-abbrev pub refers_back : Front → Bool
+abbrev pub refers_back : PatternFront → Bool
 refers_back front = ((front.first == 92) && (is_digit front.second && not (front.second == 48))) && not (is_digit front.third && is_digit front.fourth)
 
 -- The text begins with `(?=` or `(?!`.
-abbrev pub looks_ahead : Front → Bool
+abbrev pub looks_ahead : PatternFront → Bool
 looks_ahead front = opens_with front 61 || opens_with front 33
 
 -- The text begins with `(?<=` or `(?<!`.
-abbrev pub looks_behind : Front → Bool
-looks_behind front = opens_with front 60 && ((front.fourth == 61) || (front.fourth == 33))
+abbrev pub looks_back : PatternFront → Bool
+looks_back front = opens_with front 60 && ((front.fourth == 61) || (front.fourth == 33))
 
 abbrev pub reference_help : List ℕ
 reference_help = codes "write again what may stand there: nothing refers back"
 
 -- The help for a group that does not begin with a flag: `(?P=` refers back, and `(?#` is a comment.
-abbrev pub flag_help : Front → List ℕ
+abbrev pub flag_help : PatternFront → List ℕ
 flag_help front =
     if opens_with front 80 && (front.fourth == 61) then reference_help
     else if opens_with front 35 then codes "leave the comment out"
     else codes "write one of `i m s U u R`, as in `(?i)`, or `(?:..)` for a group"
 
--- The help for an escape that does not exist: `\k` and a number refer back, and `\h`, `\R`, `\Z` and
--- `\Q` are escapes of other languages of patterns.
-abbrev pub escape_help : Front → List ℕ
+-- The help for an escape that does not exist: `\k` and a number refer back, and `\h`, `\R`, `\Z`
+-- and `\Q` are escapes of other languages of patterns.
+abbrev pub escape_help : PatternFront → List ℕ
 escape_help front =
     if escapes front 107 || refers_back front then reference_help
     else if escapes front 104 then codes "write `[ \\t]` for a blank"
@@ -57,9 +59,9 @@ boundary_help at =
     else codes "write `(?-u:\\b)`, the boundary of ASCII words"
 
 -- The help for a group that is neither plain nor named.
-abbrev pub group_help : Front → List ℕ
+abbrev pub group_help : PatternFront → List ℕ
 group_help front =
-    if looks_ahead front || looks_behind front then codes "write a longer pattern and a priority in place of look-around"
+    if looks_ahead front || looks_back front then codes "write a longer pattern and a priority in place of look-around"
     else codes "write a name once, as in `(?<name>..)`, or `(?:..)` without one"
 
 -- The help for a fault in an escape by number, in a class or in a word boundary.
@@ -96,3 +98,10 @@ kind_help WordBoundaryForm detail = class_help WordBoundaryForm
 -- The help for a text that is not a pattern.
 abbrev pub pattern_help : PatternDetail → List ℕ
 pattern_help detail = kind_help detail.kind detail
+
+-- The help of a fault of which this is known. Where no more is known than the code of the fault, or
+-- that the source is not made of tokens, it is left open.
+abbrev pub IsHelp : Detail → Option (List ℕ) → Type 0
+IsHelp (Pattern detail) help = help ≡ Some (pattern_help detail)
+IsHelp ErrorArgument help = help ≡ Some (codes "write `callback = ..`, or the callback alone")
+IsHelp detail help = Unit {0}

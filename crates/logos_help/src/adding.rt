@@ -5,39 +5,39 @@ ghost use Rattle.logos_report.specs.Views.{sizes_of};
 
 use crate::by_code::help_for;
 use crate::sight::Sight;
-use logos_report::Clues;
+use logos_report::{Clues, Part};
 use logos_token::error::{Errors, Memory, SpannedError};
 use logos_token::token::Span;
 
-/// Adds to `clues` what to do about each of the faults of a source, in their order. Reports show it
-/// under the fault.
+/// Adds to `clues` what to do about each of the faults of a part of a file, in their order. Reports
+/// show it under the fault.
 ///
 /// # Errors
 ///
 /// Returns `Memory` if memory runs out. Some of the helps may then be added.
-pub fn add_helps(source: &str, errors: &Errors, clues: &mut Clues) -> Result<(), Memory>
+pub fn add_helps(part: Part<'_, '_>, errors: &Errors, clues: &mut Clues) -> Result<(), Memory>
     ensures { sizes_of clues.new ≡ sizes_of clues.old }
 {
-    add_all(source, errors.list(), &mut clues.helps)
+    add_all(part, errors.list(), &mut clues.helps)
 }
 
-/// Adds what to do about each of these faults of a source.
+/// Adds what to do about each of these faults of a part of a file.
 fn add_all(
-    source: &str,
+    part: Part<'_, '_>,
     faults: &[SpannedError],
     helps: &mut Vec<Option<&'static str>>,
 ) -> Result<(), Memory> {
     for fault in faults {
-        helps.push(help_for(fault, sight_at(source, fault.span)))?;
+        helps.push(help_for(fault, sight_at(part, fault.span)))?;
     }
     Ok(())
 }
 
-/// Returns the text of a source at a span, and after it. Both are empty where the source has no
-/// such span.
-fn sight_at(source: &str, span: Span) -> Sight<'_> {
+/// Returns the text of a part of a file at a span, and after it. Both are empty where the file has
+/// no such span.
+fn sight_at<'t>(part: Part<'_, 't>, span: Span) -> Sight<'t> {
     Sight {
-        text: source.get(span.from..span.to).unwrap_or(""),
-        after: source.get(span.to..).unwrap_or(""),
+        text: part.text_at(span),
+        after: part.text_from(span.to),
     }
 }

@@ -1,7 +1,8 @@
 //! What to do about a fault, by its code. `docs/FAULTS.md` has the same words, and
 //! `tests/lints/faults.py` compares them.
 
-ghost use Rattle.std.specs.Prelude.{◌≡◌};
+ghost use Rattle.std.specs.Prelude.{option_map};
+ghost use Rattle.logos_help.specs.Patterns.{IsHelp};
 
 use crate::by_sight::{
     help_for_body, help_for_closure, help_for_empty, help_for_literal, help_for_name,
@@ -22,7 +23,9 @@ const RENAME: &str = "rename it: a name has ASCII letters, digits and `_`";
 
 /// Returns what to do about a fault, by what is known of it, by its code and by the text at its
 /// span, if there is something to say.
-pub fn help_for(fault: &SpannedError, sight: Sight<'_>) -> Option<&'static str> {
+pub fn help_for(fault: &SpannedError, sight: Sight<'_>) -> Option<&'static str>
+    ensures { IsHelp fault.now.detail (option_map (λ help. help.now) result) }
+{
     match fault.detail {
         Detail::Lexical(kind) => Some(help_for_lexical(kind, sight)),
         Detail::Pattern(detail) => Some(help_for_pattern(detail)),

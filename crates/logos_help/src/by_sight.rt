@@ -28,7 +28,7 @@ fn has_colon(text: &str) -> bool {
     text.contains(':') & !text.contains("::") & !text.starts_with("skip")
 }
 
-/// Returns what to do where other tokens take the place of a literal.
+/// Returns what to do about tokens that are not a literal.
 pub(crate) fn help_for_literal(sight: Sight<'_>) -> &'static str {
     if sight.text.contains("\" | ") {
         "write an attribute for each of them"

@@ -1,11 +1,11 @@
-//! What to do about a fault in a pattern, by its kind and by the bytes at it. `docs/FAULTS.md` has the
-//! same words, and `tests/lints/faults.py` compares them.
+//! What to do about a fault in a pattern, by its kind and by the bytes at it. `docs/FAULTS.md` has
+//! the same words, and `tests/lints/faults.py` compares them.
 
 ghost use Rattle.std.specs.Prelude.{◌≡◌};
-ghost use Rattle.logos_help.specs.Patterns.{boundary_help, class_help, escape_help, escapes, flag_help, group_help, is_digit, looks_ahead, looks_behind, opens_with, pattern_help, refers_back};
+ghost use Rattle.logos_help.specs.Patterns.{boundary_help, class_help, escape_help, escapes, flag_help, group_help, is_digit, looks_ahead, looks_back, opens_with, pattern_help, refers_back};
 
 use crate::sight::{Sight, between_quotes};
-use logos_token::error::{Front, PatternDetail, PatternKind};
+use logos_token::error::{PatternDetail, PatternFront, PatternKind};
 
 /// Returns what to do about a text that is not a pattern, by its fault.
 pub(crate) fn help_for_pattern(detail: PatternDetail) -> &'static str
@@ -59,21 +59,21 @@ fn help_for_class(kind: PatternKind) -> &'static str
 }
 
 /// Returns whether a text begins with `(?` and this byte.
-fn opens_with(front: Front, third: u8) -> bool
+fn opens_with(front: PatternFront, third: u8) -> bool
     ensures { result ≡ opens_with front third }
 {
     (front.first == b'(') & (front.second == b'?') & (front.third == third)
 }
 
 /// Returns whether a text begins with a backslash and this byte.
-fn escapes(front: Front, second: u8) -> bool
+fn escapes(front: PatternFront, second: u8) -> bool
     ensures { result ≡ escapes front second }
 {
     (front.first == b'\\') & (front.second == second)
 }
 
 /// Returns what to do about a group that does not begin with a flag, by its first bytes.
-fn help_for_flag(front: Front) -> &'static str
+fn help_for_flag(front: PatternFront) -> &'static str
     ensures { result.now ≡ flag_help front }
 {
     if opens_with(front, b'P') & (front.fourth == b'=') {
@@ -88,7 +88,7 @@ fn help_for_flag(front: Front) -> &'static str
 const REFERENCE: &str = "write again what may stand there: nothing refers back";
 
 /// Returns what to do about an escape that does not exist, by its first bytes.
-fn help_for_escape(front: Front) -> &'static str
+fn help_for_escape(front: PatternFront) -> &'static str
     ensures { result.now ≡ escape_help front }
 {
     if escapes(front, b'k') | refers_back(front) {
@@ -108,7 +108,7 @@ fn help_for_escape(front: Front) -> &'static str
 
 /// Returns whether an escape has one or two digits, as one that refers back to a group has. With
 /// three or more they are the number of a character.
-fn refers_back(front: Front) -> bool
+fn refers_back(front: PatternFront) -> bool
     ensures { result ≡ refers_back front }
 {
     let is_number = is_digit(front.second) & (front.second != b'0');
@@ -135,10 +135,10 @@ fn help_for_boundary(at: usize) -> &'static str
 }
 
 /// Returns what to do about a group that is neither plain nor named, by its first bytes.
-fn help_for_group(front: Front) -> &'static str
+fn help_for_group(front: PatternFront) -> &'static str
     ensures { result.now ≡ group_help front }
 {
-    if looks_ahead(front) | looks_behind(front) {
+    if looks_ahead(front) | looks_back(front) {
         "write a longer pattern and a priority in place of look-around"
     } else {
         "write a name once, as in `(?<name>..)`, or `(?:..)` without one"
@@ -146,15 +146,15 @@ fn help_for_group(front: Front) -> &'static str
 }
 
 /// Returns whether a group is `(?=..)` or `(?!..)`.
-fn looks_ahead(front: Front) -> bool
+fn looks_ahead(front: PatternFront) -> bool
     ensures { result ≡ looks_ahead front }
 {
     opens_with(front, b'=') | opens_with(front, b'!')
 }
 
 /// Returns whether a group is `(?<=..)` or `(?<!..)`.
-fn looks_behind(front: Front) -> bool
-    ensures { result ≡ looks_behind front }
+fn looks_back(front: PatternFront) -> bool
+    ensures { result ≡ looks_back front }
 {
     opens_with(front, b'<') & ((front.fourth == b'=') | (front.fourth == b'!'))
 }

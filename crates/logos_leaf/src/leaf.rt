@@ -7,7 +7,7 @@ use crate::fault::{report_greedy_dot, report_overflow};
 use logos_definition::definition::Definition;
 use logos_pattern::leaf::{Leaf, LeafOptions, VariantKind};
 use logos_pattern::pattern::{Literal, Pattern, token_priority};
-use logos_subpattern::fault::{Making, ReadingMode, read_pattern};
+use logos_subpattern::fault::{Making, ReadingMode, WrittenPattern, read_pattern};
 use logos_subpattern::subpattern::{Subpatterns, pattern_text};
 use logos_token::error::{Errors, Memory};
 use std::alloc::Global;
@@ -94,7 +94,9 @@ fn folded_pattern<'s>(
         unicode: is_string(literal),
         ignore_case: true,
     };
-    read_pattern(text.as_str(), literal, mode, Making::Escaped, errors)
+    let making = Making::Escaped;
+    let written = WrittenPattern { literal, making };
+    read_pattern(text.as_str(), written, mode, errors)
 }
 
 /// Returns the leaf of a `token` whose letters match in either case. Returns `None` when its text
@@ -230,7 +232,7 @@ fn fitted_pattern<'s>(
 fn whole_pattern<'s>(
     definition: &Definition<'s>,
     text: &str,
-    subpatterns: &Subpatterns<'_>,
+    subpatterns: &Subpatterns<'s>,
     errors: &mut Errors,
 ) -> Result<Option<(Pattern<'s>, usize)>, Memory>
     ensures made { IfOk result (λ fitted. (kind : KindValue) →
@@ -245,8 +247,11 @@ fn whole_pattern<'s>(
         unicode: is_string(&definition.literal),
         ignore_case: definition.ignore_flags.ignore_case,
     };
-    let making = Making::PutIn(subpatterns);
-    match read_pattern(text, &definition.literal, mode, making, errors) {
+    let written = WrittenPattern {
+        literal: &definition.literal,
+        making: Making::PutIn(subpatterns),
+    };
+    match read_pattern(text, written, mode, errors) {
         Ok(Some(pattern)) => fitted_pattern(definition, pattern, errors),
         Ok(None) => {
             // It is reported already why the text is not a pattern.

@@ -77,9 +77,9 @@ fn rendered(alloc: Global, message: FaultMessage<'_, '_, '_>) -> Result<Option<S
     if has_long_line(message.part, message.known.fault.span) {
         return Ok(None);
     }
-    let mut page = Page::new(alloc, false);
-    push_fault(&mut page, message.part, message.known);
-    Ok(Some(page.finish()?))
+    let mut report = Page::new(alloc, false);
+    push_fault(&mut report, message.part, message.known);
+    Ok(Some(report.finish()?))
 }
 
 /// Returns with which subpattern the byte of a fault counts, or `None` if it counts with none.

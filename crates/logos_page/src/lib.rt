@@ -1,12 +1,10 @@
-//! A text that grows line by line, with or without colors, and the characters that a terminal shows.
-//! Reports and answers are written with it.
+//! A text that grows, with or without colors, and the characters that a terminal shows. Reports and
+//! answers are written with it.
 
 #![tactic(auto)]
 
-mod digits;
 mod page;
 mod shown;
 
-pub use digits::digits;
-pub use page::{Page, Style};
+pub use page::{Page, Style, digits};
 pub use shown::columns_of;

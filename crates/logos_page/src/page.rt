@@ -1,6 +1,6 @@
 //! A text that grows.
 
-ghost use Rattle.std.specs.Prelude.{◌≡◌, ◌↔◌, [], true, IfOk, IsOk, IsTrue, decimal, encode_utf8, string_bytes};
+ghost use Rattle.std.specs.Prelude.{◌≡◌, ◌↔◌, [], true, IfOk, IsOk, IsTrue, decimal, encode_utf8, length, string_bytes};
 ghost use Rattle.logos_page.specs.Views.{shown_char, shown_text, Gains, begun, ended, painted, style_text, times};
 
 use crate::shown::stand_in;
@@ -167,4 +167,17 @@ fn style_text(style: Style) -> &'static str
         Style::Frame => "\u{1b}[1;34m",
         Style::Strong => "\u{1b}[1m",
     }
+}
+
+/// Returns how many decimal digits a number has.
+pub fn digits(number: usize) -> usize
+    ensures { result ≡ length (decimal number) }
+{
+    let mut rest = number;
+    let mut count: usize = 1;
+    while rest >= 10 {
+        rest /= 10;
+        count += 1;
+    }
+    count
 }

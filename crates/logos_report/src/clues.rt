@@ -15,7 +15,8 @@ pub struct Clues {
     pub meetings: Vec<Meeting>,
     /// The patterns that can look at what stands before their first byte.
     pub starts: Vec<Start>,
-    /// What to do about each fault, in the order of the faults. Those without an entry have no help.
+    /// What to do about each fault, in the order of the faults. A fault without an entry has no
+    /// help.
     pub helps: Vec<Option<&'static str>>,
 }
 

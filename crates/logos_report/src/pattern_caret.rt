@@ -1,5 +1,5 @@
 //! The characters of a literal at which its pattern is faulty, and the subpattern with which the
-//! byte of such a fault counts. Reports and the derive macro place their carets by it.
+//! byte of such a fault counts. Reports and the derive macro draw their carets with it.
 
 use crate::source::Part;
 use logos_token::error::{Detail, PatternDetail, SpannedError};
@@ -154,8 +154,8 @@ impl Reader {
         }
     }
 
-    /// Like `step`, for a character that begins a piece. CR is read only in front of LF, and is left
-    /// out.
+    /// Does what `step` does, for a character that begins a piece. CR is read only in front of LF,
+    /// and is left out.
     fn begin(self, character: char) -> (LiteralState, usize) {
         if (character == '\\') & !self.is_raw {
             (LiteralState::Escape, 0)
@@ -167,7 +167,7 @@ impl Reader {
     }
 }
 
-/// Like `Reader::step`, for a character after a backslash.
+/// Does what `Reader::step` does, for a character after a backslash.
 fn escape(character: char) -> (LiteralState, usize) {
     match character {
         'x' => (LiteralState::Hex, 0),
@@ -178,7 +178,7 @@ fn escape(character: char) -> (LiteralState, usize) {
     }
 }
 
-/// Like `Reader::step`, for a character in `\u{..}`, whose digits so far make `number`.
+/// Does what `Reader::step` does, for a character in `\u{..}`, whose digits so far make `number`.
 fn digit(number: u32, character: char) -> (LiteralState, usize) {
     if character == '}' {
         return (LiteralState::Plain, utf8_length(number));

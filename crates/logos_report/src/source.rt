@@ -34,6 +34,12 @@ impl<'t> Part<'_, 't> {
         let to = span.to.saturating_add(self.offset);
         self.source.text().get(from..to).unwrap_or("")
     }
+
+    /// Returns the text of the file from an offset of the part on, or an empty one after its end.
+    pub fn text_from(self, offset: usize) -> &'t str {
+        let from = offset.saturating_add(self.offset);
+        self.source.text().get(from..).unwrap_or("")
+    }
 }
 
 /// A file: its path, and its text with the index of its lines.

@@ -121,7 +121,7 @@ fn refusal_text(
     mut known: Explained,
 ) -> Result<String, Memory> {
     let alloc = showing.alloc;
-    add_helps(text_from(part), errors, &mut known.clues)?;
+    add_helps(part, errors, &mut known.clues)?;
     let clues = &known.clues;
     match showing.format {
         MessageFormat::Human => {
@@ -137,11 +137,6 @@ fn refusal_text(
             text_of_lines(lines)
         }
     }
-}
-
-/// Returns the text of a file from where a part of it begins on.
-fn text_from<'t>(part: Part<'_, 't>) -> &'t str {
-    part.source.text().get(part.offset..).unwrap_or("")
 }
 
 /// Returns the text of the enum that begins where a part of a file does, or an empty one.

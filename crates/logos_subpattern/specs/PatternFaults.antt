@@ -4,7 +4,7 @@ use Rattle.std.specs.Fmt.{decimal}
 use Rattle.logos_lexeme.specs.declared.lexeme.Span.{Span}
 use Rattle.logos_token.specs.declared.error.fault_code.FaultCode.TheVariants.{Regex, LimitPatternNesting}
 use Rattle.logos_token.specs.declared.error.detail.Detail.TheVariants.{Pattern}
-use Rattle.logos_token.specs.declared.error.detail.Front.{Front}
+use Rattle.logos_token.specs.declared.error.detail.PatternFront.{PatternFront}
 use Rattle.logos_token.specs.declared.error.detail.PatternDetail.{PatternDetail}
 use Rattle.logos_token.specs.declared.error.detail.PatternKind.{PatternKind}
 use Rattle.logos_token.specs.declared.error.detail.PatternKind.TheVariants as details
@@ -57,11 +57,11 @@ abbrev pub byte_in : List ℕ → ℕ → ℕ
 byte_in text at = unwrap_or (slice_get text at) 0
 
 -- The first four bytes of a text, with 0 after its end.
-abbrev pub front_in : List ℕ → Front
+abbrev pub front_in : List ℕ → PatternFront
 front_in text = record { first = byte_in text 0; second = byte_in text 1; third = byte_in text 2; fourth = byte_in text 3 }
 
 -- The front is that of the text from this offset on, in bytes.
-pub record IsFrontAt (text : Text) (at : ℕ) (front : Front) : Type 0 where
+pub record IsFrontAt (text : Text) (at : ℕ) (front : PatternFront) : Type 0 where
   pub bytes : List ℕ
   pub spells : chars bytes ≡ text
   pub is_front : front ≡ front_in (drop at bytes)

@@ -4,10 +4,12 @@
 ghost use Rattle.std.specs.Prelude.{◌≡◌, ◌++◌, chars, drop, IfOk, IfSome, OnOk, OnErr, option_map, string_bytes};
 ghost use Rattle.logos_subpattern.specs.Words.{pattern_tree, source_of, is_token, token_of, AddsFault, byte_in, detail_kind, front_in, kind_name, regex_fault, regex_text, IsRead, ReportsError};
 
-pub use crate::origin::Making;
 use crate::origin::origin_of;
+pub use crate::origin::{Making, WrittenPattern};
 use logos_pattern::pattern::{Kind, Literal, Pattern, PatternError};
-use logos_token::error::{Detail, Errors, FaultCode, Front, Memory, PatternDetail, PatternKind};
+use logos_token::error::{
+    Detail, Errors, FaultCode, Memory, PatternDetail, PatternFront, PatternKind,
+};
 use logos_token::token::Span;
 use std::alloc::{AllocError, Global};
 
@@ -85,10 +87,10 @@ fn byte_in(text: &[u8], at: usize) -> u8
 }
 
 /// Returns the first four bytes of a text, with 0 after its end.
-fn front_in(text: &[u8]) -> Front
+fn front_in(text: &[u8]) -> PatternFront
     ensures { result ≡ front_in text.now }
 {
-    Front {
+    PatternFront {
         first: byte_in(text, 0),
         second: byte_in(text, 1),
         third: byte_in(text, 2),
@@ -134,26 +136,25 @@ fn report_regex(
     )
 }
 
-/// Reports why a pattern was not read. `regex` is its text, which was made of its literal.
+/// Reports why a pattern was not read. `regex` is its text.
 fn report_error(
     error: PatternError,
     regex: &str,
-    literal: &Literal<'_>,
-    making: Making<'_, '_>,
+    written: WrittenPattern<'_, '_>,
     errors: &mut Errors,
 ) -> Result<(), Memory>
-    ensures ok { OnOk result
-        (ReportsError error regex.now (token_of literal.now).span errors.old errors.new) }
+    ensures ok { OnOk result (ReportsError error regex.now
+        (token_of written.entry.literal.now).span errors.old errors.new) }
     ensures unreported { OnErr result (errors.new ≡ errors.old) }
 {
-    let span = literal.span();
+    let span = written.literal.span();
     match error {
         PatternError::Syntax { kind, at } => {
             let detail = PatternDetail {
                 kind: detail_kind(kind),
                 at,
                 front: front_in(rest_from(regex.as_bytes(), at)),
-                origin: origin_of(errors.alloc(), literal, making, at)?,
+                origin: origin_of(errors.alloc(), written, at)?,
             };
             report_regex(kind, detail, span, errors)
         }
@@ -166,7 +167,7 @@ fn report_error(
     }
 }
 
-/// Reads a text that was made of a literal as its pattern. Returns `None` when the text is not a
+/// Reads a text that was made of a literal as a pattern. Returns `None` when the text is not a
 /// pattern, and reports that at the literal.
 ///
 /// # Errors
@@ -174,20 +175,19 @@ fn report_error(
 /// Returns `Memory` if memory runs out. The faults are then as before.
 pub fn read_pattern<'s>(
     regex: &str,
-    literal: &Literal<'s>,
+    written: WrittenPattern<'_, 's>,
     mode: ReadingMode,
-    making: Making<'_, '_>,
     errors: &mut Errors,
 ) -> Result<Option<Pattern<'s>>, Memory>
     ensures read { IfOk result (λ pattern.
-        IsRead mode.unicode mode.ignore_case (chars regex.now) (token_of literal.now).span
+        IsRead mode.unicode mode.ignore_case (chars regex.now) (token_of written.entry.literal.now).span
         (option_map pattern_tree pattern) errors.old errors.new) }
     ensures source { IfOk result (λ pattern. IfSome pattern (λ p.
-        source_of p ≡ (token_of literal.now).text.now)) }
+        source_of p ≡ (token_of written.entry.literal.now).text.now)) }
     ensures form { IfOk result (λ pattern. IfSome pattern (λ p. is_token p ≡ mode.is_literal)) }
     ensures unreported { OnErr result (errors.new ≡ errors.old) }
 {
-    let token = literal.token();
+    let token = written.literal.token();
     let ReadingMode {
         is_literal,
         unicode,
@@ -197,7 +197,7 @@ pub fn read_pattern<'s>(
     match Pattern::compile(alloc, is_literal, regex, token.text, unicode, ignore_case) {
         Ok(pattern) => Ok(Some(pattern)),
         Err(error) => {
-            report_error(error, regex, literal, making, errors)?;
+            report_error(error, regex, written, errors)?;
             Ok(None)
         }
     }

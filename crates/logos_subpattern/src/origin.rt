@@ -1,15 +1,19 @@
 //! Where the bytes of a pattern's text are written: in its own literal, or in a subpattern that was
 //! put in. `fault` looks up the byte of each fault here.
 
-ghost use Rattle.std.specs.Prelude.{◌≡◌, IfOk, IfErr, chars, length, string_bytes};
-ghost use Rattle.logos_subpattern.specs.Views.{names_of, part_of, parts, extent_of, origin_in, ends_in, moved_past, search_view, extent_view};
-
 use crate::subpattern::{Subpatterns, flags_of, pattern_text, wrapped};
 use crate::substitution::{TextPart, characters, encoded, part_at};
 use logos_pattern::pattern::Literal;
-use logos_token::error::{Memory, Origin};
+use logos_token::error::{ByteOrigin, Memory};
 use logos_token::token::Span;
 use std::alloc::Global;
+
+/// The literal of a pattern, and how the text of the pattern was made of it.
+#[derive(Clone, Copy)]
+pub struct WrittenPattern<'p, 's> {
+    pub literal: &'p Literal<'s>,
+    pub making: Making<'p, 's>,
+}
 
 /// How the text of a pattern was made of its literal.
 #[derive(Clone, Copy)]
@@ -35,7 +39,7 @@ struct Extent {
 
 /// A search for a byte of a pattern's text, after some parts.
 #[derive(Clone, Copy)]
-struct Search {
+struct OriginSearch {
     /// The number of bytes from the end of these parts to the byte, with all subpatterns put in.
     left: usize,
     /// The number of bytes of these parts in the pattern's own text.
@@ -44,20 +48,15 @@ struct Search {
     put_in: Option<Span>,
 }
 
-impl Search {
+impl OriginSearch {
     /// Returns whether the byte belongs to the next part.
-    fn ends_in(self, extent: Extent) -> bool
-        ensures { result ≡ ends_in (search_view self.entry) (extent_view extent.entry) }
-    {
+    fn ends_in(self, extent: Extent) -> bool {
         self.left < extent.whole
     }
 
     /// Returns the search after one more part.
-    fn moved_past(self, extent: Extent) -> Search
-        ensures { search_view result
-            ≡ moved_past (search_view self.entry) (extent_view extent.entry) }
-    {
-        Search {
+    fn moved_past(self, extent: Extent) -> OriginSearch {
+        OriginSearch {
             left: self.left.saturating_sub(extent.whole),
             own: self.own.saturating_add(extent.own),
             put_in: self.put_in.or(extent.put_in),
@@ -65,12 +64,12 @@ impl Search {
     }
 
     /// Returns the origin of the byte, which belongs to the next part.
-    fn origin_in(self, extent: Extent) -> Origin {
+    fn origin_in(self, extent: Extent) -> ByteOrigin {
         let own = match extent.put_in {
             Some(_) => None,
             None => Some(self.own),
         };
-        Origin {
+        ByteOrigin {
             own,
             put_in: self.put_in.or(extent.put_in),
         }
@@ -125,8 +124,8 @@ fn origin_in(
     subpatterns: &Subpatterns<'_>,
     characters: &[char],
     at: usize,
-) -> Result<Origin, Memory> {
-    let mut search = Search {
+) -> Result<ByteOrigin, Memory> {
+    let mut search = OriginSearch {
         left: at,
         own: 0,
         put_in: None,
@@ -140,7 +139,7 @@ fn origin_in(
         search = search.moved_past(extent);
         rest = after;
     }
-    Ok(Origin {
+    Ok(ByteOrigin {
         own: Some(search.own),
         put_in: search.put_in,
     })
@@ -153,7 +152,7 @@ fn put_in_origin(
     literal: &Literal<'_>,
     subpatterns: &Subpatterns<'_>,
     at: usize,
-) -> Result<Origin, Memory> {
+) -> Result<ByteOrigin, Memory> {
     let text = pattern_text(alloc, literal)?;
     let characters = characters(alloc, text.as_str())?;
     origin_in(alloc, subpatterns, &characters, at)
@@ -165,7 +164,7 @@ fn grouped_origin(
     literal: &Literal<'_>,
     subpatterns: &Subpatterns<'_>,
     at: usize,
-) -> Result<Origin, Memory> {
+) -> Result<ByteOrigin, Memory> {
     let text = wrapped(alloc, literal)?;
     let characters = characters(alloc, text.as_str())?;
     let origin = origin_in(alloc, subpatterns, &characters, at)?;
@@ -173,24 +172,24 @@ fn grouped_origin(
 }
 
 /// Returns an origin in a group around a text as one in that text.
-fn without_group(literal: &Literal<'_>, origin: Origin) -> Origin {
+fn without_group(literal: &Literal<'_>, origin: ByteOrigin) -> ByteOrigin {
     let length = flags_of(literal).len();
     let own = match origin.own {
         Some(own) => own.checked_sub(length),
         None => None,
     };
-    Origin { own, ..origin }
+    ByteOrigin { own, ..origin }
 }
 
-/// Returns the origin of the byte at `at` of a text that was made of a literal.
+/// Returns the origin of the byte at `at` of the text of a pattern.
 pub(crate) fn origin_of(
     alloc: Global,
-    literal: &Literal<'_>,
-    making: Making<'_, '_>,
+    written: WrittenPattern<'_, '_>,
     at: usize,
-) -> Result<Origin, Memory> {
-    match making {
-        Making::Escaped => Ok(Origin {
+) -> Result<ByteOrigin, Memory> {
+    let literal = written.literal;
+    match written.making {
+        Making::Escaped => Ok(ByteOrigin {
             own: None,
             put_in: None,
         }),

@@ -6,7 +6,7 @@ ghost use Rattle.logos_subpattern.specs.Words.{list_all, previous, ident_slice, 
 ghost use Rattle.logos_subpattern.specs.StoredViews.{stored_of};
 
 use crate::fault::{ReadingMode, read_pattern};
-use crate::origin::Making;
+use crate::origin::{Making, WrittenPattern};
 use crate::substitution::substituted;
 use logos_attribute::reporting::report_named;
 use logos_pattern::pattern::Literal;
@@ -274,8 +274,11 @@ impl<'s> Subpatterns<'s> {
             (IsTested utf8_mode (named_literal_view named.now) (string_bytes text)
             (names_of self.old) (names_of self.new) errors.old errors.new) }
     {
-        let making = Making::Grouped(self);
-        let read = read_pattern(text.as_str(), &named.1, TEST_MODE, making, errors)?;
+        let written = WrittenPattern {
+            literal: &named.1,
+            making: Making::Grouped(self),
+        };
+        let read = read_pattern(text.as_str(), written, TEST_MODE, errors)?;
         let Some(pattern) = read else {
             return Ok(());
         };

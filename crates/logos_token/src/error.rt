@@ -6,7 +6,7 @@ mod fault_code;
 mod rendering;
 
 use crate::token::Span;
-pub use detail::{Detail, Front, Origin, PatternDetail, PatternKind};
+pub use detail::{ByteOrigin, Detail, PatternDetail, PatternFront, PatternKind};
 pub use fault_code::FaultCode;
 use std::alloc::{AllocError, AllocFailed, Global};
 use std::error::Error;

@@ -5,6 +5,7 @@ use Rattle.logos_tables.specs.declared.shape.Shape.{Shape}
 use Rattle.logos_expand.specs.declared.expanding.Gathered.{Gathered}
 use Rattle.logos_report.specs.declared.clues.Clues.{Clues}
 use Rattle.logos_report.specs.declared.refused.Refused.{Refused}
+use Rattle.logos_report.specs.Sets.{sizes_of}
 use Rattle.logos_expand.specs.Expanding.{IsGuarded, under}
 use Rattle.logos_tables.specs.Shapes.{IsShown}
 use Rattle.logos_expand.specs.Gathering.{Gathers}

@@ -31,13 +31,13 @@ pub struct PatternDetail {
     /// The byte offset of the fault in the text of the pattern, with all subpatterns put in.
     pub at: usize,
     /// The bytes of that text from `at` on.
-    pub front: Front,
-    pub origin: Origin,
+    pub front: PatternFront,
+    pub origin: ByteOrigin,
 }
 
 /// The first bytes from a point of a text on. Each is 0 where the text has ended.
 #[derive(Clone, Copy, Debug)]
-pub struct Front {
+pub struct PatternFront {
     pub first: u8,
     pub second: u8,
     pub third: u8,
@@ -46,7 +46,7 @@ pub struct Front {
 
 /// Where a byte of a pattern's text is written.
 #[derive(Clone, Copy, Debug)]
-pub struct Origin {
+pub struct ByteOrigin {
     /// Its byte offset in the text that the pattern's own literal spells; `None` if it belongs to a
     /// subpattern that was put in, or to the group around the text of a subpattern.
     pub own: Option<usize>,

@@ -1,6 +1,6 @@
 use Rattle.std.proofs.Common.{arith}
 use Rattle.logos_page.proofs.DigitLemmas.{few, one_digit, one_more, smaller}
-use Rattle.logos_page.proofs.digits.digits.Goals as goal
+use Rattle.logos_page.proofs.page.digits.Goals as goal
 
 pub overflow_add-count : goal.overflow_add-count
 overflow_add-count c = omega (arith, c.loop-rest.invariant.counted, few c.args.number c.ranges.number.fits)
