@@ -48,14 +48,19 @@ fn continues_set(fault: &SpannedError) -> bool {
     }
 }
 
+/// Returns whether the fault with this number is one of a set, and not the first one.
+fn continues_at(faults: &[SpannedError], number: usize) -> bool {
+    match faults.get(number) {
+        Some(fault) => continues_set(fault),
+        None => false,
+    }
+}
+
 /// Returns the number of the first fault of the set of a fault.
 fn begin_of_set(faults: &[SpannedError], number: usize) -> usize {
     let mut from = number;
-    while from > 0 {
-        match faults.get(from) {
-            Some(fault) if continues_set(fault) => from -= 1,
-            _ => return from,
-        }
+    while from > 0 && continues_at(faults, from) {
+        from -= 1;
     }
     from
 }
@@ -66,10 +71,10 @@ fn end_of_set(faults: &[SpannedError], number: usize) -> usize {
     let Some(fault) = faults.get(number) else {
         return number;
     };
-    let Detail::Ambiguous { .. } = fault.detail else {
-        return number;
-    };
-    end_from(faults, number.saturating_add(1))
+    match fault.detail {
+        Detail::Ambiguous { .. } => end_from(faults, number.saturating_add(1)),
+        _ => number,
+    }
 }
 
 /// Returns the number of the first fault, at least `from`, that does not continue a set.
