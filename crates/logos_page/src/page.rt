@@ -72,7 +72,7 @@ impl Page {
     }
 
     /// Appends a character as it is shown on a terminal, which no character of a text controls.
-    pub(crate) fn push_shown_char(&mut self, character: char)
+    pub fn push_shown_char(&mut self, character: char)
         ensures { Gains (shown_char character) self.old self.new }
     {
         if character == '\t' {
