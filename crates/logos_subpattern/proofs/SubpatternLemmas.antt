@@ -184,14 +184,10 @@ read_tree unicode ignore_case text span tree faults r = record { reading = spell
 pub read_error : (unicode ignore_case : Bool) (text : List ℕ) (span : Span) (error : PatternError) (old new : List Fault) → Refuses (first_flags unicode ignore_case) (chars text) error →
     (error ≡ errors.LimitPatternNesting → IsTooDeep (first_flags unicode ignore_case) (chars text)) → ReportsError error text span old new → IsRead unicode ignore_case (chars text) span None old new
 read_error unicode ignore_case text span (errors.Syntax kind at) old new r d l = record {
-  reading = broken kind l.detail;
-  reads = record {
-    unspelled = r;
-    of_kind = l.of_kind;
-    of_text = record { bytes = text; spells = refl; is_front = l.is_front };
-  };
+  reading = broken kind l.0;
+  reads = record { unspelled = r; bytes = text; spells = refl; known = l.1 };
   is_tree = refl;
-  adds = l.adds;
+  adds = l.2;
 }
 read_error unicode ignore_case text span errors.LimitPatternNesting old new r d l = record { reading = too_deep; reads = record { deeper = r; begins = d refl }; is_tree = refl; adds = l }
 read_error unicode ignore_case text span errors.Memory old new r d l = absurd l

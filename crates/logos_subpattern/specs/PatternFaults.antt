@@ -60,18 +60,17 @@ byte_in text at = unwrap_or (slice_get text at) 0
 abbrev pub front_in : List ℕ → PatternFront
 front_in text = record { first = byte_in text 0; second = byte_in text 1; third = byte_in text 2; fourth = byte_in text 3 }
 
--- The front is that of the text from this offset on, in bytes.
-pub record IsFrontAt (text : Text) (at : ℕ) (front : PatternFront) : Type 0 where
-  pub bytes : List ℕ
-  pub spells : chars bytes ≡ text
-  pub is_front : front ≡ front_in (drop at bytes)
+-- This is known of a fault of this kind in a text of these bytes.
+pub record IsDetail (kind : Kind) (text : List ℕ) (detail : PatternDetail) : Type 0 where
+  pub of_kind : detail.kind ≡ detail_kind kind
+  pub front : detail.front ≡ front_in (drop detail.at text)
 
--- The text spells no tree under these flags, and the detail is of this kind of fault and of this
--- text.
+-- The text spells no tree under these flags, and this is known of a fault of this kind in its bytes.
 pub record IsBroken (unicode ignore_case : Bool) (text : Text) (kind : Kind) (detail : PatternDetail) : Type 0 where
   pub unspelled : (depth : ℕ) → IsSpelled (first_flags unicode ignore_case) text depth → ⊥
-  pub of_kind : detail.kind ≡ detail_kind kind
-  pub of_text : IsFrontAt text detail.at detail.front
+  pub bytes : List ℕ
+  pub spells : chars bytes ≡ text
+  pub known : IsDetail kind bytes detail
 
 -- Reading the text under these flags gives this.
 abbrev pub Reads : (unicode ignore_case : Bool) → Text → Reading → Type 0

@@ -2,7 +2,7 @@
 //! with it.
 
 ghost use Rattle.std.specs.Prelude.{◌≡◌, ◌++◌, chars, drop, IfOk, IfSome, OnOk, OnErr, option_map, string_bytes};
-ghost use Rattle.logos_subpattern.specs.Words.{pattern_tree, source_of, is_token, token_of, AddsFault, byte_in, detail_kind, front_in, kind_name, regex_fault, regex_text, IsRead, ReportsError};
+ghost use Rattle.logos_subpattern.specs.Words.{pattern_tree, source_of, is_token, token_of, AddsFault, byte_in, detail_kind, front_in, kind_name, regex_fault, regex_text, IsDetail, IsRead, ReportsError};
 
 use crate::origin::origin_of;
 pub use crate::origin::{Making, WrittenPattern};
@@ -136,6 +136,25 @@ fn report_regex(
     )
 }
 
+/// Returns what is known of a fault at the byte offset `at` of a pattern's text.
+fn detail_of(
+    alloc: Global,
+    kind: Kind,
+    at: usize,
+    regex: &str,
+    written: WrittenPattern<'_, '_>,
+) -> Result<PatternDetail, Memory>
+    ensures { IfOk result (λ detail. IsDetail kind regex.now detail) }
+{
+    let origin = origin_of(alloc, written, at)?;
+    Ok(PatternDetail {
+        kind: detail_kind(kind),
+        at,
+        front: front_in(rest_from(regex.as_bytes(), at)),
+        origin,
+    })
+}
+
 /// Reports why a pattern was not read. `regex` is its text.
 fn report_error(
     error: PatternError,
@@ -150,12 +169,7 @@ fn report_error(
     let span = written.literal.span();
     match error {
         PatternError::Syntax { kind, at } => {
-            let detail = PatternDetail {
-                kind: detail_kind(kind),
-                at,
-                front: front_in(rest_from(regex.as_bytes(), at)),
-                origin: origin_of(errors.alloc(), written, at)?,
-            };
+            let detail = detail_of(errors.alloc(), kind, at, regex, written)?;
             report_regex(kind, detail, span, errors)
         }
         PatternError::LimitPatternNesting => errors.err(

@@ -1,5 +1,5 @@
 -- Errors of reading patterns.
-use Rattle.std.specs.Prelude.{◌≡◌, ℕ, List, ◌++◌, drop}
+use Rattle.std.specs.Prelude.{◌≡◌, ℕ, List, ◌++◌}
 use Rattle.logos_lexeme.specs.declared.lexeme.Span.{Span}
 use Rattle.logos_token.specs.declared.error.detail.PatternDetail.{PatternDetail}
 use Rattle.logos_token.specs.Faults.{Fault}
@@ -7,14 +7,11 @@ use Rattle.logos_pattern_tokens.specs.declared.error.PatternError.{PatternError}
 use Rattle.logos_pattern_tokens.specs.declared.error.PatternError.TheVariants as errors
 use Rattle.logos_pattern_tokens.specs.declared.error.Kind.{Kind}
 use Rattle.logos_attribute.specs.Reports.{AddsFault}
-use Rattle.logos_subpattern.specs.PatternFaults.{too_deep, pattern_faults, detail_kind, front_in, regex_fault}
+use Rattle.logos_subpattern.specs.PatternFaults.{IsDetail, too_deep, pattern_faults, regex_fault}
 
 -- The fault of a text that breaks the grammar is added, with what is known of it.
-pub record ReportsSyntax (kind : Kind) (text : List ℕ) (span : Span) (old new : List Fault) : Type 0 where
-  pub detail : PatternDetail
-  pub of_kind : detail.kind ≡ detail_kind kind
-  pub is_front : detail.front ≡ front_in (drop detail.at text)
-  pub adds : AddsFault (regex_fault kind detail span) old new
+abbrev pub ReportsSyntax : Kind → List ℕ → Span → List Fault → List Fault → Type 0
+ReportsSyntax kind text span old new = (detail : PatternDetail) × IsDetail kind text detail × AddsFault (regex_fault kind detail span) old new
 
 -- The faults after an error of a pattern with this text is reported.
 abbrev pub ReportsError : PatternError → List ℕ → Span → List Fault → List Fault → Type 0
