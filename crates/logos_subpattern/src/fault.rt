@@ -170,7 +170,8 @@ fn report_error(
     match error {
         PatternError::Syntax { kind, at } => {
             let detail = detail_of(errors.alloc(), kind, at, regex, written)?;
-            report_regex(kind, detail, span, errors)
+            report_regex(kind, detail, span, errors)?;
+            Ok(())
         }
         PatternError::LimitPatternNesting => errors.err(
             FaultCode::LimitPatternNesting,
