@@ -65,7 +65,8 @@ pub record IsDetail (kind : Kind) (text : List ℕ) (detail : PatternDetail) : T
   pub of_kind : detail.kind ≡ detail_kind kind
   pub front : detail.front ≡ front_in (drop detail.at text)
 
--- The text spells no tree under these flags, and this is known of a fault of this kind in its bytes.
+-- The text spells no tree under these flags, and this is known of a fault of this kind in its
+-- bytes.
 pub record IsBroken (unicode ignore_case : Bool) (text : Text) (kind : Kind) (detail : PatternDetail) : Type 0 where
   pub unspelled : (depth : ℕ) → IsSpelled (first_flags unicode ignore_case) text depth → ⊥
   pub bytes : List ℕ
