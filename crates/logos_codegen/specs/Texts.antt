@@ -1,5 +1,5 @@
 -- The faults that are reported for a graph, with their messages.
-use Rattle.std.specs.Prelude.{ℕ, List, [], ◌∷◌, ◌++◌, codes, flat_map, None, slice_get, if◌then◌else◌, ◌==◌}
+use Rattle.std.specs.Prelude.{ℕ, List, [], ◌∷◌, ◌++◌, codes, flat_map, None, slice_get, unwrap_or, if◌then◌else◌, ◌==◌}
 use Rattle.std.specs.Option.{option_map_or}
 use Rattle.std.specs.Fmt.{decimal}
 use Rattle.logos_lexeme.specs.declared.lexeme.Span.{Span}
@@ -57,8 +57,7 @@ start_text = codes "The state machine implementing this lexer is missing a unive
 
 -- The first leaf of a set; of a set without leaves the one that is given.
 abbrev pub first_of : List ℕ → ℕ → ℕ
-first_of [] number = number
-first_of (first ∷ rest) number = first
+first_of set number = unwrap_or (slice_get set 0) number
 
 module _ (leaves : List NamedLeaf) where
   -- The lines of the leaves of the set without this one.

@@ -78,9 +78,9 @@ fn disambiguation_text(
 fn first_of(set: &[LeafId], number: LeafId) -> usize
     ensures { result ≡ first_of (numbers set.now) number.0 }
 {
-    match set {
-        [first, ..] => first.0,
-        [] => number.0,
+    match set.get(0) {
+        Some(first) => first.0,
+        None => number.0,
     }
 }
 

@@ -1,7 +1,7 @@
 -- What to do about a fault in a pattern, by what is known of the fault.
 use Rattle.std.specs.Prelude.{◌≡◌, ℕ, ◌==◌, ◌&&◌, ◌||◌, nat_lt, not, Bool, List, codes, Option, Some, if◌then◌else◌}
 use Rattle.logos_token.specs.declared.error.detail.Detail.{Detail}
-use Rattle.logos_token.specs.declared.error.detail.Detail.TheVariants.{Pattern, ErrorArgument}
+use Rattle.logos_token.specs.declared.error.detail.Detail.TheVariants.{Plain, Lexical, Pattern, ErrorArgument, Ambiguous}
 use Rattle.logos_token.specs.declared.error.detail.PatternFront.{PatternFront}
 use Rattle.logos_token.specs.declared.error.detail.PatternDetail.{PatternDetail}
 use Rattle.logos_token.specs.declared.error.detail.PatternKind.{PatternKind}
@@ -64,16 +64,6 @@ group_help front =
     if looks_ahead front || looks_back front then codes "write a longer pattern and a priority in place of look-around"
     else codes "write a name once, as in `(?<name>..)`, or `(?:..)` without one"
 
--- The help for a fault in an escape by number, in a class or in a word boundary.
-abbrev pub class_help : PatternKind → List ℕ
-class_help HexSyntax = codes "write two digits, as in `\\x0A`, or put them in braces, as in `\\x{A}`"
-class_help HexNotScalar = codes "write a number up to `10FFFF`, but none from `D800` to `DFFF`"
-class_help ClassRange = codes "write the smaller end first, and `\\-` for the character next to a class"
-class_help UnknownProperty = codes "write a general category, a script or a binary property, as in `\\p{Lu}`"
-class_help PropertyForm = codes "write `\\p{Greek}` for a script, and `\\P{..}` for the complement"
-class_help NotInBytes = codes "put it in `(?u:..)`, as in `(?u:\\pL)`"
-class_help _ = codes "write `(?-u:\\b)`, with the next character after it"
-
 -- The help for a fault of this kind in a pattern.
 abbrev pub kind_help : PatternKind → PatternDetail → List ℕ
 kind_help Unclosed detail = codes "close it, or write `\\(`, `\\[` or `\\{` for the character"
@@ -87,13 +77,13 @@ kind_help FlagSyntax detail = flag_help detail.front
 kind_help GroupSyntax detail = group_help detail.front
 kind_help EscapeUnknown detail = escape_help detail.front
 kind_help UnicodeWordBoundary detail = boundary_help detail.at
-kind_help HexSyntax detail = class_help HexSyntax
-kind_help HexNotScalar detail = class_help HexNotScalar
-kind_help ClassRange detail = class_help ClassRange
-kind_help UnknownProperty detail = class_help UnknownProperty
-kind_help PropertyForm detail = class_help PropertyForm
-kind_help NotInBytes detail = class_help NotInBytes
-kind_help WordBoundaryForm detail = class_help WordBoundaryForm
+kind_help HexSyntax detail = codes "write two digits, as in `\\x0A`, or put them in braces, as in `\\x{A}`"
+kind_help HexNotScalar detail = codes "write a number up to `10FFFF`, but none from `D800` to `DFFF`"
+kind_help ClassRange detail = codes "write the smaller end first, and `\\-` for the character next to a class"
+kind_help UnknownProperty detail = codes "write a general category, a script or a binary property, as in `\\p{Lu}`"
+kind_help PropertyForm detail = codes "write `\\p{Greek}` for a script, and `\\P{..}` for the complement"
+kind_help NotInBytes detail = codes "put it in `(?u:..)`, as in `(?u:\\pL)`"
+kind_help WordBoundaryForm detail = codes "write `(?-u:\\b)`, with the next character after it"
 
 -- The help for a text that is not a pattern.
 abbrev pub pattern_help : PatternDetail → List ℕ
@@ -104,4 +94,6 @@ pattern_help detail = kind_help detail.kind detail
 abbrev pub IsHelp : Detail → Option (List ℕ) → Type 0
 IsHelp (Pattern detail) help = help ≡ Some (pattern_help detail)
 IsHelp ErrorArgument help = help ≡ Some (codes "write `callback = ..`, or the callback alone")
-IsHelp detail help = Unit {0}
+IsHelp Plain help = Unit {0}
+IsHelp (Lexical kind) help = Unit {0}
+IsHelp (Ambiguous leaf first) help = Unit {0}

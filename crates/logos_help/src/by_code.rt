@@ -30,7 +30,8 @@ pub fn help_for(fault: &SpannedError, sight: Sight<'_>) -> Option<&'static str>
         Detail::Lexical(kind) => Some(help_for_lexical(kind, sight)),
         Detail::Pattern(detail) => Some(help_for_pattern(detail)),
         Detail::ErrorArgument => Some("write `callback = ..`, or the callback alone"),
-        _ => help_by_code(fault.code, sight),
+        Detail::Plain => help_by_code(fault.code, sight),
+        Detail::Ambiguous { .. } => help_by_code(fault.code, sight),
     }
 }
 

@@ -2,7 +2,7 @@
 //! the same words, and `tests/lints/faults.py` compares them.
 
 ghost use Rattle.std.specs.Prelude.{◌≡◌};
-ghost use Rattle.logos_help.specs.Patterns.{boundary_help, class_help, escape_help, escapes, flag_help, group_help, is_digit, looks_ahead, looks_back, opens_with, pattern_help, refers_back};
+ghost use Rattle.logos_help.specs.Patterns.{boundary_help, escape_help, escapes, flag_help, group_help, is_digit, looks_ahead, looks_back, opens_with, pattern_help, refers_back};
 
 use crate::sight::{Sight, between_quotes};
 use logos_token::error::{PatternDetail, PatternFront, PatternKind};
@@ -12,51 +12,51 @@ pub(crate) fn help_for_pattern(detail: PatternDetail) -> &'static str
     ensures { result.now ≡ pattern_help detail }
 {
     match detail.kind {
-        PatternKind::Unclosed => "close it, or write `\\(`, `\\[` or `\\{` for the character",
+        PatternKind::Unclosed => UNCLOSED,
         PatternKind::Unopened => "remove it, or write `\\)` for the character",
-        PatternKind::NothingToRepeat => {
-            "write something in front of it, or a backslash for the character, as in `\\*`"
-        }
-        PatternKind::CountSyntax => {
-            "write `{2}`, `{2,}` or `{0,3}` without blanks, or `\\{` for the character"
-        }
+        PatternKind::NothingToRepeat => NOTHING_TO_REPEAT,
+        PatternKind::CountSyntax => COUNT_SYNTAX,
         PatternKind::CountOrder => "write the smaller count first",
         PatternKind::CountTooLarge => "write a count below 4,294,967,296",
-        PatternKind::FlagUnsupported => {
-            "drop the flag `x`, and write the pattern without blanks and comments"
-        }
+        PatternKind::FlagUnsupported => FLAG_UNSUPPORTED,
         PatternKind::FlagSyntax => help_for_flag(detail.front),
         PatternKind::GroupSyntax => help_for_group(detail.front),
         PatternKind::EscapeUnknown => help_for_escape(detail.front),
         PatternKind::UnicodeWordBoundary => help_for_boundary(detail.at),
-        _ => help_for_class(detail.kind),
+        PatternKind::HexSyntax => HEX_SYNTAX,
+        PatternKind::HexNotScalar => HEX_NOT_SCALAR,
+        PatternKind::ClassRange => CLASS_RANGE,
+        PatternKind::UnknownProperty => UNKNOWN_PROPERTY,
+        PatternKind::PropertyForm => PROPERTY_FORM,
+        PatternKind::NotInBytes => "put it in `(?u:..)`, as in `(?u:\\pL)`",
+        PatternKind::WordBoundaryForm => WORD_BOUNDARY_FORM,
     }
 }
 
-/// Returns what to do about a fault in an escape by number, in a class or in a word boundary.
-fn help_for_class(kind: PatternKind) -> &'static str
-    ensures { result.now ≡ class_help kind }
-{
-    match kind {
-        PatternKind::HexSyntax => {
-            "write two digits, as in `\\x0A`, or put them in braces, as in `\\x{A}`"
-        }
-        PatternKind::HexNotScalar => {
-            "write a number up to `10FFFF`, but none from `D800` to `DFFF`"
-        }
-        PatternKind::ClassRange => {
-            "write the smaller end first, and `\\-` for the character next to a class"
-        }
-        PatternKind::UnknownProperty => {
-            "write a general category, a script or a binary property, as in `\\p{Lu}`"
-        }
-        PatternKind::PropertyForm => {
-            "write `\\p{Greek}` for a script, and `\\P{..}` for the complement"
-        }
-        PatternKind::NotInBytes => "put it in `(?u:..)`, as in `(?u:\\pL)`",
-        _ => "write `(?-u:\\b)`, with the next character after it",
-    }
-}
+const NOTHING_TO_REPEAT: &str =
+    "write something in front of it, or a backslash for the character, as in `\\*`";
+
+const COUNT_SYNTAX: &str =
+    "write `{2}`, `{2,}` or `{0,3}` without blanks, or `\\{` for the character";
+
+const FLAG_UNSUPPORTED: &str =
+    "drop the flag `x`, and write the pattern without blanks and comments";
+
+const HEX_SYNTAX: &str = "write two digits, as in `\\x0A`, or put them in braces, as in `\\x{A}`";
+
+const HEX_NOT_SCALAR: &str = "write a number up to `10FFFF`, but none from `D800` to `DFFF`";
+
+const CLASS_RANGE: &str =
+    "write the smaller end first, and `\\-` for the character next to a class";
+
+const UNKNOWN_PROPERTY: &str =
+    "write a general category, a script or a binary property, as in `\\p{Lu}`";
+
+const PROPERTY_FORM: &str = "write `\\p{Greek}` for a script, and `\\P{..}` for the complement";
+
+const WORD_BOUNDARY_FORM: &str = "write `(?-u:\\b)`, with the next character after it";
+
+const UNCLOSED: &str = "close it, or write `\\(`, `\\[` or `\\{` for the character";
 
 /// Returns whether a text begins with `(?` and this byte.
 fn opens_with(front: PatternFront, third: u8) -> bool

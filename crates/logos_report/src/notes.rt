@@ -112,16 +112,16 @@ fn push_other_line(page: &mut Page, shown: ShownFault<'_, '_, '_>, line: &str, n
         return;
     }
     push_note(page, shown.width, "note", line.trim_start());
-    if let Some(other) = shown.known.set.other(number) {
-        push_leaf_place(page, shown.part, other);
-    }
-    page.push("\n");
+    push_leaf_place(page, shown.part, shown.known.set.other(number));
 }
 
-/// Appends the position of the fault of another leaf.
-fn push_leaf_place(page: &mut Page, part: Part<'_, '_>, other: &SpannedError)
+/// Appends the position of the fault of another leaf, if there is one, and ends the line.
+fn push_leaf_place(page: &mut Page, part: Part<'_, '_>, other: Option<&SpannedError>)
     ensures { Shows [] page.old page.new }
 {
-    page.push(" at ");
-    push_place(page, part, other.span.from);
+    if let Some(other) = other {
+        page.push(" at ");
+        push_place(page, part, other.span.from);
+    }
+    page.push("\n");
 }

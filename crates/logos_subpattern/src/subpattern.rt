@@ -1,7 +1,7 @@
 //! The subpatterns of a lexer, with their texts. `logos_leaf` makes them once, after all attributes
 //! of the enum are read.
 
-ghost use Rattle.std.specs.Prelude.{◌≡◌, ◌++◌, ◌∷◌, [], ◌<◌, IfOk, IfSome, OnOk, string_bytes, ℕ, List, map, option_map, OnErr, chars, vec_len, None, length};
+ghost use Rattle.std.specs.Prelude.{◌≡◌, ◌++◌, ◌∷◌, [], ◌<◌, IfOk, IfSome, OnOk, string_bytes, ℕ, List, map, option_map, OnErr, chars, vec_len, None};
 ghost use Rattle.logos_subpattern.specs.Words.{list_all, previous, ident_slice, literal_view, named_literal_view, AddsFault, is_word, is_name, flags_of, pattern_text, wrapped, subpattern_name, subpattern_twice, utf8_subpattern, utf8_text, Bor, IsReport, text_of, subst_report, stored_report, tested_report, IsAdded, AreAdded, IsTested, put_stored, stored_at, place_in, FindPlaces};
 ghost use Rattle.logos_subpattern.specs.StoredViews.{stored_of};
 
@@ -192,10 +192,7 @@ impl<'s> Subpatterns<'s> {
 
     /// Returns the length of the text of the subpattern with this name, and the span of the name at
     /// its definition, if there is one.
-    pub(crate) fn stored(&self, name: &str) -> Option<(usize, Span)>
-        ensures { result ≡ option_map (λ s. (length s.text, s.span))
-            (stored_at (names_of self.now) name.now) }
-    {
+    pub(crate) fn stored(&self, name: &str) -> Option<(usize, Span)> {
         let place = self.place(name)?;
         let subpattern = &self.list[place];
         Some((subpattern.pattern.len(), subpattern.name.span))
