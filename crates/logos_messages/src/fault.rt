@@ -37,12 +37,34 @@ pub(crate) fn push_fault_line(
     ensures { OnOk result (PutsFault message.entry.part.source.now message.entry.part.offset
         (fault_of message.entry.known.fault.now) lines.old lines.new) }
 {
-    let rendered = rendered(alloc, message)?;
     let put_in = put_in_text(alloc, message)?;
-    let message = FaultMessage {
-        put_in: text_of(&put_in),
+    push_rendered_line(lines, alloc, with_put_in(message, &put_in))
+}
+
+/// Returns a fault with the text of its subpattern.
+fn with_put_in<'f, 'p, 't>(
+    message: FaultMessage<'f, 'p, 't>,
+    put_in: &'f Option<String>,
+) -> FaultMessage<'f, 'p, 't>
+    ensures part { result.part ≡ message.entry.part }
+    ensures known { result.known ≡ message.entry.known }
+{
+    FaultMessage {
+        put_in: text_of(put_in),
         ..message
-    };
+    }
+}
+
+/// Appends the line of a fault whose subpattern is known.
+fn push_rendered_line(
+    lines: &mut JsonLines,
+    alloc: Global,
+    message: FaultMessage<'_, '_, '_>,
+) -> Result<(), AllocError>
+    ensures { OnOk result (PutsFault message.entry.part.source.now message.entry.part.offset
+        (fault_of message.entry.known.fault.now) lines.old lines.new) }
+{
+    let rendered = rendered(alloc, message)?;
     push_message(lines, message, text_of(&rendered));
     lines.end_line();
     Ok(())
