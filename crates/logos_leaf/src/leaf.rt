@@ -247,10 +247,9 @@ fn whole_pattern<'s>(
         unicode: is_string(&definition.literal),
         ignore_case: definition.ignore_flags.ignore_case,
     };
-    let written = WrittenPattern {
-        literal: &definition.literal,
-        making: Making::PutIn(subpatterns),
-    };
+    let literal = &definition.literal;
+    let making = Making::PutIn(subpatterns);
+    let written = WrittenPattern { literal, making };
     match read_pattern(text, written, mode, errors) {
         Ok(Some(pattern)) => fitted_pattern(definition, pattern, errors),
         Ok(None) => {

@@ -142,7 +142,7 @@ fn detail_of(
     kind: Kind,
     at: usize,
     regex: &str,
-    written: WrittenPattern<'_, '_>,
+    written: WrittenPattern<'_, '_, '_>,
 ) -> Result<PatternDetail, Memory>
     ensures { IfOk result (λ detail. IsDetail kind regex.now detail) }
 {
@@ -159,7 +159,7 @@ fn detail_of(
 fn report_error(
     error: PatternError,
     regex: &str,
-    written: WrittenPattern<'_, '_>,
+    written: WrittenPattern<'_, '_, '_>,
     errors: &mut Errors,
 ) -> Result<(), Memory>
     ensures ok { OnOk result (ReportsError error regex.now
@@ -190,7 +190,7 @@ fn report_error(
 /// Returns `Memory` if memory runs out. The faults are then as before.
 pub fn read_pattern<'s>(
     regex: &str,
-    written: WrittenPattern<'_, 's>,
+    written: WrittenPattern<'_, '_, 's>,
     mode: ReadingMode,
     errors: &mut Errors,
 ) -> Result<Option<Pattern<'s>>, Memory>

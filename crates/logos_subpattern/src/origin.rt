@@ -10,8 +10,8 @@ use std::alloc::Global;
 
 /// The literal of a pattern, and how the text of the pattern was made of it.
 #[derive(Clone, Copy)]
-pub struct WrittenPattern<'p, 's> {
-    pub literal: &'p Literal<'s>,
+pub struct WrittenPattern<'l, 'p, 's> {
+    pub literal: &'l Literal<'s>,
     pub making: Making<'p, 's>,
 }
 
@@ -184,7 +184,7 @@ fn without_group(literal: &Literal<'_>, origin: ByteOrigin) -> ByteOrigin {
 /// Returns the origin of the byte at `at` of the text of a pattern.
 pub(crate) fn origin_of(
     alloc: Global,
-    written: WrittenPattern<'_, '_>,
+    written: WrittenPattern<'_, '_, '_>,
     at: usize,
 ) -> Result<ByteOrigin, Memory> {
     let literal = written.literal;

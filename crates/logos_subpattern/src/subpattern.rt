@@ -271,10 +271,9 @@ impl<'s> Subpatterns<'s> {
             (IsTested utf8_mode (named_literal_view named.now) (string_bytes text)
             (names_of self.old) (names_of self.new) errors.old errors.new) }
     {
-        let written = WrittenPattern {
-            literal: &named.1,
-            making: Making::Grouped(self),
-        };
+        let literal = &named.1;
+        let making = Making::Grouped(self);
+        let written = WrittenPattern { literal, making };
         let read = read_pattern(text.as_str(), written, TEST_MODE, errors)?;
         let Some(pattern) = read else {
             return Ok(());
