@@ -13,15 +13,13 @@ use std::alloc::{AllocError, Global};
 
 /// A fault, with what belongs to it.
 #[derive(Clone, Copy)]
-pub(crate) struct FaultMessage<'f, 'p, 't> {
+pub(crate) struct FaultMessage<'f, 'c, 'p, 't> {
     pub(crate) part: Part<'p, 't>,
     pub(crate) known: KnownFault<'f>,
     /// What it is in a set of ambiguous leaves of which something is known.
-    pub(crate) member: Option<Member<'f>>,
+    pub(crate) member: Option<Member<'c>>,
     /// The patterns that explain it.
-    pub(crate) starts: &'f [Start],
-    /// With which subpattern its byte counts.
-    pub(crate) put_in: Option<&'f str>,
+    pub(crate) starts: &'c [Start],
 }
 
 /// Appends the line of a fault.
@@ -32,46 +30,25 @@ pub(crate) struct FaultMessage<'f, 'p, 't> {
 pub(crate) fn push_fault_line(
     lines: &mut JsonLines,
     alloc: Global,
-    message: FaultMessage<'_, '_, '_>,
+    message: FaultMessage<'_, '_, '_, '_>,
 ) -> Result<(), AllocError>
     ensures { OnOk result (PutsFault message.entry.part.source.now message.entry.part.offset
         (fault_of message.entry.known.fault.now) lines.old lines.new) }
 {
     let put_in = put_in_text(alloc, message)?;
-    push_rendered_line(lines, alloc, with_put_in(message, &put_in))
-}
-
-/// Returns a fault with the text of its subpattern.
-fn with_put_in<'f, 'p, 't>(
-    message: FaultMessage<'f, 'p, 't>,
-    put_in: &'f Option<String>,
-) -> FaultMessage<'f, 'p, 't>
-    ensures part { result.part ≡ message.entry.part }
-    ensures known { result.known ≡ message.entry.known }
-{
-    FaultMessage {
-        put_in: text_of(put_in),
-        ..message
-    }
-}
-
-/// Appends the line of a fault whose subpattern is known.
-fn push_rendered_line(
-    lines: &mut JsonLines,
-    alloc: Global,
-    message: FaultMessage<'_, '_, '_>,
-) -> Result<(), AllocError>
-    ensures { OnOk result (PutsFault message.entry.part.source.now message.entry.part.offset
-        (fault_of message.entry.known.fault.now) lines.old lines.new) }
-{
     let rendered = rendered(alloc, message)?;
-    push_message(lines, message, text_of(&rendered));
+    push_message(lines, message, text_of(&rendered), &put_in);
     lines.end_line();
     Ok(())
 }
 
-/// Appends a fault, and this report of it.
-fn push_message(lines: &mut JsonLines, message: FaultMessage<'_, '_, '_>, rendered: Option<&str>)
+/// Appends a fault, this report of it, and the text of a subpattern that is put in.
+fn push_message(
+    lines: &mut JsonLines,
+    message: FaultMessage<'_, '_, '_, '_>,
+    rendered: Option<&str>,
+    put_in: &Option<String>,
+)
     ensures { GivesMessage message.entry.part.source.now message.entry.part.offset
         (fault_head (fault_of message.entry.known.fault.now)) message.entry.known.fault.now.span
         message.entry.known.fault.now.also (option_map (λ t. t.now) rendered.entry)
@@ -85,13 +62,16 @@ fn push_message(lines: &mut JsonLines, message: FaultMessage<'_, '_, '_>, render
         message.known.fault.span,
         message.known.fault.also,
     );
-    push_notes(lines, message);
+    push_notes(lines, message, put_in);
     lines.push_maybe_text("rendered", rendered);
     lines.end_object();
 }
 
 /// Returns the report of a fault without colors, or `None` if its lines are long.
-fn rendered(alloc: Global, message: FaultMessage<'_, '_, '_>) -> Result<Option<String>, AllocError>
+fn rendered(
+    alloc: Global,
+    message: FaultMessage<'_, '_, '_, '_>,
+) -> Result<Option<String>, AllocError>
     ensures { IfOk result (λ text. IfSome text (λ text. StandInOrder (fault_texts false
         message.entry.part.source.now message.entry.part.offset
         (fault_of message.entry.known.fault.now)) (string_bytes text))) }
@@ -107,7 +87,7 @@ fn rendered(alloc: Global, message: FaultMessage<'_, '_, '_>) -> Result<Option<S
 /// Returns with which subpattern the byte of a fault counts, or `None` if it counts with none.
 fn put_in_text(
     alloc: Global,
-    message: FaultMessage<'_, '_, '_>,
+    message: FaultMessage<'_, '_, '_, '_>,
 ) -> Result<Option<String>, AllocError> {
     let Some(put) = put_in(message.part, message.known.fault) else {
         return Ok(None);

@@ -158,16 +158,16 @@ fn push_all(
     let mut next = first;
     for number in 0..faults.len() {
         let fault = &faults[number];
+        let known = KnownFault {
+            fault,
+            set: set_at(faults, number),
+            help: next.help(),
+        };
         let message = FaultMessage {
             part,
-            known: KnownFault {
-                fault,
-                set: set_at(faults, number),
-                help: next.help(),
-            },
+            known,
             member: next.member(fault),
             starts: next.starts(fault.code),
-            put_in: None,
         };
         push_counted(lines, alloc, listing, number, message)?;
         next = next.after(fault);
@@ -182,7 +182,7 @@ fn push_counted(
     alloc: Global,
     listing: FaultListing<'_>,
     number: usize,
-    message: FaultMessage<'_, '_, '_>,
+    message: FaultMessage<'_, '_, '_, '_>,
 ) -> Result<(), AllocError>
     requires { number ≤ length listing.faults.now }
     ensures { OnOk result (PutsCounted message.entry.part.source.now message.entry.part.offset

@@ -8,23 +8,27 @@ use logos_json::JsonLines;
 use logos_report::{MOST, Member, Start};
 
 /// Appends the notes and the help of a fault, as a member.
-pub(crate) fn push_notes(lines: &mut JsonLines, message: FaultMessage<'_, '_, '_>)
+pub(crate) fn push_notes(
+    lines: &mut JsonLines,
+    message: FaultMessage<'_, '_, '_, '_>,
+    put_in: &Option<String>,
+)
     ensures { GivesNoteList lines.old lines.new }
 {
     lines.begin_list("children");
     push_other_lines(lines, message.known.fault.message.as_str());
-    push_put_in(lines, message.put_in);
+    push_put_in(lines, put_in);
     push_starts(lines, message.starts);
     push_advice(lines, message);
     lines.end_list();
 }
 
 /// Appends with which subpattern the byte of a fault counts, if it does.
-fn push_put_in(lines: &mut JsonLines, put_in: Option<&str>)
+fn push_put_in(lines: &mut JsonLines, put_in: &Option<String>)
     ensures { GivesNotes lines.old lines.new }
 {
     if let Some(text) = put_in {
-        push_one(lines, "note", text);
+        push_one(lines, "note", text.as_str());
     }
 }
 
@@ -39,7 +43,7 @@ fn push_starts(lines: &mut JsonLines, starts: &[Start])
 }
 
 /// Appends what is known of a set of ambiguous leaves, and what to do about a fault.
-fn push_advice(lines: &mut JsonLines, message: FaultMessage<'_, '_, '_>)
+fn push_advice(lines: &mut JsonLines, message: FaultMessage<'_, '_, '_, '_>)
     ensures { GivesNotes lines.old lines.new }
 {
     push_known(lines, message.member);

@@ -3,7 +3,7 @@ use Rattle.logos_report.specs.Faults.{fault_texts}
 use Rattle.logos_token.specs.FaultView.{fault_of}
 use Rattle.logos_messages.specs.Tokens.{fault_head, fault_tokens}
 use Rattle.logos_messages.proofs.MessageLemmas.{message_put}
-use Rattle.logos_messages.proofs.fault.push_rendered_line.Goals as goal
+use Rattle.logos_messages.proofs.fault.push_fault_line.Goals as goal
 
 pub returns : goal.returns
 returns c =
