@@ -10,8 +10,8 @@ use Rattle.logos_graph.specs.GraphOf.{IsGraphOf}
 use Rattle.logos_graph.specs.View.{GraphValue, rules_of}
 use Rattle.logos_hir.specs.Text.{IsBytes}
 use Rattle.logos_pattern.specs.declared.leaf.Leaf.{Leaf}
-use Rattle.logos_report.specs.Pages.{PageValue}
-use Rattle.logos_report.proofs.PageLemmas.{gains_nothing, gains_then}
+use Rattle.logos_page.specs.Pages.{PageValue}
+use Rattle.logos_page.proofs.PageLemmas.{gains_nothing, gains_then}
 use Rattle.logos_answers.specs.Examples.{AreExampleLines, ShowsExample, ShowsExamples}
 
 none_in : (m : Match) → Contains {X = Match} [] m → ⊥

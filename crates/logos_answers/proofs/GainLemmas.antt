@@ -5,8 +5,8 @@ use Rattle.std.proofs.lemmas.Str.{IsUtf8-from_is_utf8, is_utf8-from_IsUtf8}
 use Rattle.std.specs.List.{flat_map}
 use Rattle.std.specs.Str.{IsUtf8, chars, is_utf8}
 use Rattle.logos_answers.specs.Quoting.{byte_literal, literal, shown_byte, shown_bytes, shown_character, string_literal}
-use Rattle.logos_report.specs.Pages.{PageValue, Gains}
-use Rattle.logos_report.proofs.PageLemmas.{gains_nothing, gains_then}
+use Rattle.logos_page.specs.Pages.{PageValue, Gains}
+use Rattle.logos_page.proofs.PageLemmas.{gains_nothing, gains_then}
 
 module _ {X : Type 0} (f : X → List ℕ) (xs : List X) (k : ℕ) where
   -- the text of the next one, and those of the rest

@@ -5,8 +5,8 @@ use Rattle.logos_evidence.specs.declared.matching.Match.{Match}
 use Rattle.logos_evidence.specs.Matching.{AreMatches}
 use Rattle.logos_graph.specs.View.{rules_of}
 use Rattle.logos_pattern.specs.declared.leaf.Leaf.{Leaf}
-use Rattle.logos_report.specs.Pages.{Gains, PageValue}
-use Rattle.logos_report.proofs.PageLemmas.{gains_then}
+use Rattle.logos_page.specs.Pages.{Gains, PageValue}
+use Rattle.logos_page.proofs.PageLemmas.{gains_then}
 use Rattle.logos_answers.specs.Matches.{IsVerdict, ShowsMatches, last_of, lines_of, longest_from}
 
 -- one match more

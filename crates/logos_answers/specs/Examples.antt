@@ -7,7 +7,7 @@ use Rattle.logos_evidence.specs.Losses.{IsShortestLoss, NeverLoses}
 use Rattle.logos_evidence.specs.Matching.{AreMatches, IsWinner}
 use Rattle.logos_graph.specs.View.{rules_of}
 use Rattle.logos_pattern.specs.declared.leaf.Leaf.{Leaf}
-use Rattle.logos_report.specs.Pages.{Gains, PageValue}
+use Rattle.logos_page.specs.Pages.{Gains, PageValue}
 use Rattle.logos_answers.specs.declared.examples.Loss.{Loss}
 use Rattle.logos_answers.specs.Matches.{leaf_head}
 use Rattle.logos_answers.specs.Names.{leaf_text}

@@ -3,7 +3,7 @@ use Rattle.std.specs.Prelude.{◌≡◌, ℕ, Bool, List, ◌++◌, codes, lengt
 use Rattle.std.specs.List.{flat_map}
 use Rattle.logos_evidence.specs.Covering.{AreCoveringInputs}
 use Rattle.logos_graph.specs.Graph.{GraphState}
-use Rattle.logos_report.specs.Pages.{Gains, PageValue}
+use Rattle.logos_page.specs.Pages.{Gains, PageValue}
 use Rattle.logos_answers.specs.Quoting.{literal}
 
 -- The line of an input: a literal of Rust.

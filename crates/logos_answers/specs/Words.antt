@@ -4,7 +4,7 @@ pub use Rattle.logos_evidence.specs.Losses.{IsShortestLoss, NeverLoses}
 pub use Rattle.logos_graph.specs.GraphOf.{IsGraphOf}
 pub use Rattle.logos_graph.specs.View.{rules_of}
 pub use Rattle.logos_hir.specs.Text.{IsBytes}
-pub use Rattle.logos_report.specs.Pages.{Gains}
+pub use Rattle.logos_page.specs.Pages.{Gains}
 pub use Rattle.std.specs.List.{flat_map}
 pub use Rattle.logos_answers.specs.Counts.{code_variant, count_line, ends_text, goes_on, is_same_name, line_after, lines_from, sum_after, time_line, title_line, totals_text, variant_line, variant_lines}
 pub use Rattle.logos_answers.specs.Expecting.{IsLineStart, timeless}

@@ -3,8 +3,8 @@
 use crate::differing::NamedLexer;
 use crate::names::variant_of;
 use indexmap::IndexSet;
+use logos_page::Page;
 use logos_pattern::leaf::Leaf;
-use logos_report::Page;
 use std::alloc::{AllocError, Global};
 
 /// What is looked up in a lexer.

@@ -5,7 +5,7 @@ ghost use Rattle.logos_answers.specs.Words.{Gains, code_variant, count_line, goe
 
 use crate::names::variant_of;
 use logos_code::code::CodeLeaf;
-use logos_report::Page;
+use logos_page::Page;
 use std::alloc::{AllocError, Global};
 
 /// How many items there were of each leaf, and how many errors.

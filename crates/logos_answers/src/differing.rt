@@ -8,8 +8,8 @@ use logos_code::code::Code;
 use logos_evidence::{Match, matches_from, winner};
 use logos_graph::graph::Graph;
 use logos_machine::machine::{Item, Lexer};
+use logos_page::Page;
 use logos_pattern::leaf::LeafId;
-use logos_report::Page;
 use std::alloc::{AllocError, Global};
 
 /// A lexer, the path of its file, and the text of its enum.

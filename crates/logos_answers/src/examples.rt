@@ -9,8 +9,8 @@ use crate::names::push_leaf;
 use crate::quoting::push_quoted;
 use logos_evidence::{example, loses, matches_from, winner};
 use logos_graph::graph::Graph;
+use logos_page::Page;
 use logos_pattern::leaf::Leaf;
-use logos_report::Page;
 use std::alloc::{AllocError, Global};
 
 /// What a leaf finds, and where it loses.

@@ -5,7 +5,7 @@ ghost use Rattle.logos_answers.specs.Words.{IsLineStart, timeless};
 
 use crate::quoting::push_quoted;
 use logos_lines::Cursor;
-use logos_report::Page;
+use logos_page::Page;
 
 /// What begins the line of an answer that differs from one time to the next.
 const TIME: &[u8] = b"milliseconds: ";

@@ -6,7 +6,7 @@ ghost use Rattle.logos_answers.specs.Words.{flat_map, Gains, ShowsInputs, input_
 use crate::quoting::push_literal;
 use logos_evidence::covering_inputs;
 use logos_graph::graph::Graph;
-use logos_report::Page;
+use logos_page::Page;
 use std::alloc::{AllocError, Global};
 
 /// Appends a line for each of the first inputs of those that together pass all edges of a graph, at

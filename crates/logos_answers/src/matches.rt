@@ -8,8 +8,8 @@ use crate::names::{name_at, push_leaf};
 use crate::quoting::push_quoted;
 use logos_evidence::{Match, matches_from, winner};
 use logos_graph::graph::Graph;
+use logos_page::Page;
 use logos_pattern::leaf::Leaf;
-use logos_report::Page;
 use std::alloc::{AllocError, Global};
 
 /// An offset of an input, from which leaves match.

@@ -3,8 +3,8 @@
 ghost use Rattle.std.specs.Prelude.{◌≡◌, option_map};
 ghost use Rattle.logos_answers.specs.Words.{Gains, leaf_name, leaf_text, name_at, variant_name, variant_text};
 
+use logos_page::Page;
 use logos_pattern::leaf::{Leaf, VariantKind};
-use logos_report::Page;
 
 /// Returns the name of the variant of a kind, or `None` for a skip.
 pub fn variant_of<'l>(kind: &'l VariantKind<'_>) -> Option<&'l str>

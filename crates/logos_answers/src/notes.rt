@@ -2,7 +2,7 @@
 
 use crate::counts::{Counts, code_name_at};
 use logos_code::code::CodeLeaf;
-use logos_report::Page;
+use logos_page::Page;
 use std::alloc::{AllocError, Global};
 
 /// Returns a note that names each variant with items of a leaf that has a callback. It is empty if

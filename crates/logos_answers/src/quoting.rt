@@ -5,7 +5,7 @@ ghost use Rattle.std.specs.Prelude.{◌≡◌, ◌<◌, ◌/◌, ◌%◌, length
 ghost use Rattle.logos_answers.specs.Quoting as shown;
 ghost use Rattle.logos_answers.specs.Words.{Gains};
 
-use logos_report::Page;
+use logos_page::Page;
 use std::str;
 
 /// Appends bytes in quotes: as a text if they are UTF-8, and with the other bytes escaped if not.

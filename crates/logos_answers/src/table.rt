@@ -1,7 +1,7 @@
 //! The leaves of a lexer as a table.
 
 use logos_inspect::{Costs, LeafRow};
-use logos_report::{Page, digits};
+use logos_page::{Page, digits};
 use std::cmp::max;
 
 /// How many columns of a page a tab is shown in.

@@ -1,8 +1,9 @@
 -- Reports: values together with the faults that are reported on the way to them.
-pub use Rattle.logos_type_params.specs.TypeParams.{fault}
+pub use Rattle.logos_type_params.specs.TypeParams.{fault, fault_with}
 use Rattle.std.specs.Prelude.{◌≡◌, ℕ, List, [], ◌∷◌, ◌++◌, Some}
 use Rattle.logos_lexeme.specs.declared.lexeme.Span.{Span}
 use Rattle.logos_token.specs.declared.error.fault_code.FaultCode.{FaultCode}
+use Rattle.logos_token.specs.declared.error.detail.Detail.TheVariants.{Plain}
 use Rattle.logos_token.specs.Faults.{Fault}
 use Rattle.logos_attribute.specs.Slices.{Slice}
 
@@ -28,7 +29,7 @@ map_report f report = with_faults (f report.value) report.faults
 
 -- A fault that is about a second span.
 abbrev pub fault_also : FaultCode → List ℕ → Span → Span → Fault
-fault_also code message span other = record { code = code; message = message; span = span; also = Some other }
+fault_also code message span other = record { code = code; message = message; span = span; also = Some other; detail = Plain }
 
 -- A fault of a name, whose message has the name between two texts.
 abbrev pub fault_about : FaultCode → List ℕ → Slice → List ℕ → Fault

@@ -224,6 +224,7 @@ fn clues_of(alloc: Global, graph: &Graph<'_>) -> Result<Clues, AllocError>
     Ok(Clues {
         meetings: meetings_of(alloc, graph)?,
         starts: starts_of(alloc, graph.leaves())?,
+        helps: Vec::new(alloc),
     })
 }
 

@@ -6,8 +6,9 @@ use logos_automaton::dfa::{Dfa, Matches, StateId};
 use logos_evidence::{loses, matches_from, winner};
 use logos_graph::graph::Graph;
 use logos_inspect::marked_leaves;
+use logos_page::Page;
 use logos_pattern::leaf::Leaf;
-use logos_report::{Page, Warning};
+use logos_report::Warning;
 use logos_warnings::plain_warning;
 use std::alloc::{AllocError, Global};
 

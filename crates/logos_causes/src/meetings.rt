@@ -9,8 +9,9 @@ use crate::quoting::push_quoted;
 use logos_evidence::{Match, matches_from, meeting};
 use logos_graph::graph::{Graph, GraphError};
 use logos_hir::leaf::LeafId;
+use logos_page::Page;
 use logos_pattern::leaf::Leaf;
-use logos_report::{Meeting, Page};
+use logos_report::Meeting;
 use std::alloc::{AllocError, Global};
 
 /// For how many sets the text on which they meet is searched.

@@ -1,7 +1,7 @@
 //! The names of leaves in messages.
 
+use logos_page::Page;
 use logos_pattern::leaf::{Leaf, VariantKind};
-use logos_report::Page;
 use std::alloc::{AllocError, Global};
 
 /// Returns the name of the variant of a leaf, or `skip`.

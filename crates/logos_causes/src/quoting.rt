@@ -1,6 +1,6 @@
 //! Inputs in messages.
 
-use logos_report::Page;
+use logos_page::Page;
 use std::str;
 
 /// How many bytes of an input are shown.

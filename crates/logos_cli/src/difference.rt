@@ -5,7 +5,7 @@ ghost use Rattle.logos_cli.specs.Views.{FailsBy, IsRefusedFor};
 
 use logos_expand::shape_name;
 use logos_host::{ComparableFiles, Failure, Standing};
-use logos_report::Page;
+use logos_page::Page;
 use logos_tables::Shape;
 use std::alloc::{AllocError, Global};
 

@@ -31,5 +31,5 @@ pub use mir.Syntax.{named}
 pub use Rattle.logos_codegen.specs.Given.{IsGiven, KeepsEnum, error_callback, variant_at}
 pub use Rattle.logos_codegen.specs.RunLaws.{RunsAreCut}
 pub use Rattle.logos_codegen.specs.Source.{IsAccepted, IsRefused, IsWithinLimits, IsWithinSizes}
-pub use Rattle.logos_codegen.specs.Texts.{disambiguation_faults, disambiguation_text, empty_match_faults, fault_at, line_of, named_leaf, other_lines, reported_as}
+pub use Rattle.logos_codegen.specs.Texts.{disambiguation_fault, disambiguation_faults, disambiguation_text, empty_match_faults, fault_at, first_of, line_of, named_leaf, other_lines, reported_as}
 pub use Rattle.logos_codegen.specs.inside.Steps.{AreGraphFaults, IsFaultless, IsGraphMade, IsLimit, ReportsGraph}

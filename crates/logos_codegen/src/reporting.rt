@@ -1,12 +1,12 @@
 //! Reporting the faults of a graph.
 
 ghost use Rattle.std.specs.Prelude.{◌≡◌, ◌++◌, ◌==◌, ◌∷◌, [], map, flat_map, slice_get, option_map, if◌then◌else◌, IfOk, OnOk, string_bytes};
-ghost use Rattle.logos_codegen.specs.Words.{option_map_or, fault_of, numbers, named_leaf, fault_at, line_of, other_lines, empty_match_faults, disambiguation_text, disambiguation_faults, reported_as};
+ghost use Rattle.logos_codegen.specs.Words.{option_map_or, fault_of, numbers, named_leaf, fault_at, line_of, other_lines, empty_match_faults, disambiguation_text, disambiguation_fault, disambiguation_faults, first_of, reported_as};
 
 use logos_graph::graph::GraphError;
 use logos_hir::leaf::LeafId;
 use logos_pattern::leaf::Leaf;
-use logos_token::error::{Errors, FaultCode, Memory};
+use logos_token::error::{Detail, Errors, FaultCode, Memory};
 use logos_token::token::Span;
 use std::alloc::{AllocError, Global};
 
@@ -74,6 +74,16 @@ fn disambiguation_text(
     Ok(text)
 }
 
+/// Returns the number of the first leaf of a set, or `number` if the set has none.
+fn first_of(set: &[LeafId], number: LeafId) -> usize
+    ensures { result ≡ first_of (numbers set.now) number.0 }
+{
+    match set.get(0) {
+        Some(first) => first.0,
+        None => number.0,
+    }
+}
+
 /// Reports a leaf of an ambiguous set.
 fn report_ambiguous(
     leaves: &[Leaf<'_>],
@@ -82,12 +92,15 @@ fn report_ambiguous(
     leaf: &Leaf<'_>,
     errors: &mut Errors,
 ) -> Result<(), Memory>
-    ensures { OnOk result (errors.new ≡ errors.old ++ fault_at FaultCode.Disambiguation
-        (disambiguation_text (map named_leaf leaves.now) (numbers set.now) number.0
-        (named_leaf leaf.now)) leaf.now.span ∷ []) }
+    ensures { OnOk result (errors.new ≡ errors.old ++ disambiguation_fault
+        (map named_leaf leaves.now) (numbers set.now) number.0 (named_leaf leaf.now) ∷ []) }
 {
     let text = disambiguation_text(errors.alloc(), leaves, set, number, leaf)?;
-    errors.err(FaultCode::Disambiguation, text.as_str(), leaf.span)
+    let detail = Detail::Ambiguous {
+        leaf: number.0,
+        first: first_of(set, number),
+    };
+    errors.err_with(FaultCode::Disambiguation, text.as_str(), leaf.span, detail)
 }
 
 /// Reports the leaf with this number as one of an ambiguous set, if there is one.

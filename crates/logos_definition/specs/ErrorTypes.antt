@@ -1,16 +1,17 @@
 -- Error types and their callbacks.
-use Rattle.std.specs.Prelude.{ℕ, Bool, false, List, [], ◌∷◌, codes, Option, Some, None, if◌then◌else◌}
+use Rattle.std.specs.Prelude.{ℕ, Bool, false, List, [], ◌∷◌, ◌++◌, codes, Option, Some, None, if◌then◌else◌}
 use Rattle.std.specs.Str.{bytes_eq}
 use Rattle.logos_lexeme.specs.declared.lexeme.Span.{Span}
 use Rattle.logos_token.specs.Faults.{Fault}
 use Rattle.logos_token.specs.declared.error.fault_code.FaultCode.TheVariants.{UnknownNested}
+use Rattle.logos_token.specs.declared.error.detail.Detail.TheVariants.{ErrorArgument}
 use Rattle.logos_token.specs.Tokens.{TokenList, none, run_span}
 use Rattle.logos_token.specs.Printing.{printed}
 use Rattle.logos_type.specs.Parts.{Tree}
 use Rattle.logos_type.specs.Printed.{printed_type}
 use Rattle.logos_attribute.specs.Slices.{Slice}
 use Rattle.logos_attribute.specs.Pieces.{PieceValue, Piece, unnamed, named, unexpected}
-use Rattle.logos_attribute.specs.Reports.{Report, with_faults, without_faults, and_then, map_report, fault_about, only}
+use Rattle.logos_attribute.specs.Reports.{Report, with_faults, without_faults, and_then, map_report, fault_with, only}
 use Rattle.logos_attribute.specs.Callbacks.{CallbackView}
 use Rattle.logos_definition.specs.Definitions.{named_callback, unnamed_callback, unexpected_token}
 
@@ -57,7 +58,7 @@ abbrev pub error_span : ErrorView → Span
 error_span e = run_place e.type_run
 
 abbrev pub unknown_error_argument : Slice → Fault
-unknown_error_argument name = fault_about UnknownNested (codes "Unknown nested attribute: ") name (codes "\n\nExpected one of: callback")
+unknown_error_argument name = fault_with UnknownNested ((codes "Unknown nested attribute: " ++ name.text) ++ codes "\n\nExpected one of: callback") name.span ErrorArgument
 
 abbrev pub error_with : ErrorView → Option CallbackView → ErrorView
 error_with e callback = record e { callback = callback }

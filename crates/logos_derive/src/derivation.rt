@@ -9,6 +9,7 @@ use crate::implementation::{Implementation, implementation_of};
 use crate::warnings::warnings_of;
 use logos_causes::{Explained, explain_enum, lexer_warnings};
 use logos_codegen::{Generated, Refusal, generate};
+use logos_help::add_helps;
 use logos_report::{Part, Source};
 use logos_tables::{Shape, config_of};
 use logos_token::error::{Errors, Memory};
@@ -75,8 +76,8 @@ fn warnings_by(alloc: Global, source: &str, made: &Generated<'_>) -> Result<Vec<
 fn refused(alloc: Global, source: &str, errors: &Errors) -> Result<Derivation, Memory>
     ensures { IfOk result (IsRefusedFor source.now errors.now) }
 {
-    let known = explain_enum(alloc, source, Origin::Macro)?;
-    let diagnostics = diagnostics_of(alloc, source, errors, &known)?;
+    let mut known = explain_enum(alloc, source, Origin::Macro)?;
+    let diagnostics = diagnostics_of(alloc, source, errors, &mut known)?;
     Ok(Derivation {
         implementation: None,
         diagnostics,
@@ -88,9 +89,9 @@ fn diagnostics_of(
     alloc: Global,
     source: &str,
     errors: &Errors,
-    known: &Explained,
+    known: &mut Explained,
 ) -> Result<Vec<Diagnostic>, Memory>
-    ensures { IfOk result (λ diagnostics. HasErrors (sizes_of known.now.clues) errors.now
+    ensures { IfOk result (λ diagnostics. HasErrors (sizes_of known.old.clues) errors.now
         diagnostics.items) }
 {
     let text = Source::new(alloc, "", source)?;
@@ -98,6 +99,7 @@ fn diagnostics_of(
         source: &text,
         offset: 0,
     };
+    add_helps(part, errors, &mut known.clues)?;
     let mut diagnostics = errors_of(alloc, part, errors.list(), &known.clues)?;
     let mut warnings = warnings_of(alloc, &known.warnings)?;
     diagnostics.append(&mut warnings)?;

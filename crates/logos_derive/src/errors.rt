@@ -87,6 +87,7 @@ fn error_of(
         fault,
         member: next.member(fault),
         starts: next.starts(fault.code),
+        help: next.help(),
         left_out: left_out(faults, start.saturating_add(joined.len()), fault.code),
     };
     let message = String::from_str(alloc, first_line(fault.message.as_str()))?;

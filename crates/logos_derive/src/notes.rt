@@ -1,7 +1,7 @@
 //! The lines under an error. `errors` calls it.
 
 use crate::diagnostic::{Note, add_help, add_note};
-use logos_report::{MOST, Member, Part, Start, help_of, put_in};
+use logos_report::{MOST, Member, Part, Start, put_in};
 use logos_token::error::{Memory, SpannedError};
 use std::alloc::Global;
 
@@ -15,6 +15,8 @@ pub(crate) struct KnownError<'f, 'p, 't> {
     pub(crate) member: Option<Member<'f>>,
     /// The patterns that explain it.
     pub(crate) starts: &'f [Start],
+    /// What to do about it, if there is something to say.
+    pub(crate) help: Option<&'static str>,
     /// How many faults with its code have no error, if it is the last error with this code.
     pub(crate) left_out: usize,
 }
@@ -31,8 +33,7 @@ pub(crate) fn notes_of(alloc: Global, error: KnownError<'_, '_, '_>) -> Result<V
     Ok(notes)
 }
 
-/// Adds which subpattern is put into a pattern in front of the byte at which it is wrong, if that
-/// is why no part of the literal is known to be wrong.
+/// Adds with which subpattern the byte of a fault counts, if it does.
 fn add_put_in(
     alloc: Global,
     error: KnownError<'_, '_, '_>,
@@ -68,10 +69,7 @@ fn add_other_line(line: &str, notes: &mut Vec<Note>) -> Result<(), Memory> {
     if line.is_empty() {
         return Ok(());
     }
-    match line.strip_prefix("  ") {
-        Some(text) => add_note(text, notes),
-        None => add_note(line, notes),
-    }
+    add_note(line.trim_start(), notes)
 }
 
 /// Adds the patterns that can look at what stands before their first byte, but no more than 50.
@@ -84,7 +82,7 @@ fn add_starts(starts: &[Start], notes: &mut Vec<Note>) -> Result<(), Memory> {
 
 /// Adds what to do about an error, if that is known.
 fn add_advice(error: KnownError<'_, '_, '_>, notes: &mut Vec<Note>) -> Result<(), Memory> {
-    match help_of(error.part, error.fault) {
+    match error.help {
         Some(help) => add_help(help, notes),
         None => Ok(()),
     }

@@ -116,7 +116,7 @@ refuses_one shape text one refusal clues old new source k e h s a p = record {
   parts_are = p ∙ sym (append-nil old.parts.items);
   refused_are = a.are;
   completes = λ rest more worse g. g_refuses e a.is_offset (subst (λ bytes. IsRefused bytes a.bad.errors) k (faults_hold (IsRefused source) refusal a.bad.errors h a.faults))
-      (subst (λ bytes. HasSets bytes (sizes_of a.bad.clues)) k (subst (λ (known : Clues). HasSets source (sizes_of known)) (sym a.known) s)) g;
+      (subst (λ bytes. HasSets bytes (sizes_of a.bad.clues)) k (subst (HasSets source) (sym a.known) s)) g;
 }
 
 -- ---- all enums

@@ -1,8 +1,8 @@
 -- The finished text of a page.
 use Rattle.std.proofs.Common.{◌≡◌, ◌↔◌, ℕ, List, [], ◌++◌, Result, Ok, Err, IfOk, IsOk, IsTrue, refl, sym, ap, ◌∙◌, subst}
 use Rattle.std.proofs.lemmas.List.{append-nil}
-use Rattle.logos_report.specs.Pages.{PageValue, Shows, StandInOrder}
-use Rattle.logos_report.proofs.PageLemmas.{shows_then, unseen}
+use Rattle.logos_page.specs.Pages.{PageValue, Shows, StandInOrder}
+use Rattle.logos_page.proofs.PageLemmas.{shows_then, unseen}
 
 -- what is shown first stays shown
 pub first_shown : {one other : List (List ℕ)} {old middle new : PageValue} → Shows one old middle → Shows other middle new → Shows one old new

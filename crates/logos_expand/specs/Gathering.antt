@@ -14,7 +14,7 @@ use Rattle.logos_rust_file.specs.Files.{AreEnumsOf}
 use Rattle.logos_host.specs.declared.failure.Failure.{Failure}
 use Rattle.logos_host.specs.declared.failure.Failure.TheVariants as failures
 use Rattle.logos_host.specs.Failures.{status_of}
-use Rattle.logos_report.specs.Pages.{StandInOrder}
+use Rattle.logos_page.specs.Pages.{StandInOrder}
 use Rattle.logos_report.specs.Parts.{refused_texts}
 use Rattle.logos_report.specs.Places.{SourceValue}
 use Rattle.logos_report.specs.Sets.{sizes_of}

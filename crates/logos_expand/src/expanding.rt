@@ -12,10 +12,12 @@ use logos_file_warnings::{
     Showing, add_lexer, add_missing, add_passed, add_text, add_warnings, denial_text, push_warned,
     text_of, warning_lines, warning_text,
 };
+use logos_help::add_helps;
 use logos_host::{Failure, MessageFormat};
 use logos_messages::push_refused_messages;
+use logos_page::Page;
 use logos_report::{
-    Clues, Page, Refused, Source, Warning, count_errors, push_refused, push_summary,
+    Clues, Part, Refused, Source, Warning, count_errors, push_refused, push_summary,
 };
 use logos_rust_file::{FoundEnum, Replacement, enums_in, replace};
 use logos_strip::stripping::strip_enum;
@@ -67,7 +69,8 @@ fn refused_whole<'w>(source: &Source<'_>, showing: Showing, refusal: Refusal) ->
     ensures { (shape : Shape) → FailsFor showing.format showing.denies shape source.now result }
 {
     let mut refused = Vec::new(showing.alloc);
-    match push_refusal(&mut refused, 0, refusal, Clues::none(showing.alloc)) {
+    let part = Part { source, offset: 0 };
+    match push_refusal(&mut refused, part, refusal, Clues::none(showing.alloc)) {
         Ok(()) => refused_file(source, showing, &refused, &[]),
         Err(Memory) => Failure::Memory,
     }
@@ -211,7 +214,11 @@ fn gather_enum(
         }
         Err(refusal) => {
             let clues = clues_of(source, span.from, warned)?;
-            push_refusal(&mut gathered.refused, span.from, refusal, clues)
+            let part = Part {
+                source: site.file,
+                offset: span.from,
+            };
+            push_refusal(&mut gathered.refused, part, refusal, clues)
         }
     }
 }
@@ -226,19 +233,21 @@ fn clues_of(text: &str, offset: usize, warned: &mut Vec<Warning>) -> Result<Clue
     Ok(clues)
 }
 
-/// Appends the faults of what begins at an offset of the file, with what is known of them.
+/// Appends the faults of a part of a file, with what is known of them and what to do about them.
 fn push_refusal(
     refused: &mut Vec<Refused>,
-    offset: usize,
+    part: Part<'_, '_>,
     refusal: Refusal,
-    clues: Clues,
+    mut clues: Clues,
 ) -> Result<(), Memory>
-    ensures { OnOk result (AddsRefusal offset refusal clues refused.old.items refused.new.items) }
+    ensures { OnOk result
+        (AddsRefusal part.entry.offset refusal clues refused.old.items refused.new.items) }
 {
     match refusal {
         Refusal::Errors(errors) => {
+            add_helps(part, &errors, &mut clues)?;
             refused.push(Refused {
-                offset,
+                offset: part.offset,
                 errors,
                 clues,
             })?;

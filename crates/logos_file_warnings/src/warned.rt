@@ -1,14 +1,15 @@
 //! The warnings of a file, and how they are shown.
 
 ghost use Rattle.std.specs.Prelude.{◌≡◌, IfOk, [], string_bytes};
-ghost use Rattle.logos_report.specs.Pages.{Shows};
+ghost use Rattle.logos_page.specs.Pages.{Shows};
 
 use logos_causes::lexer_warnings;
 use logos_graph::graph::Graph;
 use logos_host::MessageFormat;
 use logos_messages::push_warning_messages;
+use logos_page::Page;
 use logos_pattern::leaf::Callback;
-use logos_report::{Page, Part, Source, Warning, push_warnings};
+use logos_report::{Part, Source, Warning, push_warnings};
 use logos_rust_file::FoundEnum;
 use logos_token::error::Memory;
 use logos_token::token::Span;

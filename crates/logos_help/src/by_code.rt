@@ -1,13 +1,17 @@
 //! What to do about a fault, by its code. `docs/FAULTS.md` has the same words, and
 //! `tests/lints/faults.py` compares them.
 
+ghost use Rattle.std.specs.Prelude.{option_map};
+ghost use Rattle.logos_help.specs.Patterns.{IsHelp};
+
 use crate::by_sight::{
-    help_for_body, help_for_closure, help_for_empty, help_for_ignore, help_for_literal,
-    help_for_name, help_for_named, help_for_nested, help_for_source, help_for_unknown,
+    help_for_body, help_for_closure, help_for_empty, help_for_literal, help_for_name,
+    help_for_named, help_for_nested, help_for_unknown,
 };
-use crate::for_pattern::{help_for_dot, help_for_kind};
+use crate::for_pattern::{help_for_dot, help_for_pattern};
 use crate::sight::Sight;
-use logos_token::error::{FaultCode, SpannedError};
+use logos_token::error::{Detail, FaultCode, SpannedError};
+use logos_token::token::LexicalKind;
 
 const TWICE: &str = "keep one of them";
 
@@ -17,47 +21,62 @@ const NEST: &str = "nest less deep";
 
 const RENAME: &str = "rename it: a name has ASCII letters, digits and `_`";
 
-/// Returns what to do about a fault, by its code and by what stands at its span, if there is
-/// something to say.
-pub fn help_for(fault: &SpannedError, sight: Sight<'_>) -> Option<&'static str> {
-    let help = match fault.code {
+/// Returns what to do about a fault, by what is known of it, by its code and by the text at its
+/// span, if there is something to say.
+pub fn help_for(fault: &SpannedError, sight: Sight<'_>) -> Option<&'static str>
+    ensures { IsHelp fault.now.detail (option_map (λ help. help.now) result) }
+{
+    match fault.detail {
+        Detail::Lexical(kind) => Some(help_for_lexical(kind, sight)),
+        Detail::Pattern(detail) => Some(help_for_pattern(detail)),
+        Detail::ErrorArgument => Some("write `callback = ..`, or the callback alone"),
+        Detail::Plain => help_by_code(fault.code, sight),
+        Detail::Ambiguous { .. } => help_by_code(fault.code, sight),
+    }
+}
+
+/// Returns what to do about a fault of which nothing more is known, if there is something to say.
+fn help_by_code(code: FaultCode, sight: Sight<'_>) -> Option<&'static str> {
+    let help = match code {
         FaultCode::Previous => return None,
-        FaultCode::Lexical => help_for_lexical(fault.message.as_str(), sight),
-        FaultCode::Regex => help_for_kind(fault.message.as_str(), sight),
         FaultCode::GreedyDot => help_for_dot(sight),
         FaultCode::InvalidNested => help_for_nested(sight),
         FaultCode::UnknownLogos => help_for_unknown(sight),
         FaultCode::LiteralSyntax => help_for_literal(sight),
-        FaultCode::UnknownNested => help_for_name(fault.message.as_str(), sight),
-        FaultCode::SourceOld => help_for_source(sight),
+        FaultCode::UnknownNested => help_for_name(sight),
         FaultCode::NamedExpected => help_for_named(sight),
         FaultCode::CallbackClosure => help_for_closure(sight),
         FaultCode::CallbackBody => help_for_body(sight),
-        FaultCode::IgnoreAscii => help_for_ignore(sight),
         FaultCode::EmptyMatch => help_for_empty(sight),
-        _ => help_for_code(fault.code),
+        _ => help_for_code(code),
     };
     Some(help)
 }
 
-/// Returns what to do about a source that is not made of tokens. Its message ends with the kind.
-fn help_for_lexical(message: &str, sight: Sight<'_>) -> &'static str {
+/// Returns what to do about a source that cannot be cut into tokens, by the reason and by the text
+/// that is not a token.
+fn help_for_lexical(kind: LexicalKind, sight: Sight<'_>) -> &'static str {
     if sight.text.starts_with('\'') {
-        DOUBLE
-    } else if message.ends_with("BadCharacter") {
-        "remove this character: no token of Rust begins with it"
-    } else if message.ends_with("Unterminated") {
-        "close the string or the comment that begins here"
-    } else if message.ends_with("Unbalanced") {
-        "close this delimiter, or remove it: it has no partner"
-    } else if sight.text.contains("\\x") {
+        return DOUBLE;
+    }
+    match kind {
+        LexicalKind::BadCharacter => "remove this character: no token of Rust begins with it",
+        LexicalKind::Unterminated => "close the string or the comment that begins here",
+        LexicalKind::Unbalanced => "close this delimiter, or remove it: it has no partner",
+        LexicalKind::BadLiteral => help_for_escapes(sight),
+    }
+}
+
+/// Returns what to do about a literal with escapes that Rust does not have.
+fn help_for_escapes(sight: Sight<'_>) -> &'static str {
+    if sight.text.contains("\\x") {
         "a string has `\\x00` to `\\x7F` and `\\u{..}`: write a byte string for other bytes"
     } else {
         "write a raw string, as `r\"\\d\"`: in it a backslash belongs to the pattern"
     }
 }
 
-/// Returns what to do about a fault with this code, whatever stands there.
+/// Returns what to do about a fault with this code, whatever the text at its span is.
 fn help_for_code(code: FaultCode) -> &'static str {
     match code {
         FaultCode::NotAnEnum => "derive `Logos` for an enum alone",
@@ -113,6 +132,7 @@ fn help_for_option(code: FaultCode) -> &'static str {
         FaultCode::ExtrasForm => "write the `=`, as in `extras = SomeType`",
         FaultCode::SkipForm => "write `skip \"..\"`, without `=`",
         FaultCode::SkipGroup => "write the pattern first, as in `skip(\"..\", callback)`",
+        FaultCode::SourceOld => "drop it, or write `utf8 = false` for inputs of bytes",
         FaultCode::Utf8Twice => TWICE,
         FaultCode::Utf8Value => "write `utf8 = false` for inputs of bytes",
         FaultCode::Utf8Form => "write the `=`, as in `utf8 = false`",
@@ -145,6 +165,9 @@ fn help_for_callback(code: FaultCode) -> &'static str {
     match code {
         FaultCode::IgnoreForm => "write `ignore(case)`",
         FaultCode::IgnoreEmpty => "write `ignore(case)`",
+        FaultCode::IgnoreAscii => {
+            "write `ignore(case)`, or `(?i-u:..)` in a pattern for ASCII letters alone"
+        }
         FaultCode::IgnoreUnknown => "the only flag is `case`",
         FaultCode::IgnoreToken => "remove it",
         FaultCode::CallbackValue => {

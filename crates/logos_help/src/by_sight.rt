@@ -1,4 +1,4 @@
-//! What to do about a fault, by what stands at its span. `docs/FAULTS.md` has the same words, and
+//! What to do about a fault, by the text at its span. `docs/FAULTS.md` has the same words, and
 //! `tests/lints/faults.py` compares them.
 
 use crate::sight::{Sight, between_quotes};
@@ -28,7 +28,7 @@ fn has_colon(text: &str) -> bool {
     text.contains(':') & !text.contains("::") & !text.starts_with("skip")
 }
 
-/// Returns what to do where a literal is wanted and something else stands.
+/// Returns what to do about tokens that are not a literal.
 pub(crate) fn help_for_literal(sight: Sight<'_>) -> &'static str {
     if sight.text.contains("\" | ") {
         "write an attribute for each of them"
@@ -37,19 +37,16 @@ pub(crate) fn help_for_literal(sight: Sight<'_>) -> &'static str {
     }
 }
 
-/// Returns what to do about an argument that there is not, by the names that there are and by what
-/// follows it.
-pub(crate) fn help_for_name(message: &str, sight: Sight<'_>) -> &'static str {
-    if !message.contains("priority, ") {
-        "write `callback = ..`, or the callback alone"
-    } else if sight.after.starts_with('(') {
+/// Returns what to do about an unknown argument of a pattern, by the character after its name.
+pub(crate) fn help_for_name(sight: Sight<'_>) -> &'static str {
+    if sight.after.starts_with('(') {
         "name a function without calling it, as in `callback = parse`"
     } else {
         "the arguments are `priority`, `callback`, `ignore` and `allow_greedy`"
     }
 }
 
-/// Returns what to do about an option that there is not, by its name.
+/// Returns what to do about an unknown option, by its name.
 pub(crate) fn help_for_unknown(sight: Sight<'_>) -> &'static str {
     if is_argument(sight.text) {
         "write it in the parentheses of `skip(\"..\", ..)`"
@@ -62,19 +59,6 @@ pub(crate) fn help_for_unknown(sight: Sight<'_>) -> &'static str {
 fn is_argument(name: &str) -> bool {
     let is_value = (name == "priority") | (name == "callback") | (name == "allow_greedy");
     is_value | (name == "ignore")
-}
-
-/// Returns what to do about the option `source`, by its value.
-pub(crate) fn help_for_source(sight: Sight<'_>) -> &'static str {
-    let value = match sight.after.split_once(')') {
-        Some(parts) => parts.0,
-        None => sight.after,
-    };
-    if value.contains("str") & !value.contains("u8") {
-        "drop it: inputs are UTF-8 without it"
-    } else {
-        "write `utf8 = false` for inputs of bytes"
-    }
 }
 
 /// Returns what to do about an argument without a name.
@@ -107,19 +91,6 @@ pub(crate) fn help_for_body(sight: Sight<'_>) -> &'static str {
         "write the body, as in `|lex| lex.slice().len()`"
     } else {
         "write one parameter alone: a comma ends the callback"
-    }
-}
-
-/// Returns what to do about the flag `ascii_case`, by the attribute that has it.
-pub(crate) fn help_for_ignore(sight: Sight<'_>) -> &'static str {
-    let attribute = match sight.before.rsplit_once('#') {
-        Some(parts) => parts.1,
-        None => "",
-    };
-    if attribute.starts_with("[token") {
-        "write `ignore(case)`"
-    } else {
-        "write `ignore(case)`, or `(?i-u:..)` in the pattern for ASCII letters alone"
     }
 }
 

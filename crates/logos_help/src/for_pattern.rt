@@ -1,80 +1,84 @@
-//! What to do about a fault in a pattern, by its kind and by its shape. `docs/FAULTS.md` has the
-//! same words, and `tests/lints/faults.py` compares them.
+//! What to do about a fault in a pattern, by its kind and by the bytes at it. `docs/FAULTS.md` has
+//! the same words, and `tests/lints/faults.py` compares them.
+
+ghost use Rattle.std.specs.Prelude.{◌≡◌};
+ghost use Rattle.logos_help.specs.Patterns.{boundary_help, escape_help, escapes, flag_help, group_help, is_digit, looks_ahead, looks_back, opens_with, pattern_help, refers_back};
 
 use crate::sight::{Sight, between_quotes};
+use logos_token::error::{PatternDetail, PatternFront, PatternKind};
 
-/// The kinds of pattern faults, with what to do.
-const KINDS: [(&str, &str); 14] = [
-    (
-        "Unclosed",
-        "close it, or write `\\(`, `\\[` or `\\{` for the character",
-    ),
-    ("Unopened", "remove it, or write `\\)` for the character"),
-    (
-        "NothingToRepeat",
-        "write something in front of it, or a backslash for the character, as in `\\*`",
-    ),
-    (
-        "CountSyntax",
-        "write `{2}`, `{2,}` or `{0,3}` without blanks, or `\\{` for the character",
-    ),
-    ("CountOrder", "write the smaller count first"),
-    ("CountTooLarge", "write a count below 4,294,967,296"),
-    (
-        "FlagUnsupported",
-        "drop the flag `x`, and write the pattern without blanks and comments",
-    ),
-    (
-        "HexSyntax",
-        "write two digits, as in `\\x0A`, or put them in braces, as in `\\x{A}`",
-    ),
-    (
-        "HexNotScalar",
-        "write a number up to `10FFFF`, but none from `D800` to `DFFF`",
-    ),
-    (
-        "ClassRange",
-        "write the smaller end first, and `\\-` for the character next to a class",
-    ),
-    (
-        "UnknownProperty",
-        "write a general category, a script or a binary property, as in `\\p{Lu}`",
-    ),
-    (
-        "PropertyForm",
-        "write `\\p{Greek}` for a script, and `\\P{..}` for the complement",
-    ),
-    ("NotInBytes", "put it in `(?u:..)`, as in `(?u:\\pL)`"),
-    (
-        "WordBoundaryForm",
-        "write `(?-u:\\b)`, with the next character after it",
-    ),
-];
-
-/// Returns what to do about a text that is not a pattern. The message ends with the kind of the
-/// fault.
-pub(crate) fn help_for_kind(message: &str, sight: Sight<'_>) -> &'static str {
-    for row in &KINDS {
-        if message.ends_with(row.0) {
-            return row.1;
-        }
-    }
-    if message.ends_with("FlagSyntax") {
-        help_for_flag(sight.text)
-    } else if message.ends_with("EscapeUnknown") {
-        help_for_escape(sight.text)
-    } else if message.ends_with("UnicodeWordBoundary") {
-        help_for_boundary(between_quotes(sight.text))
-    } else {
-        help_for_group(sight.text)
+/// Returns what to do about a text that is not a pattern, by its fault.
+pub(crate) fn help_for_pattern(detail: PatternDetail) -> &'static str
+    ensures { result.now ≡ pattern_help detail }
+{
+    match detail.kind {
+        PatternKind::Unclosed => UNCLOSED,
+        PatternKind::Unopened => "remove it, or write `\\)` for the character",
+        PatternKind::NothingToRepeat => NOTHING_TO_REPEAT,
+        PatternKind::CountSyntax => COUNT_SYNTAX,
+        PatternKind::CountOrder => "write the smaller count first",
+        PatternKind::CountTooLarge => "write a count below 4,294,967,296",
+        PatternKind::FlagUnsupported => FLAG_UNSUPPORTED,
+        PatternKind::FlagSyntax => help_for_flag(detail.front),
+        PatternKind::GroupSyntax => help_for_group(detail.front),
+        PatternKind::EscapeUnknown => help_for_escape(detail.front),
+        PatternKind::UnicodeWordBoundary => help_for_boundary(detail.at),
+        PatternKind::HexSyntax => HEX_SYNTAX,
+        PatternKind::HexNotScalar => HEX_NOT_SCALAR,
+        PatternKind::ClassRange => CLASS_RANGE,
+        PatternKind::UnknownProperty => UNKNOWN_PROPERTY,
+        PatternKind::PropertyForm => PROPERTY_FORM,
+        PatternKind::NotInBytes => "put it in `(?u:..)`, as in `(?u:\\pL)`",
+        PatternKind::WordBoundaryForm => WORD_BOUNDARY_FORM,
     }
 }
 
-/// Returns what to do about a group that does not begin with a flag, by its literal.
-fn help_for_flag(literal: &str) -> &'static str {
-    if literal.contains("(?P=") {
+const NOTHING_TO_REPEAT: &str =
+    "write something in front of it, or a backslash for the character, as in `\\*`";
+
+const COUNT_SYNTAX: &str =
+    "write `{2}`, `{2,}` or `{0,3}` without blanks, or `\\{` for the character";
+
+const FLAG_UNSUPPORTED: &str =
+    "drop the flag `x`, and write the pattern without blanks and comments";
+
+const HEX_SYNTAX: &str = "write two digits, as in `\\x0A`, or put them in braces, as in `\\x{A}`";
+
+const HEX_NOT_SCALAR: &str = "write a number up to `10FFFF`, but none from `D800` to `DFFF`";
+
+const CLASS_RANGE: &str =
+    "write the smaller end first, and `\\-` for the character next to a class";
+
+const UNKNOWN_PROPERTY: &str =
+    "write a general category, a script or a binary property, as in `\\p{Lu}`";
+
+const PROPERTY_FORM: &str = "write `\\p{Greek}` for a script, and `\\P{..}` for the complement";
+
+const WORD_BOUNDARY_FORM: &str = "write `(?-u:\\b)`, with the next character after it";
+
+const UNCLOSED: &str = "close it, or write `\\(`, `\\[` or `\\{` for the character";
+
+/// Returns whether a text begins with `(?` and this byte.
+fn opens_with(front: PatternFront, third: u8) -> bool
+    ensures { result ≡ opens_with front third }
+{
+    (front.first == b'(') & (front.second == b'?') & (front.third == third)
+}
+
+/// Returns whether a text begins with a backslash and this byte.
+fn escapes(front: PatternFront, second: u8) -> bool
+    ensures { result ≡ escapes front second }
+{
+    (front.first == b'\\') & (front.second == second)
+}
+
+/// Returns what to do about a group that does not begin with a flag, by its first bytes.
+fn help_for_flag(front: PatternFront) -> &'static str
+    ensures { result.now ≡ flag_help front }
+{
+    if opens_with(front, b'P') & (front.fourth == b'=') {
         REFERENCE
-    } else if literal.contains("(?#") {
+    } else if opens_with(front, b'#') {
         "leave the comment out"
     } else {
         "write one of `i m s U u R`, as in `(?i)`, or `(?:..)` for a group"
@@ -83,82 +87,76 @@ fn help_for_flag(literal: &str) -> &'static str {
 
 const REFERENCE: &str = "write again what may stand there: nothing refers back";
 
-/// The escapes of other languages of patterns, with what to do.
-const ESCAPES: [(&str, &str); 5] = [
-    ("\\k", REFERENCE),
-    ("\\h", "write `[ \\t]` for a blank"),
-    ("\\R", "write `\\r?\\n` for a line end"),
-    ("\\Z", "write `\\z` for the end of the input"),
-    (
-        "\\Q",
-        "write a backslash in front of each special character",
-    ),
-];
-
-/// Returns what to do about an escape that there is not, by its literal.
-fn help_for_escape(literal: &str) -> &'static str {
-    for row in &ESCAPES {
-        if literal.contains(row.0) {
-            return row.1;
-        }
-    }
-    if refers_back(literal) {
+/// Returns what to do about an escape that does not exist, by its first bytes.
+fn help_for_escape(front: PatternFront) -> &'static str
+    ensures { result.now ≡ escape_help front }
+{
+    if escapes(front, b'k') | refers_back(front) {
         REFERENCE
+    } else if escapes(front, b'h') {
+        "write `[ \\t]` for a blank"
+    } else if escapes(front, b'R') {
+        "write `\\r?\\n` for a line end"
+    } else if escapes(front, b'Z') {
+        "write `\\z` for the end of the input"
+    } else if escapes(front, b'Q') {
+        "write a backslash in front of each special character"
     } else {
         "write the character alone or by its number, as in `\\x1B`"
     }
 }
 
-/// Returns whether a literal has a backslash with one or two digits after it, as a pattern that
-/// refers back has. With more they are the number of a character.
-fn refers_back(literal: &str) -> bool {
-    for piece in literal.split('\\').skip(1) {
-        let count = digits_of(piece);
-        if ((count == 1) | (count == 2)) & !piece.starts_with('0') {
-            return true;
-        }
-    }
-    false
+/// Returns whether an escape has one or two digits, as one that refers back to a group has. With
+/// three or more they are the number of a character.
+fn refers_back(front: PatternFront) -> bool
+    ensures { result ≡ refers_back front }
+{
+    let is_number = is_digit(front.second) & (front.second != b'0');
+    (front.first == b'\\') & is_number & !(is_digit(front.third) & is_digit(front.fourth))
 }
 
-/// Returns how many digits a text begins with.
-fn digits_of(text: &str) -> usize {
-    let mut count: usize = 0;
-    for byte in text.bytes() {
-        if !byte.is_ascii_digit() {
-            return count;
-        }
-        count = count.saturating_add(1);
-    }
-    count
+/// Returns whether a byte is a digit.
+fn is_digit(byte: u8) -> bool
+    ensures { result ≡ is_digit byte }
+{
+    (b'/' < byte) & (byte < b':')
 }
 
-/// Returns what to do about a boundary of words, by its pattern.
-fn help_for_boundary(pattern: &str) -> &'static str {
-    if pattern.starts_with('\\') {
+/// Returns what to do about a word boundary at this byte. At the front of a pattern it is not
+/// needed.
+fn help_for_boundary(at: usize) -> &'static str
+    ensures { result.now ≡ boundary_help at }
+{
+    if at == 0 {
         "leave it out: a match begins where the one before it ended"
     } else {
         "write `(?-u:\\b)`, the boundary of ASCII words"
     }
 }
 
-/// Returns what to do about a group that is neither plain nor named.
-fn help_for_group(literal: &str) -> &'static str {
-    if looks_ahead(literal) | looks_back(literal) {
+/// Returns what to do about a group that is neither plain nor named, by its first bytes.
+fn help_for_group(front: PatternFront) -> &'static str
+    ensures { result.now ≡ group_help front }
+{
+    if looks_ahead(front) | looks_back(front) {
         "write a longer pattern and a priority in place of look-around"
     } else {
         "write a name once, as in `(?<name>..)`, or `(?:..)` without one"
     }
 }
 
-/// Returns whether a pattern has look-around that reads on.
-fn looks_ahead(literal: &str) -> bool {
-    literal.contains("(?=") | literal.contains("(?!")
+/// Returns whether a group is `(?=..)` or `(?!..)`.
+fn looks_ahead(front: PatternFront) -> bool
+    ensures { result ≡ looks_ahead front }
+{
+    opens_with(front, b'=') | opens_with(front, b'!')
 }
 
-/// Returns whether a pattern has look-around that reads back.
-fn looks_back(literal: &str) -> bool {
-    literal.contains("(?<=") | literal.contains("(?<!")
+/// Returns whether a group is `(?<=..)` or `(?<!..)`.
+fn looks_back(front: PatternFront) -> bool
+    ensures { result ≡ looks_back front }
+{
+    opens_with(front, b'<') & ((front.fourth == b'=') | (front.fourth == b'!'))
 }
 
 /// Returns what to do about a greedy dot, by the shape of the pattern. None of the patterns that it
@@ -168,21 +166,11 @@ pub(crate) fn help_for_dot(sight: Sight<'_>) -> &'static str {
     if is_block_comment(pattern) {
         "for a block comment write `/\\*([^*]|\\*+[^*/])*\\*+/` in a raw string"
     } else if is_to_line_end(pattern) {
-        help_for_line(sight.before)
+        "for a comment to the end of its line add `allow_greedy = true`, as in `skip(\"..\", allow_greedy = true)`"
     } else if is_delimited(pattern) {
         "write a class without the delimiter in place of the dot, as in `\"[^\"\\n]*\"`"
     } else {
         "write a class without what ends it, as in `a[^b]*b`, or add `allow_greedy = true`"
-    }
-}
-
-/// Returns what to do about a greedy dot up to the end of a line, by what stands in front of the
-/// literal. A skip has arguments only in parentheses.
-fn help_for_line(before: &str) -> &'static str {
-    if before.trim_end().ends_with("skip") {
-        "for a comment to the end of its line write `skip(\"..\", allow_greedy = true)`"
-    } else {
-        "for a comment to the end of its line add `allow_greedy = true`"
     }
 }
 

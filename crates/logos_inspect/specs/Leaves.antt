@@ -51,6 +51,7 @@ pub record IsRowOf (file : List ℕ) (offset : ℕ) (text : List ℕ) (leaf : Le
   pub variant : option_copied row.variant ≡ variant_name leaf.kind
   pub token : row.is_token ≡ is_token leaf.pattern
   pub pattern : row.pattern.now ≡ source_of leaf.pattern
+  pub options : row.options ≡ leaf.options
   pub priority : row.priority ≡ leaf.priority
   pub default : IsTrue row.is_default ↔ (default_priority leaf.pattern ≡ Some leaf.priority)
   pub callback : ShowsCallback text leaf.callback (option_copied row.callback)

@@ -3,9 +3,8 @@
 ghost use Rattle.std.specs.Prelude.{◌≡◌, ◌↔◌, IsTrue, IfOk, Some, option_map, option_copied};
 ghost use Rattle.logos_inspect.specs.Views.{place_at, held, IsRowOf, IsTextAt, ShowsCallback, default_priority, held_priority, moved, variant_name};
 
-use crate::options::{LeafOptions, options_from};
 use logos_lines::LineIndex;
-use logos_pattern::leaf::{Callback, Leaf, VariantKind};
+use logos_pattern::leaf::{Callback, Leaf, LeafOptions, VariantKind};
 use logos_pattern::pattern::Pattern;
 use logos_token::error::Memory;
 use logos_token::token::{Literal, LiteralValue, Span};
@@ -53,7 +52,7 @@ pub fn row_of<'l>(
         variant: variant_name(&leaf.kind),
         is_token: leaf.pattern.is_literal(),
         pattern: leaf.pattern.source(),
-        options: options_from(text, leaf.span.to),
+        options: leaf.options,
         priority: leaf.priority,
         is_default,
         callback: callback_text(text, leaf.callback.as_ref()),

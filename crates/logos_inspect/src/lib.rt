@@ -5,9 +5,7 @@
 mod costs;
 mod leaves;
 mod marks;
-mod options;
 
 pub use costs::{Costs, costs_of};
 pub use leaves::{LeafRow, row_of};
 pub use marks::marked_leaves;
-pub use options::LeafOptions;

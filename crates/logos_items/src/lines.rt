@@ -8,7 +8,7 @@ use crate::blocks::BLOCK;
 use logos_answers::{Counts, LINE, Totals, code_name_at};
 use logos_codegen::Generated;
 use logos_codegen::code::{Code, CodeLeaf};
-use logos_report::Page;
+use logos_page::Page;
 use std::alloc::{AllocError, Global};
 use std::time::{Clock, Duration};
 

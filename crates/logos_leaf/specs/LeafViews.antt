@@ -15,4 +15,5 @@ leaf_view leaf = record {
   priority = leaf.priority;
   kind = kind_value leaf.kind;
   callback = option_map callback_view leaf.callback;
+  options = leaf.options;
 }

@@ -7,6 +7,7 @@ use Rattle.logos_token.specs.declared.error.fault_code.FaultCode.TheVariants.{Gr
 use Rattle.logos_token.specs.Faults.{Fault}
 use Rattle.logos_token.specs.Held.{Held, of_text, of_bytes}
 use Rattle.logos_pattern.specs.Leaf.{KindValue}
+use Rattle.logos_pattern.specs.declared.leaf.LeafOptions.{LeafOptions}
 use Rattle.logos_pattern.specs.Escaping.{escaped_text, escaped_bytes}
 use Rattle.logos_hir.specs.Hir.{literal_tree}
 use Rattle.logos_hir.specs.Measure.{fitted, has_greedy_dot}
@@ -20,7 +21,7 @@ use Rattle.logos_subpattern.specs.Substitution.{Stored, subst_report}
 use Rattle.logos_subpattern.specs.Subpatterns.{pattern_text}
 
 -- A leaf as contracts see it: the tree and the source of its pattern, its span, its priority, its
--- kind and its callback.
+-- kind, its callback and its options.
 pub record LeafView : Type 0 where
   pub is_token : Bool
   pub tree : Tree
@@ -29,6 +30,7 @@ pub record LeafView : Type 0 where
   pub priority : ℕ
   pub kind : KindValue
   pub callback : Option CallbackView
+  pub options : LeafOptions
 
 -- The bytes that a literal holds.
 abbrev pub bytes_of : Held → List ℕ
@@ -45,6 +47,10 @@ abbrev pub escaped_of : Held → List ℕ
 escaped_of (of_text value) = escaped_text true value
 escaped_of (of_bytes value) = escaped_bytes true value
 
+-- The options of a definition: `ignore(case)` and `allow_greedy = true`.
+abbrev pub options_of : DefinitionView → LeafOptions
+options_of d = record { ignores_case = d.ignore_case; allows_greedy = unwrap_or d.allow_greedy false }
+
 -- The leaf of a definition, with this tree and this priority.
 abbrev pub leaf_with : Bool → DefinitionView → KindValue → Tree → ℕ → LeafView
 leaf_with is_token d kind tree priority = record {
@@ -55,6 +61,7 @@ leaf_with is_token d kind tree priority = record {
   priority = priority;
   kind = kind;
   callback = d.callback;
+  options = options_of d;
 }
 
 -- ---- `token`.
@@ -69,7 +76,7 @@ token_leaf d kind tree = leaf_with true d kind tree (token_priority d)
 -- The leaf of a `token` whose letters match in either case, by what reading its text gives.
 abbrev pub folded_report : DefinitionView → KindValue → Reading → Report (Option LeafView)
 folded_report d kind (spelled tree) = without_faults (Some (token_leaf d kind tree))
-folded_report d kind (broken kind_of at) = with_faults None (pattern_faults d.literal.token.span (broken kind_of at))
+folded_report d kind (broken cause detail) = with_faults None (pattern_faults d.literal.token.span (broken cause detail))
 folded_report d kind too_deep = with_faults None (pattern_faults d.literal.token.span too_deep)
 
 -- The leaf of a `token`. Its text is read only where letters match in either case.
@@ -115,7 +122,7 @@ tree_report d kind tree = and_then (with_faults tree (greedy_faults d tree)) (λ
 -- The leaf of a pattern, by what reading its text gives.
 abbrev pub reading_report : DefinitionView → KindValue → Reading → Report (Option LeafView)
 reading_report d kind (spelled tree) = tree_report d kind tree
-reading_report d kind (broken kind_of at) = with_faults None (pattern_faults d.literal.token.span (broken kind_of at))
+reading_report d kind (broken cause detail) = with_faults None (pattern_faults d.literal.token.span (broken cause detail))
 reading_report d kind too_deep = with_faults None (pattern_faults d.literal.token.span too_deep)
 
 -- The leaf of a pattern by its text with the subpatterns put in, if all of them are found.

@@ -21,7 +21,7 @@ pub use Rattle.logos_type_params.specs.SelfReference.{texts}
 pub use Rattle.logos_type_params.specs.WrittenTypes.{params_with}
 pub use Rattle.std.specs.Option.{option_to_list}
 pub use Rattle.logos_leaf.specs.LeafViews.{leaf_view}
-pub use Rattle.logos_leaf.specs.Leaves.{IsRegexLeaf, IsTokenLeaf, LeafView, bytes_of, escaped_of, greedy_dot, greedy_faults, is_string, leaf_with, priority_overflow, regex_priority, token_leaf, token_priority, tree_report}
+pub use Rattle.logos_leaf.specs.Leaves.{IsRegexLeaf, IsTokenLeaf, LeafView, bytes_of, escaped_of, greedy_dot, greedy_faults, is_string, leaf_with, options_of, priority_overflow, regex_priority, token_leaf, token_priority, tree_report}
 pub use Rattle.logos_leaf.specs.Sources.{GivesLeaves, IsSourceRead, IsWithoutSkips, ReadsAttributes, ReadsParameters, ReadsSource}
 pub use Rattle.logos_leaf.specs.VariantFaults.{count_faults, error_variant, fields_text, named_fields, regex_form, token_form, variant_fields}
 pub use Rattle.logos_leaf.specs.Variants.{AttributeGives, AttributesAdd, HoldsType, KindIs, RegexGives, SkipsAdd, TokenGives, VariantAdds, VariantsAdd}

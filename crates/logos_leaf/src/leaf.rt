@@ -1,16 +1,26 @@
 //! Leaves of definitions. Skips and attributes of variants call it, once for each leaf.
 
 ghost use Rattle.std.specs.Prelude.{◌≡◌, ◌++◌, IfOk, IfSome, OnOk, OnErr, true, false, option_map, chars, string_bytes};
-ghost use Rattle.logos_leaf.specs.Words.{literal_tree, KindValue, pattern_tree, source_of, is_token, kind_value, token_of, literal_view, IsReport, definition_view, IsRead, pattern_text, subst_report, names_of, bytes_of, is_string, escaped_of, leaf_with, token_priority, token_leaf, regex_priority, greedy_faults, tree_report, IsTokenLeaf, IsRegexLeaf, leaf_view, leaf_by, IsFoldedLeaf, IsWholeLeaf};
+ghost use Rattle.logos_leaf.specs.Words.{literal_tree, KindValue, pattern_tree, source_of, is_token, kind_value, token_of, literal_view, IsReport, definition_view, IsRead, pattern_text, subst_report, names_of, bytes_of, is_string, escaped_of, leaf_with, options_of, token_priority, token_leaf, regex_priority, greedy_faults, tree_report, IsTokenLeaf, IsRegexLeaf, leaf_view, leaf_by, IsFoldedLeaf, IsWholeLeaf};
 
 use crate::fault::{report_greedy_dot, report_overflow};
 use logos_definition::definition::Definition;
-use logos_pattern::leaf::{Leaf, VariantKind};
+use logos_pattern::leaf::{Leaf, LeafOptions, VariantKind};
 use logos_pattern::pattern::{Literal, Pattern, token_priority};
-use logos_subpattern::fault::{ReadingMode, read_pattern};
+use logos_subpattern::fault::{Making, ReadingMode, WrittenPattern, read_pattern};
 use logos_subpattern::subpattern::{Subpatterns, pattern_text};
 use logos_token::error::{Errors, Memory};
 use std::alloc::Global;
+
+/// Returns the options of a definition.
+fn options_of(definition: &Definition<'_>) -> LeafOptions
+    ensures { result ≡ options_of (definition_view definition.now) }
+{
+    LeafOptions {
+        ignores_case: definition.ignore_flags.ignore_case,
+        allows_greedy: definition.allow_greedy.unwrap_or(false),
+    }
+}
 
 /// Returns the leaf of a definition with this pattern and this priority.
 fn leaf_with<'s>(
@@ -25,10 +35,12 @@ fn leaf_with<'s>(
         (kind_value kind.entry) (pattern_tree pattern.entry) priority }
 {
     let span = definition.literal.span();
+    let options = options_of(&definition);
     Leaf::new(span, pattern)
         .variant_kind(kind)
         .priority(priority)
         .callback(definition.callback)
+        .options(options)
 }
 
 /// Returns the priority of a `token`: the given one, or twice the number of bytes that its literal
@@ -82,7 +94,9 @@ fn folded_pattern<'s>(
         unicode: is_string(literal),
         ignore_case: true,
     };
-    read_pattern(text.as_str(), literal, mode, errors)
+    let making = Making::Escaped;
+    let written = WrittenPattern { literal, making };
+    read_pattern(text.as_str(), written, mode, errors)
 }
 
 /// Returns the leaf of a `token` whose letters match in either case. Returns `None` when its text
@@ -218,6 +232,7 @@ fn fitted_pattern<'s>(
 fn whole_pattern<'s>(
     definition: &Definition<'s>,
     text: &str,
+    subpatterns: &Subpatterns<'s>,
     errors: &mut Errors,
 ) -> Result<Option<(Pattern<'s>, usize)>, Memory>
     ensures made { IfOk result (λ fitted. (kind : KindValue) →
@@ -232,7 +247,10 @@ fn whole_pattern<'s>(
         unicode: is_string(&definition.literal),
         ignore_case: definition.ignore_flags.ignore_case,
     };
-    match read_pattern(text, &definition.literal, mode, errors) {
+    let literal = &definition.literal;
+    let making = Making::PutIn(subpatterns);
+    let written = WrittenPattern { literal, making };
+    match read_pattern(text, written, mode, errors) {
         Ok(Some(pattern)) => fitted_pattern(definition, pattern, errors),
         Ok(None) => {
             // It is reported already why the text is not a pattern.
@@ -275,7 +293,7 @@ fn regex_pattern<'s>(
     ensures regex { IfOk result (λ fitted. IfSome fitted (λ p. is_token p.0 ≡ false)) }
 {
     match whole_text(&definition.literal, subpatterns, errors) {
-        Ok(Some(text)) => whole_pattern(definition, text.as_str(), errors),
+        Ok(Some(text)) => whole_pattern(definition, text.as_str(), subpatterns, errors),
         Ok(None) => Ok(None),
         Err(Memory) => Err(Memory),
     }

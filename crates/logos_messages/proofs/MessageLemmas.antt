@@ -11,7 +11,7 @@ use Rattle.logos_report.proofs.FaultLemmas.{next_front}
 use Rattle.logos_report.proofs.PartLemmas.{front_more}
 use Rattle.logos_report.specs.declared.refused.Refused.{Refused}
 use Rattle.logos_report.specs.Faults.{left_out, seen_of}
-use Rattle.logos_report.specs.Pages.{StandInOrder}
+use Rattle.logos_page.specs.Pages.{StandInOrder}
 use Rattle.logos_report.specs.Parts.{all_faults}
 use Rattle.logos_report.specs.Places.{SourceValue}
 use Rattle.logos_token.specs.declared.error.SpannedError.{SpannedError}

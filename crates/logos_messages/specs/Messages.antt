@@ -4,7 +4,7 @@ use Rattle.json.specs.Token.{Token}
 use Rattle.logos_json.specs.Lines.{AreLines, LinesValue, Puts}
 use Rattle.logos_report.specs.declared.refused.Refused.{Refused}
 use Rattle.logos_report.specs.Faults.{fault_texts, left_out, rest_line, seen_of}
-use Rattle.logos_report.specs.Pages.{StandInOrder}
+use Rattle.logos_page.specs.Pages.{StandInOrder}
 use Rattle.logos_report.specs.Parts.{all_faults}
 use Rattle.logos_report.specs.Places.{SourceValue}
 use Rattle.logos_token.specs.Faults.{Fault}

@@ -2,7 +2,7 @@
 use Rattle.std.specs.Prelude.{ℕ, List, [], ◌∷◌, Option, IfSome}
 use Rattle.logos_lines.specs.Starts.{IsLineOf}
 use Rattle.logos_report.specs.Places.{SourceValue}
-use Rattle.logos_report.specs.Pages.{StandInOrder}
+use Rattle.logos_page.specs.Pages.{StandInOrder}
 
 -- A line of a file, and the columns of a span in it, without the last one.
 pub record Marked : Type 0 where

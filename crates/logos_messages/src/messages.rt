@@ -8,7 +8,8 @@ use crate::fault::{FaultMessage, push_fault_line};
 use crate::rest::push_rest_line;
 use logos_json::JsonLines;
 use logos_report::{
-    Clues, FaultListing, MOST, NextFaults, Part, Refused, Source, count_in, first_faults, seen_in,
+    Clues, FaultListing, KnownFault, MOST, NextFaults, Part, Refused, Source, count_in,
+    first_faults, seen_in, set_at,
 };
 use logos_token::error::{Errors, Memory};
 use std::alloc::{AllocError, Global};
@@ -157,10 +158,14 @@ fn push_all(
     let mut next = first;
     for number in 0..faults.len() {
         let fault = &faults[number];
+        let known = KnownFault {
+            fault,
+            set: set_at(faults, number),
+            help: next.help(),
+        };
         let message = FaultMessage {
             part,
-            faults,
-            fault,
+            known,
             member: next.member(fault),
             starts: next.starts(fault.code),
         };
@@ -177,15 +182,15 @@ fn push_counted(
     alloc: Global,
     listing: FaultListing<'_>,
     number: usize,
-    message: FaultMessage<'_, '_, '_>,
+    message: FaultMessage<'_, '_, '_, '_>,
 ) -> Result<(), AllocError>
     requires { number ≤ length listing.faults.now }
     ensures { OnOk result (PutsCounted message.entry.part.source.now message.entry.part.offset
         (listed_faults listing.entry)
         (all_faults listing.entry.earlier.now ++ faults_of (take number listing.entry.faults.now))
-        (fault_of message.entry.fault.now) lines.old lines.new) }
+        (fault_of message.entry.known.fault.now) lines.old lines.new) }
 {
-    let code = message.fault.code;
+    let code = message.known.fault.code;
     let seen = seen_in(listing.earlier, &listing.faults[..number], code);
     if seen < MOST {
         return push_fault_line(lines, alloc, message);

@@ -5,18 +5,31 @@ ghost use Rattle.logos_messages.specs.Words.{Gains, GivesNoteList, GivesNotes, l
 
 use crate::fault::FaultMessage;
 use logos_json::JsonLines;
-use logos_report::{MOST, Member, Part, Start, help_of};
-use logos_token::error::SpannedError;
+use logos_report::{MOST, Member, Start};
 
 /// Appends the notes and the help of a fault, as a member.
-pub(crate) fn push_notes(lines: &mut JsonLines, message: FaultMessage<'_, '_, '_>)
+pub(crate) fn push_notes(
+    lines: &mut JsonLines,
+    message: FaultMessage<'_, '_, '_, '_>,
+    put_in: &Option<String>,
+)
     ensures { GivesNoteList lines.old lines.new }
 {
     lines.begin_list("children");
-    push_other_lines(lines, message.fault.message.as_str());
+    push_other_lines(lines, message.known.fault.message.as_str());
+    push_put_in(lines, put_in);
     push_starts(lines, message.starts);
     push_advice(lines, message);
     lines.end_list();
+}
+
+/// Appends with which subpattern the byte of a fault counts, if it does.
+fn push_put_in(lines: &mut JsonLines, put_in: &Option<String>)
+    ensures { GivesNotes lines.old lines.new }
+{
+    if let Some(text) = put_in {
+        push_one(lines, "note", text.as_str());
+    }
 }
 
 /// Appends a note for each pattern that can look at what stands before its first byte, but no more
@@ -30,11 +43,11 @@ fn push_starts(lines: &mut JsonLines, starts: &[Start])
 }
 
 /// Appends what is known of a set of ambiguous leaves, and what to do about a fault.
-fn push_advice(lines: &mut JsonLines, message: FaultMessage<'_, '_, '_>)
+fn push_advice(lines: &mut JsonLines, message: FaultMessage<'_, '_, '_, '_>)
     ensures { GivesNotes lines.old lines.new }
 {
     push_known(lines, message.member);
-    push_help(lines, message.part, message.fault);
+    push_help(lines, message.known.help);
 }
 
 /// Appends what is known of a set of ambiguous leaves, if this is one of its faults.
@@ -72,28 +85,20 @@ fn push_other_lines(lines: &mut JsonLines, message: &str)
     }
 }
 
-/// Appends a note for a line of a message, unless it is empty.
+/// Appends a note for a line of a message, without the blanks in front of it, unless it is empty.
 fn push_other_line(lines: &mut JsonLines, text: &str)
     ensures { GivesNotes lines.old lines.new }
 {
     if !text.is_empty() {
-        push_note(lines, "note", without_margin(text));
-    }
-}
-
-/// Returns a line of a message without the blanks that stand in front of the name of a pattern.
-fn without_margin(text: &str) -> &str {
-    match text.strip_prefix("  ") {
-        Some(name) => name,
-        None => text,
+        push_note(lines, "note", text.trim_start());
     }
 }
 
 /// Appends what to do about a fault, if there is something to say.
-fn push_help(lines: &mut JsonLines, part: Part<'_, '_>, fault: &SpannedError)
+fn push_help(lines: &mut JsonLines, help: Option<&str>)
     ensures { GivesNotes lines.old lines.new }
 {
-    if let Some(help) = help_of(part, fault) {
+    if let Some(help) = help {
         push_note(lines, "help", help);
     }
 }

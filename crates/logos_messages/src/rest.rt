@@ -6,7 +6,8 @@ ghost use Rattle.logos_messages.specs.Words.{Gains, PutsRest, StandInOrder, left
 use crate::head::{push_code, push_message};
 use crate::notes::push_empty_list;
 use logos_json::JsonLines;
-use logos_report::{Page, push_rest};
+use logos_page::Page;
+use logos_report::push_rest;
 use logos_token::error::FaultCode;
 use std::alloc::{AllocError, Global};
 

@@ -7,7 +7,8 @@ use crate::head::push_message;
 use crate::notes::{push_one, text_of};
 use crate::spans::{has_long_line, push_spans};
 use logos_json::JsonLines;
-use logos_report::{Page, Part, Warning, first_of, push_warning};
+use logos_page::Page;
+use logos_report::{Part, Warning, first_of, push_warning};
 use logos_token::error::Memory;
 use std::alloc::{AllocError, Global};
 

@@ -12,7 +12,7 @@ use Rattle.logos_enum.specs.declared.error.ReadError.{ReadError}
 use Rattle.logos_enum.specs.declared.error.ReadError.TheVariants.{NotAnEnum, Grammar, TypeUnsupported, LimitTypeNesting, Memory as OutOfMemory}
 use Rattle.logos_enum.specs.Enum.{Reads}
 use Rattle.logos_enum.specs.Rules.{Stands}
-use Rattle.logos_parser.specs.Endings.{lexical_text, IsMisread, IsShallow, EndsTokens, EndsReading, nesting_limit, unreadable, misread}
+use Rattle.logos_parser.specs.Endings.{lexical_fault, IsMisread, IsShallow, EndsTokens, EndsReading, nesting_limit, unreadable, misread}
 use Rattle.logos_parser.specs.Refusals.{Refuses}
 use Rattle.logos_parser.specs.declared.refusal.Refusal.{Refusal}
 use Rattle.logos_parser.specs.declared.refusal.Refusal.TheVariants.{Errors, Memory}
@@ -27,8 +27,8 @@ abbrev pub OneEnds : List ℕ → List Fault → Type 0
 OneEnds source faults = (ending : Fault) × EndsReading source ending × (faults ≡ ending ∷ [])
 
 pub lexical_ends : (source : List ℕ) (kind : LexicalKind) (span : Span) (error : Refusal) → IsUnreadable source kind span →
-    Refuses (λ faults. faults ≡ only (fault codes_of.Lexical (lexical_text kind) span)) error → Refuses (OneEnds source) error
-lexical_ends source kind span error u r = refuses_by _ (OneEnds source) (λ faults e. (fault codes_of.Lexical (lexical_text kind) span, unreadable u refl, e)) error r
+    Refuses (λ faults. faults ≡ only (lexical_fault kind span)) error → Refuses (OneEnds source) error
+lexical_ends source kind span error u r = refuses_by _ (OneEnds source) (λ faults e. (lexical_fault kind span, unreadable u refl, e)) error r
 
 pub nesting_ends : (source : List ℕ) (span : Span) (error : Refusal) → IsTooDeep source span →
     Refuses (λ faults. faults ≡ only (fault codes_of.LimitTokenNesting (codes "limit LimitTokenNesting passed") span)) error → Refuses (OneEnds source) error

@@ -4,6 +4,7 @@ use Rattle.logos_lexeme.specs.declared.lexeme.Span.{Span}
 use Rattle.logos_lexeme.specs.declared.lexeme.LexicalKind.{LexicalKind}
 use Rattle.logos_lexeme.specs.declared.lexeme.LexicalKind.TheVariants.{BadCharacter, BadLiteral, Unterminated, Unbalanced}
 use Rattle.logos_token.specs.declared.error.fault_code.FaultCode.TheVariants as codes_of
+use Rattle.logos_token.specs.declared.error.detail.Detail.TheVariants as details
 use Rattle.logos_token.specs.Faults.{Fault}
 use Rattle.logos_token.specs.Tokens.{TokenList, run_span, depth_of}
 use Rattle.logos_token.specs.Spelling.{Spells, IsUnreadable, IsTooDeep}
@@ -12,7 +13,7 @@ use Rattle.logos_enum.specs.declared.error.ReadError.TheVariants.{NotAnEnum, Gra
 use Rattle.logos_enum.specs.Enum.{Reads}
 use Rattle.logos_enum.specs.EnumValues.{EnumValue}
 use Rattle.logos_type_params.specs.TypeParams.{limit_type_nesting}
-use Rattle.logos_attribute.specs.Reports.{fault, only}
+use Rattle.logos_attribute.specs.Reports.{fault, fault_with, only}
 
 -- The source spells this enum, and the span reaches from its first token to its last.
 pub record GivesEnum (source : List ℕ) (value : EnumValue) (item : Span) : Type 0 where
@@ -26,6 +27,10 @@ lexical_text BadCharacter = codes "unreadable source: BadCharacter"
 lexical_text BadLiteral = codes "unreadable source: BadLiteral"
 lexical_text Unterminated = codes "unreadable source: Unterminated"
 lexical_text Unbalanced = codes "unreadable source: Unbalanced"
+
+-- The fault of a source that is not made of tokens.
+abbrev pub lexical_fault : LexicalKind → Span → Fault
+lexical_fault kind span = fault_with codes_of.Lexical (lexical_text kind) span (details.Lexical kind)
 
 -- These are the faults of tokens that are not an enum: one fault, by the error of reading them.
 -- Running out of memory is not a fault.
@@ -54,7 +59,7 @@ pub data EndsReading (source : List ℕ) (ending : Fault) : Type 0 where
   nesting_limit : {span : Span} → IsTooDeep source span →
       ending ≡ fault codes_of.LimitTokenNesting (codes "limit LimitTokenNesting passed") span → EndsReading source ending
   unreadable : {kind : LexicalKind} {span : Span} → IsUnreadable source kind span →
-      ending ≡ fault codes_of.Lexical (lexical_text kind) span → EndsReading source ending
+      ending ≡ lexical_fault kind span → EndsReading source ending
   misread : {tokens : TokenList} → Spells source tokens → depth_of tokens ≤ 128 → EndsTokens tokens (only ending) → EndsReading source ending
 
 -- The tokens of the source nest no deeper than the limit.

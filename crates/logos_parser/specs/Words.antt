@@ -13,6 +13,6 @@ pub use Rattle.logos_type.specs.Parts.{tree_of}
 pub use Rattle.logos_type.specs.TypeTrees.{type_tree}
 pub use Rattle.logos_type_params.specs.Generics.{generics, generics_of}
 pub use Rattle.logos_parser.specs.Analyses.{HasItsType, IsAnalysis, IsEnumAnalysis, IsTokenAnalysis, ReadsEnum, type_faults}
-pub use Rattle.logos_parser.specs.Endings.{EndsReading, EndsTokens, IsMisread, IsShallow, lexical_text, too_long}
+pub use Rattle.logos_parser.specs.Endings.{EndsReading, EndsTokens, IsMisread, IsShallow, lexical_fault, lexical_text, too_long}
 pub use Rattle.logos_parser.specs.EnumTypes.{argument, arguments, bracketed, enum_type, lifetime_argument}
 pub use Rattle.logos_parser.specs.Utf8Faults.{leaf_faults, utf8_fault, utf8_faults, utf8_text}

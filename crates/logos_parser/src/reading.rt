@@ -2,11 +2,11 @@
 //! the fault that ends a reading with it.
 
 ghost use Rattle.std.specs.Prelude.{◌≡◌, ◌∷◌, []};
-ghost use Rattle.logos_parser.specs.Views.{Fault, IsRefusal, fault, only, EndsReading, lexical_text, IsMisread, too_long, Refuses};
+ghost use Rattle.logos_parser.specs.Views.{Fault, IsRefusal, fault, only, EndsReading, lexical_fault, lexical_text, IsMisread, too_long, Refuses};
 
 use crate::refusal::Refusal;
 use logos_enum::ReadError;
-use logos_token::error::{Errors, FaultCode};
+use logos_token::error::{Detail, Errors, FaultCode};
 use logos_token::token::{LexicalKind, Span, TokenError};
 use logos_type_params::reporting::type_nesting_text;
 use std::alloc::Global;
@@ -31,6 +31,22 @@ fn lexical_text(kind: LexicalKind) -> &'static str
         LexicalKind::BadLiteral => "unreadable source: BadLiteral",
         LexicalKind::Unterminated => "unreadable source: Unterminated",
         LexicalKind::Unbalanced => "unreadable source: Unbalanced",
+    }
+}
+
+/// Returns the refusal of a source that is not made of tokens.
+fn unlexed(alloc: Global, kind: LexicalKind, span: Span) -> Refusal
+    ensures { Refuses (λ faults. faults ≡ only (lexical_fault kind span)) result }
+{
+    let mut errors = Errors::new(alloc);
+    match errors.err_with(
+        FaultCode::Lexical,
+        lexical_text(kind),
+        span,
+        Detail::Lexical(kind),
+    ) {
+        Ok(()) => Refusal::Errors(errors),
+        Err(_) => Refusal::Memory,
     }
 }
 
@@ -76,9 +92,7 @@ pub fn unreadable(alloc: Global, src: &str, error: TokenError) -> Refusal
         Refuses (λ faults. faults ≡ too_long src.now ∷ []) result }
 {
     match error {
-        TokenError::Lexical { kind, span } => {
-            refused(alloc, FaultCode::Lexical, lexical_text(kind), span)
-        }
+        TokenError::Lexical { kind, span } => unlexed(alloc, kind, span),
         TokenError::LimitSource => refused(
             alloc,
             FaultCode::LimitSource,

@@ -1,7 +1,7 @@
 //! The leaves of a lexer: each is a pattern with its priority, its kind and its callback.
 //! `logos_leaf` makes leaves; graphs and codes keep them.
 
-ghost use Rattle.std.specs.Prelude.{◌≡◌, Some};
+ghost use Rattle.std.specs.Prelude.{◌≡◌, Some, false};
 ghost use Rattle.logos_pattern.specs.Views.{kind_text, leaf_text, kind_value, callback_span, callback_value, inline_value, variant_name};
 ghost use Rattle.logos_pattern.specs.declared.leaf.Callback.TheVariants as callbacks;
 
@@ -114,6 +114,15 @@ impl Clone for InlineCallback<'_> {
     }
 }
 
+/// The arguments of a leaf's definition beside its priority and its callback.
+#[derive(Clone, Copy, Debug, PartialEq, Eq)]
+pub struct LeafOptions {
+    /// Whether letters match in either case: `ignore(case)`.
+    pub ignores_case: bool,
+    /// Whether a greedy repetition of a dot is allowed: `allow_greedy = true`.
+    pub allows_greedy: bool,
+}
+
 /// A pattern with its priority, and what the lexer does with its matches.
 #[derive(Drop)]
 pub struct Leaf<'s> {
@@ -124,10 +133,13 @@ pub struct Leaf<'s> {
     pub kind: VariantKind<'s>,
     /// The function that the lexer calls on a match, if there is one.
     pub callback: Option<Callback<'s>>,
+    /// The other arguments of its definition.
+    pub options: LeafOptions,
 }
 
 impl<'s> Leaf<'s> {
-    /// Returns a leaf that skips its matches, of priority 0 and without a callback.
+    /// Returns a leaf that skips its matches, of priority 0, without a callback and without
+    /// options.
     pub fn new(span: Span, pattern: Pattern<'s>) -> Leaf<'s>
         ensures { result ≡ record {
           pattern = pattern.entry;
@@ -135,6 +147,7 @@ impl<'s> Leaf<'s> {
           priority = 0;
           kind = VariantKind.Skip;
           callback = None;
+          options = record { ignores_case = false; allows_greedy = false };
         } }
     {
         Leaf {
@@ -143,6 +156,10 @@ impl<'s> Leaf<'s> {
             priority: 0,
             kind: VariantKind::Skip,
             callback: None,
+            options: LeafOptions {
+                ignores_case: false,
+                allows_greedy: false,
+            },
         }
     }
 
@@ -167,6 +184,14 @@ impl<'s> Leaf<'s> {
         ensures { result ≡ record self.entry { callback = callback.entry } }
     {
         self.callback = callback;
+        self
+    }
+
+    /// Returns the leaf with these options.
+    pub fn options(mut self, options: LeafOptions) -> Leaf<'s>
+        ensures { result ≡ record self.entry { options = options } }
+    {
+        self.options = options;
         self
     }
 }

@@ -1,6 +1,6 @@
 -- Texts that stand in order.
 use Rattle.std.proofs.Common.{ℕ, List, [], ◌∷◌}
-use Rattle.logos_report.specs.Pages.{StandInOrder as StandInReport}
+use Rattle.logos_page.specs.Pages.{StandInOrder as StandInReport}
 use Rattle.logos_text.specs.Standing.{StandInOrder as StandInText}
 
 pub in_text : (texts : List (List ℕ)) (whole : List ℕ) → StandInReport texts whole → StandInText texts whole

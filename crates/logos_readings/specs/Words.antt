@@ -7,7 +7,7 @@ pub use Rattle.logos_hir.specs.Matches.{Matches, MatchesInOrder, SomeMatches}
 pub use Rattle.logos_hir.specs.Text.{IsBytes}
 pub use Rattle.logos_hir.specs.Tree.{Tree, repetition, trees}
 pub use Rattle.logos_inspect.specs.Leaves.{moved}
-pub use Rattle.logos_report.specs.Pages.{StandInOrder as StandInReport}
+pub use Rattle.logos_page.specs.Pages.{StandInOrder as StandInReport}
 pub use Rattle.logos_report.specs.Places.{in_file}
 pub use Rattle.logos_strip.specs.Stripping.{stripped}
 pub use Rattle.logos_text.specs.Standing.{StandInOrder as StandInText}

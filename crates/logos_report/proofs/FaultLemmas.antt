@@ -7,12 +7,12 @@ use Rattle.logos_token.specs.declared.error.SpannedError.{SpannedError}
 use Rattle.logos_token.specs.Faults.{Fault}
 use Rattle.logos_token.specs.FaultView.{fault_of, faults_of}
 use Rattle.logos_report.specs.Faults.{counted_texts, texts_after}
-use Rattle.logos_report.specs.Pages.{PageValue, Shows}
+use Rattle.logos_page.specs.Pages.{PageValue, Shows}
 use Rattle.logos_report.specs.Sets.{NextValue, begins_error, errors_after, next_after}
 use Rattle.std.specs.Prelude.{cond, true, false}
 use mir.Val.{bool_byte}
 use Rattle.logos_report.specs.Places.{SourceValue}
-use Rattle.logos_report.proofs.PageLemmas.{shows_nothing, shows_then}
+use Rattle.logos_page.proofs.PageLemmas.{shows_nothing, shows_then}
 
 pub next_left : (faults : List SpannedError) (i : ℕ) (d : SpannedError) → i < length faults → drop i faults ≡ get_or faults i d ∷ drop (i + 1) faults
 next_left faults i d l =

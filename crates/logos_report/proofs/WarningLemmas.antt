@@ -3,10 +3,10 @@ use Rattle.std.proofs.Common.{◌≡◌, Bool, ◌≤◌, ◌<◌, ◌+◌, ℕ,
 use Rattle.std.proofs.Math.Seq.{drop-cons}
 use Rattle.std.proofs.Math.ListN.{drop_of_length-le}
 use Rattle.logos_report.specs.declared.warnings.Warning.{Warning}
-use Rattle.logos_report.specs.Pages.{PageValue, Shows}
+use Rattle.logos_page.specs.Pages.{PageValue, Shows}
 use Rattle.logos_report.specs.Places.{SourceValue}
 use Rattle.logos_report.specs.Warnings.{all_texts, warning_texts}
-use Rattle.logos_report.proofs.PageLemmas.{shows_nothing, shows_then}
+use Rattle.logos_page.proofs.PageLemmas.{shows_nothing, shows_then}
 
 -- the next warning, and those after it
 pub next_warning : (warnings : List Warning) (i : ℕ) (d : Warning) → i < length warnings → drop i warnings ≡ get_or warnings i d ∷ drop (i + 1) warnings

@@ -7,10 +7,10 @@ use Rattle.logos_token.specs.FaultNames.{name_of}
 use Rattle.logos_report.specs.Codes.{is_error}
 use Rattle.logos_report.specs.Sets.{NextValue, first_faults, follows, next_after}
 use Rattle.logos_token.specs.declared.error.fault_code.FaultCode.{FaultCode}
-use Rattle.logos_report.specs.declared.page.Style.TheVariants.{Error, Frame, Strong}
-use Rattle.logos_report.specs.Pages.{painted}
+use Rattle.logos_page.specs.declared.page.Style.TheVariants.{Error, Frame, Strong}
+use Rattle.logos_page.specs.Pages.{painted}
 use Rattle.logos_report.specs.Places.{SourceValue, place_line}
-use Rattle.logos_report.specs.Shown.{shown_text}
+use Rattle.logos_page.specs.Shown.{shown_text}
 
 -- A text up to its first LF.
 abbrev pub first_line : List ℕ → List ℕ

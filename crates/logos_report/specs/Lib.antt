@@ -1,7 +1,5 @@
 pub mod Codes
 pub mod Sets
-pub mod Shown
-pub mod Pages
 pub mod Places
 pub mod Faults
 pub mod Parts

@@ -2,9 +2,9 @@
 use Rattle.std.specs.Prelude.{ℕ, ◌+◌, ◌-◌, ◌^◌, min, Bool, List, ◌++◌, decimal, codes}
 use Rattle.logos_lines.specs.declared.place.Position.{Position}
 use Rattle.logos_lines.specs.Places.{place_at}
-use Rattle.logos_report.specs.declared.page.Style.TheVariants.{Frame}
-use Rattle.logos_report.specs.Pages.{painted}
-use Rattle.logos_report.specs.Shown.{shown_text}
+use Rattle.logos_page.specs.declared.page.Style.TheVariants.{Frame}
+use Rattle.logos_page.specs.Pages.{painted}
+use Rattle.logos_page.specs.Shown.{shown_text}
 
 -- A file as a value: its path and its text.
 pub record SourceValue : Type 0 where

@@ -1,11 +1,11 @@
 -- What is shown of warnings.
 use Rattle.std.specs.Prelude.{ℕ, Bool, List, [], ◌∷◌, ◌++◌, codes, if◌then◌else◌, length, nat_lt, string_bytes, take}
 use Rattle.std.specs.List.{flat_map}
-use Rattle.logos_report.specs.declared.page.Style.TheVariants.{Strong, Warning}
+use Rattle.logos_page.specs.declared.page.Style.TheVariants.{Strong, Warning}
 use Rattle.logos_report.specs.declared.warnings.Warning.{Warning as Shown}
-use Rattle.logos_report.specs.Pages.{painted}
+use Rattle.logos_page.specs.Pages.{painted}
 use Rattle.logos_report.specs.Places.{SourceValue, place_line}
-use Rattle.logos_report.specs.Shown.{shown_text}
+use Rattle.logos_page.specs.Shown.{shown_text}
 
 -- The line of a warning: its message, as it is shown.
 abbrev pub warning_head : Bool → List ℕ → List ℕ

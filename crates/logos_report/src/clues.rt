@@ -1,4 +1,5 @@
-//! What is known of faults of a graph beyond what they say. Who builds the graph finds it.
+//! What is known of faults beyond their messages. `logos_causes` finds it for those of a graph, and
+//! `logos_help` adds what to do about each.
 
 ghost use Rattle.std.specs.Prelude.{◌≡◌, [], MatchOption, false, nat_lt};
 ghost use Rattle.logos_report.specs.Views.{fault_of, is_ambiguity, follows, sizes_of, stepped, next_after, next_value};
@@ -7,13 +8,16 @@ use logos_token::error::{FaultCode, SpannedError};
 use logos_token::token::Span;
 use std::alloc::Global;
 
-/// What is known of the faults of a graph beyond what they say.
+/// What is known of the faults of a source beyond their messages.
 #[derive(Debug, Drop)]
 pub struct Clues {
     /// What is known of each set of ambiguous leaves, in the order of their faults.
     pub meetings: Vec<Meeting>,
     /// The patterns that can look at what stands before their first byte.
     pub starts: Vec<Start>,
+    /// What to do about each fault, in the order of the faults. A fault without an entry has no
+    /// help.
+    pub helps: Vec<Option<&'static str>>,
 }
 
 /// What is known of a set of ambiguous leaves.
@@ -42,6 +46,7 @@ impl Clues {
         Clues {
             meetings: Vec::new(alloc),
             starts: Vec::new(alloc),
+            helps: Vec::new(alloc),
         }
     }
 }
@@ -55,6 +60,8 @@ pub struct NextFaults<'c> {
     passed: usize,
     /// The patterns that can look at what stands before their first byte.
     starts: &'c [Start],
+    /// What to do about the faults that are not passed.
+    helps: &'c [Option<&'static str>],
 }
 
 /// A fault of a set of ambiguous leaves.
@@ -73,6 +80,7 @@ pub fn first_faults(clues: &Clues) -> NextFaults<'_>
         meetings: &clues.meetings,
         passed: 0,
         starts: &clues.starts,
+        helps: &clues.helps,
     }
 }
 
@@ -108,11 +116,20 @@ impl<'c> NextFaults<'c> {
     pub fn after(self, fault: &SpannedError) -> NextFaults<'c>
         ensures { next_value result ≡ next_after (next_value self.entry) (fault_of fault.now) }
     {
+        let next = NextFaults {
+            helps: self.helps.get(1..).unwrap_or(&[]),
+            ..self
+        };
         if is_ambiguity(fault.code) {
-            stepped(self)
+            stepped(next)
         } else {
-            self
+            next
         }
+    }
+
+    /// Returns what to do about the fault that comes next, if there is something to say.
+    pub fn help(self) -> Option<&'static str> {
+        *self.helps.first()?
     }
 
     /// Returns the member of a set of ambiguous leaves that a fault which comes next is, if

@@ -4,17 +4,28 @@ ghost use Rattle.std.specs.Prelude.{◌≡◌, ◌≤◌, ◌++◌, ◌==◌, �
 ghost use Rattle.logos_report.specs.Views.{count_by, name_of, fault_of, faults_of, is_error, shown_text, code_text, count_text, counted_texts, fault_texts, faults_texts, texts_after, first_line, has_name, head_line, rest_line, rest_text, seen_of, summary_line, all_faults, listed_faults, begins_error, errors_after, first_faults, sizes_of, next_value, Gains, Shows, painted, place_line};
 
 use crate::clues::{Clues, NextFaults, first_faults};
+use crate::fault_set::{FaultSet, set_at};
 use crate::frame::{Marks, push_frame_with, push_offset};
-use crate::inner::caret_span;
 use crate::notes::{ShownFault, push_notes};
-use crate::page::{Page, Style};
+use crate::pattern_caret::caret_span;
 use crate::refused::{FaultListing, count_in, seen_in};
 use crate::sets::push_listed;
 use crate::source::Part;
+use logos_page::{Page, Style};
 use logos_token::error::{Errors, FaultCode, SpannedError};
 
 /// How many faults of one code are shown of a file.
 pub const MOST: usize = 50;
+
+/// A fault, with what is known of it.
+#[derive(Clone, Copy)]
+pub struct KnownFault<'f> {
+    pub fault: &'f SpannedError,
+    /// The faults of its set, if it is one of an ambiguous leaf.
+    pub set: FaultSet<'f>,
+    /// What to do about it, if there is something to say.
+    pub help: Option<&'static str>,
+}
 
 /// Appends the faults of a part of a file, in order. For each, a line with the name of its code and
 /// the first line of its message, and one with its position in the file stand in what is pushed. Of
@@ -71,7 +82,12 @@ fn push_counted(
     let code = fault.code;
     let seen = seen_in(listing.earlier, &listing.faults[..number], code);
     if seen < MOST {
-        push_listed(page, part, listing.faults, fault, next);
+        let known = KnownFault {
+            fault,
+            set: set_at(listing.faults, number),
+            help: next.help(),
+        };
+        push_listed(page, part, known, next);
     } else if seen == MOST {
         push_rest(page, code, count_in(listing, code).saturating_sub(MOST));
     }
@@ -208,27 +224,14 @@ fn errors_text(count: usize) -> &'static str
     }
 }
 
-/// Appends a fault, which is one of `faults`.
-pub fn push_fault(
-    page: &mut Page,
-    part: Part<'_, '_>,
-    faults: &[SpannedError],
-    fault: &SpannedError,
-)
+/// Appends a fault, its notes and its help.
+pub fn push_fault(page: &mut Page, part: Part<'_, '_>, known: KnownFault<'_>)
     ensures { Shows (fault_texts page.old.is_colored part.entry.source.now part.entry.offset
-        (fault_of fault.now)) page.old page.new }
+        (fault_of known.entry.fault.now)) page.old page.new }
 {
-    push_head(page, fault);
-    let width = push_span(page, part, fault);
-    push_notes(
-        page,
-        ShownFault {
-            part,
-            faults,
-            fault,
-            width,
-        },
-    );
+    push_head(page, known.fault);
+    let width = push_span(page, part, known.fault);
+    push_notes(page, ShownFault { part, known, width });
 }
 
 /// Appends where a fault begins, and its lines with carets, but no line of a source that is too

@@ -1,12 +1,12 @@
 //! A span of a file: its lines, and carets under it.
 
-ghost use Rattle.std.specs.Prelude.{◌≡◌, ◌∷◌, [], decimal, length};
+ghost use Rattle.std.specs.Prelude.{◌∷◌, []};
 ghost use Rattle.logos_report.specs.Views.{shown_text, Gains, Shows, arrow_line, place_line, shown_place, shown_position};
 
-use crate::page::{Page, Style};
 use crate::source::{Part, Source};
 use crate::window::{FileSpot, LineWindow, window_at};
 use logos_lines::Position;
+use logos_page::{Page, Style, digits};
 use logos_token::token::Span;
 
 /// A span of a file, and how it is shown.
@@ -261,17 +261,4 @@ fn push_label(page: &mut Page, label: &str)
         page.push(" ");
         page.push_shown(label);
     }
-}
-
-/// Returns how many decimal digits a number has.
-pub fn digits(number: usize) -> usize
-    ensures { result ≡ length (decimal number) }
-{
-    let mut rest = number;
-    let mut count: usize = 1;
-    while rest >= 10 {
-        rest /= 10;
-        count += 1;
-    }
-    count
 }

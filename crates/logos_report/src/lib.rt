@@ -3,28 +3,26 @@
 #![tactic(auto)]
 
 mod clues;
+mod fault_set;
 mod faults;
 mod frame;
-mod inner;
 mod notes;
-mod page;
+mod pattern_caret;
 mod refused;
 mod sets;
-mod shown;
-mod sight;
 mod source;
 mod warnings;
 mod window;
 
 pub use clues::{Clues, Meeting, Member, NextFaults, Start, first_faults};
+pub use fault_set::{FaultSet, set_at};
 pub use faults::{
-    MOST, begins_error, count_errors, first_line, is_error, push_fault, push_faults, push_rest,
-    push_summary,
+    KnownFault, MOST, begins_error, count_errors, first_line, is_error, push_fault, push_faults,
+    push_rest, push_summary,
 };
-pub use frame::{digits, push_frame, push_place};
-pub use inner::{PutIn, caret_span, put_in};
-pub use page::{Page, Style};
+pub use frame::{push_frame, push_place};
+pub use notes::push_put_in;
+pub use pattern_caret::{PutIn, caret_span, put_in};
 pub use refused::{FaultListing, Refused, count_in, push_refused, seen_in};
-pub use sight::help_of;
 pub use source::{Part, Source};
 pub use warnings::{Warning, first_of, push_warning, push_warnings};

@@ -1,13 +1,13 @@
 //! The faults of a whole file, part by part. The parts have the count of what is shown in common.
 
 ghost use Rattle.std.specs.Prelude.{◌≡◌, ◌++◌, ◌+◌, ◌<◌, ◌^◌, ◌-◌, length, min};
-ghost use Rattle.logos_report.specs.Pages.{PageValue};
+ghost use Rattle.logos_page.specs.Pages.{PageValue};
 ghost use Rattle.logos_report.specs.Views.{Shows, all_faults, count_by, faults_of, has_name, listed_faults, name_of, refused_texts, seen_of, texts_from};
 
 use crate::clues::{Clues, first_faults};
 use crate::faults::{MOST, count_code, push_all, seen_of};
-use crate::page::Page;
 use crate::source::{Part, Source};
+use logos_page::Page;
 use logos_token::error::{Errors, FaultCode, SpannedError};
 
 /// The faults of a part of a file: of an enum, or of a file that cannot be read.

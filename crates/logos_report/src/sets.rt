@@ -5,49 +5,42 @@ ghost use Rattle.std.specs.Prelude.{◌∷◌, [], nat_lt, if◌then◌else◌};
 ghost use Rattle.logos_report.specs.Views.{fault_of, fault_texts, listed_texts, Shows, place_line, next_value};
 
 use crate::clues::{Meeting, Member, NextFaults, Start};
-use crate::faults::{push_fault, push_head, push_marked};
+use crate::faults::{KnownFault, push_fault, push_head, push_marked};
 use crate::frame::{Marks, push_frame_with, push_offset};
 use crate::notes::{ShownFault, push_help, push_note, push_notes};
-use crate::page::{Page, Style};
 use crate::source::Part;
+use logos_page::{Page, Style};
 use logos_token::error::SpannedError;
 
 /// How many patterns are shown under a fault.
 const MOST: usize = 50;
 
-/// Appends a fault that comes next, which is one of `faults`.
+/// Appends a fault that comes next.
 pub(crate) fn push_listed(
     page: &mut Page,
     part: Part<'_, '_>,
-    faults: &[SpannedError],
-    fault: &SpannedError,
+    known: KnownFault<'_>,
     next: NextFaults<'_>,
 )
     ensures { Shows (listed_texts page.old.is_colored part.entry.source.now part.entry.offset
-        (next_value next.entry) (fault_of fault.now)) page.old page.new }
+        (next_value next.entry) (fault_of known.entry.fault.now)) page.old page.new }
 {
-    match next.member(fault) {
-        Some(member) => push_member(page, part, fault, member),
-        None => push_single(page, part, faults, fault, next.starts(fault.code)),
+    match next.member(known.fault) {
+        Some(member) => push_member(page, part, known, member),
+        None => push_single(page, part, known, next.starts(known.fault.code)),
     }
 }
 
 /// Appends a fault of a set of ambiguous leaves, and what is known of the set after the last one.
-fn push_member(page: &mut Page, part: Part<'_, '_>, fault: &SpannedError, member: Member<'_>)
+fn push_member(page: &mut Page, part: Part<'_, '_>, known: KnownFault<'_>, member: Member<'_>)
     ensures { Shows (if nat_lt 0 member.entry.number
         then place_line page.old.is_colored part.entry.source.now part.entry.offset
-        fault.now.span.from ∷ []
+        known.entry.fault.now.span.from ∷ []
         else fault_texts page.old.is_colored part.entry.source.now part.entry.offset
-        (fault_of fault.now)) page.old page.new }
+        (fault_of known.entry.fault.now)) page.old page.new }
 {
-    let width = push_place_of(page, part, fault, member);
-    let shown = ShownFault {
-        part,
-        faults: &[],
-        fault,
-        width,
-    };
-    push_end(page, shown, member);
+    let width = push_place_of(page, part, known.fault, member);
+    push_end(page, ShownFault { part, known, width }, member);
 }
 
 /// Appends the position of a fault of a set of ambiguous leaves, and in front of the first one the
@@ -100,41 +93,28 @@ fn push_meeting(page: &mut Page, shown: ShownFault<'_, '_, '_>, meeting: &Meetin
     page.push("\n");
 }
 
-/// Appends a fault that is none of a known set, with the patterns that explain it.
-fn push_single(
-    page: &mut Page,
-    part: Part<'_, '_>,
-    faults: &[SpannedError],
-    fault: &SpannedError,
-    starts: &[Start],
-)
+/// Appends a fault that is not one of a known set, with the patterns that explain it.
+fn push_single(page: &mut Page, part: Part<'_, '_>, known: KnownFault<'_>, starts: &[Start])
     ensures { Shows (fault_texts page.old.is_colored part.entry.source.now part.entry.offset
-        (fault_of fault.now)) page.old page.new }
+        (fault_of known.entry.fault.now)) page.old page.new }
 {
     if starts.is_empty() {
-        push_fault(page, part, faults, fault);
+        push_fault(page, part, known);
     } else {
-        push_explained(page, part, fault, starts);
+        push_explained(page, part, known, starts);
     }
 }
 
 /// Appends a fault of a whole enum, with the patterns that explain it in place of all its lines.
-fn push_explained(page: &mut Page, part: Part<'_, '_>, fault: &SpannedError, starts: &[Start])
+fn push_explained(page: &mut Page, part: Part<'_, '_>, known: KnownFault<'_>, starts: &[Start])
     ensures { Shows (fault_texts page.old.is_colored part.entry.source.now part.entry.offset
-        (fault_of fault.now)) page.old page.new }
+        (fault_of known.entry.fault.now)) page.old page.new }
 {
-    push_head(page, fault);
-    push_offset(page, part, fault.span.from, 1);
+    push_head(page, known.fault);
+    push_offset(page, part, known.fault.span.from, 1);
     push_starts(page, part, &starts[..starts.len().min(MOST)]);
-    push_notes(
-        page,
-        ShownFault {
-            part,
-            faults: &[],
-            fault,
-            width: 1,
-        },
-    );
+    let width = 1;
+    push_notes(page, ShownFault { part, known, width });
 }
 
 /// Appends these patterns.

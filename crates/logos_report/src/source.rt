@@ -4,6 +4,7 @@ ghost use Rattle.std.specs.Prelude.{◌≡◌, IfOk, IfSome};
 ghost use Rattle.logos_report.specs.Views.{IsLineOf, place_at, in_file};
 
 use logos_lines::{LineIndex, Position};
+use logos_token::token::Span;
 use std::alloc::{AllocError, Global};
 use std::marker::Model;
 
@@ -23,6 +24,21 @@ impl Part<'_, '_> {
             (in_file self.entry.offset offset) }
     {
         self.source.position(offset.saturating_add(self.offset))
+    }
+}
+
+impl<'t> Part<'_, 't> {
+    /// Returns the text of the part at a span, or an empty one where the file has no such span.
+    pub fn text_at(self, span: Span) -> &'t str {
+        let from = span.from.saturating_add(self.offset);
+        let to = span.to.saturating_add(self.offset);
+        self.source.text().get(from..to).unwrap_or("")
+    }
+
+    /// Returns the text of the file from an offset of the part on, or an empty one after its end.
+    pub fn text_from(self, offset: usize) -> &'t str {
+        let from = offset.saturating_add(self.offset);
+        self.source.text().get(from..).unwrap_or("")
     }
 }
 

@@ -5,8 +5,8 @@ ghost use Rattle.logos_report.specs.Views.{shown_text, Gains, Shows, painted, pl
 
 use crate::frame::{push_frame, push_place};
 use crate::notes::push_note;
-use crate::page::{Page, Style};
 use crate::source::Part;
+use logos_page::{Page, Style};
 use logos_token::token::Span;
 
 /// How many warnings of a part of a file are shown.

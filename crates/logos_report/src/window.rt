@@ -2,12 +2,11 @@
 //! the spot is looked at, however long the line is.
 
 ghost use Rattle.std.specs.Prelude.{◌≡◌, []};
-ghost use Rattle.logos_report.specs.Pages.{Shows};
+ghost use Rattle.logos_page.specs.Pages.{Shows};
 
-use crate::page::Page;
-use crate::shown::columns_of;
 use crate::source::Source;
 use logos_lines::Position;
+use logos_page::{Page, columns_of};
 
 /// How many columns of a line are shown.
 const COLUMNS: usize = 140;

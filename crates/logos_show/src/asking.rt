@@ -12,11 +12,11 @@ use logos_codegen::graph::Graph;
 use logos_host::Failure;
 use logos_items::print_bytes;
 use logos_lines::Position;
+use logos_page::Page;
 use logos_records::{
     JsonLines, input_records, match_records, push_difference_record, push_modes_record,
     push_same_record,
 };
-use logos_report::Page;
 use std::alloc::{AllocError, Global};
 use std::io::Write;
 

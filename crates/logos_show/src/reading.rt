@@ -10,11 +10,13 @@ use logos_codegen::token::Span;
 use logos_file_warnings::{
     Showing, add_warnings, push_warned, text_of as text_of_lines, warning_lines,
 };
+use logos_help::add_helps;
 use logos_host::{ComparableFiles, Failure, Files, MessageFormat, read_text};
 use logos_items::print_bytes;
 use logos_messages::push_messages;
 use logos_options::{PROGRAM, commit_line};
-use logos_report::{Page, Part, Source, count_errors, push_faults, push_summary};
+use logos_page::Page;
+use logos_report::{Part, Source, count_errors, push_faults, push_summary};
 use logos_rust_file::{FoundEnum, enums_in};
 use std::alloc::{AllocError, Global};
 use std::io::Write;
@@ -63,7 +65,7 @@ pub(crate) fn refused(
     ensures { IsNoMisuse result }
 {
     match known_of(alloc, part) {
-        Ok(known) => refused_with(part, showing, refusal, &known),
+        Ok(known) => refused_with(part, showing, refusal, known),
         Err(Memory) => Failure::Memory,
     }
 }
@@ -85,7 +87,7 @@ pub(crate) fn refused_with(
     part: Part<'_, '_>,
     showing: Showing,
     refusal: Refusal,
-    known: &Explained,
+    known: Explained,
 ) -> Failure<'static>
     ensures { IsNoMisuse result }
 {
@@ -116,9 +118,10 @@ fn refusal_text(
     part: Part<'_, '_>,
     showing: Showing,
     errors: &Errors,
-    known: &Explained,
+    mut known: Explained,
 ) -> Result<String, Memory> {
     let alloc = showing.alloc;
+    add_helps(part, errors, &mut known.clues)?;
     let clues = &known.clues;
     match showing.format {
         MessageFormat::Human => {

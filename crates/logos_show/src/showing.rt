@@ -17,10 +17,11 @@ use logos_file_warnings::{
 use logos_host::Failure;
 use logos_inspect::{LeafRow, costs_of, row_of};
 use logos_lines::LineIndex;
+use logos_page::Page;
 use logos_records::{
     JsonLines, NamedGraph, push_cost_record, push_example_records, push_leaf_records,
 };
-use logos_report::{Page, Part, Source, Warning};
+use logos_report::{Part, Source, Warning};
 use logos_rust_file::{FoundEnum, enums_in};
 use logos_warnings::Origin;
 use std::alloc::Global;
@@ -208,7 +209,7 @@ fn push_lexer(
         Ok(made) => push_made(alloc, pages, one, &made),
         Err(refusal) => {
             let known = known_after(alloc, pages, one)?;
-            Err(refused_with(one.part, pages.style.showing, refusal, &known))
+            Err(refused_with(one.part, pages.style.showing, refusal, known))
         }
     }
 }

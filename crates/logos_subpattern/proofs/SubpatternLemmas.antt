@@ -2,7 +2,7 @@
 use Rattle.std.proofs.Common.{◌≡◌, ℕ, zero, suc, ◌<◌, List, [], ◌∷◌, ◌++◌, map, length, get_or, set, Bool, true, false, cond, if◌then◌else◌, Option, Some, None, option_map, Result, Ok, Err, IsOk, is_ok, refl, sym, ap, subst, append_assoc, ◌∙◌, arith}
 use denote.Ref.{Bor}
 use Rattle.std.specs.Map.{lookup}
-use Rattle.std.specs.Str.{bytes_eq}
+use Rattle.std.specs.Str.{bytes_eq, chars}
 use Rattle.std.proofs.lemmas.List.{append-nil, length-map, map-set, map_push, get_or-map}
 use Rattle.std.proofs.lemmas.Slice.Eq.{bytes_eq-Decides}
 use Rattle.logos_lexeme.specs.declared.lexeme.Span.{Span}
@@ -181,9 +181,14 @@ put_once name found stored f e =
 pub read_tree : (unicode ignore_case : Bool) (text : List ℕ) (span : Span) (tree : Tree) (faults : List Fault) → Reads unicode ignore_case text (spelled tree) → IsRead unicode ignore_case text span (Some tree) faults faults
 read_tree unicode ignore_case text span tree faults r = record { reading = spelled tree; reads = r; is_tree = refl; adds = sym (append-nil faults) }
 
-pub read_error : (unicode ignore_case : Bool) (text : List ℕ) (span : Span) (error : PatternError) (old new : List Fault) → Refuses (first_flags unicode ignore_case) text error →
-    (error ≡ errors.LimitPatternNesting → IsTooDeep (first_flags unicode ignore_case) text) → ReportsError error span old new → IsRead unicode ignore_case text span None old new
-read_error unicode ignore_case text span (errors.Syntax kind at) old new r d l = record { reading = broken kind at; reads = r; is_tree = refl; adds = l }
+pub read_error : (unicode ignore_case : Bool) (text : List ℕ) (span : Span) (error : PatternError) (old new : List Fault) → Refuses (first_flags unicode ignore_case) (chars text) error →
+    (error ≡ errors.LimitPatternNesting → IsTooDeep (first_flags unicode ignore_case) (chars text)) → ReportsError error text span old new → IsRead unicode ignore_case (chars text) span None old new
+read_error unicode ignore_case text span (errors.Syntax kind at) old new r d l = record {
+  reading = broken kind l.0;
+  reads = record { unspelled = r; bytes = text; spells = refl; known = l.1 };
+  is_tree = refl;
+  adds = l.2;
+}
 read_error unicode ignore_case text span errors.LimitPatternNesting old new r d l = record { reading = too_deep; reads = record { deeper = r; begins = d refl }; is_tree = refl; adds = l }
 read_error unicode ignore_case text span errors.Memory old new r d l = absurd l
 

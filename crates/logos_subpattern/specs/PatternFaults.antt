@@ -1,8 +1,13 @@
 -- Reading of texts as patterns, and the faults of that.
-use Rattle.std.specs.Prelude.{◌≡◌, ℕ, ◌<◌, Bool, List, [], ◌++◌, codes, Option, Some, None}
+use Rattle.std.specs.Prelude.{◌≡◌, ℕ, ◌<◌, Bool, List, [], ◌++◌, codes, Option, Some, None, chars, drop, slice_get, unwrap_or}
 use Rattle.std.specs.Fmt.{decimal}
 use Rattle.logos_lexeme.specs.declared.lexeme.Span.{Span}
 use Rattle.logos_token.specs.declared.error.fault_code.FaultCode.TheVariants.{Regex, LimitPatternNesting}
+use Rattle.logos_token.specs.declared.error.detail.Detail.TheVariants.{Pattern}
+use Rattle.logos_token.specs.declared.error.detail.PatternFront.{PatternFront}
+use Rattle.logos_token.specs.declared.error.detail.PatternDetail.{PatternDetail}
+use Rattle.logos_token.specs.declared.error.detail.PatternKind.{PatternKind}
+use Rattle.logos_token.specs.declared.error.detail.PatternKind.TheVariants as details
 use Rattle.logos_token.specs.Faults.{Fault}
 use Rattle.logos_pattern_tokens.specs.declared.error.Kind.{Kind}
 use Rattle.logos_pattern_tokens.specs.declared.error.Kind.TheVariants as kinds
@@ -10,14 +15,14 @@ use Rattle.logos_syntax.specs.Grammar.{IsFound, IsSpelled, first_flags}
 use Rattle.logos_syntax.specs.Nesting.{IsTooDeep}
 use Rattle.logos_pattern_tokens.specs.Token.{Text}
 use Rattle.logos_hir.specs.Tree.{Tree}
-use Rattle.logos_attribute.specs.Reports.{fault, only}
+use Rattle.logos_attribute.specs.Reports.{fault, fault_with, only}
 
 -- What reading a text as a pattern gives.
 pub data Reading : Type 0 where
   -- It spells this tree.
   spelled : (tree : Tree) → Reading
-  -- It spells none; which fault is reported is left open.
-  broken : (kind : Kind) (at : ℕ) → Reading
+  -- It spells none; which fault is reported is left open, and so where it is written.
+  broken : (kind : Kind) (detail : PatternDetail) → Reading
   -- It spells none within the limit, and a beginning of it nests deeper.
   too_deep : Reading
 
@@ -26,16 +31,58 @@ pub record PassesNesting (unicode ignore_case : Bool) (text : Text) : Type 0 whe
   pub deeper : (depth : ℕ) → IsSpelled (first_flags unicode ignore_case) text depth → 250 < depth
   pub begins : IsTooDeep (first_flags unicode ignore_case) text
 
+-- A kind of fault as faults of sources have it.
+abbrev pub detail_kind : Kind → PatternKind
+detail_kind kinds.Unclosed = details.Unclosed
+detail_kind kinds.Unopened = details.Unopened
+detail_kind kinds.NothingToRepeat = details.NothingToRepeat
+detail_kind kinds.CountSyntax = details.CountSyntax
+detail_kind kinds.CountOrder = details.CountOrder
+detail_kind kinds.CountTooLarge = details.CountTooLarge
+detail_kind kinds.FlagUnsupported = details.FlagUnsupported
+detail_kind kinds.FlagSyntax = details.FlagSyntax
+detail_kind kinds.GroupSyntax = details.GroupSyntax
+detail_kind kinds.EscapeUnknown = details.EscapeUnknown
+detail_kind kinds.HexSyntax = details.HexSyntax
+detail_kind kinds.HexNotScalar = details.HexNotScalar
+detail_kind kinds.ClassRange = details.ClassRange
+detail_kind kinds.UnknownProperty = details.UnknownProperty
+detail_kind kinds.PropertyForm = details.PropertyForm
+detail_kind kinds.NotInBytes = details.NotInBytes
+detail_kind kinds.UnicodeWordBoundary = details.UnicodeWordBoundary
+detail_kind kinds.WordBoundaryForm = details.WordBoundaryForm
+
+-- The byte of a text at this offset, or 0 after its end.
+abbrev pub byte_in : List ℕ → ℕ → ℕ
+byte_in text at = unwrap_or (slice_get text at) 0
+
+-- The first four bytes of a text, with 0 after its end.
+abbrev pub front_in : List ℕ → PatternFront
+front_in text = record { first = byte_in text 0; second = byte_in text 1; third = byte_in text 2; fourth = byte_in text 3 }
+
+-- This is known of a fault of this kind in a text of these bytes.
+pub record IsDetail (kind : Kind) (text : List ℕ) (detail : PatternDetail) : Type 0 where
+  pub of_kind : detail.kind ≡ detail_kind kind
+  pub front : detail.front ≡ front_in (drop detail.at text)
+
+-- The text spells no tree under these flags, and this is known of a fault of this kind in its
+-- bytes.
+pub record IsBroken (unicode ignore_case : Bool) (text : Text) (kind : Kind) (detail : PatternDetail) : Type 0 where
+  pub unspelled : (depth : ℕ) → IsSpelled (first_flags unicode ignore_case) text depth → ⊥
+  pub bytes : List ℕ
+  pub spells : chars bytes ≡ text
+  pub known : IsDetail kind bytes detail
+
 -- Reading the text under these flags gives this.
 abbrev pub Reads : (unicode ignore_case : Bool) → Text → Reading → Type 0
 Reads unicode ignore_case text (spelled tree) = IsFound (first_flags unicode ignore_case) text tree
-Reads unicode ignore_case text (broken kind at) = (depth : ℕ) → IsSpelled (first_flags unicode ignore_case) text depth → ⊥
+Reads unicode ignore_case text (broken kind detail) = IsBroken unicode ignore_case text kind detail
 Reads unicode ignore_case text too_deep = PassesNesting unicode ignore_case text
 
 -- The tree that the text spells, if it spells one.
 abbrev pub tree_in : Reading → Option Tree
 tree_in (spelled tree) = Some tree
-tree_in (broken kind at) = None
+tree_in (broken kind detail) = None
 tree_in too_deep = None
 
 -- The name of a kind of fault, as messages print it.
@@ -63,10 +110,14 @@ kind_name kinds.WordBoundaryForm = codes "WordBoundaryForm"
 abbrev pub regex_text : ℕ → Kind → List ℕ
 regex_text at kind = codes "regex fault at byte " ++ decimal at ++ codes ": " ++ kind_name kind
 
+-- The fault of a pattern of which this is known. The span is that of its literal.
+abbrev pub regex_fault : Kind → PatternDetail → Span → Fault
+regex_fault kind detail span = fault_with Regex (regex_text detail.at kind) span (Pattern detail)
+
 -- The faults of a pattern whose literal has this span.
 abbrev pub pattern_faults : Span → Reading → List Fault
 pattern_faults span (spelled tree) = []
-pattern_faults span (broken kind at) = only (fault Regex (regex_text at kind) span)
+pattern_faults span (broken kind detail) = only (regex_fault kind detail span)
 pattern_faults span too_deep = only (fault LimitPatternNesting (codes "limit LimitPatternNesting passed") span)
 
 -- A text was read as a pattern: it spells this tree, or its fault was added to the list.

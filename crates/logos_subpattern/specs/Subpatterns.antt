@@ -77,7 +77,7 @@ tree_report utf8_mode sub text names tree = tested_report (utf8_mode && not (is_
 -- Adding a subpattern, by what reading its text gives.
 abbrev pub reading_report : Bool → NamedLiteral → List ℕ → List Stored → Reading → Report (List Stored)
 reading_report utf8_mode sub text names (spelled tree) = tree_report utf8_mode sub text names tree
-reading_report utf8_mode sub text names (broken kind at) = with_faults names (pattern_faults sub.literal.token.span (broken kind at))
+reading_report utf8_mode sub text names (broken kind detail) = with_faults names (pattern_faults sub.literal.token.span (broken kind detail))
 reading_report utf8_mode sub text names too_deep = with_faults names (pattern_faults sub.literal.token.span too_deep)
 
 -- Adding a subpattern by its text with the earlier ones put in, if all of them are found.

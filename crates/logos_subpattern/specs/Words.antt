@@ -7,7 +7,7 @@ pub use Rattle.logos_pattern.specs.Literals.{token_of}
 pub use Rattle.logos_type_params.specs.TypeParams.{previous}
 pub use Rattle.std.specs.List.{list_all}
 pub use denote.Ref.{Bor}
-pub use Rattle.logos_subpattern.specs.PatternFaults.{IsRead, kind_name, regex_text}
+pub use Rattle.logos_subpattern.specs.PatternFaults.{IsDetail, IsRead, byte_in, detail_kind, front_in, kind_name, regex_fault, regex_text}
 pub use Rattle.logos_subpattern.specs.Subpatterns.{AreAdded, IsAdded, flags_of, is_name, pattern_text, put_stored, stored_report, subpattern_name, subpattern_twice, tested_report, utf8_subpattern, utf8_text, wrapped}
 pub use Rattle.logos_subpattern.specs.Substitution.{closed, encoded, is_word, name_report, part_report, parts, reference, stored_at, subpattern_missing, subst_report, text_of, word_front, word_rest}
 pub use Rattle.logos_subpattern.specs.inside.Errors.{ReportsError}

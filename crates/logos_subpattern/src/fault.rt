@@ -1,11 +1,15 @@
 //! Reading of texts as patterns, and the faults of that. `logos_leaf` reads the text of each leaf
 //! with it.
 
-ghost use Rattle.std.specs.Prelude.{◌≡◌, ◌++◌, chars, IfOk, IfSome, OnOk, OnErr, option_map, string_bytes};
-ghost use Rattle.logos_subpattern.specs.Words.{pattern_tree, source_of, is_token, token_of, AddsFault, fault, only, kind_name, regex_text, IsRead, ReportsError};
+ghost use Rattle.std.specs.Prelude.{◌≡◌, ◌++◌, chars, drop, IfOk, IfSome, OnOk, OnErr, option_map, string_bytes};
+ghost use Rattle.logos_subpattern.specs.Words.{pattern_tree, source_of, is_token, token_of, AddsFault, byte_in, detail_kind, front_in, kind_name, regex_fault, regex_text, IsDetail, IsRead, ReportsError};
 
+use crate::origin::origin_of;
+pub use crate::origin::{Making, WrittenPattern};
 use logos_pattern::pattern::{Kind, Literal, Pattern, PatternError};
-use logos_token::error::{Errors, FaultCode, Memory};
+use logos_token::error::{
+    Detail, Errors, FaultCode, Memory, PatternDetail, PatternFront, PatternKind,
+};
 use logos_token::token::Span;
 use std::alloc::{AllocError, Global};
 
@@ -46,6 +50,64 @@ fn kind_name(kind: Kind) -> &'static str
     }
 }
 
+/// Returns a kind of fault as faults of sources have it.
+fn detail_kind(kind: Kind) -> PatternKind
+    ensures { result ≡ detail_kind kind }
+{
+    match kind {
+        Kind::Unclosed => PatternKind::Unclosed,
+        Kind::Unopened => PatternKind::Unopened,
+        Kind::NothingToRepeat => PatternKind::NothingToRepeat,
+        Kind::CountSyntax => PatternKind::CountSyntax,
+        Kind::CountOrder => PatternKind::CountOrder,
+        Kind::CountTooLarge => PatternKind::CountTooLarge,
+        Kind::FlagUnsupported => PatternKind::FlagUnsupported,
+        Kind::FlagSyntax => PatternKind::FlagSyntax,
+        Kind::GroupSyntax => PatternKind::GroupSyntax,
+        Kind::EscapeUnknown => PatternKind::EscapeUnknown,
+        Kind::HexSyntax => PatternKind::HexSyntax,
+        Kind::HexNotScalar => PatternKind::HexNotScalar,
+        Kind::ClassRange => PatternKind::ClassRange,
+        Kind::UnknownProperty => PatternKind::UnknownProperty,
+        Kind::PropertyForm => PatternKind::PropertyForm,
+        Kind::NotInBytes => PatternKind::NotInBytes,
+        Kind::UnicodeWordBoundary => PatternKind::UnicodeWordBoundary,
+        Kind::WordBoundaryForm => PatternKind::WordBoundaryForm,
+    }
+}
+
+/// Returns the byte at `at` of a text, or 0 after its end.
+fn byte_in(text: &[u8], at: usize) -> u8
+    ensures { result ≡ byte_in text.now at }
+{
+    match text.get(at) {
+        Some(byte) => *byte,
+        None => 0,
+    }
+}
+
+/// Returns the first four bytes of a text, with 0 after its end.
+fn front_in(text: &[u8]) -> PatternFront
+    ensures { result ≡ front_in text.now }
+{
+    PatternFront {
+        first: byte_in(text, 0),
+        second: byte_in(text, 1),
+        third: byte_in(text, 2),
+        fourth: byte_in(text, 3),
+    }
+}
+
+/// Returns the bytes of a text from `at` on; none if it has no byte there.
+fn rest_from(text: &[u8], at: usize) -> &[u8]
+    ensures { result.now ≡ drop at text.now }
+{
+    match text.get(at..) {
+        Some(rest) => rest,
+        None => &[],
+    }
+}
+
 /// Returns the message of a fault at the byte offset `at` of a pattern's text.
 fn regex_text(alloc: Global, kind: Kind, at: usize) -> Result<String, AllocError>
     ensures { IfOk result (λ text. string_bytes text ≡ regex_text at kind) }
@@ -55,23 +117,62 @@ fn regex_text(alloc: Global, kind: Kind, at: usize) -> Result<String, AllocError
     Ok(text)
 }
 
-/// Reports a fault at the byte offset `at` of a pattern's text. `span` is that of its literal.
-fn report_regex(kind: Kind, at: usize, span: Span, errors: &mut Errors) -> Result<(), Memory>
-    ensures ok { OnOk result
-        (AddsFault (fault FaultCode.Regex (regex_text at kind) span) errors.old errors.new) }
+/// Reports a fault of a pattern, of which `detail` is known. `span` is that of its literal.
+fn report_regex(
+    kind: Kind,
+    detail: PatternDetail,
+    span: Span,
+    errors: &mut Errors,
+) -> Result<(), Memory>
+    ensures ok { OnOk result (AddsFault (regex_fault kind detail span) errors.old errors.new) }
     ensures unreported { OnErr result (errors.new ≡ errors.old) }
 {
-    let text = regex_text(errors.alloc(), kind, at)?;
-    errors.err(FaultCode::Regex, text.as_str(), span)
+    let text = regex_text(errors.alloc(), kind, detail.at)?;
+    errors.err_with(
+        FaultCode::Regex,
+        text.as_str(),
+        span,
+        Detail::Pattern(detail),
+    )
 }
 
-/// Reports why a pattern was not read. `span` is that of its literal.
-fn report_error(error: PatternError, span: Span, errors: &mut Errors) -> Result<(), Memory>
-    ensures ok { OnOk result (ReportsError error span errors.old errors.new) }
+/// Returns what is known of a fault at the byte offset `at` of a pattern's text.
+fn detail_of(
+    alloc: Global,
+    kind: Kind,
+    at: usize,
+    regex: &str,
+    written: WrittenPattern<'_, '_, '_>,
+) -> Result<PatternDetail, Memory>
+    ensures { IfOk result (λ detail. IsDetail kind regex.now detail) }
+{
+    let origin = origin_of(alloc, written, at)?;
+    Ok(PatternDetail {
+        kind: detail_kind(kind),
+        at,
+        front: front_in(rest_from(regex.as_bytes(), at)),
+        origin,
+    })
+}
+
+/// Reports why a pattern was not read. `regex` is its text.
+fn report_error(
+    error: PatternError,
+    regex: &str,
+    written: WrittenPattern<'_, '_, '_>,
+    errors: &mut Errors,
+) -> Result<(), Memory>
+    ensures ok { OnOk result (ReportsError error regex.now
+        (token_of written.entry.literal.now).span errors.old errors.new) }
     ensures unreported { OnErr result (errors.new ≡ errors.old) }
 {
+    let span = written.literal.span();
     match error {
-        PatternError::Syntax { kind, at } => report_regex(kind, at, span, errors),
+        PatternError::Syntax { kind, at } => {
+            let detail = detail_of(errors.alloc(), kind, at, regex, written)?;
+            report_regex(kind, detail, span, errors)?;
+            Ok(())
+        }
         PatternError::LimitPatternNesting => errors.err(
             FaultCode::LimitPatternNesting,
             "limit LimitPatternNesting passed",
@@ -81,27 +182,27 @@ fn report_error(error: PatternError, span: Span, errors: &mut Errors) -> Result<
     }
 }
 
-/// Reads a text as the pattern of a literal. Returns `None` when the text is not a pattern, and
-/// reports that at the literal.
+/// Reads a text that was made of a literal as a pattern. Returns `None` when the text is not a
+/// pattern, and reports that at the literal.
 ///
 /// # Errors
 ///
 /// Returns `Memory` if memory runs out. The faults are then as before.
 pub fn read_pattern<'s>(
     regex: &str,
-    literal: &Literal<'s>,
+    written: WrittenPattern<'_, '_, 's>,
     mode: ReadingMode,
     errors: &mut Errors,
 ) -> Result<Option<Pattern<'s>>, Memory>
     ensures read { IfOk result (λ pattern.
-        IsRead mode.unicode mode.ignore_case (chars regex.now) (token_of literal.now).span
+        IsRead mode.unicode mode.ignore_case (chars regex.now) (token_of written.entry.literal.now).span
         (option_map pattern_tree pattern) errors.old errors.new) }
     ensures source { IfOk result (λ pattern. IfSome pattern (λ p.
-        source_of p ≡ (token_of literal.now).text.now)) }
+        source_of p ≡ (token_of written.entry.literal.now).text.now)) }
     ensures form { IfOk result (λ pattern. IfSome pattern (λ p. is_token p ≡ mode.is_literal)) }
     ensures unreported { OnErr result (errors.new ≡ errors.old) }
 {
-    let token = literal.token();
+    let token = written.literal.token();
     let ReadingMode {
         is_literal,
         unicode,
@@ -111,7 +212,7 @@ pub fn read_pattern<'s>(
     match Pattern::compile(alloc, is_literal, regex, token.text, unicode, ignore_case) {
         Ok(pattern) => Ok(Some(pattern)),
         Err(error) => {
-            report_error(error, token.span, errors)?;
+            report_error(error, regex, written, errors)?;
             Ok(None)
         }
     }

@@ -3,5 +3,6 @@
 #![tactic(auto)]
 
 pub mod fault;
+mod origin;
 pub mod subpattern;
 mod substitution;

@@ -6,6 +6,7 @@ ghost use Rattle.logos_subpattern.specs.Words.{list_all, previous, ident_slice, 
 ghost use Rattle.logos_subpattern.specs.StoredViews.{stored_of};
 
 use crate::fault::{ReadingMode, read_pattern};
+use crate::origin::{Making, WrittenPattern};
 use crate::substitution::substituted;
 use logos_attribute::reporting::report_named;
 use logos_pattern::pattern::Literal;
@@ -75,7 +76,7 @@ fn is_name(text: &str) -> bool
 }
 
 /// Returns the text that opens the group of a subpattern, and sets its flags.
-fn flags_of(literal: &Literal<'_>) -> &'static str
+pub(crate) fn flags_of(literal: &Literal<'_>) -> &'static str
     ensures { result.now ≡ flags_of (literal_view literal.now).held }
 {
     match literal {
@@ -99,7 +100,7 @@ pub fn pattern_text(alloc: Global, literal: &Literal<'_>) -> Result<String, Memo
 }
 
 /// Returns the pattern text of a literal in a group that sets its flags, as other patterns use it.
-fn wrapped(alloc: Global, literal: &Literal<'_>) -> Result<String, Memory>
+pub(crate) fn wrapped(alloc: Global, literal: &Literal<'_>) -> Result<String, Memory>
     ensures { IfOk result (λ text. string_bytes text ≡ wrapped (literal_view literal.now).held) }
 {
     let regex = pattern_text(alloc, literal)?;
@@ -189,6 +190,14 @@ impl<'s> Subpatterns<'s> {
         Some(self.list[place].pattern.as_str())
     }
 
+    /// Returns the length of the text of the subpattern with this name, and the span of the name at
+    /// its definition, if there is one.
+    pub(crate) fn stored(&self, name: &str) -> Option<(usize, Span)> {
+        let place = self.place(name)?;
+        let subpattern = &self.list[place];
+        Some((subpattern.pattern.len(), subpattern.name.span))
+    }
+
     /// Adds a subpattern with a new name at the end. After an error the subpatterns are unchanged.
     fn push(&mut self, subpattern: Subpattern<'s>) -> Result<(), Memory>
         requires { place_in (names_of self.old) subpattern.name.text.now ≡ None }
@@ -262,7 +271,10 @@ impl<'s> Subpatterns<'s> {
             (IsTested utf8_mode (named_literal_view named.now) (string_bytes text)
             (names_of self.old) (names_of self.new) errors.old errors.new) }
     {
-        let read = read_pattern(text.as_str(), &named.1, TEST_MODE, errors)?;
+        let literal = &named.1;
+        let making = Making::Grouped(self);
+        let written = WrittenPattern { literal, making };
+        let read = read_pattern(text.as_str(), written, TEST_MODE, errors)?;
         let Some(pattern) = read else {
             return Ok(());
         };

@@ -12,7 +12,7 @@ use std::alloc::{AllocError, Global};
 
 /// A part of a pattern's text.
 #[derive(Clone, Copy)]
-enum TextPart<'a> {
+pub(crate) enum TextPart<'a> {
     /// A character that stands for itself.
     Itself(char),
     /// The name of a subpattern that is used.
@@ -94,7 +94,7 @@ fn reference_at(text: &[char]) -> Option<(&[char], &[char])>
 }
 
 /// Returns the first part of a text, and the rest.
-fn part_at(text: &[char]) -> Option<(TextPart<'_>, &[char])>
+pub(crate) fn part_at(text: &[char]) -> Option<(TextPart<'_>, &[char])>
     ensures { MatchOption result
         (parts 0 text.now ≡ [])
         (λ read. (parts 0 text.now ≡ part_of read.0 ∷ parts 0 read.1.now)
@@ -108,7 +108,7 @@ fn part_at(text: &[char]) -> Option<(TextPart<'_>, &[char])>
 }
 
 /// Returns the text of these characters.
-fn encoded(alloc: Global, characters: &[char]) -> Result<String, AllocError>
+pub(crate) fn encoded(alloc: Global, characters: &[char]) -> Result<String, AllocError>
     ensures { IfOk result (λ text. string_bytes text ≡ encoded characters.now) }
 {
     let mut text = String::new(alloc);
@@ -179,7 +179,7 @@ impl Text {
 }
 
 /// Returns the characters of a text.
-fn characters(alloc: Global, text: &str) -> Result<Vec<char>, AllocError>
+pub(crate) fn characters(alloc: Global, text: &str) -> Result<Vec<char>, AllocError>
     ensures { IfOk result (λ v. v.items ≡ chars text.now) }
 {
     text.chars().collect(alloc)

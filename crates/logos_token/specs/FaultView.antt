@@ -5,7 +5,7 @@ use Rattle.logos_token.specs.Faults.{Fault}
 
 -- The fault that an entry of the list is.
 abbrev pub fault_of : SpannedError → Fault
-fault_of e = record { code = e.code; message = string_bytes e.message; span = e.span; also = e.also }
+fault_of e = record { code = e.code; message = string_bytes e.message; span = e.span; also = e.also; detail = e.detail }
 
 -- The faults of a list.
 abbrev pub faults_of : List SpannedError → List Fault

@@ -1,5 +1,6 @@
 pub mod LiteralValues
 pub mod Limits
+pub mod Near
 pub mod Held
 pub mod Tokens
 pub mod Flat

@@ -7,6 +7,7 @@ pub use Rattle.logos_token.specs.Flat.{IsFlat, flat_token, size_of, tokens_in, v
 pub use Rattle.logos_token.specs.Held.{held, held_value}
 pub use Rattle.logos_token.specs.LiteralValues.{IsValue}
 pub use Rattle.logos_token.specs.MaybePrinted.{maybe_printed}
+pub use Rattle.logos_token.specs.Near.{IsNear}
 pub use Rattle.logos_token.specs.PrinterViews.{printed_of}
 pub use Rattle.logos_token.specs.Punctuation.{is_alone, unless_alone}
 pub use Rattle.logos_token.specs.Refusals.{IsErrOf, IsRefusal, SpellsNothing}

@@ -5,11 +5,13 @@ ghost use Rattle.logos_token.specs.ViewWords.{tree_of, is_alone, unless_alone, m
 
 mod escaping;
 mod first;
+mod near;
 
 use crate::error::Memory;
 use crate::token::{Ident, Spacing, Span, TokenStream, TokenTree, print};
 pub use escaping::push_escaped;
 pub use first::{after_path_mark, after_word, begins_with, is_path_mark};
+pub use near::is_near;
 use std::alloc::Global;
 use std::mem;
 

@@ -6,6 +6,8 @@ use denote.Ref.{Bor}
 use Rattle.logos_lexeme.specs.declared.lexeme.Span.{Span}
 use Rattle.logos_token.specs.declared.error.fault_code.FaultCode.{FaultCode}
 use Rattle.logos_token.specs.declared.error.fault_code.FaultCode.TheVariants.{ManyLifetimes, NotTypeParameter, TypeTwice, Previous, TypeSyntax, LimitTypeNesting}
+use Rattle.logos_token.specs.declared.error.detail.Detail.{Detail}
+use Rattle.logos_token.specs.declared.error.detail.Detail.TheVariants.{Plain}
 use Rattle.logos_token.specs.Tokens.{Token, TokenList, none, also, run_span}
 use Rattle.logos_token.specs.Faults.{Fault}
 use Rattle.logos_type.specs.Parts.{Tree, sign, name, whole, still, Trees, none as no_part, also as and_part, tree_of}
@@ -67,13 +69,21 @@ with_lifetime (name text) = name text
 with_lifetime (whole parts) = whole (own_lifetimes parts)
 with_lifetime (still parts) = still parts
 
+-- A fault with a code, a message and a span, without a second span, of which this is known.
+abbrev pub fault_with : FaultCode → List ℕ → Span → Detail → Fault
+fault_with code message span detail = record { code = code; message = message; span = span; also = None; detail = detail }
+
 -- A fault with a code, a message and a span, and without a second span.
 abbrev pub fault : FaultCode → List ℕ → Span → Fault
-fault code message span = record { code = code; message = message; span = span; also = None }
+fault code message span = fault_with code message span Plain
 
 -- A fault of a name, whose message has the name between two texts.
 abbrev pub about : FaultCode → List ℕ → Named → List ℕ → Fault
 about code before named after = fault code ((before ++ named.text) ++ after) named.at
+
+-- A fault of a name, of which this is known.
+abbrev pub about_with : FaultCode → List ℕ → Named → List ℕ → Detail → Fault
+about_with code before named after detail = fault_with code ((before ++ named.text) ++ after) named.at detail
 
 -- The fault of a second lifetime.
 abbrev pub many_lifetimes : Span → Fault

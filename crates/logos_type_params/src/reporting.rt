@@ -1,9 +1,9 @@
 //! Reports faults of names and types. Each function adds one fault.
 
 ghost use Rattle.std.specs.Prelude.{◌≡◌, ◌++◌, ◌∷◌, [], IfOk, OnOk, OnErr, string_bytes};
-ghost use Rattle.logos_type_params.specs.Views.{named_of, about, previous, type_nesting_text, limit_type_nesting};
+ghost use Rattle.logos_type_params.specs.Views.{named_of, about, about_with, previous, type_nesting_text, limit_type_nesting};
 
-use logos_token::error::{Errors, FaultCode, Memory};
+use logos_token::error::{Detail, Errors, FaultCode, Memory};
 use logos_token::token::{Ident, Span};
 use std::alloc::Global;
 
@@ -34,8 +34,29 @@ pub fn report_about(
         ≡ errors.old ++ (about code before.now (named_of name.entry) after.now) ∷ []) }
     ensures err { OnErr result (errors.new ≡ errors.old) }
 {
+    report_about_with(errors, code, before, name, after, Detail::Plain)
+}
+
+/// Reports a fault of a name, of which `detail` is known. The message has the name between two
+/// texts.
+///
+/// # Errors
+///
+/// Returns `Memory` if memory runs out. The faults are then unchanged.
+pub fn report_about_with(
+    errors: &mut Errors,
+    code: FaultCode,
+    before: &str,
+    name: Ident<'_>,
+    after: &str,
+    detail: Detail,
+) -> Result<(), Memory>
+    ensures ok { OnOk result (errors.new ≡ errors.old
+        ++ (about_with code before.now (named_of name.entry) after.now detail) ∷ []) }
+    ensures err { OnErr result (errors.new ≡ errors.old) }
+{
     let message = joined(errors.alloc(), before, name.text, after)?;
-    errors.err(code, message.as_str(), name.span)?;
+    errors.err_with(code, message.as_str(), name.span, detail)?;
     Ok(())
 }
 

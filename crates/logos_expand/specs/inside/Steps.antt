@@ -5,6 +5,7 @@ use Rattle.logos_tables.specs.declared.shape.Shape.{Shape}
 use Rattle.logos_expand.specs.declared.expanding.Gathered.{Gathered}
 use Rattle.logos_report.specs.declared.clues.Clues.{Clues}
 use Rattle.logos_report.specs.declared.refused.Refused.{Refused}
+use Rattle.logos_report.specs.Sets.{sizes_of}
 use Rattle.logos_expand.specs.Expanding.{IsGuarded, under}
 use Rattle.logos_tables.specs.Shapes.{IsShown}
 use Rattle.logos_expand.specs.Gathering.{Gathers}
@@ -36,7 +37,7 @@ pub record AddsRefusal (offset : ℕ) (refusal : Refusal) (clues : Clues) (old n
   pub bad : Refused
   pub is_offset : bad.offset ≡ offset
   pub faults : AreFaultsOf refusal bad.errors
-  pub known : bad.clues ≡ clues
+  pub known : sizes_of bad.clues ≡ sizes_of clues
   pub are : new ≡ old ++ bad ∷ []
 
 -- These are tokens, and after LF the text of a lexer with this code and with attributes, laid out.

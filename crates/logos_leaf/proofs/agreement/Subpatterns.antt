@@ -14,7 +14,7 @@ use Rattle.logos_leaf.proofs.agreement.Report.{Grows, Agree, grows_same, grows_t
 -- a text that spells a tree is read so alone
 pub reading_once : (unicode ignore_case : Bool) (text : List ℕ) (tree : Tree) (other : Reading) → Reads unicode ignore_case text (spelled tree) → Reads unicode ignore_case text other → spelled tree ≡ other
 reading_once unicode ignore_case text tree (spelled other) (d, l, s) (e, m, t) = ap (λ (x : Tree). spelled x) (one (first_flags unicode ignore_case) text tree other d e s t).0
-reading_once unicode ignore_case text tree (broken kind at) (d, l, s) h = absurd (h d (tree, s))
+reading_once unicode ignore_case text tree (broken kind detail) (d, l, s) h = absurd (h.unspelled d (tree, s))
 reading_once unicode ignore_case text tree too_deep (d, l, s) h = absurd (let k = h.deeper d (tree, s) in omega (arith, l, k))
 
 module _ (utf8_mode : Bool) (sub : NamedLiteral) (names : List Stored) where

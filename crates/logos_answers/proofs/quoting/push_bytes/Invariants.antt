@@ -1,6 +1,6 @@
 use Rattle.std.proofs.Common.{drop}
 use Rattle.std.specs.List.{flat_map}
-use Rattle.logos_report.specs.Pages.{PageValue, Gains}
+use Rattle.logos_page.specs.Pages.{PageValue, Gains}
 use Rattle.logos_answers.specs.Quoting.{shown_byte}
 use Rattle.logos_answers.proofs.quoting.push_bytes.Given as goal
 

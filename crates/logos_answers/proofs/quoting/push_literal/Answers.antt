@@ -1,5 +1,5 @@
 use Rattle.std.proofs.Common.{sym, ap, ◌∙◌, subst}
-use Rattle.logos_report.specs.Pages.{Gains}
+use Rattle.logos_page.specs.Pages.{Gains}
 use Rattle.logos_answers.specs.Quoting.{string_literal}
 use Rattle.logos_answers.proofs.GainLemmas.{other_literal, utf8_literal}
 use Rattle.logos_answers.proofs.quoting.push_literal.Goals as goal

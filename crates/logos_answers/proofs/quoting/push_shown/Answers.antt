@@ -1,7 +1,7 @@
 use Rattle.std.proofs.Common.{sym, ap, ◌∙◌, subst}
 use Rattle.std.specs.List.{flat_map}
 use Rattle.std.specs.Str.{chars}
-use Rattle.logos_report.specs.Pages.{Gains}
+use Rattle.logos_page.specs.Pages.{Gains}
 use Rattle.logos_answers.specs.Quoting.{shown_character}
 use Rattle.logos_answers.proofs.GainLemmas.{other_shown, utf8_shown}
 use Rattle.logos_answers.proofs.quoting.push_shown.Goals as goal

@@ -1,7 +1,7 @@
 use Rattle.std.proofs.Common.{drop, length}
 use Rattle.std.specs.List.{flat_map}
 use Rattle.std.specs.Str.{chars}
-use Rattle.logos_report.specs.Pages.{PageValue, Gains}
+use Rattle.logos_page.specs.Pages.{PageValue, Gains}
 use Rattle.logos_answers.specs.Quoting.{shown_character}
 use Rattle.logos_answers.proofs.quoting.push_text.Given as goal
 

@@ -1,6 +1,6 @@
 use Rattle.std.proofs.Common.{Bool, ap, ◌∙◌, string_bytes, subst}
-use Rattle.logos_report.specs.Pages.{PageValue, Shows}
-use Rattle.logos_report.proofs.PageLemmas.{grown, shows_then}
+use Rattle.logos_page.specs.Pages.{PageValue, Shows}
+use Rattle.logos_page.proofs.PageLemmas.{grown, shows_then}
 use Rattle.logos_report.specs.Parts.{refused_texts}
 use Rattle.logos_expand.proofs.ShownLemmas.{finished, first_shown}
 use Rattle.logos_expand.proofs.expanding.refusal_text.Goals as goal

@@ -1,4 +1,4 @@
-use Rattle.logos_report.proofs.PageLemmas.{unseen}
+use Rattle.logos_page.proofs.PageLemmas.{unseen}
 use Rattle.logos_file_warnings.proofs.warned.push_warned.Goals as goal
 
 pub returns : goal.returns

@@ -3,7 +3,7 @@ use Rattle.logos_parser.proofs.reading.unreadable.Goals as goal
 
 pub returns-in-Lexical-clause-ends : goal.returns-in-Lexical-clause-ends
 returns-in-Lexical-clause-ends c =
-    lexical_ends c.args.src.now c.in-Lexical.kind c.in-Lexical.span _ (rw c.in-Lexical.is at c.requires) (rw c.lexical_text.ensures at c.refused.ensures)
+    lexical_ends c.args.src.now c.in-Lexical.kind c.in-Lexical.span _ (rw c.in-Lexical.is at c.requires) c.unlexed.ensures
 
 pub returns-in-LimitTokenNesting-clause-ends : goal.returns-in-LimitTokenNesting-clause-ends
 returns-in-LimitTokenNesting-clause-ends c =

@@ -1,7 +1,7 @@
 use Rattle.std.proofs.Common.{◌∷◌, []}
 use Rattle.logos_lines.specs.Places.{place_at}
 use Rattle.logos_report.specs.Places.{arrow_line, in_file}
-use Rattle.logos_report.proofs.PageLemmas.{grown, shown, shows_as, shows_then}
+use Rattle.logos_page.proofs.PageLemmas.{grown, shown, shows_as, shows_then}
 use Rattle.logos_report.proofs.frame.push_offset.Goals as goal
 
 pub returns : goal.returns

@@ -1,7 +1,7 @@
 use Rattle.std.proofs.Common.{◌+◌, sym, subst, take}
 use Rattle.std.proofs.lemmas.List.{take_rest}
 use Rattle.logos_report.specs.Faults.{texts_after}
-use Rattle.logos_report.specs.Pages.{Shows}
+use Rattle.logos_page.specs.Pages.{Shows}
 use Rattle.logos_report.specs.Parts.{all_faults}
 use Rattle.logos_report.specs.Sets.{first_faults, sizes_of}
 use Rattle.logos_report.proofs.PartLemmas.{around, part_then}

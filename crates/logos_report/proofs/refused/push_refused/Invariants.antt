@@ -1,5 +1,5 @@
 use Rattle.std.proofs.Common.{◌≡◌}
-use Rattle.logos_report.specs.Pages.{PageValue, Shows}
+use Rattle.logos_page.specs.Pages.{PageValue, Shows}
 use Rattle.logos_report.specs.Parts.{refused_texts, texts_from}
 use Rattle.logos_report.proofs.refused.push_refused.Given as goal
 

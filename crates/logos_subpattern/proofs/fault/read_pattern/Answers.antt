@@ -6,4 +6,4 @@ returns-in-Ok-clause-read c = read_tree _ _ _ _ _ _ c.in-Ok.ensures.found
 
 pub returns-in_ok-report_error-in-Err-clause-read : goal.returns-in_ok-report_error-in-Err-clause-read
 returns-in_ok-report_error-in-Err-clause-read c =
-    read_error _ _ _ _ _ _ _ c.in-Err.ensures.refused c.in-Err.ensures.deep (rw c.token-token.ensures at c.in_ok-report_error-in-Err.ensures.ok)
+    read_error _ _ _ _ _ _ _ c.in-Err.ensures.refused c.in-Err.ensures.deep c.in_ok-report_error-in-Err.ensures.ok
