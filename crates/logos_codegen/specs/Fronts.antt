@@ -1,5 +1,5 @@
 -- The texts around the body of a lexer, by the options of its source.
-use Rattle.std.specs.Prelude.{ℕ, Bool, List, [], ◌++◌, codes, Option, Some, None, option_map, if◌then◌else◌, length}
+use Rattle.std.specs.Prelude.{ℕ, Bool, List, [], ◌++◌, codes, Option, Some, None, option_map, if◌then◌else◌}
 use Rattle.logos_token.specs.Printing.{printed}
 use Rattle.logos_token.specs.Tokens.{TokenList}
 use Rattle.logos_token.specs.Views.{stream_tokens}
@@ -48,6 +48,7 @@ around_made made = record {
 abbrev pub BeginsImplementation : Generated → List ℕ → Type 0
 BeginsImplementation made = BeginsWith (opening_text short_core (around_made made) (printed_type (type_tree made.code.header.this)))
 
--- The text is the beginning of an implementation by tables, up to the enum of the leaves.
+-- The text is the beginning of an implementation by tables, up to the functions for errors, matches
+-- and tokens.
 abbrev pub IsFrontOf : Generated → List ℕ → Type 0
-IsFrontOf made = IsFront (around_made made) (printed_type (type_tree made.code.header.this)) (length made.code.code_leaves)
+IsFrontOf made = IsFront (around_made made) (printed_type (type_tree made.code.header.this))

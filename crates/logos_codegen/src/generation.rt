@@ -67,9 +67,9 @@ impl Generated<'_> {
         text_in(alloc, &self.code, texts.around(self.graph.utf8_mode()))
     }
 
-    /// Returns the beginning of the Rust text of the lexer: the implementation of `Logos` for the
-    /// enum, as printed tokens, up to the functions for matches and errors in the body of the
-    /// function that lexes. A shape of its own goes on from there.
+    /// Returns the beginning of the Rust text of a lexer by tables: the implementation of `Logos`
+    /// for the enum, as printed tokens, up to the functions for errors, matches and tokens in the
+    /// body of the function that lexes. The tables follow it.
     ///
     /// # Errors
     ///

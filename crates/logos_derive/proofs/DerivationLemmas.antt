@@ -11,23 +11,24 @@ use Rattle.logos_enum.specs.Values.{Slice}
 use Rattle.logos_graph.specs.View.{GraphValue}
 use Rattle.logos_tables.specs.Shapes.{config_of}
 use Rattle.logos_tables.specs.declared.shape.Shape.{Shape}
+use Rattle.logos_text.specs.Fronts.{AroundValue}
 use Rattle.logos_token.specs.Faults.{Fault}
 
 -- an accepted source
-one_accepted : {shape : Shape} {source : List ℕ} {graph : GraphValue} {code : CodeValue} {name : Slice} {export : Option (List ℕ)} (derivation : Derivation) →
-    IsGiven source (config_of shape) graph code name export → IsAcceptedBy shape code source derivation → IsDerivation shape source derivation
-one_accepted {shape} {source} {graph} {code} {name} {export} derivation g a = accepted (record {
+one_accepted : {shape : Shape} {around : AroundValue} {source : List ℕ} {graph : GraphValue} {code : CodeValue} {name : Slice} {export : Option (List ℕ)} (derivation : Derivation) →
+    IsGiven source (config_of shape) graph code name export → IsAcceptedBy shape around code source derivation → IsDerivation shape source derivation
+one_accepted {shape} {around} {source} {graph} {code} {name} {export} derivation g a = accepted (record {
   made = a.made;
   is = a.is;
   implements = record {
-    lexer = record { graph = graph; code = code; name = name; export = export; given = g; stand = a.implements.shown };
+    lexer = record { graph = graph; code = code; name = name; export = export; given = g; around = around; stand = a.implements.shown };
     pieces = a.implements.pieces;
   };
   warns = a.warns;
 })
 
-pub all_accepted : {E : Type 0} (shape : Shape) {source : List ℕ} {graph : GraphValue} {code : CodeValue} {name : Slice} {export : Option (List ℕ)} (result : Result Derivation E) →
-    IsGiven source (config_of shape) graph code name export → IfOk result (IsAcceptedBy shape code source) → IfOk result (IsDerivation shape source)
+pub all_accepted : {E : Type 0} (shape : Shape) {around : AroundValue} {source : List ℕ} {graph : GraphValue} {code : CodeValue} {name : Slice} {export : Option (List ℕ)} (result : Result Derivation E) →
+    IsGiven source (config_of shape) graph code name export → IfOk result (IsAcceptedBy shape around code source) → IfOk result (IsDerivation shape source)
 all_accepted shape (Ok derivation) g a = one_accepted derivation g a
 all_accepted shape (Err error) g a = tt
 

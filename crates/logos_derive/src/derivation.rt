@@ -1,7 +1,7 @@
 //! Derives an enum: its implementation, or why it is refused. The derive macro calls it.
 
 ghost use Rattle.std.specs.Prelude.{IfOk};
-ghost use Rattle.logos_derive.specs.Views.{All, HasErrors, IsAcceptedBy, IsDerivation, IsRefusedFor, IsWarning, sizes_of};
+ghost use Rattle.logos_derive.specs.Views.{All, HasErrors, IsAcceptedBy, IsDerivation, IsRefusedFor, IsWarning, around_made, sizes_of};
 
 use crate::diagnostic::Diagnostic;
 use crate::errors::errors_of;
@@ -51,7 +51,7 @@ fn accepted(
     shape: Shape,
     made: &Generated<'_>,
 ) -> Result<Derivation, Memory>
-    ensures { IfOk result (IsAcceptedBy shape made.now.code source.now) }
+    ensures { IfOk result (IsAcceptedBy shape (around_made made.now) made.now.code source.now) }
 {
     let implementation = implementation_of(alloc, source, shape, made)?;
     let diagnostics = warnings_by(alloc, source, made)?;

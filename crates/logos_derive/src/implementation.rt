@@ -1,7 +1,7 @@
 //! The implementation of an enum, with the pieces of its source in it.
 
 ghost use Rattle.std.specs.Prelude.{IfOk};
-ghost use Rattle.logos_derive.specs.Views.{IsMadeOf};
+ghost use Rattle.logos_derive.specs.Views.{IsMadeOf, around_made};
 
 use crate::placing::{Texts, pieces_at};
 use crate::printed::printed_parts;
@@ -42,10 +42,10 @@ pub(crate) fn implementation_of(
     shape: Shape,
     made: &Generated<'_>,
 ) -> Result<Implementation, Memory>
-    ensures { IfOk result (IsMadeOf shape made.now.code source.now) }
+    ensures { IfOk result (IsMadeOf shape (around_made made.now) made.now.code source.now) }
 {
     let text = lexer_text(alloc, shape, made)?;
-    let parts = printed_parts(alloc, source, &made.code)?;
+    let parts = printed_parts(alloc, source, shape, &made.code)?;
     let texts = Texts {
         source,
         text: text.as_str(),

@@ -6,6 +6,7 @@ use crate::options::{OptionSpans, option_spans};
 use crate::placing::PrintedPart;
 use logos_code::code::{Code, CodeLeaf};
 use logos_pattern::leaf::{Callback, VariantKind};
+use logos_tables::Shape;
 use logos_token::error::Memory;
 use logos_token::token::{Span, TokenError, tokenize};
 use std::alloc::Global;
@@ -35,31 +36,87 @@ const OF_ERROR: Fronts = Fronts {
     body: " = lex ; let error = { ",
 };
 
-/// Returns the printed parts of an implementation, by the source of its enum and by its code.
+/// Returns the printed parts of an implementation in a shape, by the source of its enum and by its
+/// code.
 pub(crate) fn printed_parts(
     alloc: Global,
     source: &str,
+    shape: Shape,
     code: &Code<'_>,
 ) -> Result<Vec<PrintedPart>, Memory> {
     let mut parts = Vec::new(alloc);
     push_options(alloc, source, code.name().span, &mut parts)?;
-    if let Some(callback) = code.error_callback() {
-        push_callback(callback, OF_ERROR, &mut parts)?;
+    match shape {
+        Shape::Code(_) => push_matches(code, &mut parts)?,
+        Shape::Tables => push_table_matches(code, &mut parts)?,
     }
-    for leaf in code.leaves() {
-        push_leaf(leaf, code.name().span, &mut parts)?;
-    }
-    push_scanned(&mut parts)?;
     Ok(parts)
 }
 
-/// Appends the path of the library where tables import what `scan` reads. The first part is that
+/// Appends the callback for errors and the parts of all leaves.
+fn push_matches(code: &Code<'_>, parts: &mut Vec<PrintedPart>) -> Result<(), Memory> {
+    push_error(code, parts)?;
+    for leaf in code.leaves() {
+        push_leaf(leaf, code.name().span, parts)?;
+    }
+    Ok(())
+}
+
+/// Appends the library path before the names of tables, the callback for errors, the parts of the
+/// leaves that have a callback or a value, and those of the other leaves.
+fn push_table_matches(code: &Code<'_>, parts: &mut Vec<PrintedPart>) -> Result<(), Memory> {
+    push_library(parts)?;
+    push_error(code, parts)?;
+    push_called_leaves(code, parts)?;
+    for leaf in code.leaves() {
+        if !is_called(leaf) {
+            push_token(leaf, code.name().span, parts)?;
+        }
+    }
+    Ok(())
+}
+
+/// Appends the path of the library where the names of tables are imported. The first part is that
 /// path, too.
-fn push_scanned(parts: &mut Vec<PrintedPart>) -> Result<(), Memory> {
+fn push_library(parts: &mut Vec<PrintedPart>) -> Result<(), Memory> {
     match parts.first() {
         Some(library) => {
             let span = library.span;
-            push("const _: () = {\n    use ", span, parts)
+            push(" > ; use ", span, parts)
+        }
+        None => Ok(()),
+    }
+}
+
+/// Appends the callback for errors.
+fn push_error(code: &Code<'_>, parts: &mut Vec<PrintedPart>) -> Result<(), Memory> {
+    match code.error_callback() {
+        Some(callback) => push_callback(callback, OF_ERROR, parts),
+        None => Ok(()),
+    }
+}
+
+/// Appends the parts of the leaves that have a callback or a value.
+fn push_called_leaves(code: &Code<'_>, parts: &mut Vec<PrintedPart>) -> Result<(), Memory> {
+    for leaf in code.leaves() {
+        if is_called(leaf) {
+            push_leaf(leaf, code.name().span, parts)?;
+        }
+    }
+    Ok(())
+}
+
+/// Returns whether a leaf has a callback or a value.
+fn is_called(leaf: &CodeLeaf<'_>) -> bool {
+    leaf.callback.is_some() | matches!(leaf.kind, VariantKind::Value(_, _))
+}
+
+/// Appends the name of the enum and that of the variant, where a table has the token of a leaf.
+fn push_token(leaf: &CodeLeaf<'_>, name: Span, parts: &mut Vec<PrintedPart>) -> Result<(), Memory> {
+    match leaf.kind.name() {
+        Some(variant) => {
+            push(" => _Option :: Some ( ", name, parts)?;
+            push(" :: ", variant.span, parts)
         }
         None => Ok(()),
     }

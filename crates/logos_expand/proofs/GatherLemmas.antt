@@ -188,7 +188,7 @@ expansion_made shape source shown graph code name export g b = record {
   laid = b.prints.laid;
   stripped = b.stripped;
   is_written = b.prints.is_written;
-  is_lexer = record { graph = graph; code = code; name = name; export = export; given = g; stand = b.prints.stand };
+  is_lexer = record { graph = graph; code = code; name = name; export = export; given = g; around = b.prints.around; stand = b.prints.stand };
   is_laid_out = b.prints.is_laid_out;
   is = b.prints.is;
 }

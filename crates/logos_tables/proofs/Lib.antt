@@ -4,4 +4,5 @@ pub mod HoldLemmas
 pub mod MarkLemmas
 pub mod RowLemmas
 pub mod RunLemmas
+pub mod ShapeLemmas
 pub mod StepLemmas

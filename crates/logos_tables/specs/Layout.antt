@@ -18,6 +18,8 @@ spread runs = flat_map (λ run. times run.0 run.1) runs
 pub record Tables : Type 0 where
   -- The class of each symbol.
   pub classes : List ℕ
+  -- These classes as runs: how many equal classes, and which.
+  pub class_runs : List (ℕ × ℕ)
   -- Rows of steps, each with one step for each class.
   pub rows : List (List ℕ)
   -- The rows one after another, as runs: how many equal steps, and which.
@@ -48,6 +50,7 @@ pub record Hold (code : CodeValue) (tables : Tables) : Type 0 where
   pub steps : (state symbol : ℕ) → state < length code.states → symbol < 257 →
       step_in tables state symbol ≡ Some (step_number code (state_at code state) symbol)
   pub wide : (i : ℕ) → i < length tables.rows → length (slice_index_or tables.rows i []) ≡ tables.width
+  pub class_runs : spread tables.class_runs ≡ tables.classes
   pub runs : spread tables.runs ≡ flat_map (λ row. row) tables.rows
 
 -- These are the rows of the states of a code, as many as there are.

@@ -8,19 +8,29 @@ use Rattle.logos_graph.specs.View.{GraphValue}
 use Rattle.logos_tables.specs.Texts.{HoldsTables}
 use Rattle.logos_tables.specs.declared.shape.Shape.{Shape}
 use Rattle.logos_tables.specs.declared.shape.Shape.TheVariants.{Code, Tables}
+use Rattle.logos_text.specs.Fronts.{AroundValue, BeginsWith, opening_text, short_core}
 use Rattle.logos_text.specs.Standing.{StandInOrder}
 use Rattle.logos_text.specs.Texts.{texts_of}
+use Rattle.logos_type.specs.Printed.{printed_type}
+use Rattle.logos_type.specs.TypeTrees.{type_tree}
 
 -- The shape of the code that a lexer is made of.
 abbrev pub config_of : Shape → Config
 config_of (Code config) = config
 config_of Tables = record { use_state_machine_codegen = true }
 
--- A code is shown in a shape: the texts of all its tables, and those of all its conditions, stand
--- in the text, or tables that hold all that it does.
-abbrev pub IsShown : Shape → CodeValue → List ℕ → Type 0
-IsShown (Code config) code shown = StandInOrder (texts_of code) shown
-IsShown Tables code shown = HoldsTables code shown
+-- A text is that of a code as code, with these texts around its function: it begins with the head
+-- of an implementation for the type of the enum, and the texts of all bit tables and those of all
+-- conditions are in it.
+pub record IsCodeText (around : AroundValue) (code : CodeValue) (shown : List ℕ) : Type 0 where
+  pub stand : StandInOrder (texts_of code) shown
+  pub begins : BeginsWith (opening_text short_core around (printed_type (type_tree code.header.this))) shown
+
+-- A code is shown in a shape, with these texts around its function: as code, or as the front of an
+-- implementation and tables that hold all that the code does.
+abbrev pub IsShown : Shape → AroundValue → CodeValue → List ℕ → Type 0
+IsShown (Code config) around code shown = IsCodeText around code shown
+IsShown Tables around code shown = HoldsTables around code shown
 
 -- This is the text of a lexer of a source without faults, in this shape.
 pub record IsLexerText (shape : Shape) (source shown : List ℕ) : Type 0 where
@@ -29,4 +39,5 @@ pub record IsLexerText (shape : Shape) (source shown : List ℕ) : Type 0 where
   pub name : Slice
   pub export : Option (List ℕ)
   pub given : IsGiven source (config_of shape) graph code name export
-  pub stand : IsShown shape code shown
+  pub around : AroundValue
+  pub stand : IsShown shape around code shown

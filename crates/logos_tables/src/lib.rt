@@ -1,19 +1,18 @@
-//! The Rust text of a lexer in each shape, and that of the shape `tables`: one loop over `static`
-//! tables.
+//! The Rust text of a lexer in each shape, and that of the shape `tables`: the tables of the lexer,
+//! for the loop of the runtime.
 
 #![tactic(auto)]
 
+mod bytes;
 mod classes;
-mod fixed;
+mod fields;
 mod lexer;
 mod made;
 mod marks;
+mod numbers;
 mod parts;
-mod printing;
-mod rest;
 mod rows;
 mod runs;
-mod scanned;
 mod shape;
 mod steps;
 

@@ -1,7 +1,7 @@
 //! The shapes in which lexers are printed. `logos_derive`, `logos_expand` and `logos_cli` call it.
 
 ghost use Rattle.std.specs.Prelude.{◌≡◌, IfOk, string_bytes};
-ghost use Rattle.logos_tables.specs.Views.{IsShown, config_of};
+ghost use Rattle.logos_tables.specs.Views.{IsShown, around_made, config_of};
 
 use crate::lexer::tables;
 use logos_codegen::Generated;
@@ -14,7 +14,7 @@ use std::alloc::Global;
 pub enum Shape {
     /// As code, in one of its shapes.
     Code(Config),
-    /// As tables with a loop over them.
+    /// As tables for the loop of the runtime.
     Tables,
 }
 
@@ -36,7 +36,8 @@ pub fn config_of(shape: Shape) -> Config
 ///
 /// Returns `Memory` if memory runs out.
 pub fn lexer_text(alloc: Global, shape: Shape, made: &Generated<'_>) -> Result<String, Memory>
-    ensures { IfOk result (λ text. IsShown shape made.now.code (string_bytes text)) }
+    ensures { IfOk result (λ text.
+        IsShown shape (around_made made.now) made.now.code (string_bytes text)) }
 {
     match shape {
         Shape::Code(_) => made.text(alloc),

@@ -3,8 +3,8 @@ use Rattle.std.proofs.Common.{◌≡◌, ℕ, ◌+◌, ◌-◌, ◌<◌, ◌≤�
 use Rattle.std.proofs.Math.ListN.{drop_of_length-le}
 use Rattle.std.specs.List.{flat_map}
 use Rattle.logos_text.specs.Texts.{table_text, table_texts}
-use Rattle.logos_text.specs.Fronts.{BeginsWith, IsFront, leaf_names_text, opening_text, whole_core, whole_derives, AroundValue}
-use Rattle.logos_text.specs.Standing.{StandInOrder, Adds, AddsLast, Grows, numbered}
+use Rattle.logos_text.specs.Fronts.{BeginsWith, IsFront, last_arm_text, opening_text, tables_use_text, whole_core, AroundValue}
+use Rattle.logos_text.specs.Standing.{StandInOrder, Adds, AddsLast, Grows}
 
 -- the part of an element is added
 part_added : (whole old new part rest : List ℕ) → new ≡ old ++ part → old ++ (part ++ rest) ≡ whole → new ++ rest ≡ whole
@@ -72,24 +72,13 @@ begins_whole {xs} {front} {a} {b} {c} {d} none e p q = record {
 }
 
 -- the front of an implementation
-pub is_front : {a b c : List ℕ} (around : AroundValue) (this : List ℕ) (leaves : ℕ) → a ≡ [] → b ≡ a ++ opening_text whole_core around this →
-    AddsLast (leaf_names_text whole_derives leaves) b c → IsFront around this leaves c
-is_front {a} {b} {c} around this leaves none e p = record {
+pub is_front : {a b c d : List ℕ} (around : AroundValue) (this : List ℕ) → a ≡ [] → b ≡ a ++ opening_text whole_core around this →
+    c ≡ b ++ tables_use_text around.logos → AddsLast last_arm_text c d → IsFront around this d
+is_front {a} {b} {c} {d} around this none e f p = record {
   functions = p.added;
-  is = p.is ∙ ap (λ w. w ++ (p.added ++ leaf_names_text whole_derives leaves)) (e ∙ ap (λ w. w ++ opening_text whole_core around this) none);
+  is = p.is ∙ ap (λ w. w ++ (p.added ++ last_arm_text)) (f ∙ ap (λ w. w ++ tables_use_text around.logos) (e ∙ ap (λ w. w ++ opening_text whole_core around this) none))
+      ∙ append_assoc (opening_text whole_core around this) (tables_use_text around.logos) (p.added ++ last_arm_text);
 }
-
--- a loop that adds the text of each number
-pub number_added : (f : ℕ → List ℕ) (i count : ℕ) (whole old new : List ℕ) → i < count →
-    new ≡ old ++ f i → old ++ numbered f i (count - i) ≡ whole → new ++ numbered f (i + 1) (count - (i + 1)) ≡ whole
-number_added f i count whole old new l e all =
-    let one : count - i ≡ suc (count - (i + 1)) = omega (arith, l) in
-    part_added whole old new (f i) (numbered f (i + 1) (count - (i + 1))) e (ap (λ rest. old ++ rest) (sym (ap (numbered f i) one)) ∙ all)
-
-pub numbers_added : (f : ℕ → List ℕ) (i count : ℕ) (whole text : List ℕ) → count ≤ i → text ++ numbered f i (count - i) ≡ whole → text ≡ whole
-numbers_added f i count whole text l all =
-    let over : count - i ≡ 0 = omega (arith, l) in
-    sym (append-nil text) ∙ ap (λ n. text ++ numbered f i n) (sym over) ∙ all
 
 -- what is added to nothing is the whole
 pub stand_whole : {texts : List (List ℕ)} {old whole : List ℕ} → old ≡ [] → Adds texts old whole → StandInOrder texts whole

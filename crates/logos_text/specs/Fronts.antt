@@ -1,7 +1,5 @@
 -- The beginning of an implementation of `Logos`.
-use Rattle.std.specs.Prelude.{◌≡◌, ℕ, List, ◌++◌, codes, if◌then◌else◌, ◌==◌}
-use Rattle.std.specs.Fmt.{decimal}
-use Rattle.logos_text.specs.Standing.{numbered}
+use Rattle.std.specs.Prelude.{◌≡◌, ℕ, List, ◌++◌, codes}
 
 -- The texts around the body of a lexer, each with the gap after it.
 pub record AroundValue : Type 0 where
@@ -57,21 +55,13 @@ uses_text core logos this = internals_text logos ++ core_text core ++ lexer_text
 abbrev pub opening_text : List ℕ → AroundValue → List ℕ → List ℕ
 opening_text core around this = head_text around.logos this ++ types_text around ++ signature_text core around.logos ++ uses_text core around.logos this
 
--- A leaf in the enum of the leaves, with a comma before it unless it is the first.
-abbrev pub leaf_name_text : ℕ → List ℕ
-leaf_name_text leaf =
-    (if leaf == 0 then codes "" else codes ", ") ++ codes "Leaf" ++ decimal leaf ++ codes " = " ++ decimal leaf ++ codes "isize "
+-- The import of what a lexer by tables uses of the library.
+abbrev pub tables_use_text : List ℕ → List ℕ
+tables_use_text logos = codes "use " ++ logos ++ codes ":: internal :: { _Data , _Ranges , _Tables , _Unpacked } ; "
 
--- The traits of this enum, as a text of code has them, and as one of tables.
-abbrev pub short_derives : List ℕ
-short_derives = codes "Clone , Copy"
-
-abbrev pub whole_derives : List ℕ
-whole_derives = codes ":: core :: clone :: Clone , :: core :: marker :: Copy"
-
--- The enum of so many leaves, each with its number, with these traits.
-abbrev pub leaf_names_text : List ℕ → ℕ → List ℕ
-leaf_names_text derives count = codes "# [ derive ( " ++ derives ++ codes " ) ] enum LogosLeaf { " ++ numbered leaf_name_text 0 count ++ codes "} "
+-- The last match arm of the function for tokens, and the end of that function.
+abbrev pub last_arm_text : List ℕ
+last_arm_text = codes "_ => _Option :: None } } "
 
 -- The text begins with this one.
 pub record BeginsWith (front text : List ℕ) : Type 0 where
@@ -79,7 +69,7 @@ pub record BeginsWith (front text : List ℕ) : Type 0 where
   pub is : text ≡ front ++ rest
 
 -- The text is the beginning of an implementation by tables for this type: its head, the imports of
--- the function that lexes, the functions for matches and errors, and the enum of so many leaves.
-pub record IsFront (around : AroundValue) (this : List ℕ) (leaves : ℕ) (text : List ℕ) : Type 0 where
+-- the function that lexes, and the functions for errors, matches and tokens.
+pub record IsFront (around : AroundValue) (this : List ℕ) (text : List ℕ) : Type 0 where
   pub functions : List ℕ
-  pub is : text ≡ opening_text whole_core around this ++ (functions ++ leaf_names_text whole_derives leaves)
+  pub is : text ≡ opening_text whole_core around this ++ (tables_use_text around.logos ++ (functions ++ last_arm_text))

@@ -5,7 +5,7 @@ pub use Rattle.logos_token.specs.Views.{tokens_of, tree_of}
 pub use Rattle.logos_type.specs.Printed.{printed_type}
 pub use Rattle.logos_type.specs.TypeTrees.{type_tree}
 pub use Rattle.std.specs.List.{flat_map, join_by}
-pub use Rattle.logos_text.specs.Fronts.{BeginsWith, IsFront, core_text, head_text, internals_text, leaf_name_text, leaf_names_text, lexer_text, opening_text, short_core, short_derives, signature_text, types_text, uses_text, whole_core, whole_derives}
+pub use Rattle.logos_text.specs.Fronts.{BeginsWith, IsFront, core_text, head_text, internals_text, last_arm_text, lexer_text, opening_text, short_core, signature_text, tables_use_text, types_text, uses_text, whole_core}
 pub use Rattle.logos_text.specs.Gaps.{gap_after, gap_of}
-pub use Rattle.logos_text.specs.Standing.{Adds, AddsLast, Grows, StandInOrder, numbered}
+pub use Rattle.logos_text.specs.Standing.{Adds, AddsLast, Grows, StandInOrder}
 pub use Rattle.logos_text.specs.Texts.{between_text, bit_text, branch_text, comparison_text, condition_text, end_text, entry_text, exception_text, fork_texts, is_quoted, single_text, state_texts, table_text, table_texts, test_text, texts_in, texts_of, transition_text}

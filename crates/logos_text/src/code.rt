@@ -1,13 +1,14 @@
 //! Prints a whole code. `logos_codegen` calls it.
 
-ghost use Rattle.std.specs.Prelude.{IfOk, OnOk, length, string_bytes};
-ghost use Rattle.logos_text.specs.Views.{printed_type, type_tree, code_of, BeginsWith, IsFront, leaf_names_text, opening_text, short_core, Adds, AddsLast, Grows, StandInOrder, texts_in, texts_of, around_value};
+ghost use Rattle.std.specs.Prelude.{IfOk, OnOk, string_bytes};
+ghost use Rattle.logos_text.specs.Views.{printed_type, type_tree, code_of, BeginsWith, IsFront, opening_text, short_core, Adds, Grows, StandInOrder, texts_in, texts_of, around_value};
 
+use crate::actions::{push_table_actions, push_tables_use};
 use crate::errors::push_make_error;
 use crate::implementation::{Around, push_front};
 use crate::leaves::{push_get_action, push_leaf_names};
 use crate::macros::{push_fast_loop_macro, push_take_action_macro};
-use crate::names::{Names, short_names, whole_names};
+use crate::names::Names;
 use crate::pieces::push;
 use crate::states::{push_closing, push_opening, push_states};
 use crate::tables::push_tables;
@@ -15,6 +16,11 @@ use logos_code::code::{Code, CodeParts};
 use logos_token::error::Memory;
 use logos_type::print_type;
 use std::alloc::Global;
+
+/// The path of `core`, with the gap after it, in a text of code, which has the names of the crate.
+const SHORT_CORE: &str = "core ";
+/// The same in a text of tables: the whole path, which no module beside the enum changes.
+const WHOLE_CORE: &str = ":: core ";
 
 /// Returns the Rust text of a code, as the body of a function: its tokens, with the gaps that
 /// `print` puts between tokens. The texts of all bit tables, by their numbers, are parts of it, and
@@ -30,12 +36,7 @@ pub fn text(alloc: Global, code: &Code<'_>) -> Result<String, Memory>
     let parts = code.parts();
     let this = print_type(alloc, &parts.header.this)?;
     let mut text = String::new(alloc);
-    push_code(
-        alloc,
-        &mut text,
-        parts,
-        Names::new(parts, &this, short_names()),
-    )?;
+    push_code(alloc, &mut text, parts, Names::new(parts, &this))?;
     Ok(text)
 }
 
@@ -52,32 +53,29 @@ pub fn text_in(alloc: Global, code: &Code<'_>, around: Around<'_>) -> Result<Str
     let parts = code.parts();
     let this = print_type(alloc, &parts.header.this)?;
     let mut text = String::new(alloc);
-    let core = short_names();
-    push_front(&mut text, around, &this, core.path)?;
-    push_code(alloc, &mut text, parts, Names::new(parts, &this, core))?;
+    push_front(&mut text, around, &this, SHORT_CORE)?;
+    push_code(alloc, &mut text, parts, Names::new(parts, &this))?;
     push(&mut text, " } }")?;
     Ok(text)
 }
 
 /// Returns the beginning of the implementation of `Logos` by tables for the enum of a code: its
 /// types, the imports of the function that lexes, and inside that function the functions for
-/// matches and errors and the enum of the leaves. Text that follows it can go on with the body of
-/// that function.
+/// errors, matches and tokens. Text that follows it can go on with the body of that function.
 ///
 /// # Errors
 ///
 /// Returns `Memory` if memory runs out.
 pub fn front_in(alloc: Global, code: &Code<'_>, around: Around<'_>) -> Result<String, Memory>
     ensures { IfOk result (λ text. IsFront (around_value around.entry)
-        (printed_type (type_tree code.now.header.this)) (length code.now.code_leaves)
-        (string_bytes text)) }
+        (printed_type (type_tree code.now.header.this)) (string_bytes text)) }
 {
     let parts = code.parts();
     let this = print_type(alloc, &parts.header.this)?;
     let mut text = String::new(alloc);
-    let core = whole_names();
-    push_front(&mut text, around, &this, core.path)?;
-    push_actions(alloc, &mut text, parts, Names::new(parts, &this, core))?;
+    push_front(&mut text, around, &this, WHOLE_CORE)?;
+    push_tables_use(&mut text, around.logos)?;
+    push_table_actions(alloc, &mut text, parts, Names::new(parts, &this))?;
     Ok(text)
 }
 
@@ -128,11 +126,9 @@ fn push_actions(
     parts: &CodeParts<'_>,
     names: Names<'_>,
 ) -> Result<(), Memory>
-    ensures { OnOk result (AddsLast (leaf_names_text names.entry.core.derives.now (length parts.now.leaves.items))
-        (string_bytes text.old) (string_bytes text.new)) }
+    ensures { OnOk result (Grows (string_bytes text.old) (string_bytes text.new)) }
 {
     push_make_error(alloc, text, parts.header.error_callback.as_ref(), names)?;
     push_get_action(alloc, text, &parts.leaves, names)?;
-    push_leaf_names(text, names.core.derives, parts.leaves.len())?;
-    Ok(())
+    push_leaf_names(text, parts.leaves.len())
 }

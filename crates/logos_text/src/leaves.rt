@@ -1,42 +1,30 @@
 //! Prints the leaves, and what the lexer does with their matches. `code` calls it once for all
 //! leaves.
 
-ghost use Rattle.std.specs.Prelude.{◌≡◌, ◌++◌, OnOk, codes, string_bytes};
-ghost use Rattle.logos_text.specs.Words.{leaf_name_text, leaf_names_text, Grows, numbered};
+ghost use Rattle.std.specs.Prelude.{OnOk, string_bytes};
+ghost use Rattle.logos_text.specs.Words.{Grows};
 
 use crate::callbacks::push_call;
 use crate::names::Names;
-use crate::pieces::{comma_before, push, push_str};
+use crate::pieces::{comma_before, push};
 use logos_code::code::CodeLeaf;
 use logos_pattern::leaf::VariantKind;
 use logos_token::error::Memory;
 use logos_type::print_type;
 use std::alloc::Global;
 
-/// Appends the enum of the leaves, each with its number. It derives these traits.
-pub(crate) fn push_leaf_names(text: &mut String, derives: &str, count: usize) -> Result<(), Memory>
-    ensures { OnOk result (string_bytes text.new
-        ≡ string_bytes text.old ++ leaf_names_text derives.now count) }
+/// Appends the enum of the leaves, each with its number.
+pub(crate) fn push_leaf_names(text: &mut String, count: usize) -> Result<(), Memory>
+    ensures { OnOk result (Grows (string_bytes text.old) (string_bytes text.new)) }
 {
-    push_leaf_head(text, derives)?;
+    push(text, "# [ derive ( Clone , Copy ) ] enum LogosLeaf { ")?;
     push_each_leaf_name(text, count)?;
-    push_str(text, "} ")?;
-    Ok(())
+    push(text, "} ")
 }
 
-/// Appends the head of the enum of the leaves.
-fn push_leaf_head(text: &mut String, derives: &str) -> Result<(), Memory>
-    ensures { OnOk result (string_bytes text.new ≡ string_bytes text.old
-        ++ (codes "# [ derive ( " ++ derives.now ++ codes " ) ] enum LogosLeaf { ")) }
-{
-    write!(text, "# [ derive ( {derives} ) ] enum LogosLeaf {{ ")?;
-    Ok(())
-}
-
-/// Appends the variants of so many leaves.
+/// Appends the variants of `count` leaves.
 fn push_each_leaf_name(text: &mut String, count: usize) -> Result<(), Memory>
-    ensures { OnOk result (string_bytes text.new
-        ≡ string_bytes text.old ++ numbered leaf_name_text 0 count) }
+    ensures { OnOk result (Grows (string_bytes text.old) (string_bytes text.new)) }
 {
     for leaf in 0..count {
         push_leaf_name(text, leaf)?;
@@ -46,7 +34,7 @@ fn push_each_leaf_name(text: &mut String, count: usize) -> Result<(), Memory>
 
 /// Appends the variant of a leaf with its number.
 fn push_leaf_name(text: &mut String, leaf: usize) -> Result<(), Memory>
-    ensures { OnOk result (string_bytes text.new ≡ string_bytes text.old ++ leaf_name_text leaf) }
+    ensures { OnOk result (Grows (string_bytes text.old) (string_bytes text.new)) }
 {
     let comma = comma_before(leaf);
     write!(text, "{comma}Leaf{leaf} = {leaf}isize ")?;
@@ -63,10 +51,9 @@ pub(crate) fn push_get_action(
     ensures { OnOk result (Grows (string_bytes text.old) (string_bytes text.new)) }
 {
     let this = names.this;
-    let options = names.core.options;
     write!(
         text,
-        "# [ inline ] fn _get_action < 's > ( lex : & mut _Lexer < 's > , offset : usize , context : _Option < LogosLeaf > ) -> CallbackResult < 's , {this} > {{ match context {{ {options}None => {{ lex . end_to_boundary ( offset . max ( lex . offset ( ) + 1 ) ) ; CallbackResult :: Error ( _make_error ( lex ) ) }} , "
+        "# [ inline ] fn _get_action < 's > ( lex : & mut _Lexer < 's > , offset : usize , context : _Option < LogosLeaf > ) -> CallbackResult < 's , {this} > {{ match context {{ None => {{ lex . end_to_boundary ( offset . max ( lex . offset ( ) + 1 ) ) ; CallbackResult :: Error ( _make_error ( lex ) ) }} , "
     )?;
     push_arms(alloc, text, leaves, names)?;
     push(text, "} } ")
@@ -82,7 +69,7 @@ fn push_arms(
     ensures { OnOk result (Grows (string_bytes text.old) (string_bytes text.new)) }
 {
     if leaves.is_empty() {
-        return push_no_arm(text, names);
+        return push_no_arm(text);
     }
     for n in 0..leaves.len() {
         push_arm(alloc, text, n, &leaves[n], names)?;
@@ -91,16 +78,13 @@ fn push_arms(
 }
 
 /// Appends the match arm where there are no leaves.
-fn push_no_arm(text: &mut String, names: Names<'_>) -> Result<(), Memory>
+fn push_no_arm(text: &mut String) -> Result<(), Memory>
     ensures { OnOk result (Grows (string_bytes text.old) (string_bytes text.new)) }
 {
-    let options = names.core.options;
-    let macros = names.core.macros;
-    write!(
+    push(
         text,
-        "{options}Some ( _ ) => {macros}unreachable ! ( \"There are no matchable tokens\" ) , "
-    )?;
-    Ok(())
+        "Some ( _ ) => unreachable ! ( \"There are no matchable tokens\" ) , ",
+    )
 }
 
 /// Appends the match arm of leaf number n.
@@ -114,15 +98,14 @@ fn push_arm(
     ensures { OnOk result (Grows (string_bytes text.old) (string_bytes text.new)) }
 {
     let comma = comma_before(n);
-    let options = names.core.options;
-    write!(text, "{comma}{options}Some ( LogosLeaf :: Leaf{n} ) => {{ ")?;
+    write!(text, "{comma}Some ( LogosLeaf :: Leaf{n} ) => {{ ")?;
     push_leaf(alloc, text, leaf, names)?;
     push(text, "} ")
 }
 
 /// Appends the body of a leaf's arm: the call of its callback, if it has one, and what a match
 /// gives.
-fn push_leaf(
+pub(crate) fn push_leaf(
     alloc: Global,
     text: &mut String,
     leaf: &CodeLeaf<'_>,

@@ -2,6 +2,7 @@
 
 #![tactic(auto)]
 
+mod actions;
 mod callbacks;
 mod code;
 mod conditions;

@@ -1,14 +1,13 @@
 //! What the library answers about an enum, in types of Rust's own library.
 
-use crate::packed::packed;
 use crate::question::Question;
 use logos_codegen::logos_codegen::generator::Config;
 use logos_codegen::logos_derive as library;
 use logos_codegen::logos_tables::Shape;
 use logos_codegen::logos_token::token::Span;
-use rattle_std::alloc::{Global, set_budget_of_program};
+use rattle_std::alloc::{set_budget_of_program, Global};
 use std::ops::Range;
-use std::panic::{AssertUnwindSafe, catch_unwind};
+use std::panic::{catch_unwind, AssertUnwindSafe};
 
 /// What the library answers: the implementation, if the enum is accepted, and faults and warnings.
 pub struct Answer {
@@ -115,9 +114,8 @@ fn answer(derivation: &library::Derivation) -> Answer {
 }
 
 fn implementation(found: &library::Implementation) -> Implementation {
-    let end = found.pieces.last().map_or(0, |piece| piece.to);
     Implementation {
-        text: packed(found.text.as_str(), end),
+        text: found.text.as_str().into(),
         pieces: found.pieces.iter().map(piece).collect(),
     }
 }

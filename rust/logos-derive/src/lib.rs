@@ -25,7 +25,6 @@ mod fault;
 mod fill;
 mod generics;
 mod kept;
-mod packed;
 mod question;
 mod record;
 mod stub;

@@ -1,7 +1,7 @@
 //! The implementation for an enum that is refused. It finds nothing; it is there so that the uses
 //! of the enum as a lexer are no errors beside the faults.
 
-use crate::generics::{Generics, Types, read_generics, with_lifetime};
+use crate::generics::{read_generics, with_lifetime, Generics, Types};
 use crate::type_syntax::{is_path, is_type};
 use proc_macro::{Delimiter, Group, TokenStream, TokenTree};
 use std::collections::HashMap;
@@ -38,18 +38,19 @@ impl<'s, logos_parameters> logos_path::Logos<'s> for logos_name<logos_arguments>
 }
 impl<'s, logos_parameters> logos_path::internal::Tables<'s> for logos_name<logos_arguments>
 logos_where {
-    const BY_BYTES: bool = false;
-    type Rows = [::core::primitive::u32; 0];
-    const ROWS: &'static [::core::primitive::u32; 0] = &[];
+    const DATA: logos_path::internal::_Data = logos_path::internal::_Data::NOTHING;
+    type Unpacked = ();
+    const UNPACKED: &'static () = &();
+    const ROWS: &'static [::core::primitive::u32] = &[];
+    const LASTS: &'static [::core::primitive::u32] = &[];
+    const MASKS: &'static [[[::core::primitive::u8; 8]; 256]] = &[];
+    const RANGES: &'static [logos_path::internal::_Ranges] = &[];
+    const FOLDED: &'static [::core::primitive::u32] = &[];
     fn bytes(_: &'s logos_source) -> &'s [::core::primitive::u8] { &[] }
     fn plain(_: ::core::primitive::usize) -> ::core::option::Option<Self> { loop {} }
-    fn act(
-        _: &mut logos_path::Lexer<'s, Self>,
-        _: ::core::primitive::usize,
-        _: ::core::primitive::usize,
-    ) -> ::core::option::Option<::core::result::Result<Self, logos_error>> { loop {} }
-    fn again(_: &[::core::primitive::u8], _: ::core::primitive::usize)
-        -> (::core::primitive::usize, ::core::primitive::usize) { loop {} }
+    fn act(_: &mut logos_path::Lexer<'s, Self>, _: ::core::primitive::usize)
+        -> logos_path::internal::CallbackResult<'s, Self> { loop {} }
+    fn error(_: &mut logos_path::Lexer<'s, Self>) -> logos_error { loop {} }
 }";
 
 /// Returns the implementation, if the item is an enum.

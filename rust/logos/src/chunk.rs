@@ -1,6 +1,6 @@
 //! A chunk of an input, walked over by folded tables.
 
-use crate::folded::{leaf_of, Rows, ENDED, PLACE};
+use crate::folded::{leaf_of, Folded, ENDED, PLACE};
 use crate::internal::Tables;
 use crate::Span;
 
@@ -240,12 +240,7 @@ fn bits_of(flags: &[u32; 8]) -> (u64, u64) {
 /// Returns the entry of a byte in the row at a place, or at the place of an entry.
 #[inline(always)]
 fn step<'s, T: Tables<'s>>(byte: u8, place: u32) -> u32 {
-    let column = if T::BY_BYTES {
-        byte
-    } else {
-        T::ROWS.column(byte)
-    };
-    T::ROWS.entry(column as usize, place)
+    T::entry_of(byte, place)
 }
 
 /// Walks over all blocks at once, each from its place, and returns the places after them.

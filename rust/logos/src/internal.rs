@@ -1,7 +1,10 @@
 //! What printed texts call. Programs have no need of it.
 
-use crate::folded::Rows;
-pub use crate::folded::{fold as _fold, size as _size};
+pub use crate::data::Data;
+pub use crate::data::{Data as _Data, Unpacked as _Unpacked};
+pub use crate::loops::Ranges as _Ranges;
+use crate::loops::{Mask, Ranges};
+use crate::run::Run;
 use crate::source::Chunk;
 use crate::{Filter, FilterResult, Lexer, Logos, Skip, Source};
 pub use Tables as _Tables;
@@ -52,14 +55,27 @@ impl<'source, Token: Logos<'source>> LexerInternal<'source> for Lexer<'source, T
     }
 }
 
-/// What a text whose lexer is tables says of it, for `Scan`.
+/// The tables of a lexer, as generated code has them.
 pub trait Tables<'source>: Logos<'source> {
-    /// The rows have an entry for each byte, and not for each class of bytes.
-    const BY_BYTES: bool;
+    /// The tables.
+    const DATA: Data;
 
-    /// The folded tables.
-    type Rows: Rows;
-    const ROWS: &'static Self::Rows;
+    /// The tables unpacked, for the constants that follow.
+    type Unpacked: 'static;
+    const UNPACKED: &'static Self::Unpacked;
+
+    /// The rows that `lex` reads: see [`_Unpacked::rows`].
+    const ROWS: &'static [u32];
+
+    /// The last match in each state: see [`_Unpacked::lasts`].
+    const LASTS: &'static [u32];
+
+    /// The loops over bytes that stay in a state, and their ranges.
+    const MASKS: &'static [Mask];
+    const RANGES: &'static [Ranges];
+
+    /// The tables that `scan` reads: see [`_Unpacked::folded`].
+    const FOLDED: &'static [u32];
 
     /// Returns the bytes of an input.
     fn bytes(source: &'source Self::Source) -> &'source [u8];
@@ -67,16 +83,17 @@ pub trait Tables<'source>: Logos<'source> {
     /// Returns the token of a leaf for which nothing is called, and which has no value.
     fn plain(leaf: usize) -> Option<Self>;
 
-    /// Returns what becomes of a match of the leaf, or of an error where no leaf has the number.
-    /// `None` means that nothing does.
-    fn act(
-        lexer: &mut Lexer<'source, Self>,
-        leaf: usize,
-        end: usize,
-    ) -> Option<Result<Self, Self::Error>>;
+    /// Returns what becomes of a match of another leaf.
+    fn act(lexer: &mut Lexer<'source, Self>, leaf: usize) -> CallbackResult<'source, Self>;
 
-    /// Makes a try from a byte offset, and returns its leaf and where it ends.
-    fn again(bytes: &[u8], start: usize) -> (usize, usize);
+    /// Returns the error in place of a token.
+    fn error(lexer: &mut Lexer<'source, Self>) -> Self::Error;
+
+    /// Finds the next token, or the error that is in its place, by these tables.
+    #[inline(always)]
+    fn run(lexer: &mut Lexer<'source, Self>) -> Option<Result<Self, Self::Error>> {
+        Self::lex_on(lexer)
+    }
 }
 
 /// What becomes of a match.

@@ -19,11 +19,6 @@ pub struct Lexer<'source, Token: Logos<'source>> {
 }
 
 impl<'source, Token: Logos<'source>> Lexer<'source, Token> {
-    /// Whether the compiler makes vectors of loops over 16 bytes. Printed texts ask.
-    #[doc(hidden)]
-    pub const VECTORS: bool = option_env!("LOGOS_VECTORS").is_some()
-        && cfg!(any(target_feature = "sse2", target_feature = "neon"));
-
     /// Returns a lexer at the start of an input, with extras of their default value.
     pub fn new(source: &'source Token::Source) -> Self
     where

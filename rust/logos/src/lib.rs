@@ -23,10 +23,14 @@
 extern crate std;
 
 mod chunk;
+mod data;
 mod folded;
 #[allow(missing_docs)]
 pub mod internal;
 mod lexer;
+mod loops;
+mod rows;
+mod run;
 mod scan;
 pub mod source;
 mod walk;

@@ -1,8 +1,9 @@
 //! Lexing by chunks of the input: [`Scan::scan`], for lexers that are tables.
 
 use crate::chunk::{FEWEST, WORD};
-use crate::folded::{leaf_of, Rows};
-use crate::internal::Tables;
+use crate::folded::{leaf_of, Folded};
+use crate::internal::{CallbackResult, LexerInternal, Tables};
+use crate::run::Run;
 use crate::walk::{new_room, Room, Word};
 use crate::{Lexer, Logos, Span};
 use core::fmt;
@@ -57,6 +58,17 @@ trait Apart<'source>: Scan<'source> {
 
     /// See [`Scanner::find_item`].
     fn find_item(scanner: &mut Scanner<'source, Self>) -> Option<Found<'source, Self>>;
+
+    /// See [`Tables::plain`]. Out of line, so that it is a look into a table, and no jump.
+    fn plain_apart(leaf: usize) -> Option<Self>;
+
+    /// Returns what becomes of a match of the leaf, or of an error if no leaf has the number.
+    /// `None` means that nothing does.
+    fn act_on(
+        lexer: &mut Lexer<'source, Self>,
+        leaf: usize,
+        end: usize,
+    ) -> Option<Found<'source, Self>>;
 }
 
 impl<'source, T: Scan<'source>> Apart<'source> for T {
@@ -68,6 +80,28 @@ impl<'source, T: Scan<'source>> Apart<'source> for T {
     #[inline(never)]
     fn find_item(scanner: &mut Scanner<'source, T>) -> Option<Found<'source, T>> {
         scanner.find_item()
+    }
+
+    #[inline(never)]
+    fn plain_apart(leaf: usize) -> Option<T> {
+        T::plain(leaf)
+    }
+
+    #[inline]
+    fn act_on(lexer: &mut Lexer<'source, T>, leaf: usize, end: usize) -> Option<Found<'source, T>> {
+        if leaf >= T::LEAVES {
+            let end = end.max(lexer.offset() + 1);
+            return Some(Err(T::error_to(lexer, end)));
+        }
+        if let Some(token) = T::plain(leaf) {
+            return Some(Ok(token));
+        }
+        match T::act(lexer, leaf) {
+            CallbackResult::Emit(token) => Some(Ok(token)),
+            CallbackResult::Skip => None,
+            CallbackResult::Error(error) => Some(Err(error)),
+            CallbackResult::DefaultError => Some(Err(T::error(lexer))),
+        }
     }
 }
 
@@ -123,7 +157,7 @@ impl<'source, Token: Scan<'source>> Scanner<'source, Token> {
             return None;
         }
         let leaf = self.walk.as_ref()?.leaf_of(&self.word, tokens)?;
-        let token = Token::plain(leaf)?;
+        let token = Token::plain_apart(leaf)?;
         let span = self.word.span_of(tokens);
         self.word.tokens = tokens & (tokens - 1);
         self.lexer.set_span(span.clone());
@@ -190,7 +224,7 @@ impl<'source, Token: Scan<'source>> Scanner<'source, Token> {
         let (leaf, end) = found;
         self.lexer.set_span(start..end);
         let source = self.lexer.source();
-        let item = Token::act(&mut self.lexer, leaf, end);
+        let item = Token::act_on(&mut self.lexer, leaf, end);
         self.follow(source, next);
         item
     }
@@ -221,7 +255,7 @@ impl<'source, Token: Scan<'source>> Scanner<'source, Token> {
         self.plain_to = 0;
         let start = self.word.start;
         self.word = match &mut self.walk {
-            Some(walk) => walk.begin_anew(start, Token::ROWS.root()),
+            Some(walk) => walk.begin_anew(start, <Token as Folded>::ROOT),
             None => Word::empty(start),
         };
     }
@@ -263,10 +297,10 @@ impl<'source, Token: Scan<'source>> Scanner<'source, Token> {
         // From here on the lexer goes on by itself, if no walk does.
         self.lexer.set_span(start..start);
         let left = bytes.len().saturating_sub(next);
-        if self.is_part && (left == 0 || !Token::Rows::ARE_THERE) {
+        if self.is_part && (left == 0 || !Token::HAS_ROWS) {
             return false;
         }
-        if !self.is_part && (left < FEWEST || !Token::Rows::ARE_THERE) {
+        if !self.is_part && (left < FEWEST || !Token::HAS_ROWS) {
             self.plain_to = usize::MAX;
         } else {
             self.walk_on(bytes, start);
@@ -278,7 +312,7 @@ impl<'source, Token: Scan<'source>> Scanner<'source, Token> {
     /// time.
     fn walk_on(&mut self, bytes: &[u8], start: usize) {
         let is_part = self.is_part;
-        let room = || new_room(start, Token::ROWS.root());
+        let room = || new_room(start, <Token as Folded>::ROOT);
         let walk = self.walk.get_or_insert_with(room);
         match walk.plain_to(self.folds) {
             Some(to) if !is_part => self.plain_to = to,
@@ -351,7 +385,7 @@ where
     };
     while tokens != 0 {
         let entry = entries[tokens.trailing_zeros() as usize % WORD];
-        let Some(token) = Token::plain(leaf_of(entry)) else {
+        let Some(token) = Token::plain_apart(leaf_of(entry)) else {
             break;
         };
         let span = word.span_of(tokens);

@@ -1,8 +1,9 @@
 //! The walk over an input, chunk by chunk. `scan` takes its tokens.
 
 use crate::chunk::{Chunk, CHUNK, WORD};
-use crate::folded::{Last, Rows};
+use crate::folded::{Folded, Last};
 use crate::internal::Tables;
+use crate::run::Run;
 use crate::Span;
 
 /// What things cost: for a walk each byte, each byte that is walked over again, each that a guess
@@ -205,7 +206,7 @@ impl Walk {
         let start = if self.missed {
             self.place
         } else {
-            T::ROWS.root()
+            <T as Folded>::ROOT
         };
         let by_lines = self.guesses[1] < self.guesses[0];
         let walked = self.chunk.walk::<T>(input, self.place, start, by_lines);
@@ -231,23 +232,23 @@ impl Walk {
             return (leaf - 1, end);
         }
         let place = match cut.checked_sub(1) {
-            _ if end == start => T::ROWS.root(),
+            _ if end == start => <T as Folded>::ROOT,
             Some(before) => self.chunk.place(before),
             None => self.first,
         };
-        match T::ROWS.last(place) {
+        match T::last(place) {
             Last::Never => (usize::MAX, end),
             Last::Back(leaf, bytes) => (leaf, end - bytes),
             Last::Varies => {
                 self.cost += TRY;
-                T::again(bytes, start)
+                T::try_again(bytes, start)
             }
         }
     }
 
     /// Lets the next match begin at a byte offset.
     pub(crate) fn begin_at<'s, T: Tables<'s>>(&mut self, bytes: &[u8], start: usize) -> Word {
-        let root = T::ROWS.root();
+        let root = <T as Folded>::ROOT;
         let at = start.wrapping_sub(self.base);
         if at >= self.len {
             return self.begin_anew(start, root);

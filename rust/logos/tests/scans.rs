@@ -1,10 +1,10 @@
 //! `Scan`, by tables that are written by hand. `tests/rust_text` has those of printed lexers.
 
-use logos::internal::{_Tables, _fold, _size};
+use logos::internal::{_Data, _Ranges, _Tables, _Unpacked, CallbackResult, LexerInternal};
 use logos::{Lexer, Logos, Scan, Scanner, Span};
 
 /// The classes: no other, letters, `(`, blanks, digits, `.`, `<`.
-const CLASSES: [u32; 257] = {
+const CLASSES: [u8; 257] = {
     let mut classes = [0; 257];
     let mut byte = b'a' as usize;
     while byte <= b'z' as usize {
@@ -25,7 +25,7 @@ const CLASSES: [u32; 257] = {
 const WIDTH: usize = 7;
 /// Each row of a state: the root, a word, `(`, blanks, a number, a number and `.`, a fraction, `<`.
 #[rustfmt::skip]
-const STEPS: [u32; 56] = [
+const STEPS: [u8; 56] = [
     0, 3, 4, 5, 6, 0, 9,
     0, 1, 0, 0, 0, 0, 0,
     0, 0, 0, 0, 0, 0, 0,
@@ -35,13 +35,13 @@ const STEPS: [u32; 56] = [
     0, 0, 0, 0, 1, 0, 0,
     0, 0, 0, 0, 0, 0, 0,
 ];
-const ROWS: [u32; 8] = [0, 1, 2, 3, 4, 5, 6, 7];
+const ROWS: [u8; 8] = [0, 1, 2, 3, 4, 5, 6, 7];
 /// The leaves: 0 for blanks, 1 for words, 2 for `(`, 3 for numbers, 4 for `<`.
-const MARKS: [u32; 8] = [0, 4, 6, 2, 8, 0, 8, 10];
-const SKIPS: [u32; 5] = [1, 0, 0, 0, 0];
+const MARKS: [u8; 8] = [0, 4, 6, 2, 8, 0, 8, 10];
+const SKIPS: [u8; 5] = [1, 0, 0, 0, 0];
 const LEAVES: usize = SKIPS.len();
 
-fn step(state: usize, bytes: &[u8], at: usize) -> u32 {
+fn step(state: usize, bytes: &[u8], at: usize) -> u8 {
     bytes.get(at).map_or(0, |byte| {
         STEPS[WIDTH * state + CLASSES[*byte as usize] as usize]
     })
@@ -63,8 +63,18 @@ fn attempt(bytes: &[u8], start: usize) -> (usize, usize) {
     }
 }
 
+/// Returns a table with zeros behind it: the states that they belong to are not reached.
+const fn padded<const N: usize>(table: &[u8; 8]) -> [u8; N] {
+    let (mut padded, mut at) = ([0; N], 0);
+    while at < table.len() {
+        padded[at] = table[at];
+        at += 1;
+    }
+    padded
+}
+
 macro_rules! lexer {
-    ($Token: ident, $by_bytes: expr, $columns: expr) => {
+    ($Token: ident, $states: expr, $entries: expr, $folded: expr) => {
         #[derive(Clone, Debug, PartialEq)]
         enum $Token<'s> {
             Word,
@@ -79,7 +89,6 @@ macro_rules! lexer {
             type Source = str;
 
             fn lex(lexer: &mut Lexer<'s, Self>) -> Option<Result<Self, ()>> {
-                use logos::internal::LexerInternal;
                 let bytes = lexer.source().as_bytes();
                 loop {
                     let start = lexer.offset();
@@ -87,13 +96,18 @@ macro_rules! lexer {
                         return None;
                     }
                     let (leaf, end) = attempt(bytes, start);
+                    if leaf >= LEAVES {
+                        lexer.end_to_boundary(end.max(start + 1));
+                        return Some(Err(()));
+                    }
                     lexer.end(end);
                     match Self::plain(leaf) {
                         Some(token) => return Some(Ok(token)),
                         None if leaf == 0 => lexer.trivia(),
-                        None => match Self::act(lexer, leaf, end) {
-                            Some(item) => return Some(item),
-                            None => lexer.trivia(),
+                        None => match Self::act(lexer, leaf) {
+                            CallbackResult::Emit(token) => return Some(Ok(token)),
+                            CallbackResult::Skip => lexer.trivia(),
+                            _ => return Some(Err(())),
                         },
                     }
                 }
@@ -101,14 +115,24 @@ macro_rules! lexer {
         }
 
         impl<'s> _Tables<'s> for $Token<'s> {
-            const BY_BYTES: bool = $by_bytes;
-            type Rows = [u32; _size(ROWS.len(), $columns, LEAVES)];
-            const ROWS: &'static Self::Rows = &_fold(
-                [&CLASSES, &[1; 56], &STEPS, &ROWS, &MARKS, &SKIPS],
-                0,
-                WIDTH,
-                $by_bytes,
-            );
+            const DATA: _Data = _Data {
+                root: 0,
+                width: WIDTH,
+                class_lengths: (1, &[1; 257]),
+                classes: (1, &CLASSES),
+                lengths: (1, &[1; 56]),
+                steps: (1, &STEPS),
+                rows: (1, &padded::<$states>(&ROWS)),
+                marks: (1, &padded::<$states>(&MARKS)),
+                skips: (1, &SKIPS),
+            };
+            type Unpacked = _Unpacked<$states, 56>;
+            const UNPACKED: &'static Self::Unpacked = &<Self::Unpacked>::new::<Self>();
+            const ROWS: &'static [u32] = &<Self::Unpacked>::rows::<Self, $entries>();
+            const LASTS: &'static [u32] = &<Self::Unpacked>::lasts::<Self>();
+            const MASKS: &'static [[[u8; 8]; 256]] = &<Self::Unpacked>::masks::<Self, 4>();
+            const RANGES: &'static [_Ranges] = &_Ranges::of::<Self, 4>();
+            const FOLDED: &'static [u32] = &<Self::Unpacked>::folded::<Self, $folded>();
 
             fn bytes(source: &'s str) -> &'s [u8] {
                 source.as_bytes()
@@ -122,45 +146,36 @@ macro_rules! lexer {
 
             /// `(` goes on to the next `)`, and is left out where there is none. `<` goes on in
             /// another text where the extras are 7.
-            fn act(
-                lexer: &mut Lexer<'s, Self>,
-                leaf: usize,
-                end: usize,
-            ) -> Option<Result<Self, ()>> {
-                use logos::internal::LexerInternal;
+            fn act(lexer: &mut Lexer<'s, Self>, leaf: usize) -> CallbackResult<'s, Self> {
                 match leaf {
-                    0 => None,
                     2 => {
                         let rest = lexer.remainder();
-                        lexer.bump(rest.find(')')? + 1);
+                        let Some(end) = rest.find(')') else {
+                            return CallbackResult::Skip;
+                        };
+                        lexer.bump(end + 1);
                         lexer.extras += 1;
-                        Some(Ok($Token::Round(lexer.slice())))
+                        CallbackResult::Emit($Token::Round(lexer.slice()))
                     }
                     4 if lexer.extras == 7 => {
                         *lexer = Lexer::with_extras(OTHER, 8);
                         lexer.bump(3);
-                        Some(Ok($Token::Angle))
+                        CallbackResult::Emit($Token::Angle)
                     }
-                    4 => Some(Ok($Token::Angle)),
-                    1 | 3 => Self::plain(leaf).map(Ok),
-                    _ => {
-                        lexer.end_to_boundary(end.max(lexer.offset() + 1));
-                        Some(Err(()))
-                    }
+                    4 => CallbackResult::Emit($Token::Angle),
+                    _ => CallbackResult::Skip,
                 }
             }
 
-            fn again(bytes: &[u8], start: usize) -> (usize, usize) {
-                attempt(bytes, start)
-            }
+            fn error(_: &mut Lexer<'s, Self>) {}
         }
     };
 }
 
 const OTHER: &str = "a (b) 1.2 c. d";
 
-lexer!(ByBytes, true, 272);
-lexer!(ByClasses, false, WIDTH);
+lexer!(ByBytes, 8, { 8 * 272 + 256 }, { 4096 + 1024 });
+lexer!(ByClasses, 301, { 301 * WIDTH + 256 }, { 4096 + 1024 });
 
 /// Returns a text of so many pieces, the same each time.
 fn text(pieces: usize, seed: u64) -> String {

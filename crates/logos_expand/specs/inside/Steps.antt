@@ -8,6 +8,7 @@ use Rattle.logos_report.specs.declared.refused.Refused.{Refused}
 use Rattle.logos_report.specs.Sets.{sizes_of}
 use Rattle.logos_expand.specs.Expanding.{IsGuarded, under}
 use Rattle.logos_tables.specs.Shapes.{IsShown}
+use Rattle.logos_text.specs.Fronts.{AroundValue}
 use Rattle.logos_expand.specs.Gathering.{Gathers}
 use Rattle.logos_layout.specs.Layout.{IsLaidOut}
 use Rattle.logos_rust_file.specs.declared.finding.FoundEnum.{FoundEnum}
@@ -45,7 +46,8 @@ pub record IsPrintedWith (shape : Shape) (code : CodeValue) (left : TokenList) (
   pub written : List ℕ
   pub lexer : List ℕ
   pub laid : List ℕ
-  pub stand : IsShown shape code lexer
+  pub around : AroundValue
+  pub stand : IsShown shape around code lexer
   pub by_name : Bool
   pub is_written : IsGuarded left written
   pub is_laid_out : IsLaidOut (under by_name left lexer) laid

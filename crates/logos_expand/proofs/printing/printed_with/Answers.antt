@@ -1,4 +1,5 @@
 use Rattle.std.proofs.Common.{◌∙◌, ℕ, List, [], ◌∷◌, ◌++◌, ap, append_assoc, string_bytes}
+use Rattle.logos_codegen.specs.Fronts.{around_made}
 use lib.Utf8
 use Rattle.logos_expand.proofs.printing.printed_with.Goals as goal
 
@@ -12,6 +13,7 @@ returns c =
       lexer = string_bytes c.in_ok-lexer.lexer;
       laid = laid;
       by_name = c.args.site.by_name;
+      around = around_made c.args.made.now;
       stand = c.in_ok-lexer.ensures;
       is_written = c.in_ok-text.ensures;
       is_laid_out = rw c.as_str.ensures.value at (rw c.in_ok-whole.ensures at (rw c.as_str-2.ensures.value at c.in_ok-laid.ensures));

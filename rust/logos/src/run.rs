@@ -1,0 +1,268 @@
+//! The loop over match attempts, by the tables of a lexer. `Logos::lex` of generated code calls it.
+
+use crate::data::END;
+use crate::internal::{CallbackResult, LexerInternal, Tables};
+use crate::loops::Loops;
+use crate::rows::{AGAIN, CLOSES, ENDS, FORTH, NEVER, NOWHERE, NUMBERS, SINGLY, STAYS, VARIES};
+use crate::Lexer;
+
+/// The loop and its steps. These are functions of the enum: so the compiler puts them beside its
+/// `lex`, and can make that a part of the one which calls it.
+pub(crate) trait Run<'source>: Loops<'source> {
+    /// Whether a row has an entry for each byte, and not for each class.
+    const BY_BYTES: bool = Self::DATA.by_bytes();
+    /// The columns of a row, and that of the end of the input.
+    const COLUMNS: usize = Self::DATA.columns(0);
+    const END_COLUMN: usize = if Self::BY_BYTES {
+        END
+    } else {
+        Self::DATA.classes()[END] as usize
+    };
+    /// An entry below it leads to a state, and this is the entry that leads to the first state.
+    const LEADS: u32 = (Self::DATA.states() * Self::COLUMNS) as u32;
+    const START: u32 = (Self::DATA.root * Self::COLUMNS) as u32;
+    /// The number of leaves.
+    const LEAVES: usize = Self::DATA.leaves();
+    /// The class of each byte, and the entries of the first state, by bytes.
+    const CLASSES: &'static [u8; 256] = &classes(&Self::DATA.classes());
+    const FIRST: &'static [u32; 256] =
+        &first(Self::ROWS, Self::START as usize, &Self::DATA.classes());
+
+    /// Returns the entry of the first byte of an attempt.
+    #[inline(always)]
+    fn first_step(byte: u8) -> u32 {
+        if Self::BY_BYTES {
+            Self::ROWS[Self::START as usize + byte as usize]
+        } else {
+            Self::FIRST[byte as usize]
+        }
+    }
+
+    /// Returns the entry of a byte in a state. The column is added to the position of the table
+    /// first: the state is known last, by the step before.
+    #[inline(always)]
+    fn step(state: u32, byte: u8) -> u32 {
+        let column = if Self::BY_BYTES {
+            byte
+        } else {
+            Self::CLASSES[byte as usize]
+        };
+        Self::ROWS[column as usize..][state as usize]
+    }
+
+    /// Returns whether the entry is of this kind, which has a leaf. Its number is not taken from
+    /// here: that would cost a register more.
+    #[inline(always)]
+    fn has_leaf(entry: u32, kind: u32) -> bool {
+        entry.wrapping_sub(kind) < Self::LEAVES as u32
+    }
+
+    /// Returns the entry of the end of the input. Where it leads on, another attempt finds the
+    /// match.
+    #[cold]
+    #[inline(never)]
+    fn end_entry(state: u32) -> u32 {
+        let entry = Self::ROWS[state as usize + Self::END_COLUMN];
+        if entry < ENDS {
+            AGAIN
+        } else {
+            entry
+        }
+    }
+
+    /// Makes an attempt again, byte by byte, with the marks that it passes. Returns the last leaf,
+    /// with the end of its match, or a number that no leaf has, with where the attempt is over.
+    #[cold]
+    #[inline(never)]
+    fn try_again(bytes: &[u8], start: usize) -> (usize, usize) {
+        let (mut state, mut at) = (Self::START, start);
+        let (mut leaf, mut end) = (Self::LEAVES, start);
+        loop {
+            let next = match bytes.get(at) {
+                Some(byte) => Self::step(state, *byte),
+                None => Self::ROWS[state as usize + Self::END_COLUMN],
+            };
+            if (STAYS..ENDS).contains(&next) {
+                at += 1;
+                continue;
+            }
+            let mark = Self::DATA.mark(state as usize / Self::COLUMNS);
+            if mark != 0 {
+                (leaf, end) = (mark / 2 - 1, at - mark % 2);
+            }
+            if next >= NOWHERE {
+                return (leaf, if leaf < Self::LEAVES { end } else { at });
+            }
+            if next >= ENDS {
+                return ((next & NUMBERS) as usize, at + (next >= CLOSES) as usize);
+            }
+            state = next;
+            at += 1;
+        }
+    }
+
+    /// Returns the match of an attempt that is over before a byte for which the state has this
+    /// entry, and where no match ends: its leaf and its end, or a number that no leaf has, with
+    /// where the attempt is over.
+    #[inline(always)]
+    fn match_before(
+        bytes: &[u8],
+        start: usize,
+        state: u32,
+        entry: u32,
+        at: usize,
+    ) -> (usize, usize) {
+        let last = Self::LASTS[state as usize / Self::COLUMNS];
+        if entry != NOWHERE || last == VARIES {
+            return Self::try_again(bytes, start);
+        }
+        if last == NEVER {
+            return (Self::LEAVES, at);
+        }
+        let far = (last % FORTH) as usize;
+        let end = if last & FORTH == 0 {
+            at - far
+        } else {
+            start + far
+        };
+        ((last >> 8) as usize - 1, end)
+    }
+
+    /// Returns the first entry of an attempt that does not lead on, the position after its byte,
+    /// and its state, where the first byte leads to a state.
+    #[inline(always)]
+    fn walk(bytes: &[u8], from: usize, first: u32) -> (u32, usize, u32) {
+        let (mut state, mut at) = (first, from);
+        'walk: loop {
+            let Some(byte) = bytes.get(at) else {
+                return (Self::end_entry(state), at + 1, state);
+            };
+            let mut next = Self::step(state, *byte);
+            at += 1;
+            if next >= Self::LEADS {
+                if next >= ENDS {
+                    return (next, at, state);
+                }
+                let number = next as usize & Self::LOOP;
+                let block = bytes.get(at..).and_then(|rest| rest.first_chunk::<14>());
+                if next & SINGLY == 0 {
+                    at = Self::stop(number, bytes, at);
+                } else if let Some(block) = block {
+                    // What follows need not wait to know how many of these stay. Which number is
+                    // the fastest differs from text to text.
+                    for (n, byte) in block.iter().enumerate() {
+                        if !Self::stays(number, *byte) {
+                            next = Self::step(state, *byte);
+                            at += n + 1;
+                            if next >= Self::LEADS {
+                                return (next, at, state);
+                            }
+                            state = next;
+                            continue 'walk;
+                        }
+                    }
+                    at = Self::stop_far(number, bytes, at + 14);
+                } else {
+                    at = Self::stop_late(number, bytes, at);
+                }
+                let Some(byte) = bytes.get(at) else {
+                    return (Self::end_entry(state), at + 1, state);
+                };
+                next = Self::step(state, *byte);
+                at += 1;
+                if next >= Self::LEADS {
+                    return (next, at, state);
+                }
+            }
+            state = next;
+        }
+    }
+
+    /// Finds the next token, or the error that is in its place.
+    #[inline(always)]
+    fn lex_on(lex: &mut Lexer<'source, Self>) -> Option<Result<Self, Self::Error>> {
+        let bytes = Self::bytes(lex.source());
+        let mut start = lex.offset();
+        'attempts: loop {
+            let byte = bytes.get(start)?;
+            let (mut entry, mut at, mut state) = (Self::first_step(*byte), start + 1, Self::START);
+            // The leaf, and where its match ends. Each way is a branch: the next attempt need not
+            // wait for the entry to know where it begins.
+            let (leaf, end) = 'found: {
+                if Self::has_leaf(entry, CLOSES) {
+                    break 'found ((entry & NUMBERS) as usize, at);
+                }
+                if entry < Self::LEADS {
+                    (entry, at, state) = Self::walk(bytes, at, entry);
+                    if Self::has_leaf(entry, ENDS) {
+                        break 'found ((entry & NUMBERS) as usize, at - 1);
+                    }
+                    if entry < CLOSES {
+                        lex.end(at - 1);
+                        lex.trivia();
+                        start = at - 1;
+                        continue 'attempts;
+                    }
+                    if Self::has_leaf(entry, CLOSES) {
+                        break 'found ((entry & NUMBERS) as usize, at);
+                    }
+                }
+                if (CLOSES..NOWHERE).contains(&entry) {
+                    lex.end(at);
+                    lex.trivia();
+                    start = at;
+                    continue 'attempts;
+                }
+                let (leaf, end) = Self::match_before(bytes, start, state, entry, at - 1);
+                if leaf >= Self::LEAVES {
+                    return Some(Err(Self::error_to(lex, end.max(start + 1))));
+                }
+                (leaf, end)
+            };
+            lex.end(end);
+            if let Some(token) = Self::plain(leaf) {
+                return Some(Ok(token));
+            }
+            match Self::act(lex, leaf) {
+                CallbackResult::Emit(token) => return Some(Ok(token)),
+                CallbackResult::Skip => {
+                    lex.trivia();
+                    start = lex.offset();
+                }
+                CallbackResult::Error(error) => return Some(Err(error)),
+                CallbackResult::DefaultError => return Some(Err(Self::error(lex))),
+            }
+        }
+    }
+
+    /// Makes the error that ends at the first boundary from a position on.
+    #[inline(always)]
+    fn error_to(lex: &mut Lexer<'source, Self>, end: usize) -> Self::Error {
+        lex.end_to_boundary(end);
+        Self::error(lex)
+    }
+}
+
+impl<'source, T: Tables<'source>> Run<'source> for T {}
+
+const fn classes(classes: &[u16; 257]) -> [u8; 256] {
+    let (mut all, mut byte) = ([0; 256], 0);
+    while byte < 256 {
+        assert!(
+            classes[byte] < 256,
+            "the class of a byte is one of the first"
+        );
+        all[byte] = classes[byte] as u8;
+        byte += 1;
+    }
+    all
+}
+
+const fn first(rows: &[u32], start: usize, classes: &[u16; 257]) -> [u32; 256] {
+    let (mut first, mut byte) = ([0; 256], 0);
+    while byte < 256 {
+        first[byte] = rows[start + classes[byte] as usize];
+        byte += 1;
+    }
+    first
+}
