@@ -14,7 +14,7 @@ pub use Rattle.logos_generator.specs.GeneratorValue.{KeepsGiven}
 pub use Rattle.logos_graph.specs.GraphOf.{IsGraphOf}
 pub use Rattle.logos_graph.specs.View.{rules_of}
 pub use Rattle.logos_definition.specs.Options.{utf8_mode}
-pub use Rattle.logos_machine.specs.LexerValue.{answers_of, item_of}
+pub use Rattle.logos_machine.specs.LexerValue.{TakesMatches, TakesMatchesOf, answers_of, item_of}
 pub use Rattle.logos_parser.specs.AnalysisViews.{analysis_view}
 pub use Rattle.logos_parser.specs.Endings.{too_long}
 pub use Rattle.logos_parser.specs.Refusals.{IsMemory, Refuses}

@@ -1,7 +1,7 @@
 //! Lexing of an input by a source.
 
 ghost use Rattle.std.specs.Prelude.{◌≡◌, List, Bool, map, length, true, IfOk, IfErr, IsTrue};
-ghost use Rattle.logos_codegen.specs.Views.{All, IsUtf8, Rule, CodeValue, IsCut, IsLexer, Items, answers_of, item_of, AreInOrder, Parts, IsLeftOut, Runs, IsAccepted, IsWithinLimits, IsUnlexed, IsJust, IsNoRefusal, Memory as OutOfMemory, NotUtf8 as NoUtf8, IsThatRefusal};
+ghost use Rattle.logos_codegen.specs.Views.{All, IsUtf8, Rule, CodeValue, IsCut, IsLexer, Items, answers_of, item_of, AreInOrder, Parts, IsLeftOut, Runs, IsAccepted, IsWithinLimits, IsUnlexed, IsJust, IsNoRefusal, TakesMatches, TakesMatchesOf, Memory as OutOfMemory, NotUtf8 as NoUtf8, IsThatRefusal};
 
 use crate::generation::generate;
 use logos_generator::code::Code;
@@ -69,7 +69,7 @@ fn lex_input<'i, C: Fn(LeafId, &[u8]) -> Action + Drop>(
     input: &'i [u8],
     callbacks: C,
 ) -> Result<Vec<Item<'i>>, LexSourceError>
-    requires { C.IsAlwaysCallable callbacks }
+    requires { TakesMatches C.Fn code.now callbacks }
     ensures items { IfOk result (λ items. Runs code.now (answers_of C.Fn callbacks) input.now 0
         (map item_of items.items)) }
     ensures text { IfOk result (λ items. IsTrue code.now.utf8 → IsUtf8 input.now) }
@@ -86,7 +86,7 @@ fn lex_input<'i, C: Fn(LeafId, &[u8]) -> Action + Drop>(
 /// token of its leaf, or nothing if that is a `skip`. Where no leaf has a match, the item is an
 /// error, which reaches over the longest beginning that could still grow. For a match of a leaf
 /// with a callback, `callbacks` decides by the leaf and the slice; `Emit` for a `skip` means
-/// `Skip`. It is not asked about other leaves. Both shapes of `config` give the same items.
+/// `Skip`. It is not called for other leaves. Both shapes of `config` give the same items.
 ///
 /// # Errors
 ///
@@ -100,7 +100,8 @@ pub fn lex_source<'i, C: Fn(LeafId, &[u8]) -> Action + Drop>(
     input: &'i [u8],
     callbacks: C,
 ) -> Result<Vec<Item<'i>>, LexSourceError>
-    requires { C.IsAlwaysCallable callbacks }
+    requires { (rules : List Rule) (utf8 : Bool) → IsAccepted src.now rules utf8 →
+        TakesMatchesOf C.Fn rules callbacks }
     // The items are those of maximal munch, by the rules of a source without faults; in UTF-8 mode,
     // of UTF-8.
     ensures items { IfOk result (λ items. (rules : List Rule) × (utf8 : Bool)

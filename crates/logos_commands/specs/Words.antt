@@ -3,7 +3,7 @@ pub use Rattle.logos_code.specs.declared.action.Action.{Action}
 pub use Rattle.logos_enum.specs.Values.{ident_slice}
 pub use Rattle.logos_graph.specs.Mermaid.{mermaid_of}
 pub use Rattle.logos_host.specs.Writers.{AppendsFront}
-pub use Rattle.logos_machine.specs.LexerValue.{answers_of, item_of}
+pub use Rattle.logos_machine.specs.LexerValue.{TakesMatches, answers_of, item_of}
 pub use Rattle.logos_text.specs.Standing.{StandInOrder}
 pub use Rattle.logos_text.specs.Texts.{texts_of}
 pub use Rattle.std.specs.Io.KnownBytes.{Appends, Keeps}

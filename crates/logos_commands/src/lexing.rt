@@ -1,7 +1,7 @@
 //! The command `lex`: a line for each item of an input, written in blocks while the input is lexed.
 
 ghost use Rattle.std.specs.Prelude.{◌≡◌, ◌++◌, ◌+◌, ◌<◌, ◌≤◌, ℕ, List, [], IfErr, OnOk, IsTrue, IsUtf8, vec_len, vec_capacity};
-ghost use Rattle.logos_commands.specs.Views.{Appends, Keeps, Action as Answer, answers_of, item_of, WritesLines, emits, line_of, AppendsFront, status_of, Output, IsTornBy, PrintsItems, PrintsItemsOf, RefusesInput, RefusesItems};
+ghost use Rattle.logos_commands.specs.Views.{Appends, Keeps, TakesMatches, Action as Answer, answers_of, item_of, WritesLines, emits, line_of, AppendsFront, status_of, Output, IsTornBy, PrintsItems, PrintsItemsOf, RefusesInput, RefusesItems};
 
 use crate::failure::CommandFailure;
 use crate::lines::{LONGEST, write_line};
@@ -120,7 +120,7 @@ fn write_by_chunks<C: Fn(LeafId, &[u8]) -> Action, O: Write>(
     block: &mut Vec<u8>,
     out: &mut O,
 ) -> Result<(), CommandFailure<'static>>
-    requires callable { C.IsAlwaysCallable callback.now }
+    requires callable { TakesMatches C.Fn folded.now.code callback.now }
     requires room { (vec_len block.old < BLOCK) × (BLOCK + LONGEST ≤ vec_capacity block.old) }
     ensures lines { OnOk result (WritesLines folded.now.code (answers_of C.Fn callback.now)
         input.now 0 block.old.items (O.contents out.old) (O.contents out.new)) }
@@ -143,7 +143,7 @@ fn write_lines<C: Fn(LeafId, &[u8]) -> Action, O: Write>(
     block: &mut Vec<u8>,
     out: &mut O,
 ) -> Result<(), CommandFailure<'static>>
-    requires callable { C.IsAlwaysCallable lexer.old.callback }
+    requires callable { TakesMatches C.Fn lexer.old.code lexer.old.callback }
     requires room { (vec_len block.old < BLOCK) × (BLOCK + LONGEST ≤ vec_capacity block.old) }
     ensures lines { OnOk result (WritesLines lexer.old.code
         (answers_of C.Fn lexer.old.callback) lexer.old.input lexer.old.to block.old.items

@@ -113,7 +113,8 @@ fn better(one: Match, other: Match) -> Match
 }
 
 /// Returns the match that a lexer takes of those from an offset: the longest, and of several the
-/// one of the highest priority. Where leaves are ambiguous, it is the first of these.
+/// one of the highest priority. Where leaves are ambiguous, it is one of these. Returns `None` if
+/// there is no match.
 pub fn winner(matches: &[Match]) -> Option<Match>
     ensures { MatchOption result (matches.now ≡ []) (IsWinner matches.now) }
 {

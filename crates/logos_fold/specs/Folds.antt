@@ -20,6 +20,10 @@ pub record FoldedValue : Type 0 where
 abbrev pub IsFew : CodeValue → Type 0
 IsFew code = 272 * length code.states ≤ 1048576
 
+-- They cannot.
+abbrev pub IsMany : CodeValue → Type 0
+IsMany code = 3855 < length code.states
+
 -- A try that stands in the state before the byte stands after it in this one: the fast loop takes
 -- the byte, or it leads there.
 abbrev pub TakesTo : CodeValue → ℕ → ℕ → ℕ → Type 0

@@ -1,7 +1,7 @@
 //! The folded rows of a code.
 
-ghost use Rattle.std.specs.Prelude.{◌≡◌, IfOk, IfSome, length};
-ghost use Rattle.logos_fold.specs.Words.{AreFolded, IsFew};
+ghost use Rattle.std.specs.Prelude.{◌≡◌, IfOk, IfSome, None, length};
+ghost use Rattle.logos_fold.specs.Words.{AreFolded, IsFew, IsMany};
 
 use crate::entries::{ENTRIES, row_of};
 use logos_code::code::Code;
@@ -31,14 +31,15 @@ impl<'c, 's> Model for Folded<'c, 's> {
 }
 
 impl<'c, 's> Folded<'c, 's> {
-    /// Folds the rows of a code. Returns `None` if it has more states than folded entries can name:
-    /// more than 3,855.
+    /// Folds the rows of a code. Returns `None` only if it has more states than folded entries can
+    /// name: more than 3,855.
     ///
     /// # Errors
     ///
     /// Returns `AllocError` if memory runs out.
     pub fn new(alloc: Global, code: &'c Code<'s>) -> Result<Option<Folded<'c, 's>>, AllocError>
-        ensures { IfOk result (λ o. IfSome o (λ folded. folded.code ≡ code.now)) }
+        ensures code { IfOk result (λ o. IfSome o (λ folded. folded.code ≡ code.now)) }
+        ensures many { IfOk result (λ o. o ≡ None → IsMany code.now) }
     {
         let states = code.parts().states.len();
         if states > ENTRIES / WIDTH {

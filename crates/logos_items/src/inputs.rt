@@ -1,7 +1,7 @@
 //! All items of an input, written by blocks.
 
 ghost use Rattle.std.specs.Prelude.{IfErr};
-ghost use Rattle.logos_items.specs.Words.{IsNoMisuse};
+ghost use Rattle.logos_items.specs.Words.{IsNoMisuse, TakesMatches};
 
 use crate::blocks::write_if_full;
 use logos_codegen::code::Code;
@@ -66,7 +66,7 @@ fn write_by_chunks<C: Fn(LeafId, &[u8]) -> Action, B: ItemBlock, O: Write>(
     block: &mut B,
     out: &mut O,
 ) -> Result<(), Failure<'static>>
-    requires { C.IsAlwaysCallable callback.now }
+    requires { TakesMatches C.Fn folded.now.code callback.now }
     ensures { IfErr result IsNoMisuse }
 {
     let reading = Reading::new(folded, input);
@@ -85,7 +85,7 @@ fn write_lexed<C: Fn(LeafId, &[u8]) -> Action, B: ItemBlock, O: Write>(
     block: &mut B,
     out: &mut O,
 ) -> Result<(), Failure<'static>>
-    requires { C.IsAlwaysCallable lexer.old.callback }
+    requires { TakesMatches C.Fn lexer.old.code lexer.old.callback }
     ensures { IfErr result IsNoMisuse }
 {
     while let Some(item) = lexer.next() {

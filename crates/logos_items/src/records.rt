@@ -1,7 +1,7 @@
 //! The items of an input, an object of JSON each.
 
 ghost use Rattle.std.specs.Prelude.{IfErr};
-ghost use Rattle.logos_items.specs.Words.{IsNoMisuse};
+ghost use Rattle.logos_items.specs.Words.{IsNoMisuse, TakesMatches};
 
 use crate::blocks::{BLOCK, print_bytes, write_if_full};
 use logos_answers::{Counts, code_name_at, note_of};
@@ -79,7 +79,7 @@ fn write_records<C: Fn(LeafId, &[u8]) -> Action, O: Write>(
     records: &mut Records,
     out: &mut O,
 ) -> Result<(), Failure<'static>>
-    requires { C.IsAlwaysCallable lexer.old.callback }
+    requires { TakesMatches C.Fn lexer.old.code lexer.old.callback }
     ensures { IfErr result IsNoMisuse }
 {
     let mut cursor = Cursor::new(lexer.remainder());

@@ -1,7 +1,7 @@
 //! The items of standard input, a line each, written as they are found.
 
 ghost use Rattle.std.specs.Prelude.{◌<◌, IfErr};
-ghost use Rattle.logos_items.specs.Words.{IsNoMisuse, KeepsCode, unread_length};
+ghost use Rattle.logos_items.specs.Words.{IsNoMisuse, KeepsCode, TakesMatches, unread_length};
 
 use crate::blocks::{print_bytes, write_if_full};
 use crate::lines::{ERROR, Lines, head_at, milliseconds, no_lines, now, push_totals};
@@ -96,7 +96,7 @@ fn write_stream<R: Read + Drop, C: Fn(LeafId, &[u8]) -> Action + Copy, O: Write>
     lines: &mut Lines,
     out: &mut O,
 ) -> Result<Option<StreamStop>, Failure<'static>>
-    requires { C.IsAlwaysCallable stream.old.callback }
+    requires { TakesMatches C.Fn stream.old.code stream.old.callback }
     ensures { IfErr result IsNoMisuse }
 {
     let mut position = Position { line: 1, column: 1 };

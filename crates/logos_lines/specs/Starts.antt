@@ -29,6 +29,12 @@ pub record IsLineOf (text : List ℕ) (line : ℕ) (shown : List ℕ) : Type 0 w
   pub start : IsStart text line from
   pub shows : shown ≡ take (line_length (drop from text)) (drop from text)
 
+-- The text of the line, without its end, has more than `most` bytes.
+pub record IsLongLine (text : List ℕ) (line most : ℕ) : Type 0 where
+  pub from : ℕ
+  pub start : IsStart text line from
+  pub longer : most < line_length (drop from text)
+
 -- These are the positions of the offsets 0, 256, 512 .. of the text, up to its end.
 pub record AreStops (text : List ℕ) (stops : List Position) : Type 0 where
   pub whole : length text < length stops * 256

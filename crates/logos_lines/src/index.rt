@@ -1,7 +1,7 @@
 //! The lines of a text. Reports and tables make one for each file that they show.
 
-ghost use Rattle.std.specs.Prelude.{◌≡◌, ◌<◌, ◌≤◌, ◌+◌, ◌^◌, ◌∷◌, [], ℕ, List, Some, None, IfOk, IfSome, MatchOption, OnOk, IsCharBoundary, ◌++◌, ◌==◌, if◌then◌else◌, length, drop};
-ghost use Rattle.logos_lines.specs.Views.{place_at, ends_line, line_length, ends_search, next_column, AreStarts, AreStops, IsLineOf, IsNoLine, IsStart};
+ghost use Rattle.std.specs.Prelude.{◌≡◌, ◌<◌, ◌≤◌, ◌+◌, ◌^◌, ◌∷◌, [], ℕ, List, Some, None, ◌⊎◌, IfOk, IfSome, MatchOption, OnOk, IsCharBoundary, ◌++◌, ◌==◌, if◌then◌else◌, length, drop};
+ghost use Rattle.logos_lines.specs.Views.{place_at, ends_line, line_length, ends_search, next_column, AreStarts, AreStops, IsLineOf, IsLongLine, IsNoLine, IsStart};
 
 use crate::cursor::Cursor;
 use crate::place::{Position, continues};
@@ -88,14 +88,20 @@ impl<'t> LineIndex<'t> {
         Some(&self.text[start..end])
     }
 
-    /// Returns the text of a line without LF or CR LF, if it has no more than `most` bytes. It
-    /// looks at no more than these.
+    /// Returns the text of a line without LF or CR LF, or `None` if the text has no such line, or
+    /// if the line has more than `most` bytes. It looks at no more than `most` bytes and the end of
+    /// the line.
     pub fn short_line(&self, line: usize, most: usize) -> Option<&'t str>
-        ensures { IfSome result (λ text. IsLineOf self.now line text.now) }
+        ensures { MatchOption result (IsNoLine self.now line ⊎ IsLongLine self.now line most)
+            (λ text. IsLineOf self.now line text.now × (length text.now ≤ most)) }
     {
-        let start = self.start_of(line)?;
-        let end = near_end(self.text, start, most)?;
-        Some(&self.text[start..end])
+        let Some(start) = self.start_of(line) else {
+            return None;
+        };
+        match near_end(self.text, start, most) {
+            Some(end) => Some(&self.text[start..end]),
+            None => None,
+        }
     }
 
     /// Returns the offset at which a line begins, or `None` if the text has no such line.
@@ -205,11 +211,13 @@ fn line_end(text: &str, start: usize) -> usize
     end
 }
 
-/// Returns the offset at which the text of a line ends, by the offset at which it begins, if it has
-/// no more than `most` bytes.
+/// Returns the offset at which the text of a line ends, by the offset at which it begins, or `None`
+/// if the line has more than `most` bytes.
 fn near_end(text: &str, start: usize, most: usize) -> Option<usize>
     requires { start ≤ length text.now }
-    ensures value { IfSome result (λ end. end ≡ start + line_length (drop start text.now)) }
+    ensures value { MatchOption result (most < line_length (drop start text.now))
+        (λ end. end ≡ start + line_length (drop start text.now)) }
+    ensures near { IfSome result (λ end. end ≤ start + most) }
     ensures after { IfSome result (λ end. start ≤ end) }
     ensures boundary { IfSome result (λ end. IsCharBoundary text.now end) }
 {

@@ -1,9 +1,10 @@
 -- What a state does, by what is known of the place where its fast loop ends.
-use Rattle.std.proofs.Common.{◌≡◌, ◌≢◌, ℕ, ◌+◌, ◌<◌, ◌⊎◌, inl, inr, ⊎_elim, Bool, true, false, ◌&&◌, ◌==◌, IsTrue, IfSome, List, drop, Option, Some, None, option_map, slice_get, refl, sym, ap, ◌∙◌, arith}
+use Rattle.std.proofs.Common.{◌≡◌, ◌≢◌, ℕ, ◌+◌, ◌<◌, ◌⊎◌, [], ◌∷◌, inl, inr, ⊎_elim, Bool, true, false, ◌&&◌, ◌==◌, IsTrue, IfSome, List, drop, Option, Some, None, option_map, slice_get, refl, sym, ap, ◌∙◌, arith}
 use Rattle.std.proofs.lemmas.Bool.Decides.{eqb_tells}
-use Rattle.logos_code.specs.Code.{CodeValue, CodeState, Mark}
+use Rattle.logos_code.specs.Code.{CodeValue, CodeState, Fork, Mark, by_conditions, by_table}
 use Rattle.logos_code.specs.Headline.{IsLate}
-use Rattle.logos_code.specs.Runs.{Stand, Turn, returns, target, looped, marked, led, forked, Does}
+use Rattle.logos_code.specs.Runs.{Stand, Turn, acts, returns, target, looped, marked, led, forked, turn, Does}
+use Rattle.logos_machine.specs.Streams.{IsClosed, NoBranches}
 
 differs : (a b : ℕ) → a ≢ b → (a == b) ≡ false
 differs a b other = ⊎_elim (λ h. absurd (other h.1)) (λ h. h.0) (eqb_tells a b)
@@ -14,7 +15,7 @@ agrees a b same = ⊎_elim (λ h. h.0) (λ h. absurd (h.1 same)) (eqb_tells a b)
 other_and : (a b : ℕ) (c : Bool) → a ≢ b → ((a == b) && c) ≡ false
 other_and a b c other = ap (λ f. f && c) (differs a b other)
 
-and_other : (c : Bool) (a b : ℕ) → a ≢ b → (c && (a == b)) ≡ false
+pub and_other : (c : Bool) (a b : ℕ) → a ≢ b → (c && (a == b)) ≡ false
 and_other true a b other = differs a b other
 and_other false a b other = refl
 
@@ -79,3 +80,23 @@ module _ (code : CodeValue) (bytes : List ℕ) (start : ℕ) (at : Stand) (state
       let there : IsLate code at.state = rw (is, marks) late in
       let past = second there in
       omega (arith, stops, past)
+
+-- a fork without branches leads nowhere
+target_none : (code : CodeValue) (fork : Fork) → NoBranches fork → (b : ℕ) → target code fork b ≡ None
+target_none code (by_conditions []) none b = refl
+target_none code (by_conditions (branch ∷ branches)) none b = absurd none
+target_none code (by_table entries) none b = absurd none
+
+module _ (code : CodeValue) (bytes : List ℕ) (start : ℕ) (at : Stand) (state : CodeState) (closed : IsClosed state) (past : start < at.offset) where
+  forked_closed : (context : Option (ℕ × ℕ)) (o : Option ℕ) (fresh : Bool) → fresh ≡ false → forked code state o fresh at.offset context ≡ acts context at.offset
+  forked_closed context (Some b) fresh e = ap (λ t. led t at.offset context) (target_none code state.fork closed.fork b)
+  forked_closed context None true e = absurd cc
+  forked_closed context None false e = ap (λ t. led t at.offset context) closed.at_end
+
+  -- a closed state acts as it is entered, whatever the bytes are
+  pub closed_turn : turn code bytes start state at ≡ acts (marked state.mark at.offset at.context) at.offset
+  closed_turn =
+      let none : looped code state.fast_loop (drop at.offset bytes) ≡ 0 = rw closed.fast_loop refl in
+      let stops : at.offset + looped code state.fast_loop (drop at.offset bytes) ≡ at.offset = omega (arith, none) in
+      ap (λ offset. forked code state (slice_get bytes offset) (at.state == code.root && offset == start) offset (marked state.mark offset at.context)) stops
+      ∙ forked_closed (marked state.mark at.offset at.context) (slice_get bytes at.offset) (at.state == code.root && at.offset == start) (and_other (at.state == code.root) at.offset start (λ e. omega (arith, e, past)))

@@ -7,11 +7,11 @@ use Rattle.logos_code.specs.declared.action.Action.TheVariants.{Emit, Skip, Erro
 use Rattle.logos_code.specs.Items.{Callback, Item, token, error, items_of, skips, MayAnswer, passes, gives, fails}
 use Rattle.logos_code.specs.Runs.{RunsOn, CodeFinds}
 use Rattle.logos_machine.specs.LexerValue.{LexerValue}
-use Rattle.logos_machine.specs.Streams.{first_stand, LooksPast, passes_none, passes_match, RunsOver}
+use Rattle.logos_machine.specs.Streams.{first_stand, LooksPast, MayFollow, passes_none, passes_match, RunsOver}
 use Rattle.logos_machine.specs.Within.{GivesWithin, KeepsGiven, Waits}
 use Rattle.logos_machine.specs.inside.Parts.{TriedWithin}
 use Rattle.logos_machine.specs.inside.Stands.{IsMatch}
-use Rattle.logos_machine.proofs.AgreeLemmas.{tries_whatever_follows}
+use Rattle.logos_machine.proofs.AgreeLemmas.{open_tries, tries_whatever_follows}
 use Rattle.logos_machine.proofs.LexerLemmas.{moved, item_span}
 
 -- a span of the part holds the same bytes, whatever follows
@@ -39,12 +39,12 @@ module _ {C : Type 0} (callback : Callback) (old : LexerValue C) where
   pub record GoesOnWithin (from : ℕ) : Type 0 where
     pub after : old.to ≤ from
     pub within : from ≤ length old.input
-    pub over : (rest : List ℕ) (end : ℕ) → RunsOver old.code callback (old.input ++ rest) from end → RunsOver old.code callback (old.input ++ rest) old.to end
-    pub next : (rest : List ℕ) (item : Item) (end : ℕ) → RunsOn old.code callback (old.input ++ rest) from item end → RunsOn old.code callback (old.input ++ rest) old.to item end
+    pub over : (rest : List ℕ) → MayFollow old.code rest → (end : ℕ) → RunsOver old.code callback (old.input ++ rest) from end → RunsOver old.code callback (old.input ++ rest) old.to end
+    pub next : (rest : List ℕ) → MayFollow old.code rest → (item : Item) (end : ℕ) → RunsOn old.code callback (old.input ++ rest) from item end → RunsOn old.code callback (old.input ++ rest) old.to item end
 
   module _ (from to steps : ℕ) (found : Found) (t : TriedWithin old.code old.input from found steps) where
-    finds_within : (rest : List ℕ) → CodeFinds old.code (old.input ++ rest) from found
-    finds_within rest = (steps, tries_whatever_follows old.code old.input rest from steps found t.tries)
+    finds_within : (rest : List ℕ) → MayFollow old.code rest → CodeFinds old.code (old.input ++ rest) from found
+    finds_within rest follows = (steps, tries_whatever_follows old.code old.input rest from steps found follows t.tries)
 
   -- past a match that gives no item
   pub passes_within : (from to leaf steps : ℕ) (answer : Action) → GoesOnWithin from → TriedWithin old.code old.input from (matched leaf to) steps →
@@ -56,10 +56,10 @@ module _ {C : Type 0} (callback : Callback) (old : LexerValue C) where
       record {
         after = (let f = fits.1 in omega (arith, after, f));
         within = fits.2;
-        over = λ rest end r. i.over rest end (passes_match from to leaf answer end (finds_within from to steps (matched leaf to) t rest)
+        over = λ rest f end r. i.over rest f end (passes_match from to leaf answer end (finds_within from to steps (matched leaf to) t rest f)
             (may_front old.code.leaves callback old.input rest from to order fits.2 leaf answer may)
             (items_front old.code.leaves callback old.input rest from to order fits.2 answer leaf ∙ is) r);
-        next = λ rest item end r. i.next rest item end (passes from to leaf answer item end (finds_within from to steps (matched leaf to) t rest)
+        next = λ rest f item end r. i.next rest f item end (passes from to leaf answer item end (finds_within from to steps (matched leaf to) t rest f)
             (may_front old.code.leaves callback old.input rest from to order fits.2 leaf answer may)
             (items_front old.code.leaves callback old.input rest from to order fits.2 answer leaf ∙ is) r);
       }
@@ -82,7 +82,7 @@ module _ {C : Type 0} (callback : Callback) (old : LexerValue C) where
           after = i.after;
           nonempty = fits.1;
           within = fits.2;
-          is = λ rest. i.next rest item to (gives from to leaf answer item (finds_within from to steps (matched leaf to) t rest)
+          is = λ rest f. i.next rest f item to (gives from to leaf answer item (finds_within from to steps (matched leaf to) t rest f)
               (may_front old.code.leaves callback old.input rest from to order fits.2 leaf answer may)
               (items_front old.code.leaves callback old.input rest from to order fits.2 answer leaf ∙ is));
           tries = (matched leaf to, t.tries);
@@ -99,9 +99,9 @@ module _ {C : Type 0} (callback : Callback) (old : LexerValue C) where
           after = i.after;
           nonempty = span.0;
           within = span.1;
-          is = λ rest. i.next rest (error None from to (slice_range old.input from to)) to
+          is = λ rest f. i.next rest f (error None from to (slice_range old.input from to)) to
               (subst (λ (l : List ℕ). RunsOn old.code callback (old.input ++ rest) from (error None from to l) to) (range_front old.input rest from to order span.1)
-              (fails from to (finds_within from to steps (failed to) t rest)));
+              (fails from to (finds_within from to steps (failed to) t rest f)));
           tries = (failed to, t.tries);
         } in
         subst (λ (l : LexerValue C). GivesWithin callback old l item) (sym is_new) (subst (λ i. GivesWithin callback old (moved old from to steps) i) (sym is) made)
@@ -114,7 +114,8 @@ module _ {C : Type 0} (callback : Callback) (old : LexerValue C) where
         after = i.after;
         within = i.within;
         steps = refl;
-        passed = λ rest. i.over rest from (passes_none from);
+        passed = λ rest f. i.over rest f from (passes_none from);
         looks = looks;
+        undecided = λ found n t. open_tries old.code old.input from looks t;
       } in
       subst (λ (l : LexerValue C). Waits callback old l) (sym is_new) made

@@ -1,10 +1,11 @@
 -- What contracts see of a lexer.
-use Rattle.std.specs.Prelude.{◌≡◌, ℕ, ◌+◌, ◌-◌, ◌<◌, ◌≤◌, List, [], ◌∷◌, length, slice_range, Option, option_map}
-use Rattle.std.specs.Option.{option_to_list}
+use Rattle.std.specs.Prelude.{◌≡◌, ℕ, ◌+◌, ◌-◌, ◌<◌, ◌≤◌, Bool, false, List, [], ◌∷◌, length, map, slice_get, slice_range, Option, option_map, IsTrue}
+use Rattle.std.specs.Option.{option_map_or, option_to_list}
 use denote.Param.Members.{Shared}
 use denote.Ref.{Bor}
 use Rattle.logos_code.specs.Code.{CodeValue}
-use Rattle.logos_automaton.specs.Munch.{Found}
+use Rattle.logos_code.specs.CodeView.{asks_for}
+use Rattle.logos_automaton.specs.Munch.{Found, Rule, Use}
 use Rattle.logos_code.specs.Items.{Callback, Item, token, error, MayAnswer, items_of}
 use Rattle.logos_code.specs.Runs.{Runs, RunsOn, Tries}
 use Rattle.logos_code.specs.declared.action.Action.{Action}
@@ -28,9 +29,21 @@ begun code input callback = record { code = code; input = input; callback = call
 abbrev pub answers_of : {C : Type 0} → Shared C (LeafId × (Bor (List ℕ) × Unit {0})) Action → C → Callback
 answers_of g f leaf slice answer = (shown : Bor (List ℕ)) × (shown.now ≡ slice) × g.post f (record { 0 = leaf }, (shown, tt)) answer
 
+-- The leaf has a callback, by the uses of all leaves.
+abbrev pub has_callback : List Use → ℕ → Bool
+has_callback uses leaf = option_map_or (λ use_of. use_of.asks) (slice_get uses leaf) false
+
 -- The closure may be called on a leaf and a slice.
 abbrev pub Takes : {C : Type 0} → Shared C (LeafId × (Bor (List ℕ) × Unit {0})) Action → C → LeafId → List ℕ → Type 0
 Takes g f leaf slice = (shown : Bor (List ℕ)) → shown.now ≡ slice → g.pre f (leaf, (shown, tt))
+
+-- The closure may be called on each leaf of the code that has a callback, and on each slice.
+abbrev pub TakesMatches : {C : Type 0} → Shared C (LeafId × (Bor (List ℕ) × Unit {0})) Action → CodeValue → C → Type 0
+TakesMatches g code f = (leaf : LeafId) (slice : List ℕ) → IsTrue (asks_for code leaf.0) → Takes g f leaf slice
+
+-- The same of a leaf by its rule.
+abbrev pub TakesMatchesOf : {C : Type 0} → Shared C (LeafId × (Bor (List ℕ) × Unit {0})) Action → List Rule → C → Type 0
+TakesMatchesOf g rules f = (leaf : LeafId) (slice : List ℕ) → IsTrue (has_callback (map (λ rule. rule.use_of) rules) leaf.0) → Takes g f leaf slice
 
 -- A span of the input.
 abbrev pub HasSpan : {C : Type 0} → LexerValue C → Item → Type 0

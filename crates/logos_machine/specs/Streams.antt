@@ -1,10 +1,10 @@
 -- Runs on an input that grows, and on a part of an input.
-use Rattle.std.specs.Prelude.{◌≡◌, ℕ, suc, ◌+◌, ◌<◌, ◌≤◌, List, [], ◌∷◌, ◌++◌, length, take, drop, map, Option, Some, None, slice_get, slice_range, IsTrue}
+use Rattle.std.specs.Prelude.{◌≡◌, ℕ, suc, ◌+◌, ◌<◌, ◌≤◌, ◌⊎◌, List, [], ◌∷◌, ◌++◌, length, take, drop, map, Option, Some, None, slice_get, slice_range, IsCharBoundary, IsSome, IsTrue, IsUtf8}
 use Rattle.logos_automaton.specs.Munch.{Use, Found, ended, matched, failed}
-use Rattle.logos_code.specs.Code.{CodeValue, CodeState}
+use Rattle.logos_code.specs.Code.{CodeValue, CodeState, Fork, by_conditions, by_table}
 use Rattle.logos_code.specs.Headline.{IsSound}
 use Rattle.logos_code.specs.Items.{Callback, Search, Item, token, error, MayAnswer, items_of}
-use Rattle.logos_code.specs.Runs.{Stand, enters, acts, looped, Does, EndsError, Acts, Tries, CodeFinds, Runs, RunsOn}
+use Rattle.logos_code.specs.Runs.{Stand, enters, acts, looped, Does, Acts, Tries, CodeFinds, Runs, RunsOn}
 use Rattle.logos_code.specs.declared.action.Action.{Action}
 
 -- Where a try begins.
@@ -15,19 +15,43 @@ first_stand code start = record { state = code.root; offset = start; context = N
 abbrev pub stop_at : CodeValue → List ℕ → CodeState → ℕ → ℕ
 stop_at code bytes state offset = offset + looped code state.fast_loop (drop offset bytes)
 
-module _ (code : CodeValue) (bytes : List ℕ) (start seen : ℕ) where
-  -- The state looks at none but the first `seen` bytes: its fast loop ends before one of them.
-  abbrev pub StopsWithin : Stand → Type 0
-  StopsWithin at = (state : CodeState) × (slice_get code.states at.state ≡ Some state) × (stop_at code bytes state at.offset < seen)
+-- The fork has no branch.
+abbrev pub NoBranches : Fork → Type 0
+NoBranches (by_conditions []) = Unit {0}
+NoBranches (by_conditions (branch ∷ branches)) = ⊥
+NoBranches (by_table entries) = ⊥
 
-  -- In UTF-8 mode an error ends before one of them.
+-- The fork has a branch.
+abbrev pub HasBranches : Fork → Type 0
+HasBranches (by_conditions []) = ⊥
+HasBranches (by_conditions (branch ∷ branches)) = Unit {0}
+HasBranches (by_table entries) = Unit {0}
+
+-- No byte leads on from the state or stays in it, and the end of the input does not lead on either:
+-- what the state does is the same whatever follows.
+pub record IsClosed (state : CodeState) : Type 0 where
+  pub fast_loop : state.fast_loop ≡ None
+  pub fork : NoBranches state.fork
+  pub at_end : state.at_end ≡ None
+
+-- A byte leads on from the state or stays in it, or the end of the input leads on.
+abbrev pub IsOpen : CodeState → Type 0
+IsOpen state = IsSome state.fast_loop ⊎ (HasBranches state.fork ⊎ IsSome state.at_end)
+
+module _ (code : CodeValue) (bytes : List ℕ) (start seen : ℕ) where
+  -- What the state does depends on none but the first `seen` bytes: its fast loop ends before one
+  -- of them, or the state is closed, after the first byte of the match attempt.
+  abbrev pub StopsWithin : Stand → Type 0
+  StopsWithin at = (state : CodeState) × (slice_get code.states at.state ≡ Some state) × ((stop_at code bytes state at.offset < seen) ⊎ (IsClosed state × (start < at.offset)))
+
+  -- In UTF-8 mode an error ends with them, or before.
   abbrev pub EndsWithin : Found → Type 0
   EndsWithin ended = Unit {0}
   EndsWithin (matched leaf to) = Unit {0}
-  EndsWithin (failed to) = IsTrue code.utf8 → to < seen
+  EndsWithin (failed to) = IsTrue code.utf8 → to ≤ seen
 
-  -- From a stand on, the try finds this in so many states, and looks at none but the first `seen`
-  -- bytes.
+  -- From a stand on, the match attempt finds this in that many states, and depends on none but the
+  -- first `seen` bytes.
   pub data GoesWithin : Stand → Found → ℕ → Type 0 where
     leads_within : (at next : Stand) (found : Found) (n : ℕ) → StopsWithin at →
         Does code bytes start at (enters next) → GoesWithin next found n → GoesWithin at found (suc n)
@@ -38,20 +62,23 @@ module _ (code : CodeValue) (bytes : List ℕ) (start seen : ℕ) where
   abbrev pub TriesWithin : Found → ℕ → Type 0
   TriesWithin = GoesWithin (first_stand code start)
 
--- The try looks at the end of the bytes: a fast loop comes to it, or an error in UTF-8 mode ends
--- there.
+-- What the match attempt finds is open at the end of the bytes: it comes there before its first
+-- byte, or in a state that more bytes, or the end of the input, lead on from.
 pub data LooksPast (code : CodeValue) (bytes : List ℕ) (start : ℕ) : Stand → Type 0 where
   looks_here : (at : Stand) (state : CodeState) → slice_get code.states at.state ≡ Some state →
-      length bytes ≤ stop_at code bytes state at.offset → LooksPast code bytes start at
+      length bytes ≤ stop_at code bytes state at.offset → (at.offset ≤ start) ⊎ IsOpen state → LooksPast code bytes start at
   looks_later : (at next : Stand) → Does code bytes start at (enters next) → LooksPast code bytes start next → LooksPast code bytes start at
-  looks_last : (at : Stand) (offset to : ℕ) → Does code bytes start at (acts None offset) → IsTrue code.utf8 →
-      EndsError code bytes start offset to → length bytes ≤ to → LooksPast code bytes start at
 
--- What a try that looks at none but the first bytes finds is what a try finds in each input that
--- has these bytes.
+-- What a match attempt that depends on none but the first bytes finds is what a match attempt finds
+-- in each input that has these bytes; in UTF-8 mode, where no character goes over their end.
 abbrev pub TriesAgree : Type 0
 TriesAgree = (code : CodeValue) (bytes others : List ℕ) (start seen n : ℕ) (found : Found) → seen ≤ length bytes →
-    take seen bytes ≡ take seen others → TriesWithin code bytes start seen found n → TriesWithin code others start seen found n × Tries code others start found n
+    take seen bytes ≡ take seen others → (IsTrue code.utf8 → IsCharBoundary others seen) → TriesWithin code bytes start seen found n →
+    TriesWithin code others start seen found n × Tries code others start found n
+
+-- The bytes that may follow a part: in UTF-8 mode, UTF-8.
+abbrev pub MayFollow : CodeValue → List ℕ → Type 0
+MayFollow code rest = IsTrue code.utf8 → IsUtf8 rest
 
 -- The same, so many bytes later in the input.
 abbrev pub found_later : ℕ → Found → Found
@@ -90,22 +117,22 @@ pub record RunsGoLater (callback : Callback) : Type 0 where
 -- These items were found in the beginning of an input, up to a point: what completes a run from
 -- there on completes, after them, the whole run, whatever follows the beginning.
 abbrev pub AreBegun : CodeValue → Callback → List ℕ → List Item → ℕ → Type 0
-AreBegun code callback begun items to = (rest : List ℕ) (later : List Item) → Runs code callback (begun ++ rest) to later →
+AreBegun code callback begun items to = (rest : List ℕ) → MayFollow code rest → (later : List Item) → Runs code callback (begun ++ rest) to later →
     Runs code callback (begun ++ rest) 0 (items ++ later)
 
 -- The items of parts are items of the whole. A part stands after so many bytes of the beginning,
 -- and what is found in the part, whatever follows it, is found there in the whole.
 pub record PartsAreOfTheWhole (callback : Callback) : Type 0 where
   pub none : (code : CodeValue) (begun : List ℕ) → AreBegun code callback begun [] 0
-  pub grown : (code : CodeValue) (begun added : List ℕ) (items : List Item) (to : ℕ) → AreBegun code callback begun items to →
+  pub grown : (code : CodeValue) (begun added : List ℕ) (items : List Item) (to : ℕ) → MayFollow code added → AreBegun code callback begun items to →
       AreBegun code callback (begun ++ added) items to
   pub item : (code : CodeValue) (front part : List ℕ) (items : List Item) (from to : ℕ) (item : Item) → IsSound code →
       AreBegun code callback (front ++ part) items (length front + from) →
-      ((rest : List ℕ) → RunsOn code callback (part ++ rest) from item to) →
+      ((rest : List ℕ) → MayFollow code rest → RunsOn code callback (part ++ rest) from item to) →
       AreBegun code callback (front ++ part) (items ++ item_later (length front) item ∷ []) (length front + to)
   pub over : (code : CodeValue) (front part : List ℕ) (items : List Item) (from to : ℕ) → IsSound code →
       AreBegun code callback (front ++ part) items (length front + from) →
-      ((rest : List ℕ) → RunsOver code callback (part ++ rest) from to) → AreBegun code callback (front ++ part) items (length front + to)
+      ((rest : List ℕ) → MayFollow code rest → RunsOver code callback (part ++ rest) from to) → AreBegun code callback (front ++ part) items (length front + to)
   pub end : (code : CodeValue) (front part : List ℕ) (items later : List Item) (from : ℕ) → IsSound code →
       AreBegun code callback (front ++ part) items (length front + from) →
       Runs code callback part from later → Runs code callback (front ++ part) 0 (items ++ map (item_later (length front)) later)

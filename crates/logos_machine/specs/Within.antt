@@ -4,7 +4,7 @@ use Rattle.logos_automaton.specs.Munch.{Found}
 use Rattle.logos_code.specs.Items.{Callback, Item}
 use Rattle.logos_code.specs.Runs.{RunsOn}
 use Rattle.logos_machine.specs.LexerValue.{LexerValue, HasSpan, Gives, Ends, item_of}
-use Rattle.logos_machine.specs.Streams.{first_stand, TriesWithin, LooksPast, RunsOver}
+use Rattle.logos_machine.specs.Streams.{first_stand, MayFollow, TriesWithin, LooksPast, RunsOver}
 use Rattle.logos_machine.specs.declared.machine.part.Within.{Within}
 use Rattle.logos_machine.specs.declared.machine.part.Within.TheVariants.{Item as Given, More, End}
 
@@ -15,8 +15,8 @@ pub record GivesWithin {C : Type 0} (callback : Callback) (old new : LexerValue 
   pub nonempty : new.from < new.to
   pub within : new.to ≤ length new.input
   -- It is the next one, whatever follows the part.
-  pub is : (rest : List ℕ) → RunsOn old.code callback (old.input ++ rest) old.to item new.to
-  -- The last try looked at the part alone.
+  pub is : (rest : List ℕ) → MayFollow old.code rest → RunsOn old.code callback (old.input ++ rest) old.to item new.to
+  -- The last match attempt depends on the part alone.
   pub tries : (found : Found) × TriesWithin new.code new.input new.from (length new.input) found new.steps
 
 -- No item is given: what comes next depends on what follows.
@@ -26,9 +26,11 @@ pub record Waits {C : Type 0} (callback : Callback) (old new : LexerValue C) : T
   pub within : new.to ≤ length new.input
   pub steps : new.steps ≡ old.steps
   -- What was passed gives no item, whatever follows the part.
-  pub passed : (rest : List ℕ) → RunsOver old.code callback (old.input ++ rest) old.to new.to
-  -- The next try looks at the end of the part.
+  pub passed : (rest : List ℕ) → MayFollow old.code rest → RunsOver old.code callback (old.input ++ rest) old.to new.to
+  -- What the next match attempt finds is open at the end of the part.
   pub looks : LooksPast new.code new.input new.to (first_stand new.code new.to)
+  -- So no match attempt finds anything there that depends on the part alone.
+  pub undecided : (found : Found) (n : ℕ) → TriesWithin new.code new.input new.to (length new.input) found n → ⊥
 
 -- Code, input and callback stay.
 pub record KeepsGiven {C : Type 0} (old new : LexerValue C) : Type 0 where

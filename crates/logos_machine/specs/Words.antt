@@ -1,6 +1,6 @@
 -- Definitions that clauses cite: of lower crates, and those of this one that name no type of it.
 pub use Rattle.logos_code.specs.Bytes.{passes_test}
-pub use Rattle.logos_code.specs.CodeView.{asks_for, state_at}
+pub use Rattle.logos_code.specs.CodeView.{asks_for, fork_of, state_at}
 pub use Rattle.logos_code.specs.Headline.{IsSound, NamesTest}
 pub use Rattle.logos_code.specs.Items.{error, token}
 pub use Rattle.logos_code.specs.Rows.{IsEntry, IsPlace}

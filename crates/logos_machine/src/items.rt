@@ -1,7 +1,7 @@
 //! All items of an input at once.
 
 ghost use Rattle.std.specs.Prelude.{map, IfOk};
-ghost use Rattle.logos_machine.specs.Views.{Runs, answers_of, item_of};
+ghost use Rattle.logos_machine.specs.Views.{Runs, TakesMatches, answers_of, item_of};
 
 use crate::machine::{Action, Item, Lexer};
 use logos_hir::leaf::LeafId;
@@ -14,7 +14,7 @@ impl<'c, 's, 'i, C: Fn(LeafId, &[u8]) -> Action + Drop> Lexer<'c, 's, 'i, C> {
     ///
     /// Returns `AllocError` if memory runs out.
     pub fn items(self, alloc: Global) -> Result<Vec<Item<'i>>, AllocError>
-        requires { C.IsAlwaysCallable self.callback }
+        requires { TakesMatches C.Fn self.code self.callback }
         // They are the items of a run of the code from the lexer's point to the end of the input.
         ensures { IfOk result (λ items. Runs self.entry.code
             (answers_of C.Fn self.entry.callback) self.entry.input self.entry.to

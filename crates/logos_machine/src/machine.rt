@@ -1,7 +1,7 @@
 //! Lexers: runs of a code value on an input.
 
 ghost use Rattle.std.specs.Prelude.{◌≡◌, ◌<◌, ◌≤◌, length, option_map, slice_range, MatchBool, MatchOption, IfOk, IfErr, IsTrue, IsUtf8, drop, None};
-ghost use Rattle.logos_machine.specs.Views.{IsValidUpTo, asks_for, token, error, answers_of, begun, item_of, Gives, Ends, Keeps, MatchGives, Takes};
+ghost use Rattle.logos_machine.specs.Views.{IsValidUpTo, asks_for, token, error, answers_of, begun, item_of, Gives, Ends, Keeps, MatchGives, Takes, TakesMatches};
 
 mod attempt;
 mod fast_loop;
@@ -77,7 +77,6 @@ impl<'c, 's, 'i, C: Fn(LeafId, &[u8]) -> Action> Lexer<'c, 's, 'i, C> {
     /// Makes a lexer at the start of a text. It calls the callback for each match of a leaf that
     /// has one.
     pub fn new_str(code: &'c Code<'s>, input: &'i str, callback: C) -> Lexer<'c, 's, 'i, C>
-        requires { C.IsAlwaysCallable callback }
         ensures { result ≡ begun code.now input.now callback }
     {
         Lexer::start(code, input.as_bytes(), callback)
@@ -93,7 +92,6 @@ impl<'c, 's, 'i, C: Fn(LeafId, &[u8]) -> Action> Lexer<'c, 's, 'i, C> {
         input: &'i [u8],
         callback: C,
     ) -> Result<Lexer<'c, 's, 'i, C>, NotUtf8>
-        requires { C.IsAlwaysCallable callback }
         ensures accepted { IfOk result (λ lexer. (lexer ≡ begun code.now input.now callback)
             × (IsTrue code.now.utf8 → IsUtf8 input.now)) }
         ensures refused { IfErr result (λ refusal. IsTrue code.now.utf8 × ¬ IsUtf8 input.now
@@ -108,8 +106,7 @@ impl<'c, 's, 'i, C: Fn(LeafId, &[u8]) -> Action> Lexer<'c, 's, 'i, C> {
     /// Makes a lexer at the start of some bytes that are known to be UTF-8 if the code is in UTF-8
     /// mode. `logos_stream` calls it: it tests bytes once, when it reads them.
     pub fn new_checked(code: &'c Code<'s>, input: &'i [u8], callback: C) -> Lexer<'c, 's, 'i, C>
-        requires callable { C.IsAlwaysCallable callback }
-        requires text { IsTrue code.now.utf8 → IsUtf8 input.now }
+        requires { IsTrue code.now.utf8 → IsUtf8 input.now }
         ensures { result ≡ begun code.now input.now callback }
     {
         Lexer::start(code, input, callback)
@@ -129,10 +126,11 @@ impl<'c, 's, 'i, C: Fn(LeafId, &[u8]) -> Action> Lexer<'c, 's, 'i, C> {
         }
     }
 
-    /// Returns the next item, or `None` at the end of the input, and on every later call.
+    /// Returns the next item, or `None` at the end of the input, and on every later call. It calls
+    /// the callback for matches of leaves that have one, and for no others.
     #[inline(always)]
     pub fn next(&mut self) -> Option<Item<'i>>
-        requires { C.IsAlwaysCallable self.old.callback }
+        requires { TakesMatches C.Fn self.old.code self.old.callback }
         ensures keeps { Keeps self.old self.new }
         ensures item { MatchOption result
             (Ends (answers_of C.Fn self.old.callback) self.old self.new)

@@ -1,6 +1,6 @@
 //! An input that is read in parts.
 
-ghost use Rattle.std.specs.Prelude.{◌≡◌, ◌+◌, ◌<◌, ◌≤◌, [], length, take, false, IfOk, OnErr, IsTrue, ◌↔◌, min};
+ghost use Rattle.std.specs.Prelude.{◌≡◌, ◌+◌, ◌<◌, ◌≤◌, [], length, take, false, IfOk, OnErr, MatchBool, min};
 ghost use Rattle.logos_parts.specs.Words.{ReadsAfter, Reads, Stays, without};
 
 use std::alloc::{AllocError, Global};
@@ -90,10 +90,11 @@ impl<R: Read + Drop> Parts<R> {
         self.is_over
     }
 
-    /// Returns whether the part is as long as the bound. Then nothing can be read before something
-    /// is passed.
+    /// Returns whether the part is as long as the bound. If it is not, `read` can be called. If it
+    /// is, bytes have to be passed first.
     pub fn is_full(&self) -> bool
-        ensures { IsTrue result ↔ (length self.now.part ≡ self.now.bound) }
+        ensures { MatchBool result (length self.now.part ≡ self.now.bound)
+            (length self.now.part < self.now.bound) }
     {
         self.held == self.buffer.len()
     }

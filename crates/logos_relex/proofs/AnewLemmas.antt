@@ -78,6 +78,7 @@ module _ (code : CodeValue) (callback : Callback) (old new : Lexed) (former inpu
         rest = lexed_made.rest;
         chunks_are = subst (λ (l : List Chunk). AreChunks code callback input l lexed_made.rest) (sym ends.0) all;
         last_are = subst (λ (l : List ItemAt). Runs code callback lexed_made.rest 0 (map (item_at lexed_made.rest) l)) (ap (λ v. v.items) (sym ends.1)) lexed_made.last_are;
+        text = lexed_made.text;
       }
   put_together start made (Last last) left border below rest chunks runs ends =
       let before = stays_before start.index below in
@@ -88,7 +89,8 @@ module _ (code : CodeValue) (callback : Callback) (old new : Lexed) (former inpu
       record {
         rest = left;
         chunks_are = subst (λ (l : List Chunk). AreChunks code callback input l left) (sym ends.0) all;
-        last_are = subst (λ (l : List ItemAt). Runs code callback left 0 (map (item_at left) l)) (ap (λ v. v.items) (sym ends.1)) runs;
+        last_are = subst (λ (l : List ItemAt). Runs code callback left 0 (map (item_at left) l)) (ap (λ v. v.items) (sym ends.1)) runs.0;
+        text = runs.1;
       }
 
 pub relexed : (code : CodeValue) (callback : Callback) (old new : Lexed) (input : List ℕ) (replaced : Span) (start : Border) (made : Anew) → WasLexed code callback replaced input old →

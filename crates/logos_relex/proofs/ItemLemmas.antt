@@ -1,6 +1,7 @@
 -- Items that are found in a part whatever follows it, as they are stored.
 use Rattle.std.proofs.Common.{◌≡◌, ◌∙◌, ℕ, ◌<◌, ◌≤◌, Bool, true, false, if◌then◌else◌, List, [], ◌∷◌, ◌++◌, length, map, Some, slice_range, option_map, refl, sym, ap, subst, arith}
 use Rattle.std.proofs.lemmas.List.{append_assoc, append-nil, map-append}
+use Rattle.std.proofs.lemmas.Str.{IsUtf8-nil}
 use Rattle.logos_automaton.specs.Munch.{Use}
 use Rattle.logos_code.specs.Code.{CodeValue}
 use Rattle.logos_code.specs.Items.{Callback, Search, Item, token, error, items_of, skips, NextItem, passes, gives, fails, Lexes, over, match, fault}
@@ -9,7 +10,7 @@ use Rattle.logos_code.specs.declared.action.Action.{Action}
 use Rattle.logos_code.specs.declared.action.Action.TheVariants.{Emit, Skip, Error as Refuse}
 use Rattle.logos_machine.specs.LexerValue.{LexerValue, HasSpan, item_of}
 use Rattle.logos_machine.specs.Loops.{AnswersAmong}
-use Rattle.logos_machine.specs.Streams.{AreBegun, RunsOver}
+use Rattle.logos_machine.specs.Streams.{AreBegun, MayFollow, RunsOver}
 use Rattle.logos_machine.specs.Within.{DoesWithin, GivesWithin}
 use Rattle.logos_machine.specs.declared.machine.Item.{Item as TheItem}
 use Rattle.logos_machine.specs.declared.machine.Item.TheVariants as found
@@ -23,25 +24,25 @@ use Rattle.logos_relex.specs.declared.chunk.ItemAt.{ItemAt}
 -- ---- what completes the rest completes the whole
 
 module _ (code : CodeValue) (callback : Callback) (part : List ℕ) where
-  pub begun_item : (items : List Item) (from to : ℕ) (item : Item) → AreBegun code callback part items from → ((rest : List ℕ) → RunsOn code callback (part ++ rest) from item to) →
+  pub begun_item : (items : List Item) (from to : ℕ) (item : Item) → AreBegun code callback part items from → ((rest : List ℕ) → MayFollow code rest → RunsOn code callback (part ++ rest) from item to) →
       AreBegun code callback part (items ++ item ∷ []) to
-  begun_item items from to item h next rest later r =
+  begun_item items from to item h next rest follows later r =
       let whole : List ℕ = part ++ rest in
       subst (λ (all : List Item). Runs code callback whole 0 all) (sym (append_assoc items (item ∷ []) later))
-      (h rest (item ∷ later) (next_first code.leaves callback whole (CodeFinds code whole) (next rest) later r))
+      (h rest follows (item ∷ later) (next_first code.leaves callback whole (CodeFinds code whole) (next rest follows) later r))
 
-  pub begun_over : (items : List Item) (from to : ℕ) → AreBegun code callback part items from → ((rest : List ℕ) → RunsOver code callback (part ++ rest) from to) →
+  pub begun_over : (items : List Item) (from to : ℕ) → AreBegun code callback part items from → ((rest : List ℕ) → MayFollow code rest → RunsOver code callback (part ++ rest) from to) →
       AreBegun code callback part items to
-  begun_over items from to h passed rest later r =
+  begun_over items from to h passed rest follows later r =
       let whole : List ℕ = part ++ rest in
-      h rest later (over_first code.leaves callback whole (CodeFinds code whole) (passed rest) later r)
+      h rest follows later (over_first code.leaves callback whole (CodeFinds code whole) (passed rest follows) later r)
 
 -- by a callback with the same answers
 pub begun_by : (code : CodeValue) (callback other : Callback) (part : List ℕ) (items : List Item) (to : ℕ) → AnswersAmong callback other → AnswersAmong other callback →
     AreBegun code callback part items to → AreBegun code other part items to
-begun_by code callback other part items to there back h rest later r =
+begun_by code callback other part items to there back h rest follows later r =
     let whole : List ℕ = part ++ rest in
-    lexes_by code.leaves whole (CodeFinds code whole) callback other there (h rest later (lexes_by code.leaves whole (CodeFinds code whole) other callback back r))
+    lexes_by code.leaves whole (CodeFinds code whole) callback other there (h rest follows later (lexes_by code.leaves whole (CodeFinds code whole) other callback back r))
 
 -- ---- an item has the bytes of its span
 
@@ -129,8 +130,8 @@ module _ {C : Type 0} (code : CodeValue) (callback : Callback) (input : List ℕ
       let after = g.after in
       let some = g.nonempty in
       let fits : new.to ≤ length input = subst (λ (l : List ℕ). new.to ≤ length l) new_input g.within in
-      let next : (rest : List ℕ) → RunsOn code callback (input ++ rest) old.to (item_of item) new.to = λ rest. rw (same_code, same_input) at (g.is rest) in
-      let first : RunsOn code callback input old.to (item_of item) new.to = subst (λ (l : List ℕ). RunsOn code callback l old.to (item_of item) new.to) (append-nil input) (next []) in
+      let next : (rest : List ℕ) → MayFollow code rest → RunsOn code callback (input ++ rest) old.to (item_of item) new.to = rw (same_code, same_input) at g.is in
+      let first : RunsOn code callback input old.to (item_of item) new.to = subst (λ (l : List ℕ). RunsOn code callback l old.to (item_of item) new.to) (append-nil input) (next [] (λ _. IsUtf8-nil)) in
       let is = stored input item (next_slice code.leaves callback input first) in
       let more = begun_item code callback input (map (item_at input) items) old.to new.to (item_of item) s.begun next in
       record {
@@ -149,6 +150,6 @@ module _ {C : Type 0} (code : CodeValue) (callback : Callback) (input : List ℕ
       record {
         within = subst (λ (l : List ℕ). new.to ≤ length l) new_input w.within;
         spans = end_later items old.to new.to (omega (arith, after)) s.spans;
-        begun = begun_over code callback input (map (item_at input) items) old.to new.to s.begun (λ rest. rw (same_code, same_input) at (w.passed rest));
+        begun = begun_over code callback input (map (item_at input) items) old.to new.to s.begun (rw (same_code, same_input) at w.passed);
       }
   settling_over items End s d other = absurd d

@@ -1,5 +1,5 @@
 -- Items without their bytes, and chunks of them.
-use Rattle.std.specs.Prelude.{◌≡◌, ℕ, ◌+◌, ◌-◌, ◌<◌, ◌≤◌, List, [], ◌∷◌, ◌++◌, length, take, drop, map, slice_range, option_map}
+use Rattle.std.specs.Prelude.{◌≡◌, ℕ, ◌+◌, ◌-◌, ◌<◌, ◌≤◌, List, [], ◌∷◌, ◌++◌, length, take, drop, map, slice_range, option_map, IsTrue, IsUtf8}
 use Rattle.logos_code.specs.Code.{CodeValue}
 use Rattle.logos_code.specs.Items.{Callback, Item, token, error}
 use Rattle.logos_machine.specs.Streams.{AreBegun}
@@ -57,6 +57,8 @@ module _ (code : CodeValue) (callback : Callback) where
     pub within : chunk.window ≤ length bytes
     pub spans : EndBy chunk.length chunk.items.items
     pub begun : AreBegun code callback (take chunk.window bytes) (map (item_at (take chunk.window bytes)) chunk.items.items) chunk.length
+
+  pub text : IsTrue code.utf8 → IsUtf8 (take chunk.window bytes)
 
   -- The chunks are at the front of the bytes, one after another, and this is what is left.
   abbrev pub AreChunks : List ℕ → List Chunk → List ℕ → Type 0

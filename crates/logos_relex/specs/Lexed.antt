@@ -20,6 +20,7 @@ module _ (code : CodeValue) (callback : Callback) where
     pub rest : List ℕ
     pub chunks_are : AreChunks code callback input chunks rest
     pub last_are : Runs code callback rest 0 (map (item_at rest) last)
+    pub text : IsTrue code.utf8 → IsUtf8 rest
 
   -- They are those of an input.
   pub record IsLexed (input : List ℕ) (lexed : Lexed) : Type 0 where
@@ -30,6 +31,10 @@ module _ (code : CodeValue) (callback : Callback) where
   abbrev pub LexedIsRun : Type 0
   LexedIsRun = IsSound code → (input : List ℕ) (lexed : Lexed) → IsLexed input lexed →
       Runs code callback input 0 (map (item_at input) (all_items lexed.chunks.items lexed.last.items))
+
+-- In UTF-8 mode the input is UTF-8.
+abbrev pub IsInput : CodeValue → List ℕ → Type 0
+IsInput code input = IsTrue code.utf8 → IsUtf8 input
 
 -- The items are as they were.
 pub record Stays (old new : Lexed) : Type 0 where

@@ -1,7 +1,7 @@
 //! Lexing from a point on until a former border is met, or the input ends.
 
 ghost use Rattle.std.specs.Prelude.{◌≤◌, ◌<◌, ◌^◌, IfOk, drop, length};
-ghost use Rattle.logos_relex.specs.Views.{answers_of, bytes_of, IsAnew, IsBorder, IsMade};
+ghost use Rattle.logos_relex.specs.Views.{answers_of, bytes_of, IsAnew, IsBorder, IsMade, TakesMatches};
 
 use crate::borders::{Border, border_from};
 use crate::chunk::{Chunk, ItemAt, last_items, next_chunk};
@@ -42,7 +42,7 @@ pub(crate) fn make<C: Fn(LeafId, &[u8]) -> Action>(
     input: &[u8],
     callback: &C,
 ) -> Result<(Vec<Chunk>, Vec<ItemAt>), RelexError>
-    requires { C.IsAlwaysCallable callback.now }
+    requires { TakesMatches C.Fn code.now callback.now }
     ensures { IfOk result (λ made. IsMade code.now (answers_of C.Fn callback.now) input.now
         made.0.items made.1.items) }
 {
@@ -88,7 +88,7 @@ pub(crate) fn make_anew<C: Fn(LeafId, &[u8]) -> Action>(
     edit: Edit<'_>,
     start: Border,
 ) -> Result<Anew, RelexError>
-    requires callable { C.IsAlwaysCallable callback.now }
+    requires callable { TakesMatches C.Fn code.now callback.now }
     requires border { IsBorder former.now.chunks.items start }
     requires within { start.at ≤ length edit.input.now }
     requires edit { edit.replaced.to ≤ former.now.length }

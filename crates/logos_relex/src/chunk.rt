@@ -1,7 +1,7 @@
 //! Chunks: the items of a few thousand bytes, which were found in the bytes of a window alone.
 
 ghost use Rattle.std.specs.Prelude.{◌≡◌, ◌<◌, ◌≤◌, length, map, take, IfOk, IfErr, IfSome};
-ghost use Rattle.logos_relex.specs.Views.{Runs, answers_of, place_of, item_at, IsChunk, IsRefused, SettlesUpTo};
+ghost use Rattle.logos_relex.specs.Views.{Runs, answers_of, place_of, item_at, IsChunk, IsInput, IsRefused, SettlesUpTo, TakesMatches};
 
 use crate::lexed::RelexError;
 use logos_code::code::Code;
@@ -73,7 +73,7 @@ fn settled<C: Fn(LeafId, &[u8]) -> Action + Drop>(
     alloc: Global,
     lexer: Lexer<'_, '_, '_, C>,
 ) -> Result<(Vec<ItemAt>, usize), AllocError>
-    requires callable { C.IsAlwaysCallable lexer.callback }
+    requires callable { TakesMatches C.Fn lexer.code lexer.callback }
     requires start { lexer.to ≡ 0 }
     ensures { IfOk result (λ found. SettlesUpTo lexer.entry.code
         (answers_of C.Fn lexer.entry.callback) lexer.entry.input found.0.items found.1) }
@@ -112,7 +112,7 @@ fn chunk_of<C: Fn(LeafId, &[u8]) -> Action + Drop>(
     part: &[u8],
     callback: C,
 ) -> Result<Option<Chunk>, AllocError>
-    requires { C.IsAlwaysCallable callback }
+    requires { TakesMatches C.Fn code.now callback }
     ensures { IfOk result (λ found.
         IfSome found (IsChunk code.now (answers_of C.Fn callback) part.now)) }
 {
@@ -144,7 +144,7 @@ pub(crate) fn next_chunk<C: Fn(LeafId, &[u8]) -> Action>(
     callback: &C,
     size: usize,
 ) -> Result<Option<Chunk>, AllocError>
-    requires callable { C.IsAlwaysCallable callback.now }
+    requires callable { TakesMatches C.Fn code.now callback.now }
     requires size { 0 < size }
     ensures { IfOk result (λ found.
         IfSome found (IsChunk code.now (answers_of C.Fn callback.now) bytes.now)) }
@@ -174,9 +174,10 @@ pub(crate) fn last_items<C: Fn(LeafId, &[u8]) -> Action>(
     bytes: &[u8],
     callback: &C,
 ) -> Result<Vec<ItemAt>, RelexError>
-    requires { C.IsAlwaysCallable callback.now }
+    requires { TakesMatches C.Fn code.now callback.now }
     ensures items { IfOk result (λ items. Runs code.now (answers_of C.Fn callback.now) bytes.now 0
         (map (item_at bytes.now) items.items)) }
+    ensures accepted { IfOk result (λ _. IsInput code.now bytes.now) }
     ensures refused { IfErr result (IsRefused code.now bytes.now) }
 {
     let lexer = Lexer::new_bytes(code, bytes, callback)?;

@@ -1,7 +1,7 @@
 //! Items of an input that changes.
 
 ghost use Rattle.std.specs.Prelude.{◌≡◌, ◌≤◌, IfOk, IfErr, OnErr, OnOk, length};
-ghost use Rattle.logos_relex.specs.Views.{answers_of, ComesAfter, IsLexed, IsRefused, PutsAnew, Stays, WasLexed, Memory as OutOfMemory, NotUtf8 as NoUtf8};
+ghost use Rattle.logos_relex.specs.Views.{answers_of, ComesAfter, IsInput, IsLexed, IsRefused, PutsAnew, Stays, TakesMatches, WasLexed, Memory as OutOfMemory, NotUtf8 as NoUtf8};
 
 use crate::anew::{After, Anew, make, make_anew};
 use crate::borders::{Border, untouched};
@@ -80,9 +80,10 @@ impl Lexed {
         callback: &C,
         input: &[u8],
     ) -> Result<Lexed, RelexError>
-        requires { C.IsAlwaysCallable callback.now }
+        requires { TakesMatches C.Fn code.now callback.now }
         ensures lexed { IfOk result (λ lexed.
             IsLexed code.now (answers_of C.Fn callback.now) input.now lexed) }
+        ensures accepted { IfOk result (λ _. IsInput code.now input.now) }
         ensures refused { IfErr result (IsRefused code.now input.now) }
     {
         match make(alloc, code, input, callback) {
@@ -109,9 +110,10 @@ impl Lexed {
         callback: &C,
         input: &[u8],
     ) -> Result<Lexed, RelexError>
-        requires { C.IsAlwaysCallable callback.now }
+        requires { TakesMatches C.Fn code.now callback.now }
         ensures lexed { IfOk result (λ lexed.
             IsLexed code.now (answers_of C.Fn callback.now) input.now lexed) }
+        ensures accepted { IfOk result (λ _. IsInput code.now input.now) }
         ensures refused { IfErr result (IsRefused code.now input.now) }
     {
         let last = last_items(alloc, code, input, callback)?;
@@ -138,11 +140,12 @@ impl Lexed {
         callback: &C,
         edit: Edit<'_>,
     ) -> Result<(), RelexError>
-        requires callable { C.IsAlwaysCallable callback.now }
+        requires callable { TakesMatches C.Fn code.now callback.now }
         requires former { WasLexed code.now (answers_of C.Fn callback.now) edit.replaced
             edit.input.now self.old }
         ensures lexed { IfOk result (λ _.
             IsLexed code.now (answers_of C.Fn callback.now) edit.entry.input.now self.new) }
+        ensures accepted { IfOk result (λ _. IsInput code.now edit.entry.input.now) }
         ensures refused { IfErr result (IsRefused code.now edit.entry.input.now) }
         ensures stays { OnErr result (Stays self.old self.new) }
     {
@@ -166,9 +169,10 @@ impl Lexed {
         callback: &C,
         input: &[u8],
     ) -> Result<(), RelexError>
-        requires { C.IsAlwaysCallable callback.now }
+        requires { TakesMatches C.Fn code.now callback.now }
         ensures lexed { IfOk result (λ _.
             IsLexed code.now (answers_of C.Fn callback.now) input.now self.new) }
+        ensures accepted { IfOk result (λ _. IsInput code.now input.now) }
         ensures refused { IfErr result (IsRefused code.now input.now) }
         ensures stays { OnErr result (Stays self.old self.new) }
     {

@@ -1,6 +1,6 @@
 -- Definitions that clauses cite: of lower crates, and those of this one that name no type of it.
 pub use Rattle.logos_lines.specs.Places.{place_at}
-pub use Rattle.logos_lines.specs.Starts.{IsLineOf}
+pub use Rattle.logos_lines.specs.Starts.{IsLineOf, IsLongLine, IsNoLine}
 pub use Rattle.logos_token.specs.FaultNames.{name_of}
 pub use Rattle.logos_token.specs.FaultView.{fault_of, faults_of}
 pub use Rattle.std.specs.List.{count_by}

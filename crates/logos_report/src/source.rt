@@ -1,7 +1,7 @@
 //! Files whose positions are shown.
 
-ghost use Rattle.std.specs.Prelude.{◌≡◌, IfOk, IfSome};
-ghost use Rattle.logos_report.specs.Views.{IsLineOf, place_at, in_file};
+ghost use Rattle.std.specs.Prelude.{◌≡◌, ◌≤◌, ◌⊎◌, IfOk, MatchOption, length};
+ghost use Rattle.logos_report.specs.Views.{IsLineOf, IsLongLine, IsNoLine, place_at, in_file};
 
 use logos_lines::{LineIndex, Position};
 use logos_token::token::Span;
@@ -96,10 +96,12 @@ impl<'t> Source<'t> {
         self.index.line_column(offset)
     }
 
-    /// Returns the text of a line, if it has no more than `most` bytes. It looks at no more than
-    /// these.
+    /// Returns the text of a line, or `None` if the file has no such line, or if the line has more
+    /// than `most` bytes. It looks at no more than `most` bytes and the end of the line.
     pub fn short_line(&self, line: usize, most: usize) -> Option<&'t str>
-        ensures { IfSome result (λ shown. IsLineOf self.now.text line shown.now) }
+        ensures { MatchOption result
+            (IsNoLine self.now.text line ⊎ IsLongLine self.now.text line most)
+            (λ shown. IsLineOf self.now.text line shown.now × (length shown.now ≤ most)) }
     {
         self.index.short_line(line, most)
     }

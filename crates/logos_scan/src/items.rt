@@ -1,7 +1,7 @@
 //! All items of an input at once.
 
 ghost use Rattle.std.specs.Prelude.{◌≡◌, map, IfOk};
-ghost use Rattle.logos_scan.specs.Words.{answers_of, item_of, Runs};
+ghost use Rattle.logos_scan.specs.Words.{answers_of, item_of, Runs, TakesMatches};
 
 use crate::choice::rows_for;
 use crate::run::{Reading, Run};
@@ -22,7 +22,7 @@ pub fn items<'i, C: Fn(LeafId, &[u8]) -> Action + Drop>(
     alloc: Global,
     lexer: Lexer<'_, '_, 'i, C>,
 ) -> Result<Vec<Item<'i>>, AllocError>
-    requires callable { C.IsAlwaysCallable lexer.callback }
+    requires callable { TakesMatches C.Fn lexer.code lexer.callback }
     requires first { lexer.to ≡ 0 }
     ensures { IfOk result (λ items. Runs lexer.entry.code (answers_of C.Fn lexer.entry.callback)
         lexer.entry.input 0 (map item_of items.items)) }
@@ -44,7 +44,7 @@ pub fn items_by_chunks<'i, C: Fn(LeafId, &[u8]) -> Action>(
     input: &'i [u8],
     callback: &C,
 ) -> Result<Vec<Item<'i>>, AllocError>
-    requires { C.IsAlwaysCallable callback.now }
+    requires { TakesMatches C.Fn folded.now.code callback.now }
     ensures { IfOk result (λ items. Runs folded.now.code (answers_of C.Fn callback.now) input.now 0
         (map item_of items.items)) }
 {

@@ -1,7 +1,7 @@
 //! Tries of an input, one after the other, by the entries of a chunk.
 
 ghost use Rattle.std.specs.Prelude.{◌≡◌, ◌+◌, ◌<◌, ◌≤◌, length, MatchOption};
-ghost use Rattle.logos_scan.specs.Views.{IsBytes, IsPlace, StandsIn, answers_of, item_of, EndsItems, GivesItem, IsChunk, IsFlagged, IsHeld, IsLoaded, IsMarked, IsOver, IsReading, IsReady, IsRun, IsTaken, start_of, with_chunk};
+ghost use Rattle.logos_scan.specs.Views.{IsBytes, IsPlace, StandsIn, answers_of, item_of, EndsItems, GivesItem, IsChunk, IsFlagged, IsHeld, IsLoaded, IsMarked, IsOver, IsReading, IsReady, IsRun, IsTaken, TakesMatches, start_of, with_chunk};
 
 use crate::tries::{Taken, tried};
 use logos_code::action::Action;
@@ -288,7 +288,7 @@ impl Run {
         chunk: &mut ChunkEntries,
         callback: &C,
     ) -> Option<Item<'i>>
-        requires callable { C.IsAlwaysCallable callback.now }
+        requires callable { TakesMatches C.Fn reading.now.code.now callback.now }
         requires reading { IsReading reading.now }
         requires ready { IsReady reading.now (with_chunk chunk.old self.old) }
         ensures ready { IsReady reading.now (with_chunk chunk.new self.new) }

@@ -3,6 +3,7 @@ use denote.Param.Members.{Shared}
 use denote.Ref.{Bor}
 use Rattle.std.proofs.Common.{◌≡◌, ℕ, ◌≤◌, Bool, true, false, if◌then◌else◌, List, [], ◌∷◌, ◌++◌, length, Some, slice_range, refl, subst, arith}
 use Rattle.std.proofs.lemmas.List.{append-nil}
+use Rattle.std.proofs.lemmas.Str.{IsUtf8-nil}
 use Rattle.logos_automaton.specs.Munch.{Use}
 use Rattle.logos_code.specs.Code.{CodeValue}
 use Rattle.logos_code.specs.Items.{Callback, Search, Item, token, error, items_of, skips, NextItem, passes, gives, fails}
@@ -11,7 +12,7 @@ use Rattle.logos_code.specs.declared.action.Action.{Action}
 use Rattle.logos_code.specs.declared.action.Action.TheVariants.{Emit, Skip, Error}
 use Rattle.logos_hir.specs.declared.leaf.LeafId.{LeafId}
 use Rattle.logos_machine.specs.LexerValue.{LexerValue, HasSpan, Gives, answers_of, begun, item_of}
-use Rattle.logos_machine.specs.Streams.{first_stand, LooksPast}
+use Rattle.logos_machine.specs.Streams.{first_stand, LooksPast, TriesWithin}
 use Rattle.logos_machine.specs.Within.{DoesWithin, GivesWithin, KeepsGiven}
 use Rattle.logos_machine.specs.declared.machine.Item.{Item as TheItem}
 use Rattle.logos_machine.specs.declared.machine.part.Within.{Within}
@@ -93,13 +94,13 @@ module _ {C : Type 0} (calls : Shared C (LeafId × (Bor (List ℕ) × Unit {0}))
       let g : GivesWithin callback from_start new (item_with s is.0) = subst (λ (i : Item). GivesWithin callback from_start new i) is.1 given in
       let p = span_is new is.0 s g.span in
       let alone : RunsOn code callback bytes 0 (item_with s is.0) new.to =
-      subst (λ (l : List ℕ). RunsOn code callback l 0 (item_with s is.0) new.to) (append-nil bytes) (g.is []) in
+      subst (λ (l : List ℕ). RunsOn code callback l 0 (item_with s is.0) new.to) (append-nil bytes) (g.is [] (λ _. IsUtf8-nil)) in
       let e = with_slice bytes is.0 s (runs_slice code callback bytes 0 new.to (item_with s is.0) alone) in
       let some = g.nonempty in
       let fits : new.to ≤ length bytes = subst (λ (l : List ℕ). new.to ≤ length l) k.input g.within in
       record {
-        finds = λ more.
-            let r : RunsOn code callback (bytes ++ more) 0 (item_with s is.0) new.to = g.is more in
+        finds = λ more follows.
+            let r : RunsOn code callback (bytes ++ more) 0 (item_with s is.0) new.to = g.is more follows in
             subst (λ (i : Item). RunsOn code callback (bytes ++ more) 0 i (end_of s)) e (subst (λ (n : ℕ). RunsOn code callback (bytes ++ more) 0 (item_with s is.0) n) p.1 r);
         nonempty = omega (arith, some, p.0, p.1);
         within = omega (arith, fits, p.1);
@@ -117,6 +118,7 @@ module _ {C : Type 0} (calls : Shared C (LeafId × (Bor (List ℕ) × Unit {0}))
     within = subst (λ (l : List ℕ). new.to ≤ length l) k.input d.within;
     passed = d.passed;
     looks = subst (λ (l : List ℕ). LooksPast code l new.to (first_stand code new.to)) k.input (subst (λ (c : CodeValue). LooksPast c new.input new.to (first_stand c new.to)) k.code d.looks);
+    undecided = λ found n t. d.undecided found n (subst (λ (l : List ℕ). TriesWithin new.code l new.to (length l) found n) (sym k.input) (subst (λ (c : CodeValue). TriesWithin c bytes new.to (length bytes) found n) (sym k.code) t));
   }
 
   over_at_start : (is_last : Bool) → DoesWithin is_last callback from_start new End → IsOver code callback bytes is_last

@@ -129,6 +129,7 @@ module _ {R : Type 0} (remaining : R → Option (List ℕ)) (code : CodeValue) (
       bytes = append-nil (old.lexed ++ old.after) ∙ ap (λ l. l ++ old.after) (sym s.lexed) ∙ ap (λ l. new.lexed ++ l) (sym s.after);
       all = λ f t. not_both old.is_over f (subst IsTrue s.is_over t);
       given = λ sound before items h. as_before before items (record {
+        mode = s.utf8 ∙ h.mode;
         offset = λ small. s.offset ∙ h.offset small;
         found = λ small. subst (λ (b : Bool). AreFound b code callback (before ++ new.lexed) items (length before)) (sym s.is_last)
             (subst (λ (l : List ℕ). AreFound old.is_last code callback (before ++ l) items (length before)) (sym s.lexed) (h.found small));

@@ -3,7 +3,7 @@ use Rattle.std.proofs.Common.{◌≡◌, ◌∙◌, ◌⊎◌, inl, inr, ⊎_eli
 use Rattle.std.specs.Io.KnownBytes.{Consumes, IsAtEnd}
 use Rattle.std.proofs.Math.Seq.{take-add}
 use Rattle.std.proofs.lemmas.List.{drop-append-le, drop-drop, drop-take, length-append, length-drop, length-take, take-append-drop, take-append-le, take-take, take_all}
-use Rattle.std.proofs.lemmas.Str.{IsCharBoundary-start, IsUtf8-append, IsUtf8-drop}
+use Rattle.std.proofs.lemmas.Str.{IsCharBoundary-start, IsUtf8-append, IsUtf8-drop, IsUtf8-nil}
 use Rattle.logos_stream.specs.Moves.{IsTorn}
 use Rattle.logos_stream.specs.Tails.{IsTail}
 use Rattle.logos_stream.specs.WindowValue.{GoesPast, HasEnded, IsWindow, ReadsOn, WindowValue}
@@ -220,7 +220,7 @@ module _ (utf8 : Bool) (part : List ℕ) (most : ℕ) (was : Bool) (before first
     wanted = is.wanted;
   }
 
-  pub reads_on : {R : Type 0} (remaining : R → Option (List ℕ)) (reader new_reader : R) (offset bound wanted new_bound new_wanted : ℕ) (over : Bool) → IsFalse last → new_bound ≡ bound →
+  pub reads_on : {R : Type 0} (remaining : R → Option (List ℕ)) (reader new_reader : R) (offset bound wanted new_bound new_wanted : ℕ) (over : Bool) → IsFalse last → new_bound ≡ bound → new_wanted ≡ wanted →
       Consumes (remaining reader) (remaining new_reader) added → (IsFalse over → 0 < length added) → (IsTrue over → IsAtEnd (remaining new_reader)) →
       ReadsOn {R = R} remaining
       (record {
@@ -249,7 +249,7 @@ module _ (utf8 : Bool) (part : List ℕ) (most : ℕ) (was : Bool) (before first
         bound = new_bound;
         wanted = new_wanted;
       })
-  reads_on remaining reader new_reader offset bound wanted new_bound new_wanted over begun same consumed some end = record {
+  reads_on remaining reader new_reader offset bound wanted new_bound new_wanted over begun same same_wanted consumed some end = record {
     utf8 = refl;
     offset = refl;
     bound = same;
@@ -262,10 +262,12 @@ module _ (utf8 : Bool) (part : List ℕ) (most : ℕ) (was : Bool) (before first
         ∙ ap (λ l. (slice_range part at ready ++ l) ++ added) (after_moved part at ready is.order is.within);
     grown = take tail.valid (drop (ready - at) next);
     lexed = lexed_now;
+    text = tells.text;
     last = λ h. absurd (let f : false ≡ true = sym begun ∙ h in cc);
     goes_on = λ h _. some h;
     over = λ h _. end h;
     ended = λ h. second tail.is_at_fault over h;
+    wanted = same_wanted;
   }
 
 nothing_consumed : (known : Option (List ℕ)) → Consumes known known []
@@ -283,8 +285,10 @@ reads_nothing remaining window h = record {
   bytes = sym (append-nil (window.lexed ++ window.after));
   grown = [];
   lexed = sym (append-nil window.lexed);
+  text = λ _. IsUtf8-nil;
   last = λ _. (refl, h);
   goes_on = λ _ f. absurd (let g : false ≡ true = sym f ∙ h in cc);
   over = λ _ f. absurd (let g : false ≡ true = sym f ∙ h in cc);
   ended = λ _. h;
+  wanted = refl;
 }

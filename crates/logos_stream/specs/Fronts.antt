@@ -1,9 +1,10 @@
 -- What comes first in some bytes of an input.
 use Rattle.std.specs.Prelude.{◌≡◌, ℕ, ◌<◌, ◌≤◌, Bool, true, false, List, [], ◌++◌, length, option_map, slice_range}
+use Rattle.logos_automaton.specs.Munch.{Found}
 use Rattle.logos_code.specs.Code.{CodeValue}
 use Rattle.logos_code.specs.Items.{Callback, Item, token, error}
 use Rattle.logos_code.specs.Runs.{Runs, RunsOn}
-use Rattle.logos_machine.specs.Streams.{first_stand, LooksPast, RunsOver}
+use Rattle.logos_machine.specs.Streams.{first_stand, LooksPast, MayFollow, RunsOver, TriesWithin}
 use Rattle.logos_stream.specs.declared.item.StreamItem.{StreamItem}
 use Rattle.logos_stream.specs.declared.item.StreamItem.TheVariants.{Token, Error}
 use Rattle.logos_stream.specs.declared.front.Front.{Front}
@@ -40,7 +41,7 @@ module _ (code : CodeValue) (callback : Callback) (bytes : List ℕ) where
   -- This is the next item up to here: of the last bytes, or whatever follows.
   abbrev pub FindsUpTo : Bool → Item → ℕ → Type 0
   FindsUpTo true item to = RunsOn code callback bytes 0 item to
-  FindsUpTo false item to = (more : List ℕ) → RunsOn code callback (bytes ++ more) 0 item to
+  FindsUpTo false item to = (more : List ℕ) → MayFollow code more → RunsOn code callback (bytes ++ more) 0 item to
 
   -- The item comes first.
   pub record IsFirst (is_last : Bool) (item : StreamItem) : Type 0 where
@@ -48,13 +49,14 @@ module _ (code : CodeValue) (callback : Callback) (bytes : List ℕ) where
     pub nonempty : start_of item < end_of item
     pub within : end_of item ≤ length bytes
 
-  -- No item comes first up to this offset, whatever follows, and the next try looks at what
-  -- follows.
+  -- No item comes first up to this offset, whatever follows, and what the next match attempt finds
+  -- is open at the end of the bytes.
   pub record IsWaiting (is_last : Bool) (to : ℕ) : Type 0 where
     pub unsettled : is_last ≡ false
     pub within : to ≤ length bytes
-    pub passed : (more : List ℕ) → RunsOver code callback (bytes ++ more) 0 to
+    pub passed : (more : List ℕ) → MayFollow code more → RunsOver code callback (bytes ++ more) 0 to
     pub looks : LooksPast code bytes to (first_stand code to)
+    pub undecided : (found : Found) (n : ℕ) → TriesWithin code bytes to (length bytes) found n → ⊥
 
   -- No item comes, and nothing follows.
   pub record IsOver (is_last : Bool) : Type 0 where

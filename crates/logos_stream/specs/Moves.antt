@@ -18,15 +18,24 @@ pub record IsTorn {R : Type 0} (window : WindowValue R) : Type 0 where
   pub none : IsNoText at_fault window.after
   pub why : IsTrue window.is_over ⊎ IsTrue at_fault
 
--- The window moves past an item, which is shown with its span in the stream.
+-- The window moves past an item, which is shown with its span in the stream. The next match
+-- attempt is not put off.
 pub record Shows {R : Type 0} (old new : WindowValue R) (found item : StreamItem) : Type 0 where
   pub past : GoesPast (end_of found) old new
+  pub wanted : new.wanted ≡ 0
   pub shown : old.offset + end_of found < 2 ^ 64 → item_with item new.slice ≡ item_later old.offset (item_in found old.lexed)
 
--- It waits after so many bytes. A try is put off at most until there are twice as many.
+-- A match attempt that has left `unread` bytes is made again once there are `wanted`: at the next
+-- byte if at most 4,096 were left, or else no later than with twice as many.
+pub record IsPutOff (unread wanted : ℕ) : Type 0 where
+  pub short : unread ≤ 4096 → wanted ≡ 0
+  pub twice : wanted ≤ 2 * unread
+
+-- It waits after that many bytes. The next match attempt is put off no longer than before, or by
+-- how many bytes are left.
 pub record WaitsAt {R : Type 0} (old new : WindowValue R) (to : ℕ) : Type 0 where
   pub past : GoesPast to old new
-  pub wanted : (new.wanted ≡ old.wanted) ⊎ (new.wanted ≤ 2 * unread_length new)
+  pub wanted : (new.wanted ≡ old.wanted) ⊎ IsPutOff (unread_length new) new.wanted
 
 module _ {R : Type 0} (old new : WindowValue R) where
   -- Nothing is passed since a character goes over the end of what would be.

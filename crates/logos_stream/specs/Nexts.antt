@@ -1,15 +1,22 @@
 -- What a stream finds next.
 use Rattle.std.specs.Prelude.{◌≡◌, ◌⊎◌, ℕ, ◌<◌, ◌≤◌, true, false, List, [], ◌++◌, length, IsTrue}
+use Rattle.logos_automaton.specs.Munch.{Found}
 use Rattle.logos_code.specs.Code.{CodeValue}
 use Rattle.logos_code.specs.Items.{Callback, Item}
 use Rattle.logos_code.specs.Runs.{Runs}
-use Rattle.logos_machine.specs.Streams.{first_stand, LooksPast, RunsOver}
+use Rattle.logos_machine.specs.Streams.{first_stand, LooksPast, MayFollow, RunsOver, TriesWithin}
 use Rattle.logos_stream.specs.Fronts.{FindsUpTo, IsFirst}
 use Rattle.logos_stream.specs.Moves.{IsStuck, IsTorn, Shows, WaitsAt}
 use Rattle.logos_stream.specs.WindowValue.{WindowValue, GoesPast, unread_length}
 use Rattle.logos_stream.specs.declared.item.StreamItem.{StreamItem}
 use Rattle.logos_stream.specs.declared.item.Streamed.{Streamed}
 use Rattle.logos_stream.specs.declared.item.Streamed.TheVariants.{Item as Given, More, TooLong, NotUtf8, End}
+
+-- What a match attempt finds from the offset on is open at the end of the bytes: it depends on more
+-- than these.
+pub record IsUndecided (code : CodeValue) (bytes : List ℕ) (offset : ℕ) : Type 0 where
+  pub looks : LooksPast code bytes offset (first_stand code offset)
+  pub undecided : (found : Found) (n : ℕ) → TriesWithin code bytes offset (length bytes) found n → ⊥
 
 module _ {R : Type 0} (code : CodeValue) (callback : Callback) (old new : WindowValue R) where
   -- The next item was given, with its span in the stream: the next one whatever follows the bytes
@@ -26,10 +33,10 @@ module _ {R : Type 0} (code : CodeValue) (callback : Callback) (old new : Window
     pub passed : ℕ
     pub waits : WaitsAt old new passed
     pub unsettled : old.is_last ≡ false
-    pub over : (more : List ℕ) → RunsOver code callback (old.lexed ++ more) 0 passed
-    -- The next try looks at the end of the bytes; or none was made, since fewer bytes were read
-    -- than it wants.
-    pub why : LooksPast code old.lexed passed (first_stand code passed) ⊎ (unread_length old < old.wanted)
+    pub over : (more : List ℕ) → MayFollow code more → RunsOver code callback (old.lexed ++ more) 0 passed
+    -- What the next match attempt finds is open at the end of the bytes; or none was made, since
+    -- fewer bytes were read than it wants.
+    pub why : IsUndecided code old.lexed passed ⊎ (unread_length old < old.wanted)
 
   -- No item is left, and the last bytes were passed.
   pub record FinishesNext : Type 0 where
@@ -37,11 +44,11 @@ module _ {R : Type 0} (code : CodeValue) (callback : Callback) (old new : Window
     pub over : Runs code callback old.lexed 0 []
     pub past : GoesPast (length old.lexed) old new
 
-  -- What comes next ends inside a character, and nothing is passed. The code of no source does
-  -- this.
+  -- What comes next ends inside a character, and nothing is passed. The items of a code that
+  -- `generate` returns end between characters; no law takes this case from that.
   pub record Splits : Type 0 where
     pub to : ℕ
-    pub why : ((item : Item) × FindsUpTo code callback old.lexed old.is_last item to) ⊎ ((more : List ℕ) → RunsOver code callback (old.lexed ++ more) 0 to)
+    pub why : ((item : Item) × FindsUpTo code callback old.lexed old.is_last item to) ⊎ ((more : List ℕ) → MayFollow code more → RunsOver code callback (old.lexed ++ more) 0 to)
     pub stuck : IsStuck old new to
 
   -- What a call of `next` does.

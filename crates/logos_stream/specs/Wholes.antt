@@ -20,6 +20,7 @@ AreFound false code callback bytes items to = AreBegun code callback bytes items
 -- A stream has passed these bytes and given these items. Its offsets are right as long as numbers
 -- can name them.
 pub record HasGiven {R : Type 0} (code : CodeValue) (callback : Callback) (passed : List ℕ) (window : WindowValue R) (items : List Item) : Type 0 where
+  pub mode : window.utf8 ≡ code.utf8
   pub offset : length passed < 2 ^ 64 → window.offset ≡ length passed
   pub found : length passed < 2 ^ 64 → AreFound window.is_last code callback (passed ++ window.lexed) items (length passed)
 

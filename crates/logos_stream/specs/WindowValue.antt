@@ -89,10 +89,12 @@ pub record ReadsOn {R : Type 0} (remaining : R → Option (List ℕ)) (old new :
   -- The bytes that can be lexed grow by these.
   pub grown : List ℕ
   pub lexed : new.lexed ≡ old.lexed ++ grown
+  pub text : IsTrue new.utf8 → IsUtf8 grown
   pub last : IsTrue old.is_last → (grown ≡ []) × IsTrue new.is_last
   pub goes_on : IsFalse new.is_over → IsFalse old.is_last → 0 < length added
   pub over : IsTrue new.is_over → IsFalse old.is_last → IsAtEnd (remaining new.reader)
   pub ended : IsTrue new.is_over → IsTrue new.is_last
+  pub wanted : new.wanted ≡ old.wanted
 
 -- Nothing was read, and the reader still has what it had.
 pub record StaysUnread {R : Type 0} (remaining : R → Option (List ℕ)) (old new : WindowValue R) : Type 0 where
@@ -104,3 +106,7 @@ pub record StaysUnread {R : Type 0} (remaining : R → Option (List ℕ)) (old n
   pub offset : new.offset ≡ old.offset
   pub bound : new.bound ≡ old.bound
   pub unread : Keeps (remaining old.reader) (remaining new.reader)
+  pub wanted : new.wanted ≡ old.wanted
+  -- The bytes that were passed are dropped.
+  pub skipped : new.skipped ≡ []
+  pub slice : new.slice ≡ []

@@ -1,7 +1,7 @@
 //! What comes first in some bytes of an input.
 
 ghost use Rattle.std.specs.Prelude.{◌≡◌, IsTrue, IsUtf8};
-ghost use Rattle.logos_stream.specs.Views.{answers_of, item_of, IsFront, IsWithout};
+ghost use Rattle.logos_stream.specs.Views.{answers_of, item_of, IsFront, IsWithout, TakesMatches};
 
 use crate::item::StreamItem;
 use logos_code::action::Action;
@@ -27,7 +27,7 @@ pub(crate) fn front_of<C: Fn(LeafId, &[u8]) -> Action + Copy>(
     callback: C,
     is_last: bool,
 ) -> Front
-    requires callable { C.IsAlwaysCallable callback }
+    requires callable { TakesMatches C.Fn code.now callback }
     requires text { IsTrue code.now.utf8 → IsUtf8 bytes.now }
     ensures { IsFront code.now (answers_of C.Fn callback) bytes.now is_last result }
 {

@@ -1,7 +1,7 @@
 //! A stream: a reader, and the items of what it gives.
 
 ghost use Rattle.std.specs.Prelude.{◌≡◌, ◌<◌, IfOk, OnErr};
-ghost use Rattle.logos_stream.specs.Views.{answers_of, at_start, unread_length, DoesNext, KeepsCode, ReadsOn, StaysUnread};
+ghost use Rattle.logos_stream.specs.Views.{answers_of, at_start, unread_length, DoesNext, KeepsCode, ReadsOn, StaysUnread, TakesMatches};
 
 use crate::front::{Front, front_of};
 use crate::item::Streamed;
@@ -52,7 +52,7 @@ impl<'c, 's, R, C> Model for Stream<'c, 's, R, C> {
 
 impl<'c, 's, R: Read + Drop, C: Fn(LeafId, &[u8]) -> Action + Copy> Stream<'c, 's, R, C> {
     /// Makes a stream before its first byte. At most `bound` bytes of it are in memory at a time.
-    /// The callback is asked for each match of a leaf that has one.
+    /// The callback is called for each match of a leaf that has one.
     ///
     /// # Errors
     ///
@@ -77,7 +77,7 @@ impl<'c, 's, R: Read + Drop, C: Fn(LeafId, &[u8]) -> Action + Copy> Stream<'c, '
     /// Returns what comes next. An item is returned only if it is the next one whatever follows
     /// what was read. After another answer each call returns the same, until `read` has read.
     pub fn next(&mut self) -> Streamed
-        requires { C.IsAlwaysCallable self.old.callback }
+        requires { TakesMatches C.Fn self.old.code self.old.callback }
         ensures keeps { KeepsCode self.old self.new }
         ensures does { DoesNext self.old.code (answers_of C.Fn self.old.callback)
             self.old.window self.new.window result }

@@ -1,7 +1,7 @@
 //! The bytes of a stream that are in memory, and where its lexer stands in them.
 
 ghost use Rattle.std.specs.Prelude.{◌≡◌, ◌*◌, ◌<◌, ◌≤◌, [], drop, length, false, slice_range, true, IfOk, OnErr, MatchBool, IsTrue, IsUtf8, IsCharBoundary};
-ghost use Rattle.logos_stream.specs.Views.{end_of, nothing_read, start_of, unread_length, Finishes, Gives, GoesPast, IsTorn, ReadsOn, StaysUnread, Waits};
+ghost use Rattle.logos_stream.specs.Views.{end_of, nothing_read, start_of, unread_length, Finishes, Gives, GoesPast, IsPutOff, IsTorn, ReadsOn, StaysUnread, Waits};
 
 use crate::item::{StreamItem, Streamed, later};
 use crate::tail::{is_cut, tail_of};
@@ -11,8 +11,9 @@ use std::io;
 use std::io::Read;
 use std::marker::Model;
 
-/// Up to this many bytes that a try leaves are lexed again after each read. More of them are lexed
-/// again once there are twice as many, so that the time grows as the stream does.
+/// Up to this many bytes that a match attempt leaves are lexed again after each read. If it leaves
+/// more, they are lexed again once there are twice as many, so that the time grows as the stream
+/// does.
 const SHORT: usize = 4096;
 
 /// The bytes of a stream that are in memory. Offsets and lengths count bytes.
@@ -184,6 +185,7 @@ impl<R: Read + Drop> Window<R> {
         }
         let before = self.offset;
         self.go_past(span.from, span.to);
+        self.wanted = 0;
         Streamed::Item(later(item, before))
     }
 
@@ -268,10 +270,10 @@ fn pass_front<R: Read + Drop>(parts: &mut Parts<R>, bytes: usize)
     }
 }
 
-/// Returns how many bytes the next try wants, if one has left so many.
+/// Returns how many bytes the next match attempt wants, after one that has left `unread` bytes.
 fn wanted_after(unread: usize, bound: usize) -> usize
     ensures most { result ≤ bound }
-    ensures twice { result ≤ 2 * unread }
+    ensures put_off { IsPutOff unread result }
 {
     if unread <= SHORT {
         return 0;

@@ -1,9 +1,9 @@
 -- What contracts see of a try on a part of an input.
-use Rattle.std.specs.Prelude.{ℕ, ◌+◌, ◌-◌, ◌≤◌, List, length, IsTrue}
+use Rattle.std.specs.Prelude.{ℕ, ◌+◌, ◌-◌, ◌≤◌, List, length}
 use Rattle.logos_automaton.specs.Munch.{Found, matched, failed}
 use Rattle.logos_code.specs.Code.{CodeValue}
-use Rattle.logos_code.specs.Runs.{Stand, enters, acts, Does, EndsError}
-use Rattle.logos_machine.specs.Streams.{first_stand, StopsWithin, EndsWithin, TriesWithin, LooksPast}
+use Rattle.logos_code.specs.Runs.{Stand, enters, acts, Does}
+use Rattle.logos_machine.specs.Streams.{first_stand, StopsWithin, TriesWithin, LooksPast}
 use Rattle.logos_machine.specs.inside.Attempts.{context_of, stand_of}
 use Rattle.logos_machine.specs.inside.Stands.{StaysWithin}
 use Rattle.logos_machine.specs.declared.machine.part.Move.{Move}
@@ -12,26 +12,13 @@ use Rattle.logos_machine.specs.declared.machine.part.Settled.{Settled}
 use Rattle.logos_machine.specs.declared.machine.part.Settled.TheVariants.{Matched, Failed, Open}
 
 module _ (code : CodeValue) (part : List ℕ) (start : ℕ) where
-  -- What the entered state does, if its fast loop ends before a byte of the part.
+  -- What the entered state does, if no byte after the part can change it.
   abbrev pub Moves : Stand → Move → Type 0
   Moves at (Enters next) = StopsWithin code part start (length part) at × Does code part start at (enters (stand_of next))
   Moves at (Acts context offset) = StopsWithin code part start (length part) at × Does code part start at (acts (context_of context) offset)
   Moves at Waits = LooksPast code part start at
 
-  -- The error ends here, whatever follows the part.
-  pub record EndsHere (offset to : ℕ) : Type 0 where
-    pub ends : EndsError code part start offset to
-    pub inside : to ≤ length part
-    pub within : EndsWithin code part start (length part) (failed to)
-
-  -- Its end depends on what follows.
-  pub record EndsOpen (offset : ℕ) : Type 0 where
-    pub to : ℕ
-    pub utf8 : IsTrue code.utf8
-    pub ends : EndsError code part start offset to
-    pub last : length part ≤ to
-
-  -- A try finds this in so many states, and looks at the part alone.
+  -- A match attempt finds this in that many states, and depends on the part alone.
   pub record TriedWithin (found : Found) (steps : ℕ) : Type 0 where
     pub tries : TriesWithin code part start (length part) found steps
     pub within : StaysWithin code part start found

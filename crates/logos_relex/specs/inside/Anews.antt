@@ -1,5 +1,5 @@
 -- What is made anew, between what stays.
-use Rattle.std.specs.Prelude.{◌≡◌, ℕ, ◌+◌, ◌≤◌, List, ◌++◌, length, take, drop, map}
+use Rattle.std.specs.Prelude.{◌≡◌, ℕ, ◌+◌, ◌≤◌, List, ◌++◌, length, take, drop, map, IsTrue, IsUtf8}
 use Rattle.logos_code.specs.Code.{CodeValue}
 use Rattle.logos_code.specs.Items.{Callback}
 use Rattle.logos_code.specs.Runs.{Runs}
@@ -27,7 +27,7 @@ pub record IsMet (former : Lexed) (replaced_to : ℕ) (left : List ℕ) (start i
 -- What follows the chunks that were made.
 abbrev pub Follows : CodeValue → Callback → Lexed → ℕ → List ℕ → ℕ → After → Type 0
 Follows code callback former replaced_to left start (Former index) = IsMet former replaced_to left start index
-Follows code callback former replaced_to left start (Last last) = Runs code callback left 0 (map (item_at left) last.items)
+Follows code callback former replaced_to left start (Last last) = Runs code callback left 0 (map (item_at left) last.items) × (IsTrue code.utf8 → IsUtf8 left)
 
 -- From the border on, these are chunks of the input, and after them a former border is met or the
 -- input ends.

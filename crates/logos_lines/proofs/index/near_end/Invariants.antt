@@ -6,6 +6,7 @@ abbrev pub invariant-loop-end : goal.invariant-loop-end
 invariant-loop-end l = record {
   after : l.start ≤ l.end;
   inside : l.end ≤ length l.bytes;
+  near : l.end ≤ l.start + l.most;
   value : l.end + line_length (drop l.end l.bytes) ≡ l.start + line_length (drop l.start l.bytes);
 }
 

@@ -19,3 +19,7 @@ returns-clause-items g c =
     let is = all_stored code.leaves answers bytes found (run_slices code.leaves answers bytes runs) in
     let places = c.in_ok-places.ensures ∙ ap (map place_of) c.deref.ensures.value in
     subst (λ (l : List ItemAt). Runs code answers bytes 0 (map (item_at bytes) l)) (sym places) (subst (λ (l : List Item). Runs code answers bytes 0 l) (sym is) runs)
+
+-- the lexer was made, so the bytes are UTF-8 where they have to be
+pub returns-clause-accepted : goal.returns-clause-accepted
+returns-clause-accepted g c = c.in_ok-lexer.ensures.accepted.1

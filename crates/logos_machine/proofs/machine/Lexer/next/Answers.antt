@@ -40,7 +40,8 @@ returns-in-Emits-clause-item g c =
 pub matched_item-requires-clause-callable : goal.matched_item-requires-clause-callable
 matched_item-requires-clause-callable g c =
     let e : c.self-in-Asks.inside.callback ≡ c.args.self.now.callback = ap (λ (l : LexerValue g.row.C.Denot). l.callback) (c.self-in-Asks.view_is ∙ c.loop-to.invariant.same) in
-    rw e (λ asks shown same. c.requires.at (c.in-Asks.leaf, (shown, tt)))
+    let same : c.self.inside.code.now ≡ c.args.self.now.code = ap (λ (l : LexerValue g.row.C.Denot). l.code) c.self.view_is in
+    rw (e, same) (λ asks. c.requires c.in-Asks.leaf _ asks)
 
 pub stand_after-requires-in-Some-clause-within : goal.stand_after-requires-in-Some-clause-within
 stand_after-requires-in-Some-clause-within g c =

@@ -10,7 +10,8 @@ use Rattle.logos_machine.proofs.machine.Lexer.next_in_part.Goals as goal
 pub matched_item-requires-clause-callable : goal.matched_item-requires-clause-callable
 matched_item-requires-clause-callable g c =
     let e : c.self-in-Matched.inside.callback ≡ c.args.self.now.callback = ap (λ (l : LexerValue g.row.C.Denot). l.callback) (c.self-in-Matched.view_is ∙ c.loop-leaf.invariant.same) in
-    rw e (λ asks shown same. c.requires.at (c.in-Matched.leaf, (shown, tt)))
+    let same : c.self.inside.code.now ≡ c.args.self.now.code = ap (λ (l : LexerValue g.row.C.Denot). l.code) c.self.view_is in
+    rw (e, same) (λ asks. c.requires c.in-Matched.leaf _ asks)
 
 pub stand_after-requires-clause-within : goal.stand_after-requires-clause-within
 stand_after-requires-clause-within g c =

@@ -2,16 +2,16 @@ use Rattle.std.proofs.lemmas.Option.{slice_get-get_or}
 use Rattle.logos_code.specs.CodeView.{state_at, no_state}
 use Rattle.logos_machine.specs.inside.Attempts.{context_of, stand_of}
 use Rattle.logos_machine.proofs.StepLemmas.{late_behind}
-use Rattle.logos_machine.proofs.MoveLemmas.{looks_past, moves_on}
+use Rattle.logos_machine.proofs.MoveLemmas.{comes_to_end, moves_on}
 use Rattle.std.proofs.Common.{sym}
 use Rattle.logos_machine.proofs.machine.part.move_in_part.Goals as goal
 
-pub returns-in_default : goal.returns-in_default
-returns-in_default c =
+pub move_at_end-requires-clause-past : goal.move_at_end-requires-clause-past
+move_at_end-requires-clause-past c =
     let code = c.args.code.now in
     let stop = c.stop_of-stop in
     let there = slice_get-get_or code.states c.args.at.state no_state c.requires.state in
-    looks_past code c.args.part.now c.args.start (stand_of c.args.at) (state_at code c.args.at.state) there stop.result.offset stop.result.target stop.ensures.offset stop.ensures.target c.in_default.is
+    comes_to_end code c.args.part.now c.args.start (stand_of c.args.at) (state_at code c.args.at.state) there stop.result.offset stop.result.target stop.ensures.offset stop.ensures.target c.in_default.is
 
 pub marked-context-requires : goal.marked-context-requires
 marked-context-requires c =
