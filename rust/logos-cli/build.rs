@@ -14,7 +14,7 @@ pub fn run_logos_program(rt: &HostRuntime) -> u8 { run_logos(rt) }
 ";
 
 /// What `logos_build` needs of the module of `logos_cli`, where it is private.
-const RUN_LOGOS_CLI: &str = "pub(crate) use self::running::run as run_command;\n";
+const RUN_LOGOS_CLI: &str = "pub(crate) use self::program::run as run_command;\n";
 
 fn erase() -> io::Result<()> {
     let crates = Crates::find()?;

@@ -4,7 +4,7 @@ use Rattle.std.proofs.lemmas.List.{drop_all, get_or-map}
 use Rattle.std.proofs.lemmas.List.Elements.{All-cons, All-map, All-nil, All-same, All-weaker}
 use Rattle.std.proofs.KnownBytes.{Appends-trans, Keeps-refl, Keeps-trans}
 use Rattle.std.specs.Io.KnownBytes.{Appends, Keeps}
-use Rattle.logos_host.specs.declared.comparing.Standing.{Standing}
+use Rattle.logos_host.specs.declared.comparison.Standing.{Standing}
 use Rattle.logos_text.specs.Standing.{StandInOrder}
 use Rattle.logos_cli.specs.Orders.{OrderValue, asks_each}
 use Rattle.logos_cli.specs.declared.batch.BatchFile.{BatchFile}

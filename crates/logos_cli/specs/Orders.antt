@@ -1,14 +1,15 @@
--- What the words of a command line ask for.
+-- What the arguments of `logos_cli` request.
 use Rattle.std.specs.Prelude.{ℕ, ◌&&◌, ◌==◌, ◌-◌, ◌++◌, List, Bool, true, false, Option, Some, None, if◌then◌else◌, option_map, bytes_eq, codes, is_some, length, map, not, slice_index, string_bytes}
+use Rattle.logos_code.specs.Shapes.{shape_named as code_named}
 use Rattle.logos_host.specs.Paths.{file_name}
 use Rattle.logos_host.specs.declared.color.Color.{Color}
-use Rattle.logos_host.specs.declared.color.Color.TheVariants.{Auto}
 use Rattle.logos_host.specs.declared.message_format.MessageFormat.{MessageFormat}
-use Rattle.logos_host.specs.declared.message_format.MessageFormat.TheVariants.{Human}
-use Rattle.logos_options.specs.Given.{GivenValue, given_of, given_or}
+use Rattle.logos_options.specs.Arguments.{ArgumentsValue, arguments_of, is_set, setting}
 use Rattle.logos_options.specs.Paths.{paths_of}
-use Rattle.logos_options.specs.declared.given.Answer.{Answer}
-use Rattle.logos_options.specs.declared.given.Answer.TheVariants as answers
+use Rattle.logos_options.specs.Styles.{style_given}
+use Rattle.logos_options.specs.declared.message_style.MessageStyle.{MessageStyle}
+use Rattle.logos_options.specs.declared.options.OptionName.{OptionName}
+use Rattle.logos_options.specs.declared.options.OptionName.TheVariants as options
 use Rattle.logos_options.specs.declared.program.Program.TheVariants.{Cli}
 use Rattle.logos_cli.specs.declared.options.Batch.{Batch}
 use Rattle.logos_cli.specs.declared.options.ExpandOrder.{ExpandOrder}
@@ -29,7 +30,7 @@ pub record OrderValue : Type 0 where
   pub denies : Bool
   pub color : Color
 
--- What is asked for.
+-- What is requested.
 pub data Asked : Type 0 where
   asks_help : Asked
   asks_version : Asked
@@ -38,11 +39,7 @@ pub data Asked : Type 0 where
 
 -- The shapes of lexers, by their names.
 abbrev pub shape_named : List ℕ → Option Shape
-shape_named name =
-    if bytes_eq name (codes "state_machine") then Some (Code (record { use_state_machine_codegen = true }))
-    else (if bytes_eq name (codes "tailcall") then Some (Code (record { use_state_machine_codegen = false }))
-    else (if bytes_eq name (codes "tables") then Some Tables
-    else None))
+shape_named name = if bytes_eq name (codes "tables") then Some Tables else option_map Code (code_named name)
 
 -- The shape with the name that is given, or tables.
 abbrev pub named_shape : Option (List ℕ) → Option Shape
@@ -72,35 +69,44 @@ placed words order None second = one_order order second
 placed words order (Some output) second =
     if is_folder output then Some (asks_each (orders_into order output (paths_of words))) else one_order order second
 
--- Files to expand; what is only compared needs a file for the result.
-abbrev pub file_given : List (List ℕ) → GivenValue → List ℕ → Shape → Option Asked
-file_given words given input shape =
-    if given.switches.is_check && not (is_some given.values.output) then None
-    else placed words (record { input = input; output = given.values.output; is_check = given.switches.is_check; shape = shape; format = given_or Human given.values.format; denies = given.switches.denies; color = given_or Auto given.values.color }) given.values.output given.second
+-- Files to expand, with messages in this style; what is only compared needs a file for the result.
+abbrev pub shaped_given : List (List ℕ) → ArgumentsValue → List ℕ → MessageStyle → Option Shape → Option Asked
+shaped_given words arguments input style None = None
+shaped_given words arguments input style (Some shape) =
+    if is_set options.Check arguments.settings && not (is_set options.Output arguments.settings) then None
+    else placed words
+    (record { input = input; output = setting options.Output arguments.settings; is_check = is_set options.Check arguments.settings; shape = shape; format = style.format; denies = is_set options.DenyWarnings arguments.settings; color = style.color })
+    (setting options.Output arguments.settings) arguments.second
 
-abbrev pub shaped_given : List (List ℕ) → GivenValue → List ℕ → Option Shape → Option Asked
-shaped_given words given input None = None
-shaped_given words given input (Some shape) = file_given words given input shape
+-- Files to expand, with messages in this style, in the shape that is given.
+abbrev pub file_given : List (List ℕ) → ArgumentsValue → List ℕ → MessageStyle → Option Asked
+file_given words arguments input style = shaped_given words arguments input style (named_shape (setting options.Shape arguments.settings))
 
--- What is asked of the input, if there is one.
-abbrev pub order_given : List (List ℕ) → GivenValue → Option (List ℕ) → Option Asked
-order_given words given None = None
-order_given words given (Some input) = shaped_given words given input (named_shape given.values.shape)
+abbrev pub style_asked : List (List ℕ) → ArgumentsValue → List ℕ → Option MessageStyle → Option Asked
+style_asked words arguments input None = None
+style_asked words arguments input (Some style) = file_given words arguments input style
 
-abbrev pub answer_given : List (List ℕ) → GivenValue → Option Answer → Option Asked
-answer_given words given (Some answers.Help) = Some asks_help
-answer_given words given (Some answers.Version) = Some asks_version
-answer_given words given None = order_given words given given.first
+-- What is requested for the input, if there is one.
+abbrev pub order_given : List (List ℕ) → ArgumentsValue → Option (List ℕ) → Option Asked
+order_given words arguments None = None
+order_given words arguments (Some input) = style_asked words arguments input (style_given arguments.settings)
 
--- What the words ask for.
-abbrev pub asked_given : List (List ℕ) → Option GivenValue → Option Asked
+-- A text, or files to expand.
+abbrev pub request_given : List (List ℕ) → ArgumentsValue → Option OptionName → Option Asked
+request_given words arguments (Some options.Version) = Some asks_version
+request_given words arguments (Some option) = Some asks_help
+request_given words arguments None = order_given words arguments arguments.first
+
+-- What these arguments request.
+abbrev pub asked_given : List (List ℕ) → Option ArgumentsValue → Option Asked
 asked_given words None = None
-asked_given words (Some given) = answer_given words given given.answer
+asked_given words (Some arguments) = request_given words arguments arguments.text
 
+-- What the arguments of a command line request, if they are valid.
 abbrev pub asked : List (List ℕ) → Option Asked
-asked words = asked_given words (given_of Cli words)
+asked words = asked_given words (arguments_of Cli words)
 
--- The same of what the program keeps.
+-- The values of the program's types.
 abbrev pub order_value : ExpandOrder → OrderValue
 order_value order = record {
   input = order.input.now;
@@ -112,11 +118,11 @@ order_value order = record {
   color = order.color;
 }
 
--- What is asked for each of several files, as values.
+-- What is requested for each of several files, as values.
 abbrev pub batch_value : Batch → List OrderValue
 batch_value batch = orders_into (order_value batch.order) batch.folder.now (paths_of (map string_bytes batch.words.now))
 
--- What is asked for, as a value.
+-- What is requested, as a value.
 abbrev pub request_value : Request → Asked
 request_value requests.Help = asks_help
 request_value requests.Version = asks_version

@@ -4,8 +4,8 @@
 -- there compares with them, and the files after that.
 use Rattle.std.specs.Prelude.{◌≡◌, ◌≢◌, ◌⊎◌, ◌++◌, ◌||◌, ℕ, List, [], ◌∷◌, All, Bool, Contains, true, false, IsTrue, Option, Some, None, IfSome, bytes_eq, map, unwrap_or}
 use Rattle.std.specs.Io.KnownBytes.{Appends, Keeps}
-use Rattle.logos_host.specs.declared.comparing.Standing.{Standing}
-use Rattle.logos_host.specs.declared.comparing.Standing.TheVariants.{Same}
+use Rattle.logos_host.specs.declared.comparison.Standing.{Standing}
+use Rattle.logos_host.specs.declared.comparison.Standing.TheVariants.{Same}
 use Rattle.logos_host.specs.Reading.{Reads}
 use Rattle.logos_expand.specs.Expanding.{IsExpanded}
 use Rattle.logos_expand.specs.Gathering.{IsCause}

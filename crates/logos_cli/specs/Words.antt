@@ -4,6 +4,6 @@ pub use Rattle.logos_expand.specs.Gathering.{FailsBy, IsRefusedFor}
 pub use Rattle.logos_host.specs.Failures.{status_of}
 pub use Rattle.logos_host.specs.Messages.{message_of}
 pub use Rattle.logos_host.specs.Reading.{Reads}
-pub use Rattle.logos_options.specs.Given.{given_value}
+pub use Rattle.logos_options.specs.Arguments.{arguments_value}
 pub use Rattle.logos_options.specs.Paths.{texts_of}
 pub use Rattle.std.specs.Io.KnownBytes.{Appends, Keeps}

@@ -5,7 +5,7 @@ ghost use Rattle.logos_cli.specs.Views.{Appends, AreCarriedOut, AreDenied, IsApa
 ghost use Rattle.logos_cli.specs.declared.batch.BatchFile.{BatchFile as BatchFileValue};
 
 use crate::options::{Batch, ExpandOrder};
-use crate::running::{Ending, carry_out, failed};
+use crate::program::{Ending, carry_out, failed};
 use logos_host::{ComparableFiles, Failure, file_name};
 use logos_options::{misuse, paths_of};
 use logos_token::error::Memory;

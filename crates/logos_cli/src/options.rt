@@ -1,14 +1,16 @@
-//! What the words of a command line ask for.
+//! What the arguments of `logos_cli` request.
 
 ghost use Rattle.std.specs.Prelude.{◌≡◌, IfErr, IfOk, None, Some, is_some, map, option_map, string_bytes};
-ghost use Rattle.logos_cli.specs.Views.{asked, asked_given, file_given, given_value, is_folder, named_shape, order_given, order_value, placed, request_value, shape_named, status_of};
+ghost use Rattle.logos_cli.specs.Views.{arguments_value, asked, file_given, is_folder, named_shape, order_given, order_value, placed, request_given, request_value, shape_named, status_of};
 
 use logos_codegen::generator::Config;
 use logos_host::{Color, Failure, MessageFormat};
-use logos_options::{Answer, Given, Program, given_by, misuse};
+use logos_options::{
+    Arguments, MessageStyle, OptionName, Program, arguments_of, misuse, style_given,
+};
 use logos_tables::Shape;
 
-/// What is asked for.
+/// What is requested.
 #[derive(Clone, Copy)]
 pub(crate) enum Request<'w> {
     Help,
@@ -48,81 +50,96 @@ pub(crate) struct Batch<'w> {
     pub(crate) folder: &'w str,
 }
 
-/// Returns what the words ask for.
+/// Reads the arguments of `logos_cli`.
 ///
 /// # Errors
 ///
-/// Returns `Misuse` or `UnknownOption` if they are not a command.
+/// Returns `Misuse` or `UnknownOption` if they are invalid.
 pub(crate) fn request_of(words: &[String]) -> Result<Request<'_>, Failure<'_>>
     ensures asked { IfOk result (λ request.
         asked (map string_bytes words.now) ≡ Some (request_value request)) }
     ensures misuse { IfErr result (λ failure.
         (asked (map string_bytes words.now) ≡ None) × (status_of failure ≡ 2)) }
 {
-    match given_by(Program::Cli, words) {
-        Ok(given) => request_given(words, given),
+    match arguments_of(Program::Cli, words) {
+        Ok(arguments) => request_given(words, arguments),
         Err(failure) => Err(failure),
     }
 }
 
-/// Returns what the words ask for, by what they give.
-fn request_given<'w>(words: &'w [String], given: Given<'w>) -> Result<Request<'w>, Failure<'w>>
-    ensures asked { IfOk result (λ request. asked_given (map string_bytes words.now)
-        (Some (given_value given.entry)) ≡ Some (request_value request)) }
-    ensures misuse { IfErr result (λ failure. (asked_given (map string_bytes words.now)
-        (Some (given_value given.entry)) ≡ None) × (status_of failure ≡ 2)) }
+/// Returns what arguments request.
+fn request_given<'w>(
+    words: &'w [String],
+    arguments: Arguments<'w>,
+) -> Result<Request<'w>, Failure<'w>>
+    ensures asked { IfOk result (λ request. request_given (map string_bytes words.now)
+        (arguments_value arguments.entry) (arguments_value arguments.entry).text
+        ≡ Some (request_value request)) }
+    ensures misuse { IfErr result (λ failure. (request_given (map string_bytes words.now)
+        (arguments_value arguments.entry) (arguments_value arguments.entry).text ≡ None)
+        × (status_of failure ≡ 2)) }
 {
-    match given.answer {
-        Some(Answer::Help) => Ok(Request::Help),
-        Some(Answer::Version) => Ok(Request::Version),
-        None => order_given(words, given),
+    match arguments.text {
+        Some(OptionName::Version) => Ok(Request::Version),
+        Some(_) => Ok(Request::Help),
+        None => order_given(words, arguments),
     }
 }
 
 /// Returns the files to expand.
-fn order_given<'w>(words: &'w [String], given: Given<'w>) -> Result<Request<'w>, Failure<'w>>
+fn order_given<'w>(
+    words: &'w [String],
+    arguments: Arguments<'w>,
+) -> Result<Request<'w>, Failure<'w>>
     ensures asked { IfOk result (λ request. order_given (map string_bytes words.now)
-        (given_value given.entry) (given_value given.entry).first
+        (arguments_value arguments.entry) (arguments_value arguments.entry).first
         ≡ Some (request_value request)) }
     ensures misuse { IfErr result (λ failure. (order_given (map string_bytes words.now)
-        (given_value given.entry) (given_value given.entry).first ≡ None)
+        (arguments_value arguments.entry) (arguments_value arguments.entry).first ≡ None)
         × (status_of failure ≡ 2)) }
 {
-    let Some(input) = given.first else {
+    let Some(input) = arguments.first else {
         return Err(misuse("no input file", ""));
     };
-    let shape = match shape_given(given.values.shape) {
+    let style = match style_given(&arguments.settings) {
+        Ok(style) => style,
+        Err(failure) => return Err(failure),
+    };
+    file_given(words, arguments, input, style)
+}
+
+/// Returns the files to expand, with messages in this style.
+fn file_given<'w>(
+    words: &'w [String],
+    arguments: Arguments<'w>,
+    input: &'w str,
+    style: MessageStyle,
+) -> Result<Request<'w>, Failure<'w>>
+    ensures asked { IfOk result (λ request. file_given (map string_bytes words.now)
+        (arguments_value arguments.entry) input.now style ≡ Some (request_value request)) }
+    ensures misuse { IfErr result (λ failure. (file_given (map string_bytes words.now)
+        (arguments_value arguments.entry) input.now style ≡ None) × (status_of failure ≡ 2)) }
+{
+    let settings = &arguments.settings;
+    let shape = match shape_given(settings.value(OptionName::Shape)) {
         Ok(shape) => shape,
         Err(failure) => return Err(failure),
     };
-    file_given(words, given, input, shape)
-}
-
-/// Returns the files to expand.
-fn file_given<'w>(
-    words: &'w [String],
-    given: Given<'w>,
-    input: &'w str,
-    shape: Shape,
-) -> Result<Request<'w>, Failure<'w>>
-    ensures asked { IfOk result (λ request. file_given (map string_bytes words.now)
-        (given_value given.entry) input.now shape ≡ Some (request_value request)) }
-    ensures misuse { IfErr result (λ failure. (file_given (map string_bytes words.now)
-        (given_value given.entry) input.now shape ≡ None) × (status_of failure ≡ 2)) }
-{
-    if given.switches.is_check & !is_given(given.values.output) {
+    let is_check = settings.has(OptionName::Check);
+    let output = settings.value(OptionName::Output);
+    if is_check & !is_given(output) {
         return Err(misuse("`--check` needs `--output FILE`", ""));
     }
     let order = ExpandOrder {
         input,
-        output: given.values.output,
-        is_check: given.switches.is_check,
+        output,
+        is_check,
         shape,
-        format: given.values.format_or_human(),
-        denies: given.switches.denies,
-        color: given.values.color_or_auto(),
+        format: style.format,
+        denies: settings.has(OptionName::DenyWarnings),
+        color: style.color,
     };
-    placed(words, order, given.second)
+    placed(words, order, arguments.second)
 }
 
 /// Returns the file to expand, or the files whose results go into a folder.
@@ -190,18 +207,11 @@ fn shape_given<'w>(name: Option<&'w str>) -> Result<Shape, Failure<'w>>
 fn shape_by_name(name: &str) -> Option<Shape>
     ensures { result ≡ shape_named name.now }
 {
-    if name == "state_machine" {
-        return Some(Shape::Code(Config {
-            use_state_machine_codegen: true,
-        }));
-    }
-    if name == "tailcall" {
-        return Some(Shape::Code(Config {
-            use_state_machine_codegen: false,
-        }));
-    }
     if name == "tables" {
         return Some(Shape::Tables);
     }
-    None
+    match Config::by_name(name) {
+        Some(config) => Some(Shape::Code(config)),
+        None => None,
+    }
 }

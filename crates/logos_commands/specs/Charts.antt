@@ -3,8 +3,8 @@ use Rattle.std.specs.Prelude.{◌++◌, ℕ, List, Option, Some, None, if◌then
 use Rattle.std.specs.Char.{to_ascii_lowercase}
 use Rattle.std.specs.Path.{dot, parent_dir, rsplit_once, extension_of_split, with_separator}
 use Rattle.logos_host.specs.Paths.{file_name}
-use Rattle.logos_commands.specs.declared.failure.ExportRefusal.{ExportRefusal}
-use Rattle.logos_commands.specs.declared.failure.ExportRefusal.TheVariants.{NoPath, Dot, Extension}
+use Rattle.logos_commands.specs.declared.refusals.ExportRefusal.{ExportRefusal}
+use Rattle.logos_commands.specs.declared.refusals.ExportRefusal.TheVariants.{NoPath, Dot, Extension}
 
 -- What becomes of a chart: it goes to the file at these bytes, or its path is refused.
 pub data Destination : Type 0 where

@@ -1,5 +1,5 @@
 -- What the program does, by what its files give.
-use Rattle.std.specs.Prelude.{◌≡◌, ◌∷◌, ◌++◌, [], ℕ, List, Bool, true, Option, IsTrue}
+use Rattle.std.specs.Prelude.{◌≡◌, ◌⊎◌, ◌∷◌, ◌++◌, [], ℕ, List, Bool, true, Option, IsTrue}
 use Rattle.std.specs.Str.{IsUtf8, IsValidUpTo}
 use Rattle.std.specs.Io.KnownBytes.{Appends, Keeps}
 use Rattle.logos_automaton.specs.Munch.{Rule}
@@ -19,14 +19,15 @@ use Rattle.logos_codegen.specs.Source.{IsAccepted, IsRefused}
 use Rattle.logos_host.specs.Reading.{Reads}
 use Rattle.logos_text.specs.Standing.{StandInOrder}
 use Rattle.logos_text.specs.Texts.{texts_of}
-use Rattle.logos_commands.specs.declared.failure.CommandFailure.{CommandFailure}
-use Rattle.logos_commands.specs.declared.failure.CommandFailure.TheVariants.{Refused, NotUtf8, NotExported}
-use Rattle.logos_commands.specs.declared.failure.ExportRefusal.{ExportRefusal}
+use Rattle.logos_host.specs.declared.failure.Failure.{Failure}
+use Rattle.logos_host.specs.declared.failure.Failure.TheVariants.{NotUtf8}
+use Rattle.logos_commands.specs.declared.refusals.ExportRefusal.{ExportRefusal}
 use Rattle.logos_commands.specs.declared.outcome.Asked.{Asked as Part}
 use Rattle.logos_commands.specs.declared.outcome.Asked.TheVariants.{Text, Chart, Export}
 use Rattle.logos_commands.specs.Commands.{Asked, asks_text, asks_items, asks_chart, asks_export, asks_strip}
 use Rattle.logos_commands.specs.Charts.{Destination, file_at, refused, export_destination}
 use Rattle.logos_commands.specs.Lines.{emits, lines_of}
+use Rattle.logos_commands.specs.Refusals.{ShowsFaultsOf, ShowsReasonOf}
 
 -- ---- What is done
 
@@ -99,38 +100,38 @@ pub record IsTorn (source input : List ℕ) (valid_up_to : ℕ) : Type 0 where
   pub valid : IsValidUpTo input valid_up_to
 
 -- The code is of UTF-8 mode, and the input is UTF-8 for so many bytes, and not as a whole.
-abbrev pub IsTornBy : CodeValue → List ℕ → CommandFailure → Type 0
+abbrev pub IsTornBy : CodeValue → List ℕ → Failure → Type 0
 IsTornBy code input (NotUtf8 valid_up_to) = IsTrue code.utf8 × (¬ IsUtf8 input) × IsValidUpTo input valid_up_to
 IsTornBy code input failure = ⊥
 
 -- The source cannot be read as an enum, and this fault ends its reading.
-pub record IsUnread (source : List ℕ) (faults : List Fault) : Type 0 where
+pub record IsUnreadable (source : List ℕ) (faults : List Fault) : Type 0 where
   pub ending : Fault
   pub ends : EndsReading source ending
   pub one : faults ≡ ending ∷ []
 
 -- Why a lexer is refused: the faults of its source, or, where its chart is to be exported, that
 -- this has no path.
-abbrev pub RefusesLexer : List ℕ → Part → CommandFailure → Type 0
-RefusesLexer source part (Refused faults) = IsRefused source faults
-RefusesLexer source Export (NotExported why) = IsUnexported source why
-RefusesLexer source part failure = ⊥
+abbrev pub RefusesLexer : List ℕ → Part → Failure → Type 0
+RefusesLexer source (Text shape) failure = ShowsFaultsOf (IsRefused source) failure
+RefusesLexer source Chart failure = ShowsFaultsOf (IsRefused source) failure
+RefusesLexer source Export failure = ShowsFaultsOf (IsRefused source) failure ⊎ ShowsReasonOf (IsUnexported source) failure
 
 -- Why the items of an input are refused: the faults of the source, or that the input is not a text.
-abbrev pub RefusesInput : List ℕ → List ℕ → CommandFailure → Type 0
-RefusesInput source input (Refused faults) = IsRefused source faults
-RefusesInput source input (NotUtf8 valid_up_to) = IsTorn source input valid_up_to
-RefusesInput source input failure = ⊥
+abbrev pub IsTornInput : List ℕ → List ℕ → Failure → Type 0
+IsTornInput source input (NotUtf8 valid_up_to) = IsTorn source input valid_up_to
+IsTornInput source input failure = ⊥
+
+abbrev pub RefusesInput : List ℕ → List ℕ → Failure → Type 0
+RefusesInput source input failure = ShowsFaultsOf (IsRefused source) failure ⊎ IsTornInput source input failure
 
 -- Why a source is not stripped: its one fault.
-abbrev pub RefusesStripping : List ℕ → CommandFailure → Type 0
-RefusesStripping source (Refused faults) = IsUnread source faults
-RefusesStripping source failure = ⊥
+abbrev pub RefusesStripping : List ℕ → Failure → Type 0
+RefusesStripping source failure = ShowsFaultsOf (IsUnreadable source) failure
 
 -- Why the chart of a lexer is not exported, which goes there.
-abbrev pub RefusesExport : Destination → CommandFailure → Type 0
-RefusesExport destination (NotExported why) = destination ≡ refused why
-RefusesExport destination failure = ⊥
+abbrev pub RefusesExport : Destination → Failure → Type 0
+RefusesExport destination failure = ShowsReasonOf (λ why. destination ≡ refused why) failure
 
 -- ---- Files: `gives` holds of files, a path, all bytes that are read there, and the files after
 -- that; `makes` holds of files, a path, the bytes of the file there from then on, and the files
@@ -148,7 +149,7 @@ module _ {F : Type 0} (gives : F → List ℕ → List ℕ → F → Type 0) whe
       Reads gives files file (λ source between. Reads gives between input (λ bytes read. (after ≡ read) × PrintsItemsOf source bytes old new))
 
   -- A file is read, and then an input, which are refused so.
-  abbrev pub RefusesItems : List ℕ → List ℕ → F → F → CommandFailure → Type 0
+  abbrev pub RefusesItems : List ℕ → List ℕ → F → F → Failure → Type 0
   RefusesItems file input files after failure =
       Reads gives files file (λ source between. Reads gives between input (λ bytes read. (after ≡ read) × RefusesInput source bytes failure))
 
@@ -171,7 +172,7 @@ module _ {F : Type 0} (gives : F → List ℕ → List ℕ → F → Type 0) whe
     IsDone (asks_strip file) files after old new = Carries file files after old new IsLeft
 
   -- What is asked for cannot be had: the files give what is refused so, and stay as they are.
-  abbrev pub IsDenied : Asked → F → F → CommandFailure → Type 0
+  abbrev pub IsDenied : Asked → F → F → Failure → Type 0
   IsDenied (asks_text file shape) files after failure = ReadsSource file files after (λ source. RefusesLexer source (Text shape) failure)
   IsDenied (asks_items file input shape) files after failure = RefusesItems file input files after failure
   IsDenied (asks_chart file) files after failure = ReadsSource file files after (λ source. RefusesLexer source Chart failure)

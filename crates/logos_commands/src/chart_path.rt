@@ -1,10 +1,10 @@
 //! The path of the file that the chart of an enum is written to.
 
 ghost use Rattle.std.specs.Prelude.{◌≡◌, IfErr, IfOk, option_copied, string_bytes};
-ghost use Rattle.logos_commands.specs.Views.{with_separator, destination, extension, file_at, file_in, refusal_by, FailsAt};
+ghost use Rattle.logos_commands.specs.Views.{with_separator, destination, extension, file_at, file_in, refusal_by, FailsAt, IsNoMisuse};
 
-use crate::failure::{CommandFailure, ExportRefusal};
-use logos_host::file_name;
+use crate::refusals::{ExportRefusal, refused_export};
+use logos_host::{Failure, file_name};
 use std::alloc::{AllocError, Global};
 
 /// Returns the path of the file for the chart of an enum. `path` is the export path of its source:
@@ -12,16 +12,13 @@ use std::alloc::{AllocError, Global};
 ///
 /// # Errors
 ///
-/// Returns `NotExported` if the path has an extension other than `mmd`, and `Memory` when memory
-/// runs out.
-pub(super) fn chart_path(
-    alloc: Global,
-    path: &str,
-    name: &str,
-) -> Result<String, CommandFailure<'static>>
+/// Returns `Refused` if the path has an extension other than `mmd`, and `Memory` if memory runs
+/// out.
+pub(super) fn chart_path(alloc: Global, path: &str, name: &str) -> Result<String, Failure<'static>>
     ensures file { IfOk result (λ chart.
         file_at (string_bytes chart) ≡ destination path.now name.now) }
     ensures failure { IfErr result (FailsAt (destination path.now name.now)) }
+    ensures known { IfErr result IsNoMisuse }
 {
     let Some(extension) = extension_of(file_name(path)) else {
         return Ok(path_in(alloc, path, name)?);
@@ -29,7 +26,7 @@ pub(super) fn chart_path(
     if extension == "mmd" {
         return Ok(String::from_str(alloc, path)?);
     }
-    Err(CommandFailure::NotExported(refused_by(extension)))
+    Err(refused_export(alloc, refused_by(extension)))
 }
 
 /// Returns why a chart's path must not have this extension, which is not `mmd`.

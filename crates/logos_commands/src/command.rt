@@ -1,10 +1,11 @@
 //! Commands, read from the words of the command line.
 
 ghost use Rattle.std.specs.Prelude.{◌≡◌, bytes_eq, map, option_map, string_bytes};
-ghost use Rattle.logos_commands.specs.Commands.{asked, chart_in, command_asked, export_in, items_in, shape_in, shape_named, strip_in, text_in};
+ghost use Rattle.logos_commands.specs.Commands.{asked, chart_in, command_asked, export_in, items_in, shape_in, strip_in, text_in};
 
-use crate::lexing::LexRequest;
+use crate::item_lines::LexRequest;
 use logos_codegen::generator::Config;
+use logos_options::OptionName;
 
 /// A command with its files.
 #[derive(Clone, Copy)]
@@ -125,24 +126,9 @@ fn shape_of(words: &[String]) -> Option<Config>
         [] => Some(Config {
             use_state_machine_codegen: true,
         }),
-        [option, shape] if is_word(option, "--shape") => shape_by_name(shape),
+        [option, shape] if is_word(option, OptionName::Shape.word()) => {
+            Config::by_name(shape.as_str())
+        }
         _ => None,
     }
-}
-
-/// Returns the shape of this name.
-fn shape_by_name(name: &String) -> Option<Config>
-    ensures { result ≡ shape_named (string_bytes name.now) }
-{
-    if is_word(name, "state_machine") {
-        return Some(Config {
-            use_state_machine_codegen: true,
-        });
-    }
-    if is_word(name, "tailcall") {
-        return Some(Config {
-            use_state_machine_codegen: false,
-        });
-    }
-    None
 }

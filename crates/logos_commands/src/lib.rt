@@ -1,15 +1,14 @@
-//! The commands of the program, on any files and any writers.
+//! The commands of the program `logos`, on any files and any writers.
 
 #![tactic(auto)]
 
 mod chart_path;
 mod command;
-mod failure;
-mod lexing;
+mod item_lines;
 mod lines;
 mod outcome;
-mod reading;
-mod running;
+mod program;
+mod refusals;
 
 pub use logos_host::{FileError, Files, Reason};
-pub use running::{refuse_words, run};
+pub use program::{run, run_with};

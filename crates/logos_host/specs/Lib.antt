@@ -3,6 +3,7 @@ pub mod Failures
 pub mod Formats
 pub mod Messages
 pub mod Paths
+pub mod PlainMessages
 pub mod Reading
 pub mod Writers
 pub mod Words

@@ -1,7 +1,7 @@
 //! The ways in which a program fails.
 
-ghost use Rattle.std.specs.Prelude.{◌≡◌};
-ghost use Rattle.logos_host.specs.Views.{status_of, Memory as OutOfMemory};
+ghost use Rattle.std.specs.Prelude.{◌≡◌, ◌≢◌};
+ghost use Rattle.logos_host.specs.Views.{Closed, IsOutputFailure, IsReadingFailure, IsUnread, IsUnwritten, IsWritingFailure, Output, status_of, Memory as OutOfMemory};
 
 use crate::files::FileError;
 use crate::reason::Reason;
@@ -13,20 +13,20 @@ use std::io::ErrorKind;
 /// The ways in which a program fails.
 #[derive(Drop)]
 pub enum Failure<'w> {
-    /// The words are no command: what is wrong, and the word that is, which may be empty.
+    /// The arguments are invalid: what is wrong, and the argument that is, which may be empty.
     Misuse {
         what: &'static str,
         word: &'w str,
     },
-    /// A word is no option of the program. The option that may be meant stands with it, if there is
-    /// one.
+    /// An argument is not an option of the program. `nearest` is the word of the nearest option, or
+    /// empty if none is near.
     UnknownOption {
         word: &'w str,
         nearest: &'static str,
     },
     /// The file for the result is the file that is read.
     OwnOutput(&'w str),
-    /// What was asked for has faults. This text shows them.
+    /// The source is refused. This text shows why.
     Refused(String),
     /// The input is valid UTF-8 up to this byte.
     NotUtf8 {
@@ -43,7 +43,7 @@ pub enum Failure<'w> {
     Write(&'w str, Reason),
     /// Standard output cannot be written.
     Output,
-    /// Who read standard output has closed it. This has no message.
+    /// The reader of standard output has closed it.
     Closed,
     /// Memory ran out.
     Memory,
@@ -88,7 +88,9 @@ impl Failure<'_> {
 
     /// Returns the failure of a file at a path that is not read.
     pub fn of_reading<'w>(path: &'w str, error: FileError) -> Failure<'w>
-        ensures { status_of result ≡ 3 }
+        ensures failure { IsReadingFailure path.now error result }
+        ensures unread { IsUnread path.now result }
+        ensures status { status_of result ≡ 3 }
     {
         match error {
             FileError::Failed(reason) => Failure::Read(path, reason),
@@ -99,7 +101,9 @@ impl Failure<'_> {
 
     /// Returns the failure of a file at a path that is not written.
     pub fn of_writing<'w>(path: &'w str, error: FileError) -> Failure<'w>
-        ensures { status_of result ≡ 3 }
+        ensures failure { IsWritingFailure path.now error result }
+        ensures unwritten { IsUnwritten path.now result }
+        ensures status { status_of result ≡ 3 }
     {
         match error {
             FileError::Failed(reason) => Failure::Write(path, reason),
@@ -109,11 +113,22 @@ impl Failure<'_> {
 
     /// Returns the failure of standard output.
     pub fn of_output(error: &io::Error) -> Failure<'static>
-        ensures { status_of result ≡ 3 }
+        ensures failure { IsOutputFailure result }
+        ensures status { status_of result ≡ 3 }
     {
-        match error.kind() {
-            ErrorKind::BrokenPipe => Failure::Closed,
-            _ => Failure::Output,
-        }
+        output_failure(error.kind())
+    }
+}
+
+/// Returns the failure of standard output with an error of this kind.
+fn output_failure(kind: ErrorKind) -> Failure<'static>
+    ensures closed { kind ≡ ErrorKind.BrokenPipe → result ≡ Closed }
+    ensures other { kind ≢ ErrorKind.BrokenPipe → result ≡ Output }
+    ensures failure { IsOutputFailure result }
+    ensures status { status_of result ≡ 3 }
+{
+    match kind {
+        ErrorKind::BrokenPipe => Failure::Closed,
+        _ => Failure::Output,
     }
 }

@@ -1,14 +1,15 @@
-//! The messages of failures.
+//! The messages of failures in `logos_cli` and `logos_show`: they begin with `error:` and give the
+//! reason.
 
-ghost use Rattle.std.specs.Prelude.{◌≡◌, ◌++◌, ◌↔◌, ◌⊎◌, OnOk, codes, decimal};
-ghost use Rattle.logos_host.specs.Views.{Appends, status_of, hint_line, message_of, misuse_line};
+ghost use Rattle.std.specs.Prelude.{◌++◌, OnOk, codes, decimal};
+ghost use Rattle.logos_host.specs.Views.{Appends, hint_line, message_of, misuse_line};
 
 use crate::failure::Failure;
 use std::io;
-use std::io::{ErrorKind, Write};
+use std::io::Write;
 
-/// Writes the message of a failure, and flushes the writer. Words that are no command are followed
-/// by `usage`.
+/// Writes the message of a failure, and flushes the writer. That of invalid arguments ends with
+/// `usage`.
 ///
 /// # Errors
 ///
@@ -99,27 +100,3 @@ fn write_hint<E: Write>(nearest: &str, err: &mut E) -> io::Result<()>
     }
     writeln!(err, "help: is `{nearest}` meant?")
 }
-
-/// Writes why the words of a command line cannot be read, and returns the exit status: 3 if memory
-/// ran out, and else 2, since a word is not UTF-8.
-pub fn refuse_words<E: Write>(why: ErrorKind, usage: &str, err: &mut E) -> u8
-    ensures memory { (result ≡ 3) ↔ (why ≡ ErrorKind.OutOfMemory) }
-    ensures known { (result ≡ 2) ⊎ (result ≡ 3) }
-{
-    match why {
-        ErrorKind::OutOfMemory => {
-            let _ = report(&Failure::Memory, usage, err);
-            3
-        }
-        _ => {
-            let _ = report(&NOT_TEXT, usage, err);
-            2
-        }
-    }
-}
-
-/// The error of a word that is not UTF-8.
-const NOT_TEXT: Failure<'static> = Failure::Misuse {
-    what: "a word is not UTF-8",
-    word: "",
-};

@@ -1,6 +1,6 @@
 //! The files of the system, for programs that read sources.
 
-use crate::comparing::{ComparableFiles, Standing};
+use crate::comparison::{ComparableFiles, Standing};
 use crate::files::{FileError, Files};
 use crate::system::{Disk, file_error};
 use std::alloc::AllocError;

@@ -1,6 +1,6 @@
 //! The files of the system.
 
-use crate::comparing::{ComparableFiles, Standing};
+use crate::comparison::{ComparableFiles, Standing};
 use crate::files::{FileError, Files};
 use crate::reason::Reason;
 use crate::whole::write_whole;

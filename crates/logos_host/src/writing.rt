@@ -1,8 +1,10 @@
-//! Writing, at once or by blocks.
+//! Writing to standard output, at once or by blocks, and to files.
 
-ghost use Rattle.std.specs.Prelude.{◌≡◌, ◌<◌, [], OnOk, vec_capacity, vec_len};
-ghost use Rattle.logos_host.specs.Words.{Appends, AppendsFront};
+ghost use Rattle.std.specs.Prelude.{◌≡◌, ◌<◌, [], IfErr, OnOk, vec_capacity, vec_len};
+ghost use Rattle.logos_host.specs.Views.{Appends, AppendsFront, IsNoMisuse, IsOutputFailure, IsUnwritten, status_of};
 
+use crate::failure::Failure;
+use crate::files::Files;
 use std::io;
 use std::io::Write;
 
@@ -16,6 +18,44 @@ pub fn write_through<O: Write>(bytes: &[u8], out: &mut O) -> io::Result<()>
 {
     out.write_all(bytes)?;
     out.flush()
+}
+
+/// Writes bytes to standard output, and flushes it.
+///
+/// # Errors
+///
+/// Returns `Output` if writing fails, or `Closed` if the reader has closed the output. Then a part
+/// of the bytes may be written.
+pub fn print_bytes<'w, O: Write>(bytes: &[u8], out: &mut O) -> Result<(), Failure<'w>>
+    ensures printed { OnOk result (Appends (O.contents out.old) (O.contents out.new) bytes.now) }
+    ensures failed { IfErr result IsOutputFailure }
+    ensures status { IfErr result (λ failure. status_of failure ≡ 3) }
+    ensures no_misuse { IfErr result IsNoMisuse }
+{
+    match write_through(bytes, out) {
+        Ok(()) => Ok(()),
+        Err(error) => Err(Failure::of_output(&error)),
+    }
+}
+
+/// Writes bytes to the file at a path, in place of its former content.
+///
+/// # Errors
+///
+/// Returns `Write` if the file cannot be written, and `Memory` if memory runs out.
+pub fn write_file<'w, F: Files>(
+    path: &'w str,
+    bytes: &[u8],
+    files: &mut F,
+) -> Result<(), Failure<'w>>
+    ensures written { OnOk result (F.write_makes files.old path.now bytes.now files.new) }
+    ensures failed { IfErr result (IsUnwritten path.now) }
+    ensures status { IfErr result (λ failure. status_of failure ≡ 3) }
+{
+    match files.write(path, bytes) {
+        Ok(()) => Ok(()),
+        Err(error) => Err(Failure::of_writing(path, error)),
+    }
 }
 
 /// Writes a block if it has this length or more, and empties it.

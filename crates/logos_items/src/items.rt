@@ -3,15 +3,14 @@
 ghost use Rattle.std.specs.Prelude.{IfErr};
 ghost use Rattle.logos_items.specs.Words.{IsNoMisuse};
 
-use crate::blocks::print_bytes;
 use crate::inputs::{ItemBlock, write_all};
-use crate::lines::{ERROR, Lines, head_at, milliseconds, no_lines, now, push_totals};
+use crate::lines::{ERROR, ItemOrder, Lines, head_at, milliseconds, no_lines, now, push_totals};
 use logos_answers::{Totals, note_of, push_item};
 use logos_codegen::Generated;
 use logos_codegen::machine::Item;
-use logos_host::Failure;
+use logos_host::{Failure, print_bytes};
 use logos_lines::Cursor;
-use std::alloc::{AllocError, Global};
+use std::alloc::AllocError;
 use std::io::Write;
 use std::time::Clock;
 
@@ -23,7 +22,7 @@ use std::time::Clock;
 /// Returns `NotUtf8` if the lexer reads text and the input is not UTF-8, `Output` if writing fails,
 /// and `Memory` if memory runs out.
 pub fn write_items<O: Write, C: Clock>(
-    alloc: Global,
+    order: ItemOrder<'_>,
     made: &Generated<'_>,
     input: &[u8],
     clock: &C,
@@ -31,6 +30,7 @@ pub fn write_items<O: Write, C: Clock>(
 ) -> Result<String, Failure<'static>>
     ensures { IfErr result IsNoMisuse }
 {
+    let alloc = order.alloc;
     let mut added = InputLines {
         lines: no_lines(alloc, &made.code)?,
         cursor: Cursor::new(input),
@@ -42,7 +42,7 @@ pub fn write_items<O: Write, C: Clock>(
         passed: milliseconds(start, now(clock)),
     };
     let mut lines = added.lines;
-    push_totals(alloc, made, &mut lines, totals)?;
+    push_totals(order, made, &mut lines, totals)?;
     // The note is made first, so that nothing is printed if memory runs out.
     let note = note_of(alloc, made.code.leaves(), &lines.counts)?;
     print_bytes(&lines.block, out)?;

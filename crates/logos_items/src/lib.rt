@@ -10,7 +10,7 @@ mod lines;
 mod records;
 mod streams;
 
-pub use blocks::print_bytes;
 pub use items::write_items;
+pub use lines::ItemOrder;
 pub use records::write_item_records;
 pub use streams::write_streamed;

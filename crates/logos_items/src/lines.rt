@@ -8,12 +8,21 @@ use crate::blocks::BLOCK;
 use logos_answers::{Counts, LINE, Totals, code_name_at};
 use logos_codegen::Generated;
 use logos_codegen::code::{Code, CodeLeaf};
+use logos_options::Settings;
 use logos_page::Page;
 use std::alloc::{AllocError, Global};
 use std::time::{Clock, Duration};
 
 /// What names an error in its line.
 pub(crate) const ERROR: &[u8] = b"  <error>  \"";
+
+/// How the items of an input are written.
+#[derive(Clone, Copy)]
+pub struct ItemOrder<'w> {
+    pub alloc: Global,
+    /// The settings that are given.
+    pub settings: Settings<'w>,
+}
 
 /// Where the lines of items go.
 #[derive(Drop)]
@@ -40,7 +49,7 @@ pub(crate) fn no_lines(alloc: Global, code: &Code<'_>) -> Result<Lines, AllocErr
 
 /// Appends what was counted of a whole input. If memory runs out, nothing is added.
 pub(crate) fn push_totals(
-    alloc: Global,
+    order: ItemOrder<'_>,
     made: &Generated<'_>,
     lines: &mut Lines,
     totals: Totals,
@@ -49,7 +58,7 @@ pub(crate) fn push_totals(
         ++ totals_text made.now.name.text.now made.now.code.code_leaves lines.old.counts.by_leaf.items
         lines.old.counts.errors totals.bytes totals.passed) }
 {
-    let mut page = Page::new(alloc, false);
+    let mut page = Page::new(order.alloc, false);
     let leaves = made.code.leaves();
     lines
         .counts

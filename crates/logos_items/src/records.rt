@@ -3,12 +3,12 @@
 ghost use Rattle.std.specs.Prelude.{IfErr};
 ghost use Rattle.logos_items.specs.Words.{IsNoMisuse, TakesMatches};
 
-use crate::blocks::{BLOCK, print_bytes, write_if_full};
+use crate::blocks::{BLOCK, write_if_full};
 use logos_answers::{Counts, code_name_at, note_of};
 use logos_codegen::code::{Code, CodeLeaf};
 use logos_codegen::leaf::LeafId;
 use logos_codegen::machine::{Action, Item, Lexer};
-use logos_host::Failure;
+use logos_host::{Failure, print_bytes};
 use logos_lines::Cursor;
 use logos_records::{ItemRecord, JsonLines, push_item_record};
 use std::alloc::{AllocError, Global};

@@ -3,13 +3,13 @@
 ghost use Rattle.std.specs.Prelude.{◌<◌, IfErr};
 ghost use Rattle.logos_items.specs.Words.{IsNoMisuse, KeepsCode, TakesMatches, unread_length};
 
-use crate::blocks::{print_bytes, write_if_full};
-use crate::lines::{ERROR, Lines, head_at, milliseconds, no_lines, now, push_totals};
+use crate::blocks::write_if_full;
+use crate::lines::{ERROR, ItemOrder, Lines, head_at, milliseconds, no_lines, now, push_totals};
 use logos_answers::{Totals, note_of, push_item};
 use logos_codegen::Generated;
 use logos_codegen::leaf::LeafId;
 use logos_codegen::machine::Action;
-use logos_host::{Failure, Reason, write_through};
+use logos_host::{Failure, Reason, print_bytes, write_through};
 use logos_lines::Position;
 use logos_options::STANDARD_INPUT;
 use logos_stream::{Stream, StreamItem, Streamed};
@@ -30,13 +30,14 @@ const MOST: usize = 16_777_216;
 /// too long, both after the lines of the items before it; `Read` if reading fails, `Output` if
 /// writing fails, and `Memory` if memory runs out.
 pub fn write_streamed<S: Clock + Input, O: Write>(
-    alloc: Global,
+    order: ItemOrder<'_>,
     made: &Generated<'_>,
     system: &S,
     out: &mut O,
 ) -> Result<String, Failure<'static>>
     ensures { IfErr result IsNoMisuse }
 {
+    let alloc = order.alloc;
     let mut lines = no_lines(alloc, &made.code)?;
     let start = now(system);
     let emit = |_leaf: LeafId, _slice: &[u8]| Action::Emit;
@@ -50,7 +51,7 @@ pub fn write_streamed<S: Clock + Input, O: Write>(
         bytes: stream.offset(),
         passed: milliseconds(start, now(system)),
     };
-    push_totals(alloc, made, &mut lines, totals)?;
+    push_totals(order, made, &mut lines, totals)?;
     // The note is made first, so that the rest is not printed if memory runs out.
     let note = note_of(alloc, made.code.leaves(), &lines.counts)?;
     print_bytes(&lines.block, out)?;

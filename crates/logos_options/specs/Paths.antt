@@ -1,8 +1,8 @@
 -- The paths of a command line.
 use Rattle.std.specs.Prelude.{ℕ, List, [], ◌∷◌, ◌++◌, Option, Some, None, if◌then◌else◌, bytes_eq, codes, false, map}
 use Rattle.std.specs.Borrow.{Bor}
-use Rattle.logos_options.specs.declared.word_steps.WordProgress.{WordProgress}
-use Rattle.logos_options.specs.WordSteps.{StepValue, UseValue, path, step}
+use Rattle.logos_options.specs.declared.argument_steps.ArgumentProgress.{ArgumentProgress}
+use Rattle.logos_options.specs.ArgumentSteps.{StepValue, UseValue, path, step}
 
 -- The path that a word is: `-` is standard input.
 abbrev pub path_named : List ℕ → List ℕ
@@ -19,17 +19,17 @@ next_paths None = []
 next_paths (Some next) = found_path next.found
 
 -- How far the words are read after a word.
-abbrev pub next_progress : WordProgress → Option StepValue → WordProgress
+abbrev pub next_progress : ArgumentProgress → Option StepValue → ArgumentProgress
 next_progress progress None = progress
 next_progress progress (Some next) = next.progress
 
 -- The paths of the words that are left.
-abbrev pub paths_from : WordProgress → List (List ℕ) → List (List ℕ)
+abbrev pub paths_from : ArgumentProgress → List (List ℕ) → List (List ℕ)
 paths_from progress [] = []
 paths_from progress (word ∷ rest) = next_paths (step progress word) ++ paths_from (next_progress progress (step progress word)) rest
 
 -- Where no word is read.
-abbrev pub not_begun : WordProgress
+abbrev pub not_begun : ArgumentProgress
 not_begun = record { pending = None; is_over = false }
 
 -- The paths of words, in order.

@@ -3,7 +3,7 @@
 ghost use Rattle.std.specs.Prelude.{◌≡◌, ◌++◌, IfOk, OnOk, map, option_map, string_bytes};
 ghost use Rattle.logos_options.specs.Words.{found_path, next_paths, next_progress, path_named, paths_of, step, texts_of, use_value};
 
-use crate::word_steps::{Use, WordProgress, next_step};
+use crate::argument_steps::{ArgumentProgress, Use, next_step};
 use logos_token::error::Memory;
 use std::alloc::Global;
 
@@ -20,7 +20,7 @@ pub fn paths_of<'w>(alloc: Global, words: &'w [String]) -> Result<Vec<&'w str>, 
         texts_of paths.items ≡ paths_of (map string_bytes words.now)) }
 {
     let mut paths = Vec::new(alloc);
-    let mut progress = WordProgress {
+    let mut progress = ArgumentProgress {
         pending: None,
         is_over: false,
     };
@@ -33,9 +33,9 @@ pub fn paths_of<'w>(alloc: Global, words: &'w [String]) -> Result<Vec<&'w str>, 
 /// Appends the path that one more word is, if it is one. Returns how far the words are read.
 fn push_path<'w>(
     paths: &mut Vec<&'w str>,
-    progress: WordProgress,
+    progress: ArgumentProgress,
     word: &'w str,
-) -> Result<WordProgress, Memory>
+) -> Result<ArgumentProgress, Memory>
     ensures read { IfOk result (λ next. next ≡ next_progress progress (step progress word.now)) }
     ensures pushed { IfOk result (λ next. texts_of paths.new.items
         ≡ texts_of paths.old.items ++ next_paths (step progress word.now)) }
@@ -61,7 +61,7 @@ fn push_found<'w>(paths: &mut Vec<&'w str>, found: Option<Use<'w>>) -> Result<()
 }
 
 /// Returns the path that a word is: `-` is standard input.
-pub(crate) fn path_by_word(word: &str) -> &str
+pub fn path_by_word(word: &str) -> &str
     ensures { result.now ≡ path_named word.now }
 {
     if word == "-" {

@@ -1,4 +1,4 @@
-//! What the words of the command line of `logos_show` ask for.
+//! What the arguments of `logos_show` request.
 
 #![tactic(auto)]
 

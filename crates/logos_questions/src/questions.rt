@@ -1,14 +1,17 @@
-//! What the words of the command line of `logos_show` ask for.
+//! What the arguments of `logos_show` request.
 
 ghost use Rattle.std.specs.Prelude.{◌≡◌, IfErr, IfOk, Some, map, option_map, string_bytes};
-ghost use Rattle.logos_questions.specs.Words.{asked, asked_given, asking_value, given_value, inputs_given, matches_given, number_named, order_given, place_named, question_given, question_value, request_value, status_of};
+ghost use Rattle.logos_questions.specs.Words.{arguments_value, asked, inputs_given, matches_given, number_named, option_value, order_given, place_named, question_given, question_named, question_value, request_given, request_value, status_of};
 
 use logos_answers::{number_by_text, place_by_word};
-use logos_host::{Color, Failure, MessageFormat};
+use logos_host::Failure;
 use logos_lines::Position;
-use logos_options::{Answer, Asking, Given, OptionName, Program, given_by, misuse};
+use logos_options::{
+    Arguments, GivenOption, MessageStyle, OptionName, Program, Settings, arguments_of, misuse,
+    style_given,
+};
 
-/// What is asked for.
+/// What is requested.
 #[derive(Clone, Copy)]
 pub enum ShowRequest<'w> {
     Help,
@@ -22,18 +25,11 @@ pub struct ShowOrder<'w> {
     /// The path of the file.
     pub file: &'w str,
     pub question: Question<'w>,
-    /// Whether the answer is JSON.
-    pub is_json: bool,
-    /// The path of a stored answer, if the answer is to be compared with one.
-    pub expected: Option<&'w str>,
-    /// The name of the enum that is meant. If none is given all are shown, and the first one lexes.
-    pub name: Option<&'w str>,
+    /// The settings that are given: whether the answer is JSON, the path of a stored answer to
+    /// compare it with, the name of an enum, and whether a file with warnings is refused.
+    pub settings: Settings<'w>,
     /// How messages are written.
-    pub format: MessageFormat,
-    /// Whether a file with warnings is refused.
-    pub denies: bool,
-    /// When messages have colors.
-    pub color: Color,
+    pub style: MessageStyle,
 }
 
 /// What is asked of the lexers of a file.
@@ -47,98 +43,108 @@ pub enum Question<'w> {
     Matches(&'w str, Position),
     /// For each leaf a text that it finds, and one where it loses.
     Examples,
-    /// Inputs that together pass all edges of a lexer's graph, at most so many.
+    /// At most this many inputs that together pass all edges of a lexer's graph.
     Inputs(usize),
     /// Whether the lexer of the file at this path is the same.
     Comparison(&'w str),
 }
 
-/// Returns what the words ask for.
+/// Reads the arguments of `logos_show`.
 ///
 /// # Errors
 ///
-/// Returns `Misuse` or `UnknownOption` if they are not a command.
+/// Returns `Misuse` or `UnknownOption` if they are invalid.
 pub fn request_of(words: &[String]) -> Result<ShowRequest<'_>, Failure<'_>>
     ensures asked { IfOk result (λ request.
         asked (map string_bytes words.now) ≡ Some (request_value request)) }
     ensures misuse { IfErr result (λ failure.
         (asked (map string_bytes words.now) ≡ None) × (status_of failure ≡ 2)) }
 {
-    match given_by(Program::Show, words) {
-        Ok(given) => request_given(given),
+    match arguments_of(Program::Show, words) {
+        Ok(arguments) => request_given(arguments),
         Err(failure) => Err(failure),
     }
 }
 
-/// Returns what the words ask for, by what they give.
-fn request_given(given: Given<'_>) -> Result<ShowRequest<'_>, Failure<'_>>
-    ensures asked { IfOk result (λ request.
-        asked_given (Some (given_value given.entry)) ≡ Some (request_value request)) }
-    ensures misuse { IfErr result (λ failure.
-        (asked_given (Some (given_value given.entry)) ≡ None) × (status_of failure ≡ 2)) }
+/// Returns what arguments request.
+fn request_given(arguments: Arguments<'_>) -> Result<ShowRequest<'_>, Failure<'_>>
+    ensures asked { IfOk result (λ request. request_given (arguments_value arguments.entry)
+        (arguments_value arguments.entry).text ≡ Some (request_value request)) }
+    ensures misuse { IfErr result (λ failure. (request_given (arguments_value arguments.entry)
+        (arguments_value arguments.entry).text ≡ None) × (status_of failure ≡ 2)) }
 {
-    match given.answer {
-        Some(Answer::Help) => Ok(ShowRequest::Help),
-        Some(Answer::Version) => Ok(ShowRequest::Version),
-        None => order_given(given),
+    match arguments.text {
+        Some(OptionName::Version) => Ok(ShowRequest::Version),
+        Some(_) => Ok(ShowRequest::Help),
+        None => order_given(arguments),
     }
 }
 
 /// Returns the file to show.
-fn order_given(given: Given<'_>) -> Result<ShowRequest<'_>, Failure<'_>>
-    ensures asked { IfOk result (λ request. order_given (given_value given.entry)
-        (given_value given.entry).first ≡ Some (request_value request)) }
-    ensures misuse { IfErr result (λ failure. (order_given (given_value given.entry)
-        (given_value given.entry).first ≡ None) × (status_of failure ≡ 2)) }
+fn order_given(arguments: Arguments<'_>) -> Result<ShowRequest<'_>, Failure<'_>>
+    ensures asked { IfOk result (λ request. order_given (arguments_value arguments.entry)
+        (arguments_value arguments.entry).first ≡ Some (request_value request)) }
+    ensures misuse { IfErr result (λ failure. (order_given (arguments_value arguments.entry)
+        (arguments_value arguments.entry).first ≡ None) × (status_of failure ≡ 2)) }
 {
-    let Some(file) = given.first else {
+    let Some(file) = arguments.first else {
         return Err(misuse("no file", ""));
     };
-    match question_given(given.asking, given.second) {
+    let style = match style_given(&arguments.settings) {
+        Ok(style) => style,
+        Err(failure) => return Err(failure),
+    };
+    match question_given(arguments.question, arguments.second) {
         Ok(question) => Ok(ShowRequest::Show(ShowOrder {
             file,
             question,
-            is_json: given.switches.is_json,
-            expected: given.values.expected,
-            name: given.values.name,
-            format: given.values.format_or_human(),
-            denies: given.switches.denies,
-            color: given.values.color_or_auto(),
+            settings: arguments.settings,
+            style,
         })),
         Err(failure) => Err(failure),
     }
 }
 
-/// Returns what is asked of a file, by what an option asks and by the second path.
+/// Returns what is asked of a file, by the question that is given and by the second path.
 fn question_given<'w>(
-    asking: Option<Asking<'w>>,
+    asked: Option<GivenOption<'w>>,
     input: Option<&'w str>,
 ) -> Result<Question<'w>, Failure<'w>>
     ensures asked { IfOk result (λ question. question_given
-        (option_map asking_value asking.entry) (option_map (λ path. path.now) input.entry)
+        (option_map option_value asked.entry) (option_map (λ path. path.now) input.entry)
         ≡ Some (question_value question)) }
     ensures misuse { IfErr result (λ failure. (question_given
-        (option_map asking_value asking.entry) (option_map (λ path. path.now) input.entry)
+        (option_map option_value asked.entry) (option_map (λ path. path.now) input.entry)
         ≡ None) × (status_of failure ≡ 2)) }
 {
-    match (asking, input) {
+    match (asked, input) {
         (None, None) => Ok(Question::Leaves),
         (None, Some(input)) => Ok(Question::Items(input)),
-        (Some(Asking::Comparison), None) => {
-            Err(misuse("no second file for", OptionName::Compare.word()))
-        }
-        (Some(Asking::Comparison), Some(other)) => Ok(Question::Comparison(other)),
-        (Some(Asking::Examples), None) => Ok(Question::Examples),
-        (Some(Asking::Examples), Some(input)) => Err(misuse(
-            "`--examples` takes no input, not",
-            input,
-        )),
-        (Some(Asking::Inputs(word)), input) => inputs_given(word, input),
-        (Some(Asking::Matches(word)), input) => matches_given(word, input),
+        (Some(one), input) => question_named(one, input),
     }
 }
 
-/// Returns how many inputs are asked for, of a file alone.
+/// Returns the question that an option asks of a file, perhaps with a second path.
+fn question_named<'w>(
+    one: GivenOption<'w>,
+    input: Option<&'w str>,
+) -> Result<Question<'w>, Failure<'w>>
+    ensures asked { IfOk result (λ question. question_named one.entry.option one.entry.value.now
+        (option_map (λ path. path.now) input.entry) ≡ Some (question_value question)) }
+    ensures misuse { IfErr result (λ failure. (question_named one.entry.option one.entry.value.now
+        (option_map (λ path. path.now) input.entry) ≡ None) × (status_of failure ≡ 2)) }
+{
+    match (one.option, input) {
+        (OptionName::Compare, None) => Err(misuse("no second file for", one.option.word())),
+        (OptionName::Compare, Some(other)) => Ok(Question::Comparison(other)),
+        (OptionName::Inputs, input) => inputs_given(one.value, input),
+        (OptionName::At, input) => matches_given(one.value, input),
+        (_, None) => Ok(Question::Examples),
+        (_, Some(input)) => Err(misuse("`--examples` takes no input, not", input)),
+    }
+}
+
+/// Returns the question for inputs, of which `word` is the number, of a file alone.
 fn inputs_given<'w>(word: &'w str, input: Option<&'w str>) -> Result<Question<'w>, Failure<'w>>
     ensures asked { IfOk result (λ question. inputs_given (number_named word.now)
         (option_map (λ path. path.now) input.entry) ≡ Some (question_value question)) }
@@ -152,7 +158,7 @@ fn inputs_given<'w>(word: &'w str, input: Option<&'w str>) -> Result<Question<'w
     }
 }
 
-/// Returns the position of an input from which matches are asked for.
+/// Returns the question for matches from a line and column of an input, which `word` names.
 fn matches_given<'w>(word: &'w str, input: Option<&'w str>) -> Result<Question<'w>, Failure<'w>>
     ensures asked { IfOk result (λ question. matches_given (place_named word.now)
         (option_map (λ path. path.now) input.entry) ≡ Some (question_value question)) }

@@ -7,8 +7,8 @@ use Rattle.std.specs.Io.KnownBytes.{Appends}
 use Rattle.logos_answers.specs.Inputs.{input_line}
 use Rattle.logos_answers.specs.Matches.{AreLines}
 use Rattle.logos_answers.specs.Offsets.{IsOffsetOf}
-use Rattle.logos_answers.specs.declared.comparing.Compared.{Compared}
-use Rattle.logos_answers.specs.declared.comparing.Compared.TheVariants as compared
+use Rattle.logos_answers.specs.declared.comparison.Compared.{Compared}
+use Rattle.logos_answers.specs.declared.comparison.Compared.TheVariants as compared
 use Rattle.logos_evidence.specs.Covering.{AreCoveringInputs}
 use Rattle.logos_evidence.specs.Matching.{AreMatches}
 use Rattle.logos_evidence.specs.declared.matching.Match.{Match}
@@ -18,8 +18,8 @@ use Rattle.logos_lines.specs.declared.place.Position.{Position}
 use Rattle.logos_pattern.specs.declared.leaf.Leaf.{Leaf}
 use Rattle.logos_records.specs.Inputs.{AreInputRecords}
 use Rattle.logos_records.specs.Matches.{AreMatchRecords}
-use Rattle.logos_show.specs.declared.asking.Agreement.{Agreement}
-use Rattle.logos_show.specs.declared.asking.Agreement.TheVariants.{Different, Same}
+use Rattle.logos_show.specs.declared.replies.Agreement.{Agreement}
+use Rattle.logos_show.specs.declared.replies.Agreement.TheVariants.{Different, Same}
 
 -- The line that names a point.
 abbrev pub place_line : Position → List ℕ

@@ -2,16 +2,17 @@
 use Rattle.std.specs.Prelude.{◌≡◌, ◌++◌, ◌∷◌, [], ℕ, List, string_bytes}
 use Rattle.logos_commands.specs.Charts.{Destination, file_at, refused}
 use Rattle.logos_commands.specs.Runs.{Effect, prints, makes_file}
-use Rattle.logos_commands.specs.declared.failure.CommandFailure.{CommandFailure}
-use Rattle.logos_commands.specs.declared.failure.CommandFailure.TheVariants.{NotExported, Memory}
+use Rattle.logos_commands.specs.Refusals.{IsUnexportedBy}
+use Rattle.logos_host.specs.declared.failure.Failure.{Failure}
+use Rattle.logos_host.specs.declared.failure.Failure.TheVariants.{Memory}
 use Rattle.logos_commands.specs.declared.outcome.CommandOutcome.{CommandOutcome}
 use Rattle.logos_commands.specs.declared.outcome.CommandOutcome.TheVariants.{Text, Chart}
 
 -- Whether this is why a chart does not go where it is to go: its path is refused, or the bytes of
 -- it found no memory.
-abbrev pub FailsAt : Destination → CommandFailure → Type 0
+abbrev pub FailsAt : Destination → Failure → Type 0
 FailsAt (file_at path) failure = failure ≡ Memory
-FailsAt (refused why) failure = failure ≡ NotExported why
+FailsAt (refused why) failure = IsUnexportedBy why failure
 
 -- What an outcome does once it is delivered.
 abbrev pub effect_of : CommandOutcome → Effect

@@ -1,5 +1,6 @@
+use Rattle.logos_codegen.specs.Source.{IsRefused}
 use Rattle.logos_graph.specs.View.{rules_of}
-use Rattle.logos_commands.proofs.RefusalLemmas.{lexer_refused}
+use Rattle.logos_commands.proofs.RefusalLemmas.{faults_shown, lexer_refused, part_refused}
 use Rattle.logos_commands.proofs.RunLemmas.{part_of}
 use Rattle.logos_commands.specs.inside.Destinations.{effect_of}
 use Rattle.logos_commands.proofs.outcome.of_source.Goals as goal
@@ -12,3 +13,7 @@ returns-in-Ok-clause-done c =
 pub returns-in-Ok-clause-denied : goal.returns-in-Ok-clause-denied
 returns-in-Ok-clause-denied c =
     lexer_refused _ _ _ _ _ _ _ c.in-Ok.ensures.given c.of_lexer.result c.of_lexer.ensures.plain c.of_lexer.ensures.export
+
+pub returns-in-Err-clause-denied : goal.returns-in-Err-clause-denied
+returns-in-Err-clause-denied c =
+    λ s. part_refused _ c.args.asked _ (faults_shown (IsRefused c.args.source.now) c.in-Err.refusal c.refused_source.result c.refused_source.ensures.refusal c.in-Err.ensures.refused s)

@@ -1,0 +1,179 @@
+//! The program `logos`, from its arguments to an exit status. `main` calls it.
+
+ghost use Rattle.std.specs.Prelude.{◌≡◌, ◌≢◌, ◌≤◌, ◌⊎◌, ◌↔◌, None, map, string_bytes, IfErr, IfOk, IfSome, OnOk};
+ghost use Rattle.logos_commands.specs.Views.{Appends, Carries, Failure as Why, HasEffect, IsDenied, IsDone, IsLeft, IsPartOf, Keeps, ReadsSource, RefusesLexer, RefusesStripping, asked, effect_of, status_of};
+
+use crate::command::{Command, command_of};
+use crate::item_lines::lex;
+use crate::outcome::{Asked, CommandOutcome, of_file, stripped};
+use logos_host::{Failure, Files, print_bytes, report_plainly, write_file};
+use std::alloc::Global;
+use std::io::Write;
+
+const USAGE: &str = "usage: logos gen|lex|strip|mermaid|export FILE ..\n";
+
+/// Runs the program with arguments, if they can be read, and returns the exit status of `run`. If
+/// they cannot be read, the status is that of the failure.
+pub fn run_with<F: Files, O: Write, E: Write>(
+    alloc: Global,
+    arguments: Result<Vec<String>, Failure<'static>>,
+    files: &mut F,
+    out: &mut O,
+    err: &mut E,
+) -> u8
+    requires { IfErr arguments (λ failure. (status_of failure ≡ 2) ⊎ (status_of failure ≡ 3)) }
+    ensures usage { IfOk arguments.entry (λ words.
+        (result ≡ 2) ↔ (asked (map string_bytes words.items) ≡ None)) }
+    ensures done { IfOk arguments.entry (λ words. result ≡ 0 →
+        IfSome (asked (map string_bytes words.items))
+        (λ command. IsDone F.read_gives F.write_makes command files.old files.new
+        (O.contents out.old) (O.contents out.new))) }
+    ensures denied { IfOk arguments.entry (λ words. result ≡ 1 →
+        IfSome (asked (map string_bytes words.items))
+        (λ command. (failure : Why) × IsDenied F.read_gives command files.old files.new failure)) }
+    ensures silent { result ≡ 1 → Keeps (O.contents out.old) (O.contents out.new) }
+    ensures untouched { result ≡ 2 →
+        (files.new ≡ files.old) × Keeps (O.contents out.old) (O.contents out.new) }
+    ensures unread { IfErr arguments.entry (λ failure. result ≡ status_of failure) }
+    ensures known { result ≤ 3 }
+{
+    match arguments {
+        Ok(words) => run(alloc, words.as_slice(), files, out, err),
+        Err(failure) => failed(&failure, err),
+    }
+}
+
+/// Runs the command that the arguments name, and returns the exit status: 0 if it was carried out,
+/// 1 if the source or the input was refused, 2 if the arguments are not a command, 3 if a file, the
+/// output or the memory failed.
+///
+/// Where the status is not 0, a message goes to `err`. Then nothing was written to `out`, unless
+/// writing to it failed.
+pub fn run<F: Files, O: Write, E: Write>(
+    alloc: Global,
+    words: &[String],
+    files: &mut F,
+    out: &mut O,
+    err: &mut E,
+) -> u8
+    ensures usage { (result ≡ 2) ↔ (asked (map string_bytes words.now) ≡ None) }
+    // At status 0 the files gave a source that is accepted, and what the command gives was printed
+    // or written whole.
+    ensures done { result ≡ 0 → IfSome (asked (map string_bytes words.now))
+        (λ command. IsDone F.read_gives F.write_makes command files.old files.new
+        (O.contents out.old) (O.contents out.new)) }
+    // At status 1 what the files gave is refused, or the path of a chart is. Nothing was written.
+    ensures denied { result ≡ 1 → IfSome (asked (map string_bytes words.now))
+        (λ command. (failure : Why) × IsDenied F.read_gives command files.old files.new failure) }
+    ensures silent { result ≡ 1 → Keeps (O.contents out.old) (O.contents out.new) }
+    // At status 2 no file was read or written, and nothing was printed.
+    ensures untouched { result ≡ 2 →
+        (files.new ≡ files.old) × Keeps (O.contents out.old) (O.contents out.new) }
+    ensures known { result ≤ 3 }
+{
+    let Some(command) = command_of(words) else {
+        return failed(&NO_COMMAND, err);
+    };
+    match command {
+        Command::Items(request) => match lex(alloc, request, files, out) {
+            Ok(()) => 0,
+            Err(failure) => failed(&failure, err),
+        },
+        Command::Text { file, config } => {
+            run_part(alloc, (file, Asked::Text(config)), files, out, err)
+        }
+        Command::Chart { file } => run_part(alloc, (file, Asked::Chart), files, out, err),
+        Command::Export { file } => run_part(alloc, (file, Asked::Export), files, out, err),
+        Command::Strip { file } => run_strip(alloc, file, files, out, err),
+    }
+}
+
+/// The failure of arguments that are not a command.
+const NO_COMMAND: Failure<'static> = Failure::Misuse {
+    what: "no command",
+    word: "",
+};
+
+/// Writes a part of the lexer of the source in a file, and returns the exit status.
+fn run_part<F: Files, O: Write, E: Write>(
+    alloc: Global,
+    request: (&str, Asked),
+    files: &mut F,
+    out: &mut O,
+    err: &mut E,
+) -> u8
+    ensures done { result ≡ 0 → Carries F.read_gives F.write_makes request.entry.0.now files.old files.new
+        (O.contents out.old) (O.contents out.new) (IsPartOf request.entry.1) }
+    ensures denied { result ≡ 1 → (failure : Why) × ReadsSource F.read_gives request.entry.0.now files.old
+        files.new (λ source. RefusesLexer source request.entry.1 failure) }
+    ensures silent { result ≡ 1 → Keeps (O.contents out.old) (O.contents out.new) }
+    ensures known { (result ≤ 3) × (result ≢ 2) }
+{
+    match of_file(alloc, request.0, request.1, files) {
+        Ok(outcome) => run_outcome(&outcome, files, out, err),
+        Err(failure) => failed(&failure, err),
+    }
+}
+
+/// Writes the enum in a file without the attributes of the derive macro, and returns the exit
+/// status.
+fn run_strip<F: Files, O: Write, E: Write>(
+    alloc: Global,
+    file: &str,
+    files: &mut F,
+    out: &mut O,
+    err: &mut E,
+) -> u8
+    ensures done { result ≡ 0 → Carries F.read_gives F.write_makes file.now files.old files.new
+        (O.contents out.old) (O.contents out.new) IsLeft }
+    ensures denied { result ≡ 1 → (failure : Why) × ReadsSource F.read_gives file.now files.old
+        files.new (λ source. RefusesStripping source failure) }
+    ensures silent { result ≡ 1 → Keeps (O.contents out.old) (O.contents out.new) }
+    ensures known { (result ≤ 3) × (result ≢ 2) }
+{
+    match stripped(alloc, file, files) {
+        Ok(outcome) => run_outcome(&outcome, files, out, err),
+        Err(failure) => failed(&failure, err),
+    }
+}
+
+/// Writes an outcome to standard output or to a file, and returns the exit status.
+fn run_outcome<F: Files, O: Write, E: Write>(
+    outcome: &CommandOutcome,
+    files: &mut F,
+    out: &mut O,
+    err: &mut E,
+) -> u8
+    ensures done { result ≡ 0 → HasEffect F.write_makes (effect_of outcome.now) files.old files.new
+        (O.contents out.old) (O.contents out.new) }
+    ensures known { (result ≡ 0) ⊎ (result ≡ 3) }
+{
+    match deliver(outcome, files, out) {
+        Ok(()) => 0,
+        Err(failure) => failed(&failure, err),
+    }
+}
+
+/// Writes an outcome to standard output or to a file.
+fn deliver<'o, F: Files, O: Write>(
+    outcome: &'o CommandOutcome,
+    files: &mut F,
+    out: &mut O,
+) -> Result<(), Failure<'o>>
+    ensures done { OnOk result (HasEffect F.write_makes (effect_of outcome.now) files.old files.new
+        (O.contents out.old) (O.contents out.new)) }
+    ensures failed { IfErr result (λ failure. status_of failure ≡ 3) }
+{
+    match outcome {
+        CommandOutcome::Text(text) => print_bytes(text.as_bytes(), out),
+        CommandOutcome::Chart { path, text } => write_file(path.as_str(), text.as_bytes(), files),
+    }
+}
+
+/// Writes why the program failed, and returns the exit status.
+fn failed<E: Write>(failure: &Failure<'_>, err: &mut E) -> u8
+    ensures { result ≡ status_of failure.now }
+{
+    let _ = report_plainly(failure, USAGE, err);
+    failure.status()
+}

@@ -1,0 +1,340 @@
+//! Answers to what is asked of lexers.
+
+ghost use Rattle.std.specs.Prelude.{◌≡◌, [], IfErr, IfOk, OnOk};
+ghost use Rattle.logos_show.specs.Views.{AllStart, Gains, IsBytes, IsGraphOf, rules_of, IsNoMisuse, GraphValue, IsCompared, IsJudged, PrintsInputRecords, PrintsInputs, PrintsMatchRecords, PrintsMatches, place_line};
+
+use crate::refusals::refusal_of;
+use logos_answers::{
+    Compared, NamedLexer, compare_lexers, finding_of, offset_of, push_agreement, push_callbacks,
+    push_difference, push_inputs, push_matches, push_modes,
+};
+use logos_codegen::graph::Graph;
+use logos_host::{Failure, print_bytes};
+use logos_lines::Position;
+use logos_options::Settings;
+use logos_page::Page;
+use logos_records::{
+    JsonLines, input_records, match_records, push_difference_record, push_modes_record,
+    push_same_record,
+};
+use std::alloc::{AllocError, Global};
+use std::io::Write;
+
+/// Whether what was to be compared is the same.
+#[derive(Clone, Copy)]
+pub(crate) enum Agreement {
+    Same,
+    Different,
+}
+
+/// An input: its path, its bytes, and the point that is asked for, if one is.
+#[derive(Clone, Copy)]
+pub(crate) struct Input<'w, 'i> {
+    pub(crate) path: &'w str,
+    pub(crate) bytes: &'i [u8],
+    pub(crate) place: Option<Position>,
+    /// The settings that are given.
+    pub(crate) settings: Settings<'w>,
+}
+
+/// A point of an input: the path and the bytes of the input, and the point.
+#[derive(Clone, Copy)]
+pub(crate) struct InputPoint<'w, 'i> {
+    pub(crate) path: &'w str,
+    pub(crate) bytes: &'i [u8],
+    pub(crate) place: Position,
+}
+
+/// Writes what matches from a point of an input, as lines of text.
+///
+/// # Errors
+///
+/// Returns `Refused` if the input does not have the point, `Output` if writing fails, and `Memory`
+/// if memory runs out.
+pub(crate) fn write_matches<O: Write>(
+    alloc: Global,
+    graph: &Graph<'_>,
+    point: InputPoint<'_, '_>,
+    out: &mut O,
+) -> Result<(), Failure<'static>>
+    ensures failed { IfErr result IsNoMisuse }
+    ensures printed { OnOk result (IsGraphOf graph.now.leaves graph.now.utf8 graph.now →
+        AllStart (rules_of graph.now.leaves) → IsBytes point.entry.bytes.now →
+        PrintsMatches graph.now.leaves point.entry.bytes.now point.entry.place
+        (O.contents out.old) (O.contents out.new)) }
+{
+    let Some(from) = offset_of(point.bytes, point.place) else {
+        return Err(no_place(alloc, point.path, point.place));
+    };
+    let mut page = Page::new(alloc, false);
+    push_place(&mut page, point.place);
+    push_matches(alloc, &mut page, graph, point.bytes, from)?;
+    let text = page.finish()?;
+    print_bytes(text.as_str().as_bytes(), out)
+}
+
+/// Writes what matches from a point of an input, as lines of JSON.
+///
+/// # Errors
+///
+/// Returns `Refused` if the input does not have the point, `Output` if writing fails, and `Memory`
+/// if memory runs out.
+pub(crate) fn write_match_records<O: Write>(
+    alloc: Global,
+    graph: &Graph<'_>,
+    point: InputPoint<'_, '_>,
+    out: &mut O,
+) -> Result<(), Failure<'static>>
+    ensures failed { IfErr result IsNoMisuse }
+    ensures printed { OnOk result (IsGraphOf graph.now.leaves graph.now.utf8 graph.now →
+        AllStart (rules_of graph.now.leaves) → IsBytes point.entry.bytes.now →
+        PrintsMatchRecords graph.now.leaves point.entry.bytes.now point.entry.place
+        (O.contents out.old) (O.contents out.new)) }
+{
+    let Some(from) = offset_of(point.bytes, point.place) else {
+        return Err(no_place(alloc, point.path, point.place));
+    };
+    let bytes = match_records(alloc, graph, point.bytes, from)?;
+    print_bytes(&bytes, out)
+}
+
+/// Appends the line that names a point.
+fn push_place(page: &mut Page, place: Position)
+    ensures { Gains (place_line place) page.old page.new }
+{
+    page.push("from ");
+    page.push_number(place.line);
+    page.push(":");
+    page.push_number(place.column);
+    page.push("\n");
+}
+
+/// Returns the refusal of an input that does not have a point.
+fn no_place(alloc: Global, path: &str, place: Position) -> Failure<'static>
+    ensures { IsNoMisuse result }
+{
+    let mut page = Page::new(alloc, false);
+    page.push("error: ");
+    page.push_shown(path);
+    page.push(" has no column ");
+    page.push_number(place.column);
+    page.push(" in line ");
+    page.push_number(place.line);
+    page.push("\n");
+    refusal_of(page.finish())
+}
+
+/// Writes at most so many inputs of those that together pass all edges of a graph, as literals of
+/// Rust. Returns a note that says how many were left out, which is empty if none was.
+///
+/// # Errors
+///
+/// Returns `Output` if writing fails, and `Memory` if memory runs out.
+pub(crate) fn write_inputs<O: Write>(
+    alloc: Global,
+    graph: &Graph<'_>,
+    most: usize,
+    out: &mut O,
+) -> Result<String, Failure<'static>>
+    ensures failed { IfErr result IsNoMisuse }
+    ensures printed { OnOk result (PrintsInputs graph.now.states graph.now.utf8 most
+        (O.contents out.old) (O.contents out.new)) }
+{
+    let mut page = Page::new(alloc, false);
+    let count = push_inputs(alloc, &mut page, graph, most)?;
+    // The note is made first, so that nothing is printed if memory runs out.
+    let note = note_of_cut(alloc, most, count)?;
+    let text = page.finish()?;
+    print_bytes(text.as_str().as_bytes(), out)?;
+    Ok(note)
+}
+
+/// Writes at most so many inputs of those that together pass all edges of a graph, as lines of
+/// JSON. Returns a note that says how many were left out, which is empty if none was.
+///
+/// # Errors
+///
+/// Returns `Output` if writing fails, and `Memory` if memory runs out.
+pub(crate) fn write_input_records<O: Write>(
+    alloc: Global,
+    graph: &Graph<'_>,
+    most: usize,
+    out: &mut O,
+) -> Result<String, Failure<'static>>
+    ensures failed { IfErr result IsNoMisuse }
+    ensures printed { OnOk result (PrintsInputRecords graph.now.states graph.now.utf8 most
+        (O.contents out.old) (O.contents out.new)) }
+{
+    let made = input_records(alloc, graph, most)?;
+    let note = note_of_cut(alloc, most, made.count)?;
+    print_bytes(&made.bytes, out)?;
+    Ok(note)
+}
+
+/// Returns the note that says how many of so many inputs were left out, which is empty if none was.
+fn note_of_cut(alloc: Global, most: usize, count: usize) -> Result<String, AllocError> {
+    let mut page = Page::new(alloc, false);
+    if most < count {
+        page.push("note: ");
+        page.push_number(most);
+        page.push(" of ");
+        page.push_number(count);
+        page.push(" inputs: some edges that inputs pass may be passed by none of these\n");
+    }
+    page.finish()
+}
+
+/// Writes whether an answer is the stored one at a path, and returns that. If not, writes where
+/// they differ.
+///
+/// # Errors
+///
+/// Returns `Output` if writing fails, and `Memory` if memory runs out.
+pub(crate) fn write_agreement<O: Write>(
+    alloc: Global,
+    path: &str,
+    stored: &[u8],
+    made: &[u8],
+    out: &mut O,
+) -> Result<Agreement, Failure<'static>>
+    ensures { IfErr result IsNoMisuse }
+{
+    let mut page = Page::new(alloc, false);
+    let is_same = push_agreement(&mut page, path, stored, made);
+    print_bytes(page.finish()?.as_str().as_bytes(), out)?;
+    if is_same {
+        return Ok(Agreement::Same);
+    }
+    Ok(Agreement::Different)
+}
+
+/// Two lexers that are compared, and whether the answer is JSON.
+#[derive(Clone, Copy)]
+pub(crate) struct Pair<'m, 's, 't> {
+    pub(crate) one: NamedLexer<'m, 's>,
+    pub(crate) other: NamedLexer<'m, 't>,
+    pub(crate) is_json: bool,
+}
+
+/// What a comparison of two lexers gives.
+#[derive(Drop)]
+pub(crate) struct Judgment {
+    pub(crate) agreement: Agreement,
+    /// A note about callbacks, which is empty if there is nothing to say.
+    pub(crate) note: String,
+}
+
+/// Writes whether two lexers are the same, and returns that. If they differ, writes a shortest
+/// input at whose beginning they find different things, and what each of them finds there.
+///
+/// # Errors
+///
+/// Returns `Output` if writing fails, and `Memory` if memory runs out.
+pub(crate) fn compare_with<O: Write>(
+    alloc: Global,
+    pair: Pair<'_, '_, '_>,
+    out: &mut O,
+) -> Result<Judgment, Failure<'static>>
+    ensures failed { IfErr result IsNoMisuse }
+    ensures judged { IfOk result (λ judgment.
+        IsGraphOf pair.entry.one.graph.now.leaves pair.entry.one.graph.now.utf8
+        pair.entry.one.graph.now →
+        IsGraphOf pair.entry.other.graph.now.leaves pair.entry.other.graph.now.utf8
+        pair.entry.other.graph.now →
+        pair.entry.one.graph.now.faults ≡ [] → pair.entry.other.graph.now.faults ≡ [] →
+        IsJudged pair.entry.one.graph.now pair.entry.other.graph.now judgment.agreement) }
+{
+    let compared = compare_lexers(alloc, pair.one.graph, pair.other.graph)?;
+    let bytes = comparison_bytes(alloc, pair, &compared)?;
+    let note = callback_note(alloc, pair.one, pair.other)?;
+    print_bytes(&bytes, out)?;
+    Ok(Judgment {
+        agreement: agreement_of(&compared),
+        note,
+    })
+}
+
+/// Returns whether two lexers are the same, by their comparison.
+fn agreement_of(compared: &Compared) -> Agreement
+    ensures { (one other : GraphValue) → IsCompared one other compared.now →
+        IsJudged one other result }
+{
+    match compared {
+        Compared::Same => Agreement::Same,
+        Compared::Differ(_) => Agreement::Different,
+        Compared::OtherMode => Agreement::Different,
+    }
+}
+
+/// Returns the note about callbacks that are written in another way.
+fn callback_note<'l>(
+    alloc: Global,
+    one: NamedLexer<'l, '_>,
+    other: NamedLexer<'l, '_>,
+) -> Result<String, AllocError> {
+    let mut page = Page::new(alloc, false);
+    push_callbacks(alloc, &mut page, one, other)?;
+    page.finish()
+}
+
+/// Returns what is printed about a comparison of two lexers.
+fn comparison_bytes(
+    alloc: Global,
+    pair: Pair<'_, '_, '_>,
+    compared: &Compared,
+) -> Result<Vec<u8>, AllocError> {
+    if pair.is_json {
+        compared_record(alloc, pair, compared)
+    } else {
+        Ok(compared_page(alloc, pair, compared)?.into_bytes())
+    }
+}
+
+/// Returns the lines about a comparison of two lexers.
+fn compared_page(
+    alloc: Global,
+    pair: Pair<'_, '_, '_>,
+    compared: &Compared,
+) -> Result<String, AllocError> {
+    let mut page = Page::new(alloc, false);
+    match compared {
+        Compared::Same => page.push("the same lexer\n"),
+        Compared::OtherMode => push_modes(&mut page, pair.one, pair.other),
+        Compared::Differ(input) => push_difference(alloc, &mut page, pair.one, pair.other, input)?,
+    }
+    page.finish()
+}
+
+/// Returns the object of a comparison of two lexers.
+fn compared_record(
+    alloc: Global,
+    pair: Pair<'_, '_, '_>,
+    compared: &Compared,
+) -> Result<Vec<u8>, AllocError> {
+    let mut lines = JsonLines::new(alloc, Vec::new(alloc));
+    match compared {
+        Compared::Same => push_same_record(&mut lines),
+        Compared::OtherMode => {
+            push_modes_record(
+                &mut lines,
+                pair.one.graph.utf8_mode(),
+                pair.other.graph.utf8_mode(),
+            )
+        }
+        Compared::Differ(input) => push_findings(alloc, &mut lines, pair, input)?,
+    }
+    lines.finish()
+}
+
+/// Appends the object of an input on which two lexers differ.
+fn push_findings(
+    alloc: Global,
+    lines: &mut JsonLines,
+    pair: Pair<'_, '_, '_>,
+    input: &[u8],
+) -> Result<(), AllocError> {
+    let found = finding_of(alloc, pair.one, input)?;
+    let found_by_other = finding_of(alloc, pair.other, input)?;
+    push_difference_record(lines, input, found, found_by_other);
+    Ok(())
+}
