@@ -71,36 +71,36 @@ placed words order (Some output) second =
 
 -- Files to expand, with messages in this style; what is only compared needs a file for the result.
 abbrev pub shaped_given : List (List ℕ) → ArgumentsValue → List ℕ → MessageStyle → Option Shape → Option Asked
-shaped_given words arguments input style None = None
-shaped_given words arguments input style (Some shape) =
-    if is_set options.Check arguments.settings && not (is_set options.Output arguments.settings) then None
+shaped_given words parsed input style None = None
+shaped_given words parsed input style (Some shape) =
+    if is_set options.Check parsed.settings && not (is_set options.Output parsed.settings) then None
     else placed words
-    (record { input = input; output = setting options.Output arguments.settings; is_check = is_set options.Check arguments.settings; shape = shape; format = style.format; denies = is_set options.DenyWarnings arguments.settings; color = style.color })
-    (setting options.Output arguments.settings) arguments.second
+    (record { input = input; output = setting options.Output parsed.settings; is_check = is_set options.Check parsed.settings; shape = shape; format = style.format; denies = is_set options.DenyWarnings parsed.settings; color = style.color })
+    (setting options.Output parsed.settings) parsed.second
 
 -- Files to expand, with messages in this style, in the shape that is given.
 abbrev pub file_given : List (List ℕ) → ArgumentsValue → List ℕ → MessageStyle → Option Asked
-file_given words arguments input style = shaped_given words arguments input style (named_shape (setting options.Shape arguments.settings))
+file_given words parsed input style = shaped_given words parsed input style (named_shape (setting options.Shape parsed.settings))
 
 abbrev pub style_asked : List (List ℕ) → ArgumentsValue → List ℕ → Option MessageStyle → Option Asked
-style_asked words arguments input None = None
-style_asked words arguments input (Some style) = file_given words arguments input style
+style_asked words parsed input None = None
+style_asked words parsed input (Some style) = file_given words parsed input style
 
 -- What is requested for the input, if there is one.
 abbrev pub order_given : List (List ℕ) → ArgumentsValue → Option (List ℕ) → Option Asked
-order_given words arguments None = None
-order_given words arguments (Some input) = style_asked words arguments input (style_given arguments.settings)
+order_given words parsed None = None
+order_given words parsed (Some input) = style_asked words parsed input (style_given parsed.settings)
 
 -- A text, or files to expand.
 abbrev pub request_given : List (List ℕ) → ArgumentsValue → Option OptionName → Option Asked
-request_given words arguments (Some options.Version) = Some asks_version
-request_given words arguments (Some option) = Some asks_help
-request_given words arguments None = order_given words arguments arguments.first
+request_given words parsed (Some options.Version) = Some asks_version
+request_given words parsed (Some option) = Some asks_help
+request_given words parsed None = order_given words parsed parsed.first
 
 -- What these arguments request.
 abbrev pub asked_given : List (List ℕ) → Option ArgumentsValue → Option Asked
 asked_given words None = None
-asked_given words (Some arguments) = request_given words arguments arguments.text
+asked_given words (Some parsed) = request_given words parsed parsed.text
 
 -- What the arguments of a command line request, if they are valid.
 abbrev pub asked : List (List ℕ) → Option Asked

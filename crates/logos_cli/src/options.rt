@@ -62,7 +62,7 @@ pub(crate) fn request_of(words: &[String]) -> Result<Request<'_>, Failure<'_>>
         (asked (map string_bytes words.now) ≡ None) × (status_of failure ≡ 2)) }
 {
     match arguments_of(Program::Cli, words) {
-        Ok(arguments) => request_given(words, arguments),
+        Ok(parsed) => request_given(words, parsed),
         Err(failure) => Err(failure),
     }
 }
@@ -70,57 +70,57 @@ pub(crate) fn request_of(words: &[String]) -> Result<Request<'_>, Failure<'_>>
 /// Returns what arguments request.
 fn request_given<'w>(
     words: &'w [String],
-    arguments: Arguments<'w>,
+    parsed: Arguments<'w>,
 ) -> Result<Request<'w>, Failure<'w>>
     ensures asked { IfOk result (λ request. request_given (map string_bytes words.now)
-        (arguments_value arguments.entry) (arguments_value arguments.entry).text
+        (arguments_value parsed.entry) (arguments_value parsed.entry).text
         ≡ Some (request_value request)) }
     ensures misuse { IfErr result (λ failure. (request_given (map string_bytes words.now)
-        (arguments_value arguments.entry) (arguments_value arguments.entry).text ≡ None)
+        (arguments_value parsed.entry) (arguments_value parsed.entry).text ≡ None)
         × (status_of failure ≡ 2)) }
 {
-    match arguments.text {
+    match parsed.text {
         Some(OptionName::Version) => Ok(Request::Version),
         Some(_) => Ok(Request::Help),
-        None => order_given(words, arguments),
+        None => order_given(words, parsed),
     }
 }
 
 /// Returns the files to expand.
 fn order_given<'w>(
     words: &'w [String],
-    arguments: Arguments<'w>,
+    parsed: Arguments<'w>,
 ) -> Result<Request<'w>, Failure<'w>>
     ensures asked { IfOk result (λ request. order_given (map string_bytes words.now)
-        (arguments_value arguments.entry) (arguments_value arguments.entry).first
+        (arguments_value parsed.entry) (arguments_value parsed.entry).first
         ≡ Some (request_value request)) }
     ensures misuse { IfErr result (λ failure. (order_given (map string_bytes words.now)
-        (arguments_value arguments.entry) (arguments_value arguments.entry).first ≡ None)
+        (arguments_value parsed.entry) (arguments_value parsed.entry).first ≡ None)
         × (status_of failure ≡ 2)) }
 {
-    let Some(input) = arguments.first else {
+    let Some(input) = parsed.first else {
         return Err(misuse("no input file", ""));
     };
-    let style = match style_given(&arguments.settings) {
+    let style = match style_given(&parsed.settings) {
         Ok(style) => style,
         Err(failure) => return Err(failure),
     };
-    file_given(words, arguments, input, style)
+    file_given(words, parsed, input, style)
 }
 
 /// Returns the files to expand, with messages in this style.
 fn file_given<'w>(
     words: &'w [String],
-    arguments: Arguments<'w>,
+    parsed: Arguments<'w>,
     input: &'w str,
     style: MessageStyle,
 ) -> Result<Request<'w>, Failure<'w>>
     ensures asked { IfOk result (λ request. file_given (map string_bytes words.now)
-        (arguments_value arguments.entry) input.now style ≡ Some (request_value request)) }
+        (arguments_value parsed.entry) input.now style ≡ Some (request_value request)) }
     ensures misuse { IfErr result (λ failure. (file_given (map string_bytes words.now)
-        (arguments_value arguments.entry) input.now style ≡ None) × (status_of failure ≡ 2)) }
+        (arguments_value parsed.entry) input.now style ≡ None) × (status_of failure ≡ 2)) }
 {
-    let settings = &arguments.settings;
+    let settings = &parsed.settings;
     let shape = match shape_given(settings.value(OptionName::Shape)) {
         Ok(shape) => shape,
         Err(failure) => return Err(failure),
@@ -139,7 +139,7 @@ fn file_given<'w>(
         denies: settings.has(OptionName::DenyWarnings),
         color: style.color,
     };
-    placed(words, order, arguments.second)
+    placed(words, order, parsed.second)
 }
 
 /// Returns the file to expand, or the files whose results go into a folder.

@@ -59,30 +59,30 @@ pub(crate) fn run_with<F: ComparableFiles, O: Write, E: Write + IsTerminal>(
     err: &mut E,
 ) -> u8
     requires { IfErr arguments (λ failure. (status_of failure ≡ 2) ⊎ (status_of failure ≡ 3)) }
-    ensures usage { IfOk arguments.entry (λ words.
-        asked (map string_bytes words.items) ≡ None → result ≡ 2) }
-    ensures misuse { IfOk arguments.entry (λ words. result ≡ 2 →
-        (asked (map string_bytes words.items) ≡ None)
-        ⊎ IfSome (asked (map string_bytes words.items))
+    ensures usage { IfOk arguments.entry (λ passed.
+        asked (map string_bytes passed.items) ≡ None → result ≡ 2) }
+    ensures misuse { IfOk arguments.entry (λ passed. result ≡ 2 →
+        (asked (map string_bytes passed.items) ≡ None)
+        ⊎ IfSome (asked (map string_bytes passed.items))
         (λ order. IsOwnOutput F.same_finds order files.old)) }
-    ensures apart { IfOk arguments.entry (λ words. result ≡ 0 →
-        IfSome (asked (map string_bytes words.items))
+    ensures apart { IfOk arguments.entry (λ passed. result ≡ 0 →
+        IfSome (asked (map string_bytes passed.items))
         (λ order. IsApart F.same_finds order files.old)) }
     ensures untouched { result ≡ 2 →
         (files.new ≡ files.old) × Keeps (O.contents out.old) (O.contents out.new) }
-    ensures done { IfOk arguments.entry (λ words. result ≡ 0 →
-        IfSome (asked (map string_bytes words.items))
+    ensures done { IfOk arguments.entry (λ passed. result ≡ 0 →
+        IfSome (asked (map string_bytes passed.items))
         (λ order. IsDone F.read_gives F.write_makes F.compare_finds order files.old files.new
         (O.contents out.old) (O.contents out.new))) }
-    ensures denied { IfOk arguments.entry (λ words. result ≡ 1 →
-        IfSome (asked (map string_bytes words.items)) (λ order. (shown : List ℕ)
+    ensures denied { IfOk arguments.entry (λ passed. result ≡ 1 →
+        IfSome (asked (map string_bytes passed.items)) (λ order. (shown : List ℕ)
         × IsDenied F.read_gives F.write_makes F.compare_finds order files.old files.new shown)) }
     ensures silent { result ≡ 1 → Keeps (O.contents out.old) (O.contents out.new) }
     ensures unread { IfErr arguments.entry (λ failure. result ≡ status_of failure) }
     ensures known { result ≤ 3 }
 {
     match arguments {
-        Ok(words) => run(alloc, words.as_slice(), files, out, err).status,
+        Ok(passed) => run(alloc, passed.as_slice(), files, out, err).status,
         Err(failure) => failed(&failure, err).status,
     }
 }

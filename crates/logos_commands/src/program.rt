@@ -22,14 +22,14 @@ pub fn run_with<F: Files, O: Write, E: Write>(
     err: &mut E,
 ) -> u8
     requires { IfErr arguments (λ failure. (status_of failure ≡ 2) ⊎ (status_of failure ≡ 3)) }
-    ensures usage { IfOk arguments.entry (λ words.
-        (result ≡ 2) ↔ (asked (map string_bytes words.items) ≡ None)) }
-    ensures done { IfOk arguments.entry (λ words. result ≡ 0 →
-        IfSome (asked (map string_bytes words.items))
+    ensures usage { IfOk arguments.entry (λ passed.
+        (result ≡ 2) ↔ (asked (map string_bytes passed.items) ≡ None)) }
+    ensures done { IfOk arguments.entry (λ passed. result ≡ 0 →
+        IfSome (asked (map string_bytes passed.items))
         (λ command. IsDone F.read_gives F.write_makes command files.old files.new
         (O.contents out.old) (O.contents out.new))) }
-    ensures denied { IfOk arguments.entry (λ words. result ≡ 1 →
-        IfSome (asked (map string_bytes words.items))
+    ensures denied { IfOk arguments.entry (λ passed. result ≡ 1 →
+        IfSome (asked (map string_bytes passed.items))
         (λ command. (failure : Why) × IsDenied F.read_gives command files.old files.new failure)) }
     ensures silent { result ≡ 1 → Keeps (O.contents out.old) (O.contents out.new) }
     ensures untouched { result ≡ 2 →
@@ -38,7 +38,7 @@ pub fn run_with<F: Files, O: Write, E: Write>(
     ensures known { result ≤ 3 }
 {
     match arguments {
-        Ok(words) => run(alloc, words.as_slice(), files, out, err),
+        Ok(passed) => run(alloc, passed.as_slice(), files, out, err),
         Err(failure) => failed(&failure, err),
     }
 }

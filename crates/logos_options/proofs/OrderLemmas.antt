@@ -17,20 +17,20 @@ held first second settings question = record { first = first; second = second; s
 
 -- One more option, which the program takes or not and which does this.
 abbrev given_by : Bool → OptionRole → ArgumentsValue → OptionValue → Option ArgumentsValue
-given_by b role arguments one = if b then with_role arguments one role else None
+given_by b role parsed one = if b then with_role parsed one role else None
 
 abbrev then_by : Bool → OptionRole → OptionValue → Option ArgumentsValue → Option ArgumentsValue
 then_by b role one None = None
-then_by b role one (Some arguments) = given_by b role arguments one
+then_by b role one (Some parsed) = given_by b role parsed one
 
 -- One more option after these arguments, if they were valid.
 abbrev after : Program → Option ArgumentsValue → OptionValue → Option ArgumentsValue
-after program arguments one = then_by (takes program one.option) (role_of one.option) one arguments
+after program parsed one = then_by (takes program one.option) (role_of one.option) one parsed
 
 -- These options, one after another.
 abbrev with_options : Program → Option ArgumentsValue → List OptionValue → Option ArgumentsValue
-with_options program arguments [] = arguments
-with_options program arguments (one ∷ rest) = with_options program (after program arguments one) rest
+with_options program parsed [] = parsed
+with_options program parsed (one ∷ rest) = with_options program (after program parsed one) rest
 
 -- Arguments are invalid, or all are read.
 data IsHeld : Option ArgumentsValue → Type 0 where
@@ -65,7 +65,7 @@ none_after program (one ∷ rest) = none_after program rest
 
 held_after : (program : Program) (r : Option ArgumentsValue) (one : OptionValue) → IsHeld r → role_of one.option ≢ Text → IsHeld (after program r one)
 held_after program None one refused n = refused
-held_after program (Some arguments) one (holds first second settings question) n = still_held program first second settings question one n
+held_after program (Some parsed) one (holds first second settings question) n = still_held program first second settings question one n
 
 -- Reading the arguments is reading the options that they spell.
 reads : (program : Program) (words : List (List ℕ)) (list : List OptionValue) → AreWhole words list → AreSettled list → (r : Option ArgumentsValue) → IsHeld r →
@@ -74,11 +74,11 @@ reads program [] [] nothing s r h = refl
 reads program [] (one ∷ rest) w s r h = elim w [ ]
 reads program (word ∷ words) [] w s r h = elim w [ ]
 reads program (word ∷ words) (one ∷ rest) (in_one e m) s None refused = sym (none_after program rest)
-reads program (word ∷ words) (one ∷ rest) (in_one e m) s (Some arguments) (holds f g v q) =
+reads program (word ∷ words) (one ∷ rest) (in_one e m) s (Some parsed) (holds f g v q) =
     ap (λ o. with_words program (with_step program (held f g v q) o) words) e
     ∙ reads program words rest m s.1 (with_given program (held f g v q) one) (still_held program f g v q one s.0)
 reads program (word ∷ value ∷ words) (one ∷ rest) (in_two e m) s None refused = sym (none_after program rest)
-reads program (word ∷ value ∷ words) (one ∷ rest) (in_two e m) s (Some arguments) (holds f g v q) =
+reads program (word ∷ value ∷ words) (one ∷ rest) (in_two e m) s (Some parsed) (holds f g v q) =
     ap (λ o. with_words program (with_step program (held f g v q) o) (value ∷ words)) e
     ∙ reads program words rest m s.1 (with_given program (held f g v q) one) (still_held program f g v q one s.0)
 
@@ -98,7 +98,7 @@ twice false end other = refl
 
 never : (role : OptionRole) (one : OptionValue) (o : Option ArgumentsValue) → then_by false role one o ≡ None
 never role one None = refl
-never role one (Some arguments) = refl
+never role one (Some parsed) = refl
 
 chained : (role : OptionRole) (one : OptionValue) (s : Bool) (a : ArgumentsValue) → then_by true role one (if s then None else Some a) ≡ (if s then None else with_role a one role)
 chained role one true a = refl
@@ -150,7 +150,7 @@ module _ (f g : Option (List ℕ)) (v : List (Option (List ℕ))) (q : Option Op
 swapped : (program : Program) (r : Option ArgumentsValue) → IsHeld r → (x y : OptionValue) → role_of x.option ≢ Text → role_of y.option ≢ Text → number x.option ≢ number y.option →
     after program (after program r x) y ≡ after program (after program r y) x
 swapped program None refused x y n m apart = refl
-swapped program (Some arguments) (holds f g v q) x y n m apart =
+swapped program (Some parsed) (holds f g v q) x y n m apart =
     by_both f g v q x y apart (takes program x.option) (takes program y.option) (role_of x.option) (role_of y.option) n m
 
 -- An option may come after others.

@@ -62,13 +62,13 @@ impl<'w> Settings<'w> {
 ///
 /// Returns `Misuse` or `UnknownOption` if the program does not take such arguments.
 pub fn arguments_of(program: Program, words: &[String]) -> Result<Arguments<'_>, Failure<'_>>
-    ensures read { IfOk result (λ arguments.
-        arguments_of program (map string_bytes words.now) ≡ Some (arguments_value arguments)) }
+    ensures read { IfOk result (λ parsed.
+        arguments_of program (map string_bytes words.now) ≡ Some (arguments_value parsed)) }
     ensures misuse { IfErr result (λ failure.
         (arguments_of program (map string_bytes words.now) ≡ None) × (status_of failure ≡ 2)) }
 {
     match read_words(program, words) {
-        Ok(arguments) => settled(arguments),
+        Ok(parsed) => settled(parsed),
         Err(failure) => Err(failure),
     }
 }
@@ -82,12 +82,12 @@ pub fn misuse<'w>(what: &'static str, word: &'w str) -> Failure<'w>
 
 /// Reads all arguments.
 fn read_words(program: Program, words: &[String]) -> Result<Arguments<'_>, Failure<'_>>
-    ensures read { IfOk result (λ arguments. with_words program (Some nothing_given)
-        (map string_bytes words.now) ≡ Some (arguments_value arguments)) }
+    ensures read { IfOk result (λ parsed. with_words program (Some nothing_given)
+        (map string_bytes words.now) ≡ Some (arguments_value parsed)) }
     ensures misuse { IfErr result (λ failure. (with_words program (Some nothing_given)
         (map string_bytes words.now) ≡ None) × (status_of failure ≡ 2)) }
 {
-    let mut arguments = Arguments {
+    let mut parsed = Arguments {
         first: None,
         second: None,
         settings: Settings {
@@ -101,12 +101,12 @@ fn read_words(program: Program, words: &[String]) -> Result<Arguments<'_>, Failu
         },
     };
     for word in words {
-        arguments = match read_word(program, arguments, word.as_str()) {
+        parsed = match read_word(program, parsed, word.as_str()) {
             Ok(next) => next,
             Err(failure) => return Err(failure),
         };
     }
-    Ok(arguments)
+    Ok(parsed)
 }
 
 /// Returns all arguments, unless an option waits for a value.

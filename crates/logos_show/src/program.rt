@@ -79,13 +79,13 @@ pub(crate) fn run_with<
     out: &mut O,
 ) -> u8
     requires { IfErr arguments (λ failure. (status_of failure ≡ 2) ⊎ (status_of failure ≡ 3)) }
-    ensures usage { IfOk arguments.entry (λ words.
-        (result ≡ 2) ↔ (asked (map string_bytes words.items) ≡ None)) }
+    ensures usage { IfOk arguments.entry (λ passed.
+        (result ≡ 2) ↔ (asked (map string_bytes passed.items) ≡ None)) }
     ensures unread { IfErr arguments.entry (λ failure. result ≡ status_of failure) }
     ensures known { result ≤ 3 }
 {
     match arguments {
-        Ok(words) => run(alloc, words.as_slice(), host, out),
+        Ok(passed) => run(alloc, passed.as_slice(), host, out),
         Err(failure) => failed(&failure, host.err),
     }
 }

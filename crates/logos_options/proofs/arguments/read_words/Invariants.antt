@@ -4,4 +4,4 @@ use Rattle.logos_options.proofs.arguments.read_words.Given as goal
 
 -- The arguments that are left complete those that are read.
 abbrev pub invariant-loop-word : goal.invariant-loop-word
-invariant-loop-word l = with_words l.program (Some nothing_given) (map string_bytes l.words) ≡ with_words l.program (Some (arguments_value l.arguments)) (map string_bytes (drop l.word-index l.words))
+invariant-loop-word l = with_words l.program (Some nothing_given) (map string_bytes l.words) ≡ with_words l.program (Some (arguments_value l.parsed)) (map string_bytes (drop l.word-index l.words))
