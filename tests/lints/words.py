@@ -37,7 +37,7 @@ COMMENTED = (*SLASHED, ".antt", ".py", ".sh", ".rows", ".sed")
 LISTS = (".ci/run", "crates.txt", "tests/parts")
 # The crates where a word has its home. On pages it is used, too.
 USED_IN = {
-    "place, outside of graphs": ["logos_places", "logos_automaton"]
+    "place, outside of graphs": ["logos_positions", "logos_automaton"]
 }
 # Each entry of the glossary's last table: the words in a name, and the pattern in a sentence.
 UNUSED = {

@@ -1,11 +1,11 @@
 -- What a comparison says of two graphs.
 use Rattle.std.proofs.Common.{◌≡◌, ℕ, List, length, sym, subst}
-use Rattle.logos_evidence.specs.declared.comparing.Comparison.{Comparison}
-use Rattle.logos_evidence.specs.declared.comparing.Comparison.TheVariants.{Differ, Same}
+use Rattle.logos_evidence.specs.declared.comparison.Comparison.{Comparison}
+use Rattle.logos_evidence.specs.declared.comparison.Comparison.TheVariants.{Differ, Same}
 use Rattle.logos_evidence.specs.inside.Compared.{IsAnswer}
 use Rattle.logos_graph.specs.View.{GraphValue, rules_of}
 use Rattle.logos_pattern.specs.declared.leaf.Leaf.{Leaf}
-use Rattle.logos_answers.specs.declared.comparing.Compared.{Compared}
+use Rattle.logos_answers.specs.declared.comparison.Compared.{Compared}
 use Rattle.logos_answers.specs.Comparing.{AreOfOneMode, IsCompared, compared_by}
 use Rattle.logos_answers.specs.inside.Numbers.{AreDistinct, AreNumbers, Grows, Table}
 use Rattle.logos_answers.proofs.NumberLemmas.{are_numbered, grown_numbers}

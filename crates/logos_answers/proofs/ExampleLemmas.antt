@@ -2,7 +2,7 @@
 use Rattle.std.proofs.Common.{◌≡◌, ◌<◌, ◌≤◌, ◌+◌, ◌-◌, ℕ, suc, Bool, List, [], ◌++◌, Contains, sym, refl, subst, arith}
 use Rattle.logos_automaton.specs.Faults.{AllStart, AreFaults}
 use Rattle.logos_automaton.specs.Munch.{Rule, priority_of}
-use Rattle.logos_evidence.specs.declared.matching.Match.{Match}
+use Rattle.logos_evidence.specs.declared.matches.Match.{Match}
 use Rattle.logos_evidence.specs.Losses.{IsLoss}
 use Rattle.logos_evidence.specs.Matching.{AreMatches}
 use Rattle.logos_graph.proofs.Automaton.{no_faults}

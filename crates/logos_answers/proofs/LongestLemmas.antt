@@ -1,7 +1,7 @@
 -- The longest match of each leaf.
 use Rattle.std.proofs.Common.{◌≡◌, ◌<◌, ◌≤◌, ◌+◌, ◌++◌, ◌==◌, ℕ, suc, Option, Some, None, List, [], ◌∷◌, if◌then◌else◌, length, get_or, drop, sym, ap, ◌∙◌, refl, subst, arith}
 use Rattle.std.proofs.lemmas.List.{at_drop_more, at_drop_all}
-use Rattle.logos_evidence.specs.declared.matching.Match.{Match}
+use Rattle.logos_evidence.specs.declared.matches.Match.{Match}
 use Rattle.logos_evidence.specs.Matching.{AreMatches}
 use Rattle.logos_graph.specs.View.{rules_of}
 use Rattle.logos_pattern.specs.declared.leaf.Leaf.{Leaf}

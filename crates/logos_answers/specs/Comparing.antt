@@ -1,11 +1,11 @@
 -- What a comparison of two lexers says.
 use Rattle.std.specs.Prelude.{◌≡◌, ◌≢◌, ℕ, List}
 use Rattle.logos_evidence.specs.Comparing.{FindTheSame, IsShortestDifference}
-use Rattle.logos_evidence.specs.declared.comparing.Comparison.{Comparison}
-use Rattle.logos_evidence.specs.declared.comparing.Comparison.TheVariants as comparisons
+use Rattle.logos_evidence.specs.declared.comparison.Comparison.{Comparison}
+use Rattle.logos_evidence.specs.declared.comparison.Comparison.TheVariants as comparisons
 use Rattle.logos_graph.specs.View.{GraphValue, rules_of}
-use Rattle.logos_answers.specs.declared.comparing.Compared.{Compared}
-use Rattle.logos_answers.specs.declared.comparing.Compared.TheVariants.{Differ, OtherMode, Same}
+use Rattle.logos_answers.specs.declared.comparison.Compared.{Compared}
+use Rattle.logos_answers.specs.declared.comparison.Compared.TheVariants.{Differ, OtherMode, Same}
 use Rattle.logos_answers.specs.Names.{AreNumbered}
 
 -- The leaves of two graphs of one mode, numbered by their variants.

@@ -1,7 +1,7 @@
 -- The lines about what leaves find, and where they lose.
 use Rattle.std.specs.Prelude.{◌≡◌, ℕ, zero, suc, Bool, List, [], ◌++◌, Option, Some, None, codes, MatchOption}
 use Rattle.logos_automaton.specs.Munch.{Rule}
-use Rattle.logos_evidence.specs.declared.matching.Match.{Match}
+use Rattle.logos_evidence.specs.declared.matches.Match.{Match}
 use Rattle.logos_evidence.specs.Examples.{HasNoExample, IsShortestExample}
 use Rattle.logos_evidence.specs.Losses.{IsShortestLoss, NeverLoses}
 use Rattle.logos_evidence.specs.Matching.{AreMatches, IsWinner}

@@ -6,8 +6,8 @@ pub mod Inputs
 pub mod Matches
 pub mod Names
 pub mod Offsets
-pub mod Places
+pub mod Locations
 pub mod Quoting
 pub mod Views
-pub mod Words
+pub mod Imports
 pub mod inside

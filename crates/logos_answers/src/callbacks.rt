@@ -1,6 +1,6 @@
 //! Callbacks of two lexers that are written in different ways.
 
-use crate::differing::NamedLexer;
+use crate::difference::NamedLexer;
 use crate::names::variant_of;
 use indexmap::IndexSet;
 use logos_page::Page;

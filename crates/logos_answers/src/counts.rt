@@ -1,7 +1,7 @@
 //! How many items there were of each kind.
 
 ghost use Rattle.std.specs.Prelude.{◌≡◌, ◌<◌, length, option_map};
-ghost use Rattle.logos_answers.specs.Words.{Gains, code_variant, count_line, goes_on, is_same_name, line_after, sum_after, time_line, title_line, variant_line};
+ghost use Rattle.logos_answers.specs.Imports.{Gains, code_variant, count_line, goes_on, is_same_name, line_after, sum_after, time_line, title_line, variant_line};
 
 use crate::names::variant_of;
 use logos_code::code::CodeLeaf;
@@ -25,7 +25,7 @@ pub struct Totals {
 
 impl Counts {
     ghost use Rattle.std.specs.Prelude.{◌≡◌, slice_index};
-    ghost use Rattle.logos_answers.specs.Words.{Gains, ends_text, totals_text, variant_lines};
+    ghost use Rattle.logos_answers.specs.Imports.{Gains, ends_text, totals_text, variant_lines};
 
     /// Returns counts of no item, for this many leaves.
     ///

@@ -2,11 +2,11 @@
 
 ghost use Rattle.std.specs.Prelude.{◌≡◌, ◌++◌, ℕ, [], codes, IfOk, MatchOption, OnOk, length, option_map};
 ghost use Rattle.logos_answers.specs.Views as shown;
-ghost use Rattle.logos_answers.specs.Words.{Gains, IsGraphOf, IsShortestLoss, NeverLoses, leaf_text, quoted, rules_of};
+ghost use Rattle.logos_answers.specs.Imports.{Gains, IsGraphOf, IsShortestLoss, NeverLoses, leaf_text, quoted, rules_of};
 
 use crate::matches::push_head;
 use crate::names::push_leaf;
-use crate::quoting::push_quoted;
+use crate::quotes::push_quoted;
 use logos_evidence::{example, loses, matches_from, winner};
 use logos_graph::graph::Graph;
 use logos_page::Page;

@@ -1,9 +1,9 @@
 //! Inputs that together pass all edges of a graph.
 
 ghost use Rattle.std.specs.Prelude.{◌≡◌, IfOk, map, take};
-ghost use Rattle.logos_answers.specs.Words.{flat_map, Gains, ShowsInputs, input_line};
+ghost use Rattle.logos_answers.specs.Imports.{flat_map, Gains, ShowsInputs, input_line};
 
-use crate::quoting::push_literal;
+use crate::quotes::push_literal;
 use logos_evidence::covering_inputs;
 use logos_graph::graph::Graph;
 use logos_page::Page;

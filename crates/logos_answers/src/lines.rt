@@ -2,9 +2,9 @@
 
 ghost use Rattle.std.specs.Prelude.{◌≡◌, ◌<◌, ◌≤◌, ◌+◌, length};
 
-use crate::quoting::is_hidden;
+use crate::quotes::is_hidden;
 use itoa::write_digits;
-use logos_lines::Position;
+use logos_lines::Location;
 use std::alloc::AllocError;
 use std::str;
 
@@ -31,11 +31,11 @@ pub const LINE: usize = 347;
 pub fn push_item(
     block: &mut Vec<u8>,
     line: &mut [u8; LINE],
-    position: Position,
+    location: Location,
     head: &[u8],
     slice: &[u8],
 ) -> Result<(), AllocError> {
-    let from = write_position(line, position);
+    let from = write_location(line, location);
     if head.len() <= HEAD && slice.len() <= SHOWN && slice.is_ascii() {
         let to = write_short(line, head, slice);
         return block.extend_from_slice(&line[from..to]);
@@ -48,13 +48,13 @@ pub fn push_item(
 
 /// Writes a position as `line:column` so that it ends at `POSITION`, and returns where it begins.
 #[inline(always)]
-fn write_position(line: &mut [u8; LINE], position: Position) -> usize
+fn write_location(line: &mut [u8; LINE], location: Location) -> usize
     ensures { result ≤ 41 }
 {
-    let end = write_digits(position.column as u64, line, POSITION);
+    let end = write_digits(location.column as u64, line, POSITION);
     let colon = end - 1;
     line[colon] = b':';
-    write_digits(position.line as u64, line, colon)
+    write_digits(location.line as u64, line, colon)
 }
 
 /// Writes what follows the position of an item whose text is short and ASCII, and returns where it

@@ -1,11 +1,11 @@
 //! What matches from an offset of an input.
 
 ghost use Rattle.std.specs.Prelude.{◌≡◌, ◌<◌, ◌≤◌, ◌-◌, ◌==◌, ℕ, List, None, Some, IfOk, OnErr, OnOk, codes, get_or, if◌then◌else◌, length};
-ghost use Rattle.logos_answers.specs.Words as shown;
-ghost use Rattle.logos_answers.specs.Words.{AllStart, Gains, IsBytes, IsGraphOf, rules_of};
+ghost use Rattle.logos_answers.specs.Imports as shown;
+ghost use Rattle.logos_answers.specs.Imports.{AllStart, Gains, IsBytes, IsGraphOf, rules_of};
 
 use crate::names::{name_at, push_leaf};
-use crate::quoting::push_quoted;
+use crate::quotes::push_quoted;
 use logos_evidence::{Match, matches_from, winner};
 use logos_graph::graph::Graph;
 use logos_page::Page;

@@ -1,7 +1,7 @@
 //! The names of leaves.
 
 ghost use Rattle.std.specs.Prelude.{◌≡◌, option_map};
-ghost use Rattle.logos_answers.specs.Words.{Gains, leaf_name, leaf_text, name_at, variant_name, variant_text};
+ghost use Rattle.logos_answers.specs.Imports.{Gains, leaf_name, leaf_text, name_at, variant_name, variant_text};
 
 use logos_page::Page;
 use logos_pattern::leaf::{Leaf, VariantKind};

@@ -35,8 +35,8 @@ rest_after parser = if parser.after_group then rest_after_group (tokens_of parse
 
 -- The parser gives the next of its pieces and takes the comma that ends it; or it has none, and
 -- nothing changes.
-abbrev pub GivesNext : AttributeParser → Option Nested → AttributeParser → Type 0
-GivesNext old given new = YieldsFirstBy piece_of pieces_left old given new × MatchOption given (new ≡ old) (λ _. tokens_of new.rest ≡ rest_after old)
+abbrev pub YieldsNext : AttributeParser → Option Nested → AttributeParser → Type 0
+YieldsNext old given new = YieldsFirstBy piece_of pieces_left old given new × MatchOption given (new ≡ old) (λ _. tokens_of new.rest ≡ rest_after old)
 
 -- The pieces are this one and those that are still to come, and these tokens are left.
 abbrev pub Cuts : List Piece → TokenList → Nested → AttributeParser → Type 0

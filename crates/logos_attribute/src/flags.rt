@@ -4,7 +4,7 @@ ghost use Rattle.std.specs.Prelude.{◌≡◌, OnOk, OnErr, IfOk, false, string_
 ghost use Rattle.logos_attribute.specs.Views.{also, none, tokens_of, tree_of, printed, Slice, ident_slice, IsReport, AddsFault, flags_report, ignore_ascii, other_flag, ignore_empty, ignore_token, GoesOn, HasCase, IsSplit};
 
 use crate::nested::split;
-use crate::reporting::{report_form, report_named};
+use crate::reports::{report_form, report_named};
 use logos_token::error::{Errors, FaultCode, Memory};
 use logos_token::token::{Ident, TokenTree, Tokens, print};
 use logos_token::util::{is_punct, push_escaped};

@@ -3,10 +3,10 @@
 
 #![tactic(auto)]
 
+pub mod arguments;
 pub mod callback;
 pub mod flags;
 pub mod literal;
 pub mod nested;
-pub mod parsed;
-pub mod reporting;
+pub mod reports;
 pub mod value;

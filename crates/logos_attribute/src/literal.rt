@@ -2,10 +2,10 @@
 //! of `export_dir` call it.
 
 ghost use Rattle.std.specs.Prelude.{◌≡◌, OnOk, OnErr, IfOk, option_map};
-ghost use Rattle.logos_attribute.specs.Words.{tokens_of, literal_slice, IsReport, AddsFault, literal_syntax, not_text, text_in, text_report, literal_report, string_in, literal_view};
+ghost use Rattle.logos_attribute.specs.Imports.{tokens_of, literal_slice, IsReport, AddsFault, literal_syntax, not_text, text_in, text_report, literal_report, string_in, literal_view};
 
 use crate::nested::split;
-use crate::reporting::report_run;
+use crate::reports::report_run;
 use logos_pattern::pattern::Literal;
 use logos_token::error::{Errors, FaultCode, Memory};
 use logos_token::token;

@@ -2,7 +2,7 @@
 //! `logos_definition` takes the pieces one by one.
 
 ghost use Rattle.std.specs.Prelude.{◌≡◌, MatchOption, [], ◌≢◌};
-ghost use Rattle.logos_attribute.specs.Views.{Token, TokenList, none, also, append, rest_of, tokens_of, tree_of, ident_slice, literal_slice, up_to_comma, after_comma, pieces, after_name, after_group, after_keyword, through_comma, without_comma, rest_after_name, rest_after_piece, rest_after_group, name_token, named, assigned, beside, keyed, unnamed, unexpected, first_run, after_mark, item_count, Cuts, IsSplit, piece_of, pieces_left, rest_after, GivesNext};
+ghost use Rattle.logos_attribute.specs.Views.{Token, TokenList, none, also, append, rest_of, tokens_of, tree_of, ident_slice, literal_slice, up_to_comma, after_comma, pieces, after_name, after_group, after_keyword, through_comma, without_comma, rest_after_name, rest_after_piece, rest_after_group, name_token, named, assigned, beside, keyed, unnamed, unexpected, first_run, after_mark, item_count, Cuts, IsSplit, piece_of, pieces_left, rest_after, YieldsNext};
 
 use logos_token::token::{Ident, Literal, TokenTree, Tokens};
 use logos_token::util::is_punct;
@@ -336,7 +336,7 @@ impl<'t, 's> AttributeParser<'t, 's> {
 impl<'t, 's> Iterator for AttributeParser<'t, 's> {
     type Item = Nested<'t, 's>;
 
-    ghost next_gives = { GivesNext };
+    ghost next_gives = { YieldsNext };
 
     ghost remaining = { item_count pieces_left };
 

@@ -1,7 +1,7 @@
 //! Reads numbers and booleans in an attribute's argument.
 
 ghost use Rattle.std.specs.Prelude.{◌≡◌};
-ghost use Rattle.logos_attribute.specs.Words.{all_ascii_digits, tokens_of, decimal, number_in, boolean_named, boolean_in};
+ghost use Rattle.logos_attribute.specs.Imports.{all_ascii_digits, tokens_of, decimal, number_in, boolean_named, boolean_in};
 
 use crate::nested::split;
 use logos_token::token::{TokenTree, Tokens};

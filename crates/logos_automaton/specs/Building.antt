@@ -1,6 +1,6 @@
 -- An automaton while it is built, and why there may be none.
 use Rattle.std.specs.Prelude.{◌≡◌, ℕ, ◌<◌, ◌≤◌, Bool, List, length}
-use Rattle.logos_places.specs.Core.{Core}
+use Rattle.logos_positions.specs.Core.{Core}
 use Rattle.logos_automaton.specs.Keys.{start_state, IsAt, AreRising, AreDistinct, AreReached, AreRows}
 use Rattle.logos_automaton.specs.Munch.{Rule}
 use Rattle.logos_automaton.specs.ReadKeys.{HasMoreKeys}

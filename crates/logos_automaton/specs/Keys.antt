@@ -1,23 +1,23 @@
 -- States of the automaton, by what they remember of the bytes read.
 use Rattle.std.specs.Prelude.{◌≡◌, ℕ, ◌+◌, ◌<◌, ◌≤◌, Bool, true, false, IsTrue, List, [], ◌∷◌, Some, None, length, map, slice_get, slice_index, slice_index_or}
 use Rattle.logos_automaton.specs.inside.Alike.{AreFirstBytes}
-use Rattle.logos_places.specs.Core.{Core}
-use Rattle.logos_places.specs.Kinds.{test_at, kind_of_byte}
-use Rattle.logos_places.specs.Marks.{Has, IsRising}
-use Rattle.logos_places.specs.Several.{ReadBy, LeftBy}
+use Rattle.logos_positions.specs.Core.{Core}
+use Rattle.logos_positions.specs.Kinds.{test_at, kind_of_byte}
+use Rattle.logos_positions.specs.Marks.{Has, IsRising}
+use Rattle.logos_positions.specs.Several.{ReadBy, LeftBy}
 use Rattle.logos_automaton.specs.Automaton.{Automaton}
 use Rattle.logos_automaton.specs.declared.key.Key.{Key}
-use Rattle.logos_places.specs.declared.places.look.ByteKind.{ByteKind}
-use Rattle.logos_places.specs.declared.places.look.ByteKind.TheVariants as kind
+use Rattle.logos_positions.specs.declared.positions.look.ByteKind.{ByteKind}
+use Rattle.logos_positions.specs.declared.positions.look.ByteKind.TheVariants as kind
 
 -- What a key stands for.
 pub record State : Type 0 where
-  pub places : List ℕ
+  pub positions : List ℕ
   pub kind : ByteKind
   pub matches : List ℕ
 
 abbrev pub state_of : Key → State
-state_of k = record { places = k.places.items; kind = k.kind; matches = k.matches.items }
+state_of k = record { positions = k.positions.items; kind = k.kind; matches = k.matches.items }
 
 -- Nothing was read.
 abbrev pub is_start : ByteKind → Bool
@@ -30,34 +30,34 @@ is_start kind.Other = false
 
 -- The state before the first byte.
 abbrev pub start_state : State
-start_state = record { places = []; kind = kind.Start; matches = [] }
+start_state = record { positions = []; kind = kind.Start; matches = [] }
 
 -- The state from which nothing matches.
 abbrev pub dead_state : State
-dead_state = record { places = []; kind = kind.Unseen; matches = [] }
+dead_state = record { positions = []; kind = kind.Unseen; matches = [] }
 
 -- The state after the end that lists these patterns.
 abbrev pub ended_state : List ℕ → State
-ended_state matches = record { places = []; kind = kind.Unseen; matches = matches }
+ended_state matches = record { positions = []; kind = kind.Unseen; matches = matches }
 
 -- What is remembered of the byte x, read at these places: its kind, if there are places and some
 -- tree has a look.
 abbrev pub next_kind : Bool → List ℕ → ℕ → ByteKind
 next_kind looks [] x = kind.Unseen
-next_kind false (p ∷ places) x = kind.Unseen
-next_kind true (p ∷ places) x = kind_of_byte x
+next_kind false (p ∷ positions) x = kind.Unseen
+next_kind true (p ∷ positions) x = kind_of_byte x
 
 module _ (ts : List Core) (looks : Bool) where
   -- The byte x leads from one state to the next.
   pub record IsNext (s : State) (x : ℕ) (next : State) : Type 0 where
-    pub places : ReadBy ts (test_at (record { before = s.kind; after = Some x })) x (Has s.places) (IsTrue (is_start s.kind)) next.places
-    pub matches : LeftBy ts (test_at (record { before = s.kind; after = Some x })) (Has s.places) (IsTrue (is_start s.kind)) next.matches
-    pub kind : next.kind ≡ next_kind looks next.places x
+    pub positions : ReadBy ts (test_at (record { before = s.kind; after = Some x })) x (Has s.positions) (IsTrue (is_start s.kind)) next.positions
+    pub matches : LeftBy ts (test_at (record { before = s.kind; after = Some x })) (Has s.positions) (IsTrue (is_start s.kind)) next.matches
+    pub kind : next.kind ≡ next_kind looks next.positions x
 
 -- The end leads from one state to the next.
 pub record IsLast (ts : List Core) (s next : State) : Type 0 where
-  pub places : next.places ≡ []
-  pub matches : LeftBy ts (test_at (record { before = s.kind; after = None })) (Has s.places) (IsTrue (is_start s.kind)) next.matches
+  pub positions : next.positions ≡ []
+  pub matches : LeftBy ts (test_at (record { before = s.kind; after = None })) (Has s.positions) (IsTrue (is_start s.kind)) next.matches
   pub kind : next.kind ≡ kind.Unseen
 
 -- The state i is s.
@@ -72,7 +72,7 @@ pub record Grows (old new : List Key) : Type 0 where
 
 -- Each state's places rise.
 pub record AreRising (ks : List Key) : Type 0 where
-  pub rising : (i : ℕ) (s : State) → IsAt ks i s → IsRising s.places
+  pub rising : (i : ℕ) (s : State) → IsAt ks i s → IsRising s.positions
 
 -- No two numbers have one state.
 pub record AreDistinct (ks : List Key) : Type 0 where
@@ -109,7 +109,7 @@ pub record LeadsTo (ts : List Core) (looks : Bool) (ks : List Key) (i x j : ℕ)
 pub record AreFirstIn (ts : List Core) (looks : Bool) (ks : List Key) (i : ℕ) (first : List Bool) : Type 0 where
   pub state : State
   pub at : IsAt ks i state
-  pub are : AreFirstBytes ts looks (Has state.places) (IsTrue (is_start state.kind)) first
+  pub are : AreFirstBytes ts looks (Has state.positions) (IsTrue (is_start state.kind)) first
 
 -- The end leads from the state i to the state j.
 pub record EndsIn (ts : List Core) (ks : List Key) (i j : ℕ) : Type 0 where

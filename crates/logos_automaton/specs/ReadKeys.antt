@@ -4,7 +4,7 @@ use Rattle.std.specs.List.{list_any}
 use Rattle.logos_hir.specs.Text.{IsBytes}
 use Rattle.logos_hir.specs.Looks.{is_word}
 use Rattle.logos_automaton.specs.Munch.{Rule, RuleMatches}
-use Rattle.logos_places.specs.Places.{Place, Reads, has_look}
+use Rattle.logos_positions.specs.Positions.{Position, Reads, has_look}
 
 pub data Kind : Type 0 where
   unseen : Kind
@@ -29,13 +29,13 @@ module _ (rules : List Rule) where
   seen_kind b = if list_any (λ rule. has_look rule.tree) rules then kind_of b else unseen
 
   -- The place of the rule can have read the last byte.
-  abbrev pub HasRead : ℕ → Place → List ℕ → ℕ → Type 0
-  HasRead leaf place before last =
-      IsSomeAnd (slice_get rules leaf) (λ rule. Reads rule.tree (before ++ last ∷ []) 0 place (length before))
+  abbrev pub HasRead : ℕ → Position → List ℕ → ℕ → Type 0
+  HasRead leaf position before last =
+      IsSomeAnd (slice_get rules leaf) (λ rule. Reads rule.tree (before ++ last ∷ []) 0 position (length before))
 
   -- Two byte strings have the same key.
   pub record SameAfter (u : List ℕ) (b : ℕ) (v : List ℕ) (c : ℕ) : Type 0 where
-    pub places : (leaf : ℕ) (place : Place) → HasRead leaf place u b ↔ HasRead leaf place v c
+    pub positions : (leaf : ℕ) (position : Position) → HasRead leaf position u b ↔ HasRead leaf position v c
     pub kind : seen_kind b ≡ seen_kind c
     pub leaves : (leaf : ℕ) → RuleMatches rules leaf (u ++ b ∷ []) 0 (length u) ↔ RuleMatches rules leaf (v ++ c ∷ []) 0 (length v)
 

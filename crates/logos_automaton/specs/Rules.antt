@@ -1,10 +1,10 @@
 -- The written-out patterns of rules.
 use Rattle.std.specs.Prelude.{Bool, List, [], ◌∷◌}
 use Rattle.std.specs.List.{list_any}
-use Rattle.logos_places.specs.Core.{Core, IsFree}
-use Rattle.logos_places.specs.IsCore.{IsCoreOf}
+use Rattle.logos_positions.specs.Core.{Core, IsFree}
+use Rattle.logos_positions.specs.IsCore.{IsCoreOf}
 use Rattle.logos_automaton.specs.Munch.{Rule}
-use Rattle.logos_places.specs.Places.{has_look}
+use Rattle.logos_positions.specs.Positions.{has_look}
 
 -- Each pattern stands for the tree of its rule.
 abbrev pub AreRuleCores : List Rule → List Core → Type 0

@@ -5,7 +5,7 @@ use Rattle.logos_automaton.specs.Munch.{Rule}
 use Rattle.logos_automaton.specs.declared.rule.RuleView.{RuleView}
 
 abbrev pub rule_of : RuleView → Rule
-rule_of view = record { tree = tree_of view.tree.now; priority = view.priority; use_of = record { skips = view.skips; asks = view.asks } }
+rule_of view = record { tree = tree_of view.tree.now; priority = view.priority; use_of = record { skips = view.skips; calls_back = view.calls_back } }
 
 -- The rules that a call is given.
 abbrev pub rules_of : List RuleView → List Rule

@@ -4,14 +4,14 @@
 ghost use Rattle.std.specs.Prelude.{◌≡◌, ◌∷◌, ◌++◌, ◌+◌, ◌<◌, ◌≤◌, ◌↔◌, List, ℕ, [], false, IfOk, IsTrue, OnOk, length, slice_index, slice_index_or, if◌then◌else◌};
 ghost use Rattle.logos_automaton.specs.Views.{Node, kind_of_byte, Has, IsRising, state_of, Trees, AreKindBytes, IsPrepared, IsCacheOf, AreAlmostCached, AreCached, AreLive, HasSteps, IsTreeState, Keeps, state_after, step_of, tree_view};
 
-use crate::alike::{add_bytes, first_by_kind};
+use crate::byte_equivalence::{add_bytes, first_by_kind};
 use crate::key::{Key, next_kind};
-use crate::tree_steps::making::steps_of;
+use crate::tree_steps::construction::steps_of;
 use crate::tree_steps::{TreeState, TreeSteps};
 use crate::trees::Trees;
 use indexmap::IndexSet;
-use logos_places::places::all::next_tree;
-use logos_places::places::tree::marks_between;
+use logos_positions::positions::tree::marks_between;
+use logos_positions::positions::trees::next_tree;
 use std::alloc::{AllocError, Global};
 
 /// How many states of trees are stored. Before more are added, all are removed, so that they take
@@ -43,7 +43,7 @@ pub struct LiveTree {
 /// Returns `AllocError` if memory runs out.
 fn tree_state(trees: &Trees<'_>, key: &Key, tree: usize) -> Result<TreeState, AllocError>
     requires prepared { IsPrepared trees.now }
-    requires rising { IsRising key.now.places.items }
+    requires rising { IsRising key.now.positions.items }
     requires within { tree < length trees.now.nodes.now }
     ensures there { IfOk result (λ state.
         IsTreeState trees.now.nodes.now trees.now.starts.now (tree_view state)) }
@@ -51,14 +51,14 @@ fn tree_state(trees: &Trees<'_>, key: &Key, tree: usize) -> Result<TreeState, Al
     ensures kind { IfOk result (λ state. state.kind ≡ key.now.kind) }
     ensures has { IfOk result (λ state. (q : ℕ) → slice_index trees.now.starts.now tree ≤ q →
         q < slice_index trees.now.starts.now (tree + 1) →
-        Has state.places.items q ↔ Has key.now.places.items q) }
+        Has state.positions.items q ↔ Has key.now.positions.items q) }
 {
     let low = trees.starts[tree];
     let high = trees.starts[tree + 1];
-    let places = marks_between(trees.alloc, &key.places, low, high)?;
+    let positions = marks_between(trees.alloc, &key.positions, low, high)?;
     Ok(TreeState {
         tree,
-        places,
+        positions,
         kind: key.kind,
     })
 }
@@ -135,20 +135,20 @@ impl StepCache {
     /// Returns `AllocError` if memory runs out.
     pub fn live_trees(&mut self, trees: &Trees<'_>, key: &Key) -> Result<Vec<LiveTree>, AllocError>
         requires prepared { IsPrepared trees.now }
-        requires rising { IsRising key.now.places.items }
+        requires rising { IsRising key.now.positions.items }
         requires cached { IsCacheOf trees.now self.old }
         ensures cached { OnOk result (IsCacheOf trees.now self.new) }
         ensures live { IfOk result (λ lives. AreLive trees.now.nodes.now trees.now.starts.now
-            key.now.places.items key.now.kind self.new.steps.items
+            key.now.positions.items key.now.kind self.new.steps.items
             0 lives.items (length trees.now.nodes.now)) }
     {
         let mut lives = Vec::new(trees.alloc);
-        let mut tree = next_tree(trees.starts, &key.places, false, 0);
+        let mut tree = next_tree(trees.starts, &key.positions, false, 0);
         while tree < trees.nodes.len() {
             let state = tree_state(trees, key, tree)?;
             let steps = self.index_of(trees, state)?;
             lives.push(LiveTree { tree, steps })?;
-            tree = next_tree(trees.starts, &key.places, false, tree + 1);
+            tree = next_tree(trees.starts, &key.positions, false, tree + 1);
         }
         Ok(lives)
     }
@@ -173,14 +173,14 @@ pub struct StateSteps<'c> {
 /// # Errors
 ///
 /// Returns `AllocError` if memory runs out.
-fn push_places(
+fn push_positions(
     steps: &[TreeSteps],
     live: LiveTree,
     byte: u8,
-    places: &mut Vec<usize>,
+    positions: &mut Vec<usize>,
 ) -> Result<bool, AllocError>
-    ensures places { OnOk result (places.new.items ≡
-        places.old.items ++ (step_of steps.now live byte).places) }
+    ensures positions { OnOk result (positions.new.items ≡
+        positions.old.items ++ (step_of steps.now live byte).positions) }
     ensures left { IfOk result (λ left. left ≡ (step_of steps.now live byte).left) }
 {
     let Some(of_tree) = steps.get(live.steps) else {
@@ -190,7 +190,7 @@ fn push_places(
     let Some(step) = of_tree.found.get(index) else {
         return Ok(false);
     };
-    places.extend_from_slice(&step.places)?;
+    positions.extend_from_slice(&step.positions)?;
     Ok(step.left)
 }
 
@@ -230,15 +230,15 @@ impl StateSteps<'_> {
         ensures { IfOk result (λ made. state_of made ≡
             state_after self.entry.looks self.entry.steps.now self.entry.lives.now byte) }
     {
-        let mut places = Vec::new(self.alloc);
+        let mut positions = Vec::new(self.alloc);
         let mut matches = Vec::new(self.alloc);
         for live in self.lives {
-            let left = push_places(self.steps, *live, byte, &mut places)?;
+            let left = push_positions(self.steps, *live, byte, &mut positions)?;
             push_if(&mut matches, live.tree, left)?;
         }
         Ok(Key {
-            kind: next_kind(self.looks, &places, byte),
-            places,
+            kind: next_kind(self.looks, &positions, byte),
+            positions,
             matches,
         })
     }

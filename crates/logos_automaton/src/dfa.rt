@@ -1,10 +1,10 @@
 //! The automaton of rules, which lists each match one byte late.
 
 ghost use Rattle.std.specs.Prelude.{◌≡◌, ◌<◌, length, vec_len};
-ghost use Rattle.logos_automaton.specs.Words.{AreReachable, AreByteRows, LeadWithin, EndWithin};
+ghost use Rattle.logos_automaton.specs.Imports.{AreReachable, AreByteRows, LeadWithin, EndWithin};
 ghost use Rattle.logos_automaton.specs.Keys.{automaton_of};
 
-pub mod build;
+pub mod builder;
 pub mod parts;
 pub mod walks;
 

@@ -2,7 +2,8 @@
 
 #![tactic(auto)]
 
-mod alike;
+mod boundaries;
+mod byte_equivalence;
 mod cache;
 pub mod dfa;
 pub mod errors;
@@ -14,4 +15,3 @@ mod row;
 pub mod rule;
 mod tree_steps;
 mod trees;
-mod walk;

@@ -2,9 +2,9 @@
 //! passed or looks, and `logos_graph` how large trees are.
 
 ghost use Rattle.std.specs.Prelude.{◌≡◌, ℕ, ◌+◌, ◌*◌, ◌^◌, ◌≤◌, ◌↔◌, IsTrue, length, max, map};
-ghost use Rattle.logos_automaton.specs.Words.{class_tree, tree_of, trees, IsWithinLimit, size, sizes};
+ghost use Rattle.logos_automaton.specs.Imports.{class_tree, tree_of, trees, IsWithinLimit, size, sizes};
 ghost use Rattle.logos_hir.specs.Passable as tree;
-ghost use Rattle.logos_places.specs.Places as places;
+ghost use Rattle.logos_positions.specs.Positions as positions;
 
 use logos_hir::hir::{Class, Hir};
 
@@ -100,7 +100,7 @@ fn some_leads(branches: &[Hir]) -> bool
 /// Returns whether a tree has a look.
 #[cycle(has_look)]
 pub fn has_look(hir: &Hir) -> bool
-    ensures { result ≡ places.has_look (tree_of hir.now) }
+    ensures { result ≡ positions.has_look (tree_of hir.now) }
 {
     match hir {
         Hir::Empty | Hir::Literal(_) | Hir::Class(_) => false,
@@ -113,7 +113,7 @@ pub fn has_look(hir: &Hir) -> bool
 /// Returns whether one of the trees has a look.
 #[cycle(has_look)]
 fn some_has_look(hirs: &[Hir]) -> bool
-    ensures { result ≡ places.some_has_look (trees (map tree_of hirs.now)) }
+    ensures { result ≡ positions.some_has_look (trees (map tree_of hirs.now)) }
 {
     for hir in hirs {
         if has_look(hir) {
@@ -144,7 +144,7 @@ pub fn plus(a: Option<usize>, b: Option<usize>) -> Option<usize>
 
 /// Returns how often the body of a repetition counts.
 fn copies(min: u32, max: Option<u32>) -> usize
-    ensures count { result ≡ places.copies min max }
+    ensures count { result ≡ positions.copies min max }
     ensures some { 1 ≤ result }
     ensures few { result ≤ 2 ^ 32 }
 {
@@ -156,7 +156,7 @@ fn copies(min: u32, max: Option<u32>) -> usize
 
 /// Returns the size of a repetition of a body of this size, if both are within the limit.
 fn times(body: Option<usize>, min: u32, max: Option<u32>) -> Option<usize>
-    ensures { (n : ℕ) → IsWithinLimit n body → IsWithinLimit (n * places.copies min max) result }
+    ensures { (n : ℕ) → IsWithinLimit n body → IsWithinLimit (n * positions.copies min max) result }
 {
     limited(body?.checked_mul(copies(min, max))?)
 }

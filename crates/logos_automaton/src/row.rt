@@ -1,10 +1,10 @@
-//! The targets of states, while the automaton is built. The loop of `dfa::build` asks for those of
+//! The targets of states, while the automaton is built. The loop of `dfa::builder` asks for those of
 //! each state in turn.
 
 ghost use Rattle.std.specs.Prelude.{Bool, List, ℕ, ◌≡◌, ◌^◌, ◌<◌, ◌≤◌, ◌+◌, IfOk, IfSome, IsFalse, OnOk, false, length, slice_index};
 ghost use Rattle.logos_automaton.specs.Views.{Core, AreKindBytes, IsCacheOf, IsPrepared, cores_of, Foresees, IsNotStart, state_after, AreRising, AreReached, AreFirstIn, Extends, Grows, IsAt, LeadsTo, EndsIn, IsRow};
 
-use crate::alike::first_bytes;
+use crate::byte_equivalence::first_bytes;
 use crate::cache::{LiveTree, StateSteps, StepCache};
 use crate::key::{Key, end_key, ended_key, is_start, number_of, step_key};
 use crate::trees::Trees;
@@ -169,7 +169,7 @@ fn first_in(trees: &Trees<'_>, states: &IndexSet<Key>, state: usize) -> [bool; 2
     ensures { AreFirstIn (cores_of trees.now) trees.now.looks states.now.keys state result }
 {
     match states.get_index(state) {
-        Some(key) => first_bytes(trees, &key.places, is_start(key.kind)),
+        Some(key) => first_bytes(trees, &key.positions, is_start(key.kind)),
         None => unreachable!(),
     }
 }

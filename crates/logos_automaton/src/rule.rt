@@ -18,7 +18,7 @@ pub struct RuleView<'h> {
     /// Whether its matches are skipped.
     pub skips: bool,
     /// Whether a callback is called for each match.
-    pub asks: bool,
+    pub calls_back: bool,
 }
 
 /// Returns whether the tree of some rule can meet a look before its first byte.

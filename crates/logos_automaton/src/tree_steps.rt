@@ -1,11 +1,11 @@
-//! The steps of one tree by each byte. `tree_steps::making` makes them, and `cache` stores them.
+//! The steps of one tree by each byte. `tree_steps::construction` makes them, and `cache` stores them.
 
 ghost use Rattle.logos_automaton.specs.inside.Alike.{AreChangesOf};
 
-pub mod making;
+pub mod construction;
 
-use logos_places::places::look::ByteKind;
-use logos_places::places::tree::TreeStep;
+use logos_positions::positions::look::ByteKind;
+use logos_positions::positions::tree::TreeStep;
 
 /// A state of one tree that is not entered: all that its steps depend on.
 #[derive(PartialEq, Eq, Hash, Drop)]
@@ -13,7 +13,7 @@ pub struct TreeState {
     /// The number of the tree.
     pub tree: usize,
     /// The places of the tree that read the last byte, ascending.
-    pub places: Vec<usize>,
+    pub positions: Vec<usize>,
     /// The kind of that byte, if it is remembered.
     pub kind: ByteKind,
 }

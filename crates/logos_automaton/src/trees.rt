@@ -1,6 +1,6 @@
-//! The input of the building of states. `dfa::build` puts it together before its loop.
+//! The input of the building of states. `dfa::builder` puts it together before its loop.
 
-use logos_places::node::Node;
+use logos_positions::node::Node;
 use std::alloc::Global;
 
 /// The trees of an automaton, and what is known of them before its first state is built.

@@ -4,11 +4,11 @@
 #![tactic(auto)]
 
 mod callbacks;
-mod explaining;
-mod hidden;
+mod explanation;
+mod leading_looks;
 mod meetings;
 mod names;
-mod quoting;
-mod starts;
+mod quotes;
+mod shadowed_leaves;
 
-pub use explaining::{Explained, explain, explain_enum, lexer_warnings};
+pub use explanation::{Explained, explain, explain_enum, lexer_warnings};

@@ -2,10 +2,10 @@
 
 ghost use Rattle.std.specs.Prelude.{◌≡◌, ◌≤◌, ◌++◌, ◌∷◌, [], IfOk, IsTrue, OnOk, length, map};
 ghost use Rattle.std.specs.List.Sorted.{IsStrictlyIncreasing};
-ghost use Rattle.logos_causes.specs.Words.{fault_of, numbers, set_size, set_sizes, size_of};
+ghost use Rattle.logos_causes.specs.Imports.{fault_of, numbers, set_size, set_sizes, size_of};
 
 use crate::names::name_of;
-use crate::quoting::push_quoted;
+use crate::quotes::push_quoted;
 use logos_evidence::{Match, matches_from, meeting};
 use logos_graph::graph::{Graph, GraphError};
 use logos_hir::leaf::LeafId;

@@ -31,11 +31,11 @@ pub record OrderValue : Type 0 where
   pub color : Color
 
 -- What is requested.
-pub data Asked : Type 0 where
-  asks_help : Asked
-  asks_version : Asked
-  asks_expansion : (order : OrderValue) → Asked
-  asks_each : (orders : List OrderValue) → Asked
+pub data Requested : Type 0 where
+  requests_help : Requested
+  requests_version : Requested
+  requests_expansion : (order : OrderValue) → Requested
+  requests_each : (orders : List OrderValue) → Requested
 
 -- The shapes of lexers, by their names.
 abbrev pub shape_named : List ℕ → Option Shape
@@ -59,52 +59,52 @@ abbrev pub orders_into : OrderValue → List ℕ → List (List ℕ) → List Or
 orders_into order folder paths = map (order_into order folder) paths
 
 -- A file to expand, which is the only one.
-abbrev pub one_order : OrderValue → Option (List ℕ) → Option Asked
-one_order order None = Some (asks_expansion order)
+abbrev pub one_order : OrderValue → Option (List ℕ) → Option Requested
+one_order order None = Some (requests_expansion order)
 one_order order (Some second) = None
 
 -- The same, or all files of the words, whose results go into a folder.
-abbrev pub placed : List (List ℕ) → OrderValue → Option (List ℕ) → Option (List ℕ) → Option Asked
-placed words order None second = one_order order second
-placed words order (Some output) second =
-    if is_folder output then Some (asks_each (orders_into order output (paths_of words))) else one_order order second
+abbrev pub placed : List (List ℕ) → OrderValue → Option (List ℕ) → Option (List ℕ) → Option Requested
+placed arguments order None second = one_order order second
+placed arguments order (Some output) second =
+    if is_folder output then Some (requests_each (orders_into order output (paths_of arguments))) else one_order order second
 
 -- Files to expand, with messages in this style; what is only compared needs a file for the result.
-abbrev pub shaped_given : List (List ℕ) → ArgumentsValue → List ℕ → MessageStyle → Option Shape → Option Asked
-shaped_given words parsed input style None = None
-shaped_given words parsed input style (Some shape) =
+abbrev pub shaped_given : List (List ℕ) → ArgumentsValue → List ℕ → MessageStyle → Option Shape → Option Requested
+shaped_given arguments parsed input style None = None
+shaped_given arguments parsed input style (Some shape) =
     if is_set options.Check parsed.settings && not (is_set options.Output parsed.settings) then None
-    else placed words
+    else placed arguments
     (record { input = input; output = setting options.Output parsed.settings; is_check = is_set options.Check parsed.settings; shape = shape; format = style.format; denies = is_set options.DenyWarnings parsed.settings; color = style.color })
     (setting options.Output parsed.settings) parsed.second
 
 -- Files to expand, with messages in this style, in the shape that is given.
-abbrev pub file_given : List (List ℕ) → ArgumentsValue → List ℕ → MessageStyle → Option Asked
-file_given words parsed input style = shaped_given words parsed input style (named_shape (setting options.Shape parsed.settings))
+abbrev pub file_given : List (List ℕ) → ArgumentsValue → List ℕ → MessageStyle → Option Requested
+file_given arguments parsed input style = shaped_given arguments parsed input style (named_shape (setting options.Shape parsed.settings))
 
-abbrev pub style_asked : List (List ℕ) → ArgumentsValue → List ℕ → Option MessageStyle → Option Asked
-style_asked words parsed input None = None
-style_asked words parsed input (Some style) = file_given words parsed input style
+abbrev pub style_requested : List (List ℕ) → ArgumentsValue → List ℕ → Option MessageStyle → Option Requested
+style_requested arguments parsed input None = None
+style_requested arguments parsed input (Some style) = file_given arguments parsed input style
 
 -- What is requested for the input, if there is one.
-abbrev pub order_given : List (List ℕ) → ArgumentsValue → Option (List ℕ) → Option Asked
-order_given words parsed None = None
-order_given words parsed (Some input) = style_asked words parsed input (style_given parsed.settings)
+abbrev pub order_given : List (List ℕ) → ArgumentsValue → Option (List ℕ) → Option Requested
+order_given arguments parsed None = None
+order_given arguments parsed (Some input) = style_requested arguments parsed input (style_given parsed.settings)
 
 -- A text, or files to expand.
-abbrev pub request_given : List (List ℕ) → ArgumentsValue → Option OptionName → Option Asked
-request_given words parsed (Some options.Version) = Some asks_version
-request_given words parsed (Some option) = Some asks_help
-request_given words parsed None = order_given words parsed parsed.first
+abbrev pub request_given : List (List ℕ) → ArgumentsValue → Option OptionName → Option Requested
+request_given arguments parsed (Some options.Version) = Some requests_version
+request_given arguments parsed (Some option) = Some requests_help
+request_given arguments parsed None = order_given arguments parsed parsed.first
 
 -- What these arguments request.
-abbrev pub asked_given : List (List ℕ) → Option ArgumentsValue → Option Asked
-asked_given words None = None
-asked_given words (Some parsed) = request_given words parsed parsed.text
+abbrev pub requested_given : List (List ℕ) → Option ArgumentsValue → Option Requested
+requested_given arguments None = None
+requested_given arguments (Some parsed) = request_given arguments parsed parsed.text
 
 -- What the arguments of a command line request, if they are valid.
-abbrev pub asked : List (List ℕ) → Option Asked
-asked words = asked_given words (arguments_of Cli words)
+abbrev pub requested : List (List ℕ) → Option Requested
+requested arguments = requested_given arguments (arguments_of Cli arguments)
 
 -- The values of the program's types.
 abbrev pub order_value : ExpandOrder → OrderValue
@@ -120,11 +120,11 @@ order_value order = record {
 
 -- What is requested for each of several files, as values.
 abbrev pub batch_value : Batch → List OrderValue
-batch_value batch = orders_into (order_value batch.order) batch.folder.now (paths_of (map string_bytes batch.words.now))
+batch_value batch = orders_into (order_value batch.order) batch.folder.now (paths_of (map string_bytes batch.arguments.now))
 
 -- What is requested, as a value.
-abbrev pub request_value : Request → Asked
-request_value requests.Help = asks_help
-request_value requests.Version = asks_version
-request_value (requests.Expand order) = asks_expansion (order_value order)
-request_value (requests.ExpandEach batch) = asks_each (batch_value batch)
+abbrev pub request_value : Request → Requested
+request_value requests.Help = requests_help
+request_value requests.Version = requests_version
+request_value (requests.Expand order) = requests_expansion (order_value order)
+request_value (requests.ExpandEach batch) = requests_each (batch_value batch)

@@ -4,30 +4,30 @@
 -- there compares with them, and the files after that.
 use Rattle.std.specs.Prelude.{◌≡◌, ◌≢◌, ◌⊎◌, ◌++◌, ◌||◌, ℕ, List, [], ◌∷◌, All, Bool, Contains, true, false, IsTrue, Option, Some, None, IfSome, bytes_eq, map, unwrap_or}
 use Rattle.std.specs.Io.KnownBytes.{Appends, Keeps}
-use Rattle.logos_host.specs.declared.comparison.Standing.{Standing}
-use Rattle.logos_host.specs.declared.comparison.Standing.TheVariants.{Same}
+use Rattle.logos_host.specs.declared.comparison.Occurrence.{Occurrence}
+use Rattle.logos_host.specs.declared.comparison.Occurrence.TheVariants.{Same}
 use Rattle.logos_host.specs.Reading.{Reads}
 use Rattle.logos_expand.specs.Expanding.{IsExpanded}
 use Rattle.logos_expand.specs.Gathering.{IsCause}
-use Rattle.logos_cli.specs.Orders.{Asked, asks_help, asks_version, asks_expansion, asks_each, OrderValue}
-use Rattle.logos_text.specs.Standing.{StandInOrder}
+use Rattle.logos_cli.specs.Orders.{Requested, requests_help, requests_version, requests_expansion, requests_each, OrderValue}
+use Rattle.logos_text.specs.Occurrence.{OccurInOrder}
 
 -- A file has other bytes than these, or cannot be read.
-pub record IsOther {F : Type 0} (finds : F → List ℕ → List ℕ → Standing → F → Type 0) (path bytes : List ℕ) (files after : F) : Type 0 where
-  pub standing : Standing
-  pub found : finds files path bytes standing after
-  pub other : standing ≢ Same
+pub record IsOther {F : Type 0} (finds : F → List ℕ → List ℕ → Occurrence → F → Type 0) (path bytes : List ℕ) (files after : F) : Type 0 where
+  pub occurrence : Occurrence
+  pub found : finds files path bytes occurrence after
+  pub other : occurrence ≢ Same
 
 -- A file had other bytes, and these were written to it.
-pub record IsRewritten {F : Type 0} (makes : F → List ℕ → List ℕ → F → Type 0) (finds : F → List ℕ → List ℕ → Standing → F → Type 0) (path bytes : List ℕ) (files after : F) : Type 0 where
+pub record IsRewritten {F : Type 0} (makes : F → List ℕ → List ℕ → F → Type 0) (finds : F → List ℕ → List ℕ → Occurrence → F → Type 0) (path bytes : List ℕ) (files after : F) : Type 0 where
   pub between : F
   pub other : IsOther finds path bytes files between
   pub made : makes between path bytes after
 
-module _ {F : Type 0} (gives makes : F → List ℕ → List ℕ → F → Type 0) (finds : F → List ℕ → List ℕ → Standing → F → Type 0) where
+module _ {F : Type 0} (yields makes : F → List ℕ → List ℕ → F → Type 0) (finds : F → List ℕ → List ℕ → Occurrence → F → Type 0) where
   -- A file has these bytes, and was not written.
   abbrev pub IsThere : List ℕ → List ℕ → F → F → Type 0
-  IsThere path bytes files after = finds files path bytes Same after × gives files path bytes after
+  IsThere path bytes files after = finds files path bytes Same after × yields files path bytes after
 
   -- The result is in a file: it was there, or it was written, and not only to be compared.
   abbrev pub IsSettled : OrderValue → List ℕ → List ℕ → F → F → Type 0
@@ -42,7 +42,7 @@ module _ {F : Type 0} (gives makes : F → List ℕ → List ℕ → F → Type 
   -- The file is read and expanded, and the result is where it was asked for.
   abbrev pub IsCarriedOut : OrderValue → F → F → Option (List ℕ) → Option (List ℕ) → Type 0
   IsCarriedOut order files after old new =
-      Reads gives files order.input (λ text read. (bytes : List ℕ) × IsExpanded order.shape text bytes × IsDelivered order order.output bytes read after old new)
+      Reads yields files order.input (λ text read. (bytes : List ℕ) × IsExpanded order.shape text bytes × IsDelivered order order.output bytes read after old new)
 
   -- Files are read and expanded one after another, and each result is where it was asked for.
   abbrev pub AreCarriedOut : List OrderValue → F → F → Option (List ℕ) → Option (List ℕ) → Type 0
@@ -51,17 +51,17 @@ module _ {F : Type 0} (gives makes : F → List ℕ → List ℕ → F → Type 
       (between : F) × (middle : Option (List ℕ)) × IsCarriedOut order files between old middle × AreCarriedOut rest between after middle new
 
   -- What is asked for is done.
-  abbrev pub IsDone : Asked → F → F → Option (List ℕ) → Option (List ℕ) → Type 0
-  IsDone asks_help files after old new = after ≡ files
-  IsDone asks_version files after old new = after ≡ files
-  IsDone (asks_expansion order) files after old new = IsCarriedOut order files after old new
-  IsDone (asks_each orders) files after old new = AreCarriedOut orders files after old new
+  abbrev pub IsDone : Requested → F → F → Option (List ℕ) → Option (List ℕ) → Type 0
+  IsDone requests_help files after old new = after ≡ files
+  IsDone requests_version files after old new = after ≡ files
+  IsDone (requests_expansion order) files after old new = IsCarriedOut order files after old new
+  IsDone (requests_each orders) files after old new = AreCarriedOut orders files after old new
 
   -- The file is read, and has faults, which this text shows, or warnings, which are denied; or its
   -- expansion was only to be compared, and is not what the other file has. No file is written.
   abbrev pub IsDeniedOrder : OrderValue → F → F → List ℕ → Type 0
   IsDeniedOrder order files after shown =
-      Reads gives files order.input (λ text read. ((after ≡ read) × IsCause order.format order.denies order.shape (record { path = order.input; text = text }) shown)
+      Reads yields files order.input (λ text read. ((after ≡ read) × IsCause order.format order.denies order.shape (record { path = order.input; text = text }) shown)
       ⊎ (IsTrue order.is_check × ((bytes : List ℕ) × IsExpanded order.shape text bytes × IfSome order.output (λ path. IsOther finds path bytes read after))))
 
   -- What is asked of a file is done, or it is refused, for what a text says.
@@ -78,14 +78,14 @@ module _ {F : Type 0} (gives makes : F → List ℕ → List ℕ → F → Type 
   -- Some of these files are refused, for texts that stand in this one, in order, and what is asked
   -- of the others is done.
   abbrev pub AreDenied : List OrderValue → F → F → List ℕ → Type 0
-  AreDenied orders files after shown = (texts : List (List ℕ)) × (texts ≢ []) × AreEnded orders files after texts × StandInOrder texts shown
+  AreDenied orders files after shown = (texts : List (List ℕ)) × (texts ≢ []) × AreEnded orders files after texts × OccurInOrder texts shown
 
   -- What is asked for is refused, for what this text says.
-  abbrev pub IsDenied : Asked → F → F → List ℕ → Type 0
-  IsDenied asks_help files after shown = ⊥
-  IsDenied asks_version files after shown = ⊥
-  IsDenied (asks_expansion order) files after shown = IsDeniedOrder order files after shown
-  IsDenied (asks_each orders) files after shown = AreDenied orders files after shown
+  abbrev pub IsDenied : Requested → F → F → List ℕ → Type 0
+  IsDenied requests_help files after shown = ⊥
+  IsDenied requests_version files after shown = ⊥
+  IsDenied (requests_expansion order) files after shown = IsDeniedOrder order files after shown
+  IsDenied (requests_each orders) files after shown = AreDenied orders files after shown
 
 -- The path of the file for a result, of which there is one.
 abbrev pub output_of : OrderValue → List ℕ
@@ -112,16 +112,16 @@ module _ {F : Type 0} (same : F → List ℕ → List ℕ → Bool → Type 0) w
   IsInput orders files path = (order : OrderValue) × Contains orders order × same files order.input path true
 
   -- A file for a result is a file that is read, or that for another result.
-  abbrev pub IsOwnOutput : Asked → F → Type 0
-  IsOwnOutput asks_help files = ⊥
-  IsOwnOutput asks_version files = ⊥
-  IsOwnOutput (asks_expansion order) files = IfSome order.output (λ path. same files order.input path true)
-  IsOwnOutput (asks_each orders) files =
+  abbrev pub IsOwnOutput : Requested → F → Type 0
+  IsOwnOutput requests_help files = ⊥
+  IsOwnOutput requests_version files = ⊥
+  IsOwnOutput (requests_expansion order) files = IfSome order.output (λ path. same files order.input path true)
+  IsOwnOutput (requests_each orders) files =
       ((order : OrderValue) × Contains orders order × IsInput orders files (output_of order)) ⊎ (has_twins (map output_of orders) ≡ true)
 
   -- Each is another file.
-  abbrev pub IsApart : Asked → F → Type 0
-  IsApart asks_help files = Unit {0}
-  IsApart asks_version files = Unit {0}
-  IsApart (asks_expansion order) files = IfSome order.output (λ path. same files order.input path false)
-  IsApart (asks_each orders) files = All (λ order. IsNoInput orders files (output_of order)) orders × (has_twins (map output_of orders) ≡ false)
+  abbrev pub IsApart : Requested → F → Type 0
+  IsApart requests_help files = Unit {0}
+  IsApart requests_version files = Unit {0}
+  IsApart (requests_expansion order) files = IfSome order.output (λ path. same files order.input path false)
+  IsApart (requests_each orders) files = All (λ order. IsNoInput orders files (output_of order)) orders × (has_twins (map output_of orders) ≡ false)

@@ -1,7 +1,7 @@
 //! Files whose results go into a folder.
 
 ghost use Rattle.std.specs.Prelude.{◌≡◌, ◌≢◌, ◌⊎◌, ◌≤◌, ◌++◌, ◌∷◌, [], ℕ, All, Contains, IfOk, IsTrue, List, MatchOption, OnOk, drop, false, map, true};
-ghost use Rattle.logos_cli.specs.Views.{Appends, AreCarriedOut, AreDenied, IsApart, IsOwnOutput, Keeps, OrderValue, asks_each, batch_value, batch_file_order, has_twins, is_among, order_into, order_value, orders_into, orders_of, output_text, texts_of};
+ghost use Rattle.logos_cli.specs.Views.{Appends, AreCarriedOut, AreDenied, IsApart, IsOwnOutput, Keeps, OrderValue, requests_each, batch_value, batch_file_order, has_twins, is_among, order_into, order_value, orders_into, orders_of, output_text, texts_of};
 ghost use Rattle.logos_cli.specs.declared.batch.BatchFile.{BatchFile as BatchFileValue};
 
 use crate::options::{Batch, ExpandOrder};
@@ -33,14 +33,14 @@ pub(crate) fn run_batch<F: ComparableFiles, O: Write, E: Write + IsTerminal>(
     err: &mut E,
 ) -> Ending
     ensures own { result.status ≡ 2 →
-        IsOwnOutput F.same_finds (asks_each (batch_value batch.entry)) files.old }
+        IsOwnOutput F.same_finds (requests_each (batch_value batch.entry)) files.old }
     ensures apart { result.status ≡ 0 →
-        IsApart F.same_finds (asks_each (batch_value batch.entry)) files.old }
+        IsApart F.same_finds (requests_each (batch_value batch.entry)) files.old }
     ensures untouched { result.status ≡ 2 →
         (files.new ≡ files.old) × Keeps (O.contents out.old) (O.contents out.new) }
-    ensures done { result.status ≡ 0 → AreCarriedOut F.read_gives F.write_makes F.compare_finds
+    ensures done { result.status ≡ 0 → AreCarriedOut F.read_yields F.write_makes F.compare_finds
         (batch_value batch.entry) files.old files.new (O.contents out.old) (O.contents out.new) }
-    ensures denied { result.status ≡ 1 → (shown : List ℕ) × AreDenied F.read_gives F.write_makes
+    ensures denied { result.status ≡ 1 → (shown : List ℕ) × AreDenied F.read_yields F.write_makes
         F.compare_finds (batch_value batch.entry) files.old files.new shown
         × (IsTrue result.is_written → (front : List ℕ)
         × Appends (E.contents err.old) (E.contents err.new) (front ++ shown)) }
@@ -65,7 +65,7 @@ fn batch_files_of<'w>(alloc: Global, batch: Batch<'w>) -> Result<Vec<BatchFile<'
     ensures { IfOk result (λ batch_files.
         orders_of (order_value batch.entry.order) batch_files.items ≡ batch_value batch.entry) }
 {
-    let paths = paths_of(alloc, batch.words)?;
+    let paths = paths_of(alloc, batch.arguments)?;
     batch_files_at(alloc, batch, &paths)
 }
 
@@ -182,10 +182,10 @@ fn run_each<F: ComparableFiles, O: Write, E: Write + IsTerminal>(
     out: &mut O,
     err: &mut E,
 ) -> Ending
-    ensures done { result.status ≡ 0 → AreCarriedOut F.read_gives F.write_makes F.compare_finds
+    ensures done { result.status ≡ 0 → AreCarriedOut F.read_yields F.write_makes F.compare_finds
         (orders_of (order_value order.entry) batch_files.now) files.old files.new
         (O.contents out.old) (O.contents out.new) }
-    ensures denied { result.status ≡ 1 → (shown : List ℕ) × AreDenied F.read_gives F.write_makes
+    ensures denied { result.status ≡ 1 → (shown : List ℕ) × AreDenied F.read_yields F.write_makes
         F.compare_finds (orders_of (order_value order.entry) batch_files.now) files.old files.new shown
         × (IsTrue result.is_written → (front : List ℕ)
         × Appends (E.contents err.old) (E.contents err.new) (front ++ shown)) }

@@ -4,7 +4,7 @@ ghost use Rattle.std.specs.Prelude.{⊤};
 ghost use Rattle.logos_cli.specs.Views.{FailsBy, IsRefusedFor};
 
 use logos_expand::shape_name;
-use logos_host::{ComparableFiles, Failure, Standing};
+use logos_host::{ComparableFiles, Failure, Occurrence};
 use logos_page::Page;
 use logos_tables::Shape;
 use std::alloc::{AllocError, Global};
@@ -28,7 +28,7 @@ pub(crate) struct StaleFile<'t> {
     /// The shape of the result.
     pub(crate) shape: Shape,
     /// How the file compares with the result.
-    pub(crate) standing: Standing,
+    pub(crate) occurrence: Occurrence,
     /// The result.
     pub(crate) made: &'t [u8],
 }
@@ -78,8 +78,8 @@ fn difference_text(
 fn push_what(page: &mut Page, stale: &StaleFile<'_>) {
     page.push("error: ");
     page.push_shown(stale.path);
-    match stale.standing {
-        Standing::Missing => page.push(" is missing\n"),
+    match stale.occurrence {
+        Occurrence::Missing => page.push(" is missing\n"),
         _ => {
             page.push(" is not what ");
             page.push_shown(stale.input);

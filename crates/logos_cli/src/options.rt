@@ -1,7 +1,7 @@
 //! What the arguments of `logos_cli` request.
 
 ghost use Rattle.std.specs.Prelude.{◌≡◌, IfErr, IfOk, None, Some, is_some, map, option_map, string_bytes};
-ghost use Rattle.logos_cli.specs.Views.{arguments_value, asked, file_given, is_folder, named_shape, order_given, order_value, placed, request_given, request_value, shape_named, status_of};
+ghost use Rattle.logos_cli.specs.Views.{arguments_value, requested, file_given, is_folder, named_shape, order_given, order_value, placed, request_given, request_value, shape_named, status_of};
 
 use logos_codegen::generator::Config;
 use logos_host::{Color, Failure, MessageFormat};
@@ -43,7 +43,7 @@ pub(crate) struct ExpandOrder<'w> {
 #[derive(Clone, Copy)]
 pub(crate) struct Batch<'w> {
     /// The words of the command line, which have the paths of the files.
-    pub(crate) words: &'w [String],
+    pub(crate) arguments: &'w [String],
     /// What is asked for each of them, as for the first one.
     pub(crate) order: ExpandOrder<'w>,
     /// The path of the folder, which ends in `/`.
@@ -55,46 +55,46 @@ pub(crate) struct Batch<'w> {
 /// # Errors
 ///
 /// Returns `Misuse` or `UnknownOption` if they are invalid.
-pub(crate) fn request_of(words: &[String]) -> Result<Request<'_>, Failure<'_>>
-    ensures asked { IfOk result (λ request.
-        asked (map string_bytes words.now) ≡ Some (request_value request)) }
+pub(crate) fn request_of(arguments: &[String]) -> Result<Request<'_>, Failure<'_>>
+    ensures requested { IfOk result (λ request.
+        requested (map string_bytes arguments.now) ≡ Some (request_value request)) }
     ensures misuse { IfErr result (λ failure.
-        (asked (map string_bytes words.now) ≡ None) × (status_of failure ≡ 2)) }
+        (requested (map string_bytes arguments.now) ≡ None) × (status_of failure ≡ 2)) }
 {
-    match arguments_of(Program::Cli, words) {
-        Ok(parsed) => request_given(words, parsed),
+    match arguments_of(Program::Cli, arguments) {
+        Ok(parsed) => request_given(arguments, parsed),
         Err(failure) => Err(failure),
     }
 }
 
 /// Returns what arguments request.
 fn request_given<'w>(
-    words: &'w [String],
+    arguments: &'w [String],
     parsed: Arguments<'w>,
 ) -> Result<Request<'w>, Failure<'w>>
-    ensures asked { IfOk result (λ request. request_given (map string_bytes words.now)
+    ensures requested { IfOk result (λ request. request_given (map string_bytes arguments.now)
         (arguments_value parsed.entry) (arguments_value parsed.entry).text
         ≡ Some (request_value request)) }
-    ensures misuse { IfErr result (λ failure. (request_given (map string_bytes words.now)
+    ensures misuse { IfErr result (λ failure. (request_given (map string_bytes arguments.now)
         (arguments_value parsed.entry) (arguments_value parsed.entry).text ≡ None)
         × (status_of failure ≡ 2)) }
 {
     match parsed.text {
         Some(OptionName::Version) => Ok(Request::Version),
         Some(_) => Ok(Request::Help),
-        None => order_given(words, parsed),
+        None => order_given(arguments, parsed),
     }
 }
 
 /// Returns the files to expand.
 fn order_given<'w>(
-    words: &'w [String],
+    arguments: &'w [String],
     parsed: Arguments<'w>,
 ) -> Result<Request<'w>, Failure<'w>>
-    ensures asked { IfOk result (λ request. order_given (map string_bytes words.now)
+    ensures requested { IfOk result (λ request. order_given (map string_bytes arguments.now)
         (arguments_value parsed.entry) (arguments_value parsed.entry).first
         ≡ Some (request_value request)) }
-    ensures misuse { IfErr result (λ failure. (order_given (map string_bytes words.now)
+    ensures misuse { IfErr result (λ failure. (order_given (map string_bytes arguments.now)
         (arguments_value parsed.entry) (arguments_value parsed.entry).first ≡ None)
         × (status_of failure ≡ 2)) }
 {
@@ -105,19 +105,19 @@ fn order_given<'w>(
         Ok(style) => style,
         Err(failure) => return Err(failure),
     };
-    file_given(words, parsed, input, style)
+    file_given(arguments, parsed, input, style)
 }
 
 /// Returns the files to expand, with messages in this style.
 fn file_given<'w>(
-    words: &'w [String],
+    arguments: &'w [String],
     parsed: Arguments<'w>,
     input: &'w str,
     style: MessageStyle,
 ) -> Result<Request<'w>, Failure<'w>>
-    ensures asked { IfOk result (λ request. file_given (map string_bytes words.now)
+    ensures requested { IfOk result (λ request. file_given (map string_bytes arguments.now)
         (arguments_value parsed.entry) input.now style ≡ Some (request_value request)) }
-    ensures misuse { IfErr result (λ failure. (file_given (map string_bytes words.now)
+    ensures misuse { IfErr result (λ failure. (file_given (map string_bytes arguments.now)
         (arguments_value parsed.entry) input.now style ≡ None) × (status_of failure ≡ 2)) }
 {
     let settings = &parsed.settings;
@@ -139,25 +139,25 @@ fn file_given<'w>(
         denies: settings.has(OptionName::DenyWarnings),
         color: style.color,
     };
-    placed(words, order, parsed.second)
+    placed(arguments, order, parsed.second)
 }
 
 /// Returns the file to expand, or the files whose results go into a folder.
 fn placed<'w>(
-    words: &'w [String],
+    arguments: &'w [String],
     order: ExpandOrder<'w>,
     second: Option<&'w str>,
 ) -> Result<Request<'w>, Failure<'w>>
-    ensures asked { IfOk result (λ request. placed (map string_bytes words.now)
+    ensures requested { IfOk result (λ request. placed (map string_bytes arguments.now)
         (order_value order.entry) (order_value order.entry).output
         (option_map (λ path. path.now) second.entry) ≡ Some (request_value request)) }
-    ensures misuse { IfErr result (λ failure. (placed (map string_bytes words.now)
+    ensures misuse { IfErr result (λ failure. (placed (map string_bytes arguments.now)
         (order_value order.entry) (order_value order.entry).output
         (option_map (λ path. path.now) second.entry) ≡ None) × (status_of failure ≡ 2)) }
 {
     match (order.output, second) {
         (Some(folder), _) if is_folder(folder) => Ok(Request::ExpandEach(Batch {
-            words,
+            arguments,
             order,
             folder,
         })),

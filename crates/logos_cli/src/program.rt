@@ -1,7 +1,7 @@
 //! The program, from its arguments to an exit status. `run_logos_cli` and build scripts call it.
 
 ghost use Rattle.std.specs.Prelude.{◌≡◌, ◌≢◌, ◌≤◌, ◌++◌, ◌⊎◌, None, MatchOption, false, true, IfErr, IfOk, IfSome, OnOk, ℕ, List, IsTrue, map, string_bytes};
-ghost use Rattle.logos_cli.specs.Views.{Appends, Keeps, status_of, message_of, Reads, asked, order_value, request_value, IsCarriedOut, IsDelivered, IsDenied, IsDeniedOrder, IsDone, IsApart, IsOwnOutput, IsSettled, IsExpanded, FailsBy, IsRefusedFor, IsOther};
+ghost use Rattle.logos_cli.specs.Views.{Appends, Keeps, status_of, message_of, Reads, requested, order_value, request_value, IsCarriedOut, IsDelivered, IsDenied, IsDeniedOrder, IsDone, IsApart, IsOwnOutput, IsSettled, IsExpanded, FailsBy, IsRefusedFor, IsOther};
 
 use crate::batch::run_batch;
 use crate::difference::{StaleFile, difference};
@@ -9,7 +9,7 @@ use crate::options::{ExpandOrder, Request, request_of};
 use logos_expand::{Expansion, expand};
 use logos_file_warnings::Showing;
 use logos_host::{
-    ComparableFiles, Failure, Standing, print_bytes, read_text, report, write_file, write_through,
+    ComparableFiles, Failure, Occurrence, print_bytes, read_text, report, write_file, write_through,
 };
 use logos_options::{HelpText, Program, print_help, print_version, with_nearest};
 use logos_report::Source;
@@ -60,23 +60,23 @@ pub(crate) fn run_with<F: ComparableFiles, O: Write, E: Write + IsTerminal>(
 ) -> u8
     requires { IfErr arguments (λ failure. (status_of failure ≡ 2) ⊎ (status_of failure ≡ 3)) }
     ensures usage { IfOk arguments.entry (λ passed.
-        asked (map string_bytes passed.items) ≡ None → result ≡ 2) }
+        requested (map string_bytes passed.items) ≡ None → result ≡ 2) }
     ensures misuse { IfOk arguments.entry (λ passed. result ≡ 2 →
-        (asked (map string_bytes passed.items) ≡ None)
-        ⊎ IfSome (asked (map string_bytes passed.items))
+        (requested (map string_bytes passed.items) ≡ None)
+        ⊎ IfSome (requested (map string_bytes passed.items))
         (λ order. IsOwnOutput F.same_finds order files.old)) }
     ensures apart { IfOk arguments.entry (λ passed. result ≡ 0 →
-        IfSome (asked (map string_bytes passed.items))
+        IfSome (requested (map string_bytes passed.items))
         (λ order. IsApart F.same_finds order files.old)) }
     ensures untouched { result ≡ 2 →
         (files.new ≡ files.old) × Keeps (O.contents out.old) (O.contents out.new) }
     ensures done { IfOk arguments.entry (λ passed. result ≡ 0 →
-        IfSome (asked (map string_bytes passed.items))
-        (λ order. IsDone F.read_gives F.write_makes F.compare_finds order files.old files.new
+        IfSome (requested (map string_bytes passed.items))
+        (λ order. IsDone F.read_yields F.write_makes F.compare_finds order files.old files.new
         (O.contents out.old) (O.contents out.new))) }
     ensures denied { IfOk arguments.entry (λ passed. result ≡ 1 →
-        IfSome (asked (map string_bytes passed.items)) (λ order. (shown : List ℕ)
-        × IsDenied F.read_gives F.write_makes F.compare_finds order files.old files.new shown)) }
+        IfSome (requested (map string_bytes passed.items)) (λ order. (shown : List ℕ)
+        × IsDenied F.read_yields F.write_makes F.compare_finds order files.old files.new shown)) }
     ensures silent { result ≡ 1 → Keeps (O.contents out.old) (O.contents out.new) }
     ensures unread { IfErr arguments.entry (λ failure. result ≡ status_of failure) }
     ensures known { result ≤ 3 }
@@ -92,35 +92,35 @@ pub(crate) fn run_with<F: ComparableFiles, O: Write, E: Write + IsTerminal>(
 /// messages go to standard error.
 pub(crate) fn run<F: ComparableFiles, O: Write, E: Write + IsTerminal>(
     alloc: Global,
-    words: &[String],
+    arguments: &[String],
     files: &mut F,
     out: &mut O,
     err: &mut E,
 ) -> Ending
-    ensures usage { asked (map string_bytes words.now) ≡ None → result.status ≡ 2 }
-    ensures misuse { result.status ≡ 2 → (asked (map string_bytes words.now) ≡ None)
-        ⊎ IfSome (asked (map string_bytes words.now)) (λ order. IsOwnOutput F.same_finds order files.old) }
+    ensures usage { requested (map string_bytes arguments.now) ≡ None → result.status ≡ 2 }
+    ensures misuse { result.status ≡ 2 → (requested (map string_bytes arguments.now) ≡ None)
+        ⊎ IfSome (requested (map string_bytes arguments.now)) (λ order. IsOwnOutput F.same_finds order files.old) }
     // The output is not the input.
-    ensures apart { result.status ≡ 0 → IfSome (asked (map string_bytes words.now))
+    ensures apart { result.status ≡ 0 → IfSome (requested (map string_bytes arguments.now))
         (λ order. IsApart F.same_finds order files.old) }
     // No file was read or written, and nothing was printed.
     ensures untouched { result.status ≡ 2 →
         (files.new ≡ files.old) × Keeps (O.contents out.old) (O.contents out.new) }
     // The files gave what was asked for, and the result is there whole.
-    ensures done { result.status ≡ 0 → IfSome (asked (map string_bytes words.now))
-        (λ order. IsDone F.read_gives F.write_makes F.compare_finds order files.old files.new
+    ensures done { result.status ≡ 0 → IfSome (requested (map string_bytes arguments.now))
+        (λ order. IsDone F.read_yields F.write_makes F.compare_finds order files.old files.new
         (O.contents out.old) (O.contents out.new)) }
     // A refusal stands: a lexer of the file has faults, or a file that is only compared is not the
     // result. The text that says so is what standard error got last, and nothing was printed or
     // written.
-    ensures denied { result.status ≡ 1 → IfSome (asked (map string_bytes words.now))
-        (λ order. (shown : List ℕ) × IsDenied F.read_gives F.write_makes F.compare_finds order
+    ensures denied { result.status ≡ 1 → IfSome (requested (map string_bytes arguments.now))
+        (λ order. (shown : List ℕ) × IsDenied F.read_yields F.write_makes F.compare_finds order
         files.old files.new shown × (IsTrue result.is_written → (front : List ℕ)
         × Appends (E.contents err.old) (E.contents err.new) (front ++ shown))) }
     ensures silent { result.status ≡ 1 → Keeps (O.contents out.old) (O.contents out.new) }
     ensures known { result.status ≤ 3 }
 {
-    match request_of(words) {
+    match request_of(arguments) {
         Ok(Request::Help) => ended(print_help(Program::Cli, HELP, out), err),
         Ok(Request::Version) => ended(print_version(VERSION, files, out), err),
         Ok(Request::Expand(order)) => run_order(alloc, order, files, out, err),
@@ -169,9 +169,9 @@ fn run_order<F: ComparableFiles, O: Write, E: Write + IsTerminal>(
         (λ path. F.same_finds files.old (order_value order.entry).input path false) }
     ensures untouched { result.status ≡ 2 →
         (files.new ≡ files.old) × Keeps (O.contents out.old) (O.contents out.new) }
-    ensures done { result.status ≡ 0 → IsCarriedOut F.read_gives F.write_makes F.compare_finds
+    ensures done { result.status ≡ 0 → IsCarriedOut F.read_yields F.write_makes F.compare_finds
         (order_value order.entry) files.old files.new (O.contents out.old) (O.contents out.new) }
-    ensures denied { result.status ≡ 1 → (shown : List ℕ) × IsDeniedOrder F.read_gives F.write_makes
+    ensures denied { result.status ≡ 1 → (shown : List ℕ) × IsDeniedOrder F.read_yields F.write_makes
         F.compare_finds (order_value order.entry) files.old files.new shown
         × (IsTrue result.is_written → (front : List ℕ)
         × Appends (E.contents err.old) (E.contents err.new) (front ++ shown)) }
@@ -192,9 +192,9 @@ pub(crate) fn carry_out<F: ComparableFiles, O: Write, E: Write + IsTerminal>(
     out: &mut O,
     err: &mut E,
 ) -> Ending
-    ensures done { result.status ≡ 0 → IsCarriedOut F.read_gives F.write_makes F.compare_finds
+    ensures done { result.status ≡ 0 → IsCarriedOut F.read_yields F.write_makes F.compare_finds
         (order_value order.entry) files.old files.new (O.contents out.old) (O.contents out.new) }
-    ensures denied { result.status ≡ 1 → (shown : List ℕ) × IsDeniedOrder F.read_gives F.write_makes
+    ensures denied { result.status ≡ 1 → (shown : List ℕ) × IsDeniedOrder F.read_yields F.write_makes
         F.compare_finds (order_value order.entry) files.old files.new shown
         × (IsTrue result.is_written → (front : List ℕ)
         × Appends (E.contents err.old) (E.contents err.new) (front ++ shown)) }
@@ -231,10 +231,10 @@ fn expansion_of<'w, F: ComparableFiles>(
     is_colored: bool,
     files: &mut F,
 ) -> Result<Expansion, Failure<'w>>
-    ensures done { IfOk result (λ made. Reads F.read_gives files.old (order_value order.entry).input
+    ensures done { IfOk result (λ made. Reads F.read_yields files.old (order_value order.entry).input
         (λ text read. (files.new ≡ read)
         × IsExpanded (order_value order.entry).shape text made.bytes.items)) }
-    ensures denied { IfErr result (FailsBy (IsRefusedFor (IsDeniedOrder F.read_gives F.write_makes
+    ensures denied { IfErr result (FailsBy (IsRefusedFor (IsDeniedOrder F.read_yields F.write_makes
         F.compare_finds (order_value order.entry) files.old files.new))) }
 {
     let text = match read_text(order.input, files) {
@@ -263,7 +263,7 @@ fn deliver_and_end<F: ComparableFiles, O: Write, E: Write>(
     out: &mut O,
     err: &mut E,
 ) -> Ending
-    ensures done { result.status ≡ 0 → IsDelivered F.read_gives F.write_makes F.compare_finds
+    ensures done { result.status ≡ 0 → IsDelivered F.read_yields F.write_makes F.compare_finds
         (order_value order.entry) (order_value order.entry).output expansion.now.bytes.items files.old
         files.new (O.contents out.old) (O.contents out.new) }
     ensures denied { result.status ≡ 1 → (shown : List ℕ) × IsTrue (order_value order.entry).is_check
@@ -317,7 +317,7 @@ fn deliver<'w, F: ComparableFiles, O: Write>(
     files: &mut F,
     out: &mut O,
 ) -> Result<(), Failure<'w>>
-    ensures done { OnOk result (IsDelivered F.read_gives F.write_makes F.compare_finds
+    ensures done { OnOk result (IsDelivered F.read_yields F.write_makes F.compare_finds
         (order_value order.entry) (order_value order.entry).output bytes.now files.old files.new
         (O.contents out.old) (O.contents out.new)) }
     ensures denied { IfErr result (FailsBy (IsRefusedFor (λ shown.
@@ -340,17 +340,17 @@ fn settle<'w, F: ComparableFiles>(
     bytes: &[u8],
     files: &mut F,
 ) -> Result<(), Failure<'w>>
-    ensures done { OnOk result (IsSettled F.read_gives F.write_makes F.compare_finds
+    ensures done { OnOk result (IsSettled F.read_yields F.write_makes F.compare_finds
         (order_value order.entry) path.now bytes.now files.old files.new) }
     ensures denied { IfErr result (FailsBy (IsRefusedFor (λ shown.
         IsTrue (order_value order.entry).is_check
         × IsOther F.compare_finds path.now bytes.now files.old files.new))) }
 {
-    let standing = match files.compare(path, bytes) {
-        Ok(standing) => standing,
+    let occurrence = match files.compare(path, bytes) {
+        Ok(occurrence) => occurrence,
         Err(AllocError) => return Err(Failure::Memory),
     };
-    if matches!(standing, Standing::Same) {
+    if matches!(occurrence, Occurrence::Same) {
         return Ok(());
     }
     if order.is_check {
@@ -358,7 +358,7 @@ fn settle<'w, F: ComparableFiles>(
             input: order.input,
             path,
             shape: order.shape,
-            standing,
+            occurrence,
             made: bytes,
         };
         return Err(difference(alloc, &stale, files));

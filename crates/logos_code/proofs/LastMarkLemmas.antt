@@ -6,8 +6,8 @@ use Rattle.std.proofs.Math.ListN.{get_or-eq_default}
 use Rattle.logos_code.specs.Code.{CodeValue, CodeState, Condition, Mark, by_conditions, by_table}
 use Rattle.logos_code.specs.CodeView.{state_at, no_state, state_of, code_of, mark_of, fork_of, jumps_of, entry_of}
 use Rattle.logos_code.specs.Headline.{IsSound, IsRoot, IsEnd, IsLate, NamesWhatIsThere}
-use Rattle.logos_code.specs.LastMarks.{Stood, first_stand, next_stand, Holds, AreLastMarks, last_mark_at}
-use Rattle.logos_code.specs.Runs.{Stand, Turn, enters, acts, returns, led, forked, turn, Does, passes, target, looped, marked}
+use Rattle.logos_code.specs.LastMarks.{Stood, first_status, next_status, Holds, AreLastMarks, last_mark_at}
+use Rattle.logos_code.specs.Runs.{Status, Turn, enters, acts, returns, led, forked, turn, Does, passes, target, looped, marked}
 use Rattle.logos_code.specs.inside.LastMarks.{IsOwn, Follows, BeginsUnmarked, FollowsAt, ForkAgrees, StateAgrees, Agree}
 use Rattle.logos_code.specs.declared.code.last_marks.LastMark.{LastMark}
 use Rattle.logos_code.specs.declared.code.last_marks.LastMark.TheVariants.{Unseen, Varies, Never, Back}
@@ -23,7 +23,7 @@ some_pair a b c d e f = cc
 acts_same : (c d : Option (ℕ × ℕ)) (o p : ℕ) → acts c o ≡ acts d p → (c ≡ d) × (o ≡ p)
 acts_same c d o p e = (cc, cc)
 
-enters_same : (s t : Stand) → enters s ≡ enters t → s ≡ t
+enters_same : (s t : Status) → enters s ≡ enters t → s ≡ t
 enters_same s t e = cc
 
 -- where a state has a mark of its own
@@ -73,17 +73,17 @@ root_mark code sound = go (slice_get code.states code.root) refl sound.root
 
 module _ (code : CodeValue) (sound : IsSound code) (marks : List LastMark) (agree : Agree code marks) (bytes : List ℕ) (start : ℕ) where
   -- where the fast loop ends of a stand's state
-  abbrev stop_of : Stand → ℕ
+  abbrev stop_of : Status → ℕ
   stop_of at = at.offset + looped code (state_at code at.state).fast_loop (drop at.offset bytes)
 
-  abbrev passed_of : Stand → Option (ℕ × ℕ)
+  abbrev passed_of : Status → Option (ℕ × ℕ)
   passed_of at = marked (state_at code at.state).mark (stop_of at) at.context
 
-  record Knows (at : Stand) : Type 0 where
+  record Knows (at : Status) : Type 0 where
     pub there : at.state < length code.states
     pub holds : Holds (last_mark_at marks at.state) (passed_of at) (stop_of at)
 
-  abbrev first : Stand
+  abbrev first : Status
   first = record { state = code.root; offset = start; context = None }
 
   knows_first : Knows first
@@ -98,7 +98,7 @@ module _ (code : CodeValue) (sound : IsSound code) (marks : List LastMark) (agre
       unmarked Never b = passed
       unmarked (Back leaf n) b = absurd b
 
-  module _ (at : Stand) (k : Knows at) where
+  module _ (at : Status) (k : Knows at) where
     abbrev state : CodeState
     state = state_at code at.state
 
@@ -118,7 +118,7 @@ module _ (code : CodeValue) (sound : IsSound code) (marks : List LastMark) (agre
     fresh = at.state == code.root && stop_of at == start
 
     -- the stand after a byte, or after the end
-    abbrev after : ℕ → Stand
+    abbrev after : ℕ → Status
     after t = record { state = t; offset = stop_of at + 1; context = passed_of at }
 
     knows_after : (t : ℕ) → t < length code.states → FollowsAt code marks (last_mark_at marks at.state) t → Knows (after t)
@@ -131,11 +131,11 @@ module _ (code : CodeValue) (sound : IsSound code) (marks : List LastMark) (agre
             let own : IsOwn (last_mark_at marks t) (Some mark) = rw e at s.own in
             holds_own mark (last_mark_at marks t) (stop_of (after t)) (passed_of at) own
 
-    module _ (next : Stand) where
+    module _ (next : Status) where
       entered : (t : ℕ) → t < length code.states → FollowsAt code marks (last_mark_at marks at.state) t → enters (after t) ≡ enters next → Knows next
       entered t there follows e =
-          let same : Path Stand (after t) next = enters_same (after t) next e in
-          subst (λ (n : Stand). Knows n) same (knows_after t there follows)
+          let same : Path Status (after t) next = enters_same (after t) next e in
+          subst (λ (n : Status). Knows n) same (knows_after t there follows)
 
       by_byte : (b : ℕ) (o : Option ℕ) → target code state.fork b ≡ o → led o (stop_of at) (passed_of at) ≡ enters next → Knows next
       by_byte b None leads e = absurd (cc)
@@ -186,9 +186,9 @@ module _ (code : CodeValue) (sound : IsSound code) (marks : List LastMark) (agre
           go (Some b) e = by_lead (target code state.fork b) e
           go None e = by_over fresh e
 
-  knows : {at : Stand} → Stood code bytes start at → Knows at
-  knows first_stand = knows_first
-  knows (next_stand at next s d) = knows_next at (knows s) next d
+  knows : {at : Status} → Stood code bytes start at → Knows at
+  knows first_status = knows_first
+  knows (next_status at next s d) = knows_next at (knows s) next d
 
 -- last marks that agree are right
 pub are_last_marks : (code : CodeValue) → IsSound code → (marks : List LastMark) → Agree code marks → AreLastMarks code marks

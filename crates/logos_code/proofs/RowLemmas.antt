@@ -14,10 +14,10 @@ use Rattle.logos_code.specs.Headline.{NamesFork, NamesState}
 use Rattle.logos_code.specs.CodeView.{state_at, state_of, code_of, no_state}
 use Rattle.logos_code.specs.Runs.{stays, looped, target}
 use Rattle.logos_code.specs.inside.Alike.{EndsRun}
-use Rattle.logos_code.specs.Rows.{IsStepOf, Says, SaysAtEnd, IsHalting, IsEntry, IsLastEntry, IsRow, AreRows, IsFirstOf, IsFirstRow, LeadsToPlace}
+use Rattle.logos_code.specs.Rows.{IsStepOf, Says, SaysAtEnd, IsHalting, IsEntry, IsLastEntry, IsRow, AreRows, IsFirstOf, IsFirstRow, LeadsToRowStart}
 use Rattle.logos_code.proofs.TargetLemmas.{target_there}
 use Rattle.logos_code.specs.declared.code.rows.MatchUse.{MatchUse}
-use Rattle.logos_code.specs.declared.code.rows.MatchUse.TheVariants.{Emits, Skips, Asks}
+use Rattle.logos_code.specs.declared.code.rows.MatchUse.TheVariants.{Emits, Skips, CallsBack}
 use Rattle.logos_code.specs.declared.code.rows.Step.{Step}
 use Rattle.logos_code.specs.declared.code.rows.Step.TheVariants.{Leads, Stays, Halts, Looks, Closes, Stuck, Unsaid}
 use Rattle.logos_code.specs.declared.code.CodeParts.{CodeParts}
@@ -63,14 +63,14 @@ read_entry code rows s b entry all there within is =
     rw same at (all.each s b there within)
 
 -- an entry as it is read from the rest of the rows after so many
-pub read_column : (code : CodeValue) (rows : List ℕ) (place b : ℕ) → AreRows code rows → 272 * (place / 272) ≡ place → place / 272 < length code.states → b < 256 →
-    IsEntry code (state_at code (place / 272)) b (get_or (take (length rows - b) (drop b rows)) place 0)
-read_column code rows place b all is there within =
+pub read_column : (code : CodeValue) (rows : List ℕ) (row_start b : ℕ) → AreRows code rows → 272 * (row_start / 272) ≡ row_start → row_start / 272 < length code.states → b < 256 →
+    IsEntry code (state_at code (row_start / 272)) b (get_or (take (length rows - b) (drop b rows)) row_start 0)
+read_column code rows row_start b all is there within =
     let rest : take (length rows - b) (drop b rows) ≡ drop b rows = take_all (length rows - b) (drop b rows) (omega (arith, length-drop b rows)) in
-    let index : 272 * (place / 272) + b ≡ b + place = omega (arith, is) in
-    let read : get_or (take (length rows - b) (drop b rows)) place 0 ≡ get_or rows (272 * (place / 272) + b) 0 =
-    ap (λ (l : List ℕ). get_or l place 0) rest ∙ get_or-drop b rows place 0 ∙ ap (λ (n : ℕ). get_or rows n 0) (sym index) in
-    subst (λ (entry : ℕ). IsEntry code (state_at code (place / 272)) b entry) (sym read) (all.each (place / 272) b there within)
+    let index : 272 * (row_start / 272) + b ≡ b + row_start = omega (arith, is) in
+    let read : get_or (take (length rows - b) (drop b rows)) row_start 0 ≡ get_or rows (272 * (row_start / 272) + b) 0 =
+    ap (λ (l : List ℕ). get_or l row_start 0) rest ∙ get_or-drop b rows row_start 0 ∙ ap (λ (n : ℕ). get_or rows n 0) (sym index) in
+    subst (λ (entry : ℕ). IsEntry code (state_at code (row_start / 272)) b entry) (sym read) (all.each (row_start / 272) b there within)
 
 -- the byte after the fast loop does not stay
 pub loop_stops : (code : CodeValue) (loop : Option ℕ) (bytes : List ℕ) (at d : ℕ) → at + looped code loop (drop at bytes) < length bytes →
@@ -109,8 +109,8 @@ decoded (suc (suc zero)) n = before_byte Skips (n / 134217728) (n % 134217728)
 decoded (suc (suc (suc zero))) n = before_byte Emits (n / 134217728) (n % 134217728)
 decoded (suc (suc (suc (suc zero)))) n = Closes (record { 0 = n }) Emits
 decoded (suc (suc (suc (suc (suc zero))))) n = Closes (record { 0 = n }) Skips
-decoded (suc (suc (suc (suc (suc (suc zero)))))) n = before_byte Asks (n / 134217728) (n % 134217728)
-decoded (suc (suc (suc (suc (suc (suc (suc zero))))))) n = Closes (record { 0 = n }) Asks
+decoded (suc (suc (suc (suc (suc (suc zero)))))) n = before_byte CallsBack (n / 134217728) (n % 134217728)
+decoded (suc (suc (suc (suc (suc (suc (suc zero))))))) n = Closes (record { 0 = n }) CallsBack
 decoded (suc (suc (suc (suc (suc (suc (suc (suc zero)))))))) n = Stuck
 decoded (suc (suc (suc (suc (suc (suc (suc (suc (suc k))))))))) n = Unsaid
 
@@ -139,17 +139,17 @@ decodes entry (Looks s Emits) f =
     rw (k, l, n) refl
 decodes entry (Closes s Emits) f = let k : entry / 268435456 ≡ 4 = omega (arith, f.0, f.1) in let n : entry % 268435456 ≡ s.0 = omega (arith, f.0, f.1) in rw (k, n) refl
 decodes entry (Closes s Skips) f = let k : entry / 268435456 ≡ 5 = omega (arith, f.0, f.1) in let n : entry % 268435456 ≡ s.0 = omega (arith, f.0, f.1) in rw (k, n) refl
-decodes entry (Halts s Asks) f =
+decodes entry (Halts s CallsBack) f =
     let k : entry / 268435456 ≡ 6 = omega (arith, f.0, f.1) in
     let l : entry % 268435456 / 134217728 ≡ 0 = omega (arith, f.0, f.1) in
     let n : entry % 268435456 % 134217728 ≡ s.0 = omega (arith, f.0, f.1) in
     rw (k, l, n) refl
-decodes entry (Looks s Asks) f =
+decodes entry (Looks s CallsBack) f =
     let k : entry / 268435456 ≡ 6 = omega (arith, f.0, f.1) in
     let l : entry % 268435456 / 134217728 ≡ 1 = omega (arith, f.0, f.1) in
     let n : entry % 268435456 % 134217728 ≡ s.0 = omega (arith, f.0, f.1) in
     rw (k, l, n) refl
-decodes entry (Closes s Asks) f = let k : entry / 268435456 ≡ 7 = omega (arith, f.0, f.1) in let n : entry % 268435456 ≡ s.0 = omega (arith, f.0, f.1) in rw (k, n) refl
+decodes entry (Closes s CallsBack) f = let k : entry / 268435456 ≡ 7 = omega (arith, f.0, f.1) in let n : entry % 268435456 ≡ s.0 = omega (arith, f.0, f.1) in rw (k, n) refl
 decodes entry Stuck f = let k : entry / 268435456 ≡ 8 = omega (arith, f.0, f.1) in rw k refl
 decodes entry Unsaid f = past (entry / 268435456) (omega (arith, f))
   where
@@ -168,33 +168,33 @@ only_step P entry step (inl f) said none other g = subst P (sym (same_step entry
 only_step P entry step (inr f) said none other g = subst P (sym (same_step entry Unsaid other f g)) none
 
 -- an entry that leads is a place
-step_place : (entry : ℕ) (step : Step) → IsStepOf entry step → LeadsToPlace entry
-step_place entry (Leads s) f h = omega (arith, f.0)
-step_place entry (Stays s) f h = absurd (omega (arith, f.0, h))
-step_place entry (Halts s Emits) f h = absurd (omega (arith, f.0, h))
-step_place entry (Halts s Skips) f h = absurd (omega (arith, f.0, h))
-step_place entry (Halts s Asks) f h = absurd (omega (arith, f.0, h))
-step_place entry (Looks s Emits) f h = absurd (omega (arith, f.0, h))
-step_place entry (Looks s Skips) f h = absurd (omega (arith, f.0, h))
-step_place entry (Looks s Asks) f h = absurd (omega (arith, f.0, h))
-step_place entry (Closes s Emits) f h = absurd (omega (arith, f.0, h))
-step_place entry (Closes s Skips) f h = absurd (omega (arith, f.0, h))
-step_place entry (Closes s Asks) f h = absurd (omega (arith, f.0, h))
-step_place entry Stuck f h = absurd (omega (arith, f.0, h))
-step_place entry Unsaid f h = absurd (omega (arith, f, h))
+step_row_start : (entry : ℕ) (step : Step) → IsStepOf entry step → LeadsToRowStart entry
+step_row_start entry (Leads s) f h = omega (arith, f.0)
+step_row_start entry (Stays s) f h = absurd (omega (arith, f.0, h))
+step_row_start entry (Halts s Emits) f h = absurd (omega (arith, f.0, h))
+step_row_start entry (Halts s Skips) f h = absurd (omega (arith, f.0, h))
+step_row_start entry (Halts s CallsBack) f h = absurd (omega (arith, f.0, h))
+step_row_start entry (Looks s Emits) f h = absurd (omega (arith, f.0, h))
+step_row_start entry (Looks s Skips) f h = absurd (omega (arith, f.0, h))
+step_row_start entry (Looks s CallsBack) f h = absurd (omega (arith, f.0, h))
+step_row_start entry (Closes s Emits) f h = absurd (omega (arith, f.0, h))
+step_row_start entry (Closes s Skips) f h = absurd (omega (arith, f.0, h))
+step_row_start entry (Closes s CallsBack) f h = absurd (omega (arith, f.0, h))
+step_row_start entry Stuck f h = absurd (omega (arith, f.0, h))
+step_row_start entry Unsaid f h = absurd (omega (arith, f, h))
 
 module _ (code : CodeValue) (state : CodeState) where
   -- the entry of a step
   pub entry_says : (b entry : ℕ) (step : Step) → (IsStepOf entry step ⊎ IsStepOf entry Unsaid) → Says code state b step → IsEntry code state b entry
   entry_says b entry step is said = record {
     says = only_step (Says code state b) entry step is said tt;
-    place = ⊎_elim (step_place entry step) (step_place entry Unsaid) is;
+    row_start = ⊎_elim (step_row_start entry step) (step_row_start entry Unsaid) is;
   }
 
   -- the entry of a byte is that of one which does the same
   same_entry : (b k entry : ℕ) → stays code state.fast_loop k ≡ stays code state.fast_loop b → target code state.fork k ≡ target code state.fork b → IsEntry code state b entry →
       IsEntry code state k entry
-  same_entry b k entry loop leads is = record { says = λ step h. says step (is.says step h); place = is.place }
+  same_entry b k entry loop leads is = record { says = λ step h. says step (is.says step h); row_start = is.row_start }
     where
       says : (step : Step) → Says code state b step → Says code state k step
       says (Leads next) h = (loop ∙ h.0, leads ∙ h.1)
@@ -249,7 +249,7 @@ module _ (code : CodeValue) (state : CodeState) where
   last_named entry (Stays s) is f = absurd is
   last_named entry (Halts leaf Emits) is f = omega (arith, f.0)
   last_named entry (Halts leaf Skips) is f = omega (arith, f.0)
-  last_named entry (Halts leaf Asks) is f = omega (arith, f.0)
+  last_named entry (Halts leaf CallsBack) is f = omega (arith, f.0)
   last_named entry (Looks leaf used) is f = absurd is
   last_named entry (Closes leaf used) is f = absurd is
   last_named entry Stuck is f = omega (arith, f.0)
@@ -282,8 +282,8 @@ module _ (code : CodeValue) (state : CodeState) where
   -- what an entry that leads says of its byte
   pub entry_leads : (b entry : ℕ) → IsEntry code state b entry → entry < 268435456 → target code state.fork b ≡ Some (entry / 272)
   entry_leads b entry is h =
-      let place = is.place h in
-      let said : Says code state b (Leads (entry / 272)) = is.says (Leads (entry / 272)) (sym place, omega (arith, h)) in
+      let row_start = is.row_start h in
+      let said : Says code state b (Leads (entry / 272)) = is.says (Leads (entry / 272)) (sym row_start, omega (arith, h)) in
       said.1
 
   -- and one of a byte that leads nowhere

@@ -47,7 +47,7 @@ state_of tables state = record {
 }
 
 abbrev pub use_of : CodeLeaf → Use
-use_of leaf = record { skips = is_skip leaf.kind; asks = is_some leaf.callback }
+use_of leaf = record { skips = is_skip leaf.kind; calls_back = is_some leaf.callback }
 
 -- The code value that given parts make.
 abbrev pub code_of : CodeParts → CodeValue
@@ -71,8 +71,8 @@ abbrev pub state_at : CodeValue → ℕ → CodeState
 state_at code s = slice_index_or code.states s no_state
 
 -- A callback is asked for the matches of the leaf.
-abbrev pub asks_for : CodeValue → ℕ → Bool
-asks_for code leaf = option_map_or (λ use_of. use_of.asks) (slice_get code.leaves leaf) false
+abbrev pub calls_back_for : CodeValue → ℕ → Bool
+calls_back_for code leaf = option_map_or (λ use_of. use_of.calls_back) (slice_get code.leaves leaf) false
 
 -- The matches of the leaf are left out.
 abbrev pub skips_over : CodeValue → ℕ → Bool

@@ -4,7 +4,7 @@ use Rattle.std.specs.List.{All}
 use Rattle.logos_hir.specs.Text.{IsBytes}
 use Rattle.logos_automaton.specs.Munch.{Rule, IsInput, Found, Finds}
 use Rattle.logos_code.specs.Code.{CodeValue, CodeState, Condition, by_comparisons, by_test, Fork, by_conditions, by_table}
-use Rattle.logos_code.specs.Runs.{Tries, CodeFinds, target}
+use Rattle.logos_code.specs.Runs.{Attempts, CodeFinds, target}
 use Rattle.logos_code.specs.Items.{Item, token, error}
 
 -- The headline: at each point of each input the code finds exactly what maximal munch finds there,
@@ -13,7 +13,7 @@ pub record IsLexer (rules : List Rule) (utf8 : Bool) (code : CodeValue) : Type 0
   pub mode : code.utf8 ≡ utf8
   pub uses : code.leaves ≡ map (λ rule. rule.use_of) rules
   pub finds : (bytes : List ℕ) (from : ℕ) (found : Found) → IsInput utf8 bytes → CodeFinds code bytes from found ↔ Finds rules utf8 bytes from found
-  pub steps : (bytes : List ℕ) (from n : ℕ) (found : Found) → IsBytes bytes → from ≤ length bytes → Tries code bytes from found n → n ≤ (length bytes - from) + 2
+  pub steps : (bytes : List ℕ) (from n : ℕ) (found : Found) → IsBytes bytes → from ≤ length bytes → Attempts code bytes from found n → n ≤ (length bytes - from) + 2
 
 -- Each name that a state has is there.
 abbrev pub NamesState : CodeValue → ℕ → Type 0

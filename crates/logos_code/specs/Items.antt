@@ -20,15 +20,15 @@ Search = ℕ → Found → Type 0
 
 -- Uses of the leaves by number, a callback, and the input.
 module _ (uses : List Use) (callback : Callback) (bytes : List ℕ) where
-  abbrev pub asks : ℕ → Bool
-  asks leaf = option_map_or (λ use_of. use_of.asks) (slice_get uses leaf) false
+  abbrev pub calls_back : ℕ → Bool
+  calls_back leaf = option_map_or (λ use_of. use_of.calls_back) (slice_get uses leaf) false
 
   abbrev pub skips : ℕ → Bool
   skips leaf = option_map_or (λ use_of. use_of.skips) (slice_get uses leaf) false
 
   -- What may be answered to a match; a leaf without a callback emits.
   abbrev pub MayAnswer : ℕ → List ℕ → Action → Type 0
-  MayAnswer leaf slice answer = MatchBool (asks leaf) (callback leaf slice answer) (answer ≡ Emit)
+  MayAnswer leaf slice answer = MatchBool (calls_back leaf) (callback leaf slice answer) (answer ≡ Emit)
 
   -- The items that a match gives.
   abbrev pub items_of : Action → ℕ → ℕ → ℕ → List Item
@@ -51,7 +51,7 @@ module _ (uses : List Use) (callback : Callback) (bytes : List ℕ) where
     passes : (from to leaf : ℕ) (answer : Action) (item : Item) (end : ℕ) →
         search from (matched leaf to) → MayAnswer leaf (slice_range bytes from to) answer → items_of answer leaf from to ≡ [] →
         NextItem search to item end → NextItem search from item end
-    gives : (from to leaf : ℕ) (answer : Action) (item : Item) →
+    yields : (from to leaf : ℕ) (answer : Action) (item : Item) →
         search from (matched leaf to) → MayAnswer leaf (slice_range bytes from to) answer → items_of answer leaf from to ≡ item ∷ [] →
         NextItem search from item to
     fails : (from to : ℕ) → search from (failed to) → NextItem search from (error None from to (slice_range bytes from to)) to

@@ -5,7 +5,7 @@ use Rattle.logos_code.specs.Code.{CodeValue, CodeState, Mark, by_conditions}
 use Rattle.logos_code.specs.CodeView.{state_at}
 use Rattle.logos_code.specs.Runs.{stays, target}
 use Rattle.logos_code.specs.declared.code.rows.MatchUse.{MatchUse}
-use Rattle.logos_code.specs.declared.code.rows.MatchUse.TheVariants.{Emits, Skips, Asks}
+use Rattle.logos_code.specs.declared.code.rows.MatchUse.TheVariants.{Emits, Skips, CallsBack}
 use Rattle.logos_code.specs.declared.code.rows.Step.{Step}
 use Rattle.logos_code.specs.declared.code.rows.Step.TheVariants.{Leads, Stays, Halts, Looks, Closes, Stuck, Unsaid}
 
@@ -17,13 +17,13 @@ closing mark = record { fast_loop = None; mark = Some mark; fork = by_conditions
 abbrev pub first_halting : MatchUse → ℕ
 first_halting Skips = 536870912
 first_halting Emits = 805306368
-first_halting Asks = 1610612736
+first_halting CallsBack = 1610612736
 
 -- And of those for matches that end after it.
 abbrev pub first_closing : MatchUse → ℕ
 first_closing Emits = 1073741824
 first_closing Skips = 1342177280
-first_closing Asks = 1879048192
+first_closing CallsBack = 1879048192
 
 -- The entry stands for this step.
 abbrev pub IsStepOf : ℕ → Step → Type 0
@@ -36,20 +36,20 @@ IsStepOf entry Stuck = (2147483648 ≤ entry) × (entry < 2415919104)
 IsStepOf entry Unsaid = 2415919104 ≤ entry
 
 -- The offset of a state: 272 times its number.
-abbrev pub IsPlace : CodeValue → ℕ → Type 0
-IsPlace code place = (272 * (place / 272) ≡ place) × (place / 272 < length code.states)
+abbrev pub IsRowStart : CodeValue → ℕ → Type 0
+IsRowStart code row_start = (272 * (row_start / 272) ≡ row_start) × (row_start / 272 < length code.states)
 
 -- What becomes of matches without a callback.
 abbrev pub IsPlainUse : Use → MatchUse → Type 0
-IsPlainUse leaf Emits = leaf ≡ record { skips = false; asks = false }
-IsPlainUse leaf Skips = leaf ≡ record { skips = true; asks = false }
-IsPlainUse leaf Asks = ⊥
+IsPlainUse leaf Emits = leaf ≡ record { skips = false; calls_back = false }
+IsPlainUse leaf Skips = leaf ≡ record { skips = true; calls_back = false }
+IsPlainUse leaf CallsBack = ⊥
 
 -- What becomes of the matches of a leaf; a callback may be asked for any.
 abbrev pub IsUse : CodeValue → ℕ → MatchUse → Type 0
-IsUse code leaf Emits = slice_get code.leaves leaf ≡ Some (record { skips = false; asks = false })
-IsUse code leaf Skips = slice_get code.leaves leaf ≡ Some (record { skips = true; asks = false })
-IsUse code leaf Asks = Unit {0}
+IsUse code leaf Emits = slice_get code.leaves leaf ≡ Some (record { skips = false; calls_back = false })
+IsUse code leaf Skips = slice_get code.leaves leaf ≡ Some (record { skips = true; calls_back = false })
+IsUse code leaf CallsBack = Unit {0}
 
 -- The byte leads to a state that has this mark, and does nothing else.
 pub record LeadsToClosing (code : CodeValue) (state : CodeState) (b : ℕ) (mark : Mark) : Type 0 where
@@ -89,13 +89,13 @@ SaysAtEnd code state Stuck = Unit {0}
 SaysAtEnd code state Unsaid = Unit {0}
 
 -- An entry that leads is a multiple of 272.
-abbrev pub LeadsToPlace : ℕ → Type 0
-LeadsToPlace entry = entry < 268435456 → 272 * (entry / 272) ≡ entry
+abbrev pub LeadsToRowStart : ℕ → Type 0
+LeadsToRowStart entry = entry < 268435456 → 272 * (entry / 272) ≡ entry
 
 -- The entry of a byte: what it stands for is so.
 pub record IsEntry (code : CodeValue) (state : CodeState) (b entry : ℕ) : Type 0 where
   pub says : (step : Step) → IsStepOf entry step → Says code state b step
-  pub place : LeadsToPlace entry
+  pub row_start : LeadsToRowStart entry
 
 -- The entry of the end of the input; it leads nowhere.
 pub record IsLastEntry (code : CodeValue) (state : CodeState) (entry : ℕ) : Type 0 where

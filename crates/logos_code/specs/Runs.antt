@@ -9,7 +9,7 @@ use Rattle.logos_automaton.specs.Munch.{Found, ended, matched, failed}
 use Rattle.logos_code.specs.Items.{Callback, Item, Lexes, NextItem}
 
 -- Where a try stands as it enters a state.
-pub record Stand : Type 0 where
+pub record Status : Type 0 where
   pub state : ℕ
   pub offset : ℕ
   -- The last mark passed: its leaf, and where the match ends.
@@ -17,7 +17,7 @@ pub record Stand : Type 0 where
 
 -- A try goes on in another state, or it is over.
 pub data Turn : Type 0 where
-  enters : Stand → Turn
+  enters : Status → Turn
   acts : Option (ℕ × ℕ) → (offset : ℕ) → Turn
   returns : Turn
 
@@ -57,13 +57,13 @@ module _ (code : CodeValue) where
 
   module _ (bytes : List ℕ) (start : ℕ) where
     -- What a state does: its fast loop, its mark, and its fork.
-    abbrev pub turn : CodeState → Stand → Turn
+    abbrev pub turn : CodeState → Status → Turn
     turn state at =
         let offset = at.offset + looped state.fast_loop (drop at.offset bytes) in
         forked state (slice_get bytes offset) (at.state == code.root && offset == start) offset (marked state.mark offset at.context)
 
     -- The state that is entered does this.
-    abbrev pub Does : Stand → Turn → Type 0
+    abbrev pub Does : Status → Turn → Type 0
     Does at what = (state : CodeState) × (slice_get code.states at.state ≡ Some state) × (turn state at ≡ what)
 
     -- Where an error ends that has come to the offset: after one byte at least, and in UTF-8 mode
@@ -81,19 +81,19 @@ module _ (code : CodeValue) where
     Acts None offset (failed to) = EndsError offset to
 
     -- From a stand on, the try finds this, and enters this many states.
-    pub data Goes : Stand → Found → ℕ → Type 0 where
-      goes_on : (at next : Stand) (found : Found) (n : ℕ) → Does at (enters next) → Goes next found n → Goes at found (suc n)
-      is_over : (at : Stand) → Does at returns → Goes at ended 1
-      acts_on : (at : Stand) (context : Option (ℕ × ℕ)) (offset : ℕ) (found : Found) →
+    pub data Goes : Status → Found → ℕ → Type 0 where
+      goes_on : (at next : Status) (found : Found) (n : ℕ) → Does at (enters next) → Goes next found n → Goes at found (suc n)
+      is_over : (at : Status) → Does at returns → Goes at ended 1
+      acts_on : (at : Status) (context : Option (ℕ × ℕ)) (offset : ℕ) (found : Found) →
           Does at (acts context offset) → Acts context offset found → Goes at found 1
 
     -- A try from the start finds this, and enters this many states.
-    abbrev pub Tries : Found → ℕ → Type 0
-    Tries = Goes (record { state = code.root; offset = start; context = None })
+    abbrev pub Attempts : Found → ℕ → Type 0
+    Attempts = Goes (record { state = code.root; offset = start; context = None })
 
 -- What a code value finds at a point.
 abbrev pub CodeFinds : CodeValue → List ℕ → ℕ → Found → Type 0
-CodeFinds code bytes from found = (n : ℕ) × Tries code bytes from found n
+CodeFinds code bytes from found = (n : ℕ) × Attempts code bytes from found n
 
 -- The items of a run of the code value, from a point on.
 abbrev pub Runs : CodeValue → Callback → List ℕ → ℕ → List Item → Type 0

@@ -1,11 +1,11 @@
 //! Code values: what a lexer does in each state.
 
 ghost use Rattle.std.specs.Prelude.{◌≡◌, ◌*◌, ◌<◌, ◌/◌, length, option_map, option_copied, IfSome};
-ghost use Rattle.logos_code.specs.Views.{passes_test, IsSound, NamesTest, entry_of, state_at, asks_for, skips_over, code_of, IsValid, target, IsLastMark, IsMask, IsEntry, IsFirst, IsLastEntry, IsPlace, shape_named, mark_by};
+ghost use Rattle.logos_code.specs.Views.{passes_test, IsSound, NamesTest, entry_of, state_at, calls_back_for, skips_over, code_of, IsValid, target, IsLastMark, IsMask, IsEntry, IsFirst, IsLastEntry, IsRowStart, shape_named, mark_by};
 
-mod alike;
+mod byte_runs;
+pub(crate) mod construction;
 pub mod last_marks;
-pub(crate) mod making;
 mod masks;
 pub mod rows;
 pub mod signs;
@@ -247,14 +247,14 @@ impl Code<'_> {
     /// Returns the entry of the byte in the state at the offset, which is `WIDTH` times the number
     /// of the state.
     #[inline(always)]
-    pub fn entry(&self, place: usize, byte: u8) -> u32
-        requires { IsPlace self.now place }
-        ensures { IsEntry self.now (state_at self.now (place / WIDTH)) byte result }
+    pub fn entry(&self, row_start: usize, byte: u8) -> u32
+        requires { IsRowStart self.now row_start }
+        ensures { IsEntry self.now (state_at self.now (row_start / WIDTH)) byte result }
     {
         // In this order the offset, which comes from the entry before, need not be added before the
         // load.
         let column = &self.rows[byte as usize..];
-        column[place]
+        column[row_start]
     }
 
     /// Returns whether the byte passes the test.
@@ -293,11 +293,11 @@ impl Code<'_> {
     /// Returns the entry of the end of the input in the state at the offset.
     #[cold]
     #[inline(never)]
-    pub fn last_entry(&self, place: usize) -> u32
-        requires { IsPlace self.now place }
-        ensures { IsLastEntry self.now (state_at self.now (place / WIDTH)) result }
+    pub fn last_entry(&self, row_start: usize) -> u32
+        requires { IsRowStart self.now row_start }
+        ensures { IsLastEntry self.now (state_at self.now (row_start / WIDTH)) result }
     {
-        let state = &self.parts.states[place / WIDTH];
+        let state = &self.parts.states[row_start / WIDTH];
         if state.at_end.is_some() {
             return UNSAID;
         }
@@ -326,16 +326,16 @@ impl Code<'_> {
     /// the offset. It spares a lexer a second walk, and may be `Unseen` or `Varies` of any state.
     #[cold]
     #[inline(never)]
-    pub fn last_mark(&self, place: usize) -> LastMark
-        ensures { IsLastMark self.now (place / WIDTH) result }
+    pub fn last_mark(&self, row_start: usize) -> LastMark
+        ensures { IsLastMark self.now (row_start / WIDTH) result }
     {
-        last_mark_at(&self.last_marks, place / WIDTH)
+        last_mark_at(&self.last_marks, row_start / WIDTH)
     }
 
     /// Returns the offset of the state in which each try begins.
     #[inline(always)]
-    pub fn root_place(&self) -> usize
-        ensures place { result ≡ WIDTH * self.now.root }
+    pub fn root_row_start(&self) -> usize
+        ensures row_start { result ≡ WIDTH * self.now.root }
         ensures state { result / WIDTH ≡ self.now.root }
     {
         WIDTH * self.parts.root
@@ -352,11 +352,11 @@ impl Code<'_> {
 
     /// Returns whether the leaf has a callback.
     #[inline(always)]
-    pub fn asks(&self, leaf: LeafId) -> bool
+    pub fn calls_back(&self, leaf: LeafId) -> bool
         requires { leaf.0 < length self.now.leaves }
-        ensures { result ≡ asks_for self.now leaf.0 }
+        ensures { result ≡ calls_back_for self.now leaf.0 }
     {
-        self.uses[leaf.0].asks
+        self.uses[leaf.0].calls_back
     }
 
     /// Returns whether the leaf's matches are skipped.

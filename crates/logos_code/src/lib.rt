@@ -5,4 +5,4 @@
 pub mod action;
 pub mod code;
 
-pub use code::making::make_code;
+pub use code::construction::make_code;

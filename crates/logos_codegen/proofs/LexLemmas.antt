@@ -138,4 +138,4 @@ module _ (source : List ℕ) (rules : List Rule) (utf8 : Bool) (code : CodeValue
 -- a closure that takes the matches of the rules takes those of their code
 pub takes_by_rules : {C : Type 0} (g : Shared C (LeafId × (Bor (List ℕ) × Unit {0})) Action) (rules : List Rule) (code : CodeValue) (f : C) → code.leaves ≡ map (λ rule. rule.use_of) rules →
     TakesMatchesOf g rules f → TakesMatches g code f
-takes_by_rules g rules code f same takes leaf slice asks = takes leaf slice (subst (λ (uses : List Use). IsTrue (has_callback uses leaf.0)) same asks)
+takes_by_rules g rules code f same takes leaf slice calls_back = takes leaf slice (subst (λ (uses : List Use). IsTrue (has_callback uses leaf.0)) same calls_back)

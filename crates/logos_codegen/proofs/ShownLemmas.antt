@@ -19,7 +19,7 @@ use Rattle.logos_codegen.specs.declared.expr.ExprKind.{ExprKind}
 use Rattle.logos_codegen.specs.declared.expr.ExprKind.TheVariants.{Close}
 
 abbrev rule_shown : Shown → Rule
-rule_shown s = record { tree = s.0.tree; priority = s.0.priority; use_of = record { skips = not (is_some s.1); asks = is_some s.0.callback } }
+rule_shown s = record { tree = s.0.tree; priority = s.0.priority; use_of = record { skips = not (is_some s.1); calls_back = is_some s.0.callback } }
 
 skips_shown : (kind : KindValue) → skips kind ≡ not (is_some (shown_kind kind))
 skips_shown (plain name) = refl
@@ -27,7 +27,7 @@ skips_shown (holding name type) = refl
 skips_shown skipped = refl
 
 rule_is_shown : (leaf : LeafView) → rule_of_view leaf ≡ rule_shown (shown leaf)
-rule_is_shown leaf = ap (λ (b : Bool). record { tree = leaf.tree; priority = leaf.priority; use_of = record { skips = b; asks = is_some leaf.callback } }) (skips_shown leaf.kind)
+rule_is_shown leaf = ap (λ (b : Bool). record { tree = leaf.tree; priority = leaf.priority; use_of = record { skips = b; calls_back = is_some leaf.callback } }) (skips_shown leaf.kind)
 
 rules_shown : (leaves : List LeafView) → rules_of_views leaves ≡ map rule_shown (map shown leaves)
 rules_shown [] = refl

@@ -12,7 +12,7 @@ use Rattle.logos_definition.specs.Options.{OptionsView, utf8_mode}
 use Rattle.logos_pattern.specs.Leaf.{kind_value, variant_name}
 use Rattle.logos_pattern.specs.declared.leaf.Leaf.{Leaf}
 use Rattle.logos_leaf.specs.LeafViews.{leaf_view}
-use Rattle.logos_parser.specs.Endings.{GivesEnum}
+use Rattle.logos_parser.specs.Endings.{YieldsEnum}
 use Rattle.logos_parser.specs.EnumTypes.{enum_type}
 use Rattle.logos_parser.specs.Analyses.{ReadsEnum}
 use Rattle.logos_graph.specs.GraphOf.{IsGraphOf}
@@ -27,7 +27,7 @@ use Rattle.logos_code.specs.declared.code.Config.{Config}
 pub record IsGraphOfSource (source : List ℕ) (name : Slice) (options : OptionsView) (graph : GraphValue) : Type 0 where
   pub enum : EnumValue
   pub item : Span
-  pub says : GivesEnum source enum item
+  pub says : YieldsEnum source enum item
   pub is_name : enum.name ≡ name
   pub enum_says : ReadsEnum enum (map leaf_view graph.leaves) options []
   pub same_mode : graph.utf8 ≡ utf8_mode options

@@ -8,5 +8,5 @@ pub mod RunLaws
 pub mod Tokenizing
 pub mod Language
 pub mod inside
-pub mod Words
+pub mod Imports
 pub mod Views

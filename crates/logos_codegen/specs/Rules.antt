@@ -44,7 +44,7 @@ name_of leaf = record {
 
 -- The rule that a leaf stands for.
 abbrev pub rule_of_view : LeafView → Rule
-rule_of_view leaf = record { tree = leaf.tree; priority = leaf.priority; use_of = record { skips = skips leaf.kind; asks = is_some leaf.callback } }
+rule_of_view leaf = record { tree = leaf.tree; priority = leaf.priority; use_of = record { skips = skips leaf.kind; calls_back = is_some leaf.callback } }
 
 abbrev pub named_of_view : LeafView → NamedRule
 named_of_view leaf = record { named = name_of leaf; rule = rule_of_view leaf }

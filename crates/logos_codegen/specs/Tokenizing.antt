@@ -30,7 +30,7 @@ token_value t = record { kind = t.kind; from = t.span.from; to = t.span.to; slic
 
 -- What a text gives: its tokens, in order, or an error at this span.
 pub data Outcome : Type 0 where
-  gives : List Token → Outcome
+  yields : List Token → Outcome
   bad : (from to : ℕ) → Outcome
 
 -- Every match is a token.
@@ -63,7 +63,7 @@ kind_at kinds leaf = unwrap_or (slice_get kinds leaf) Close
 
 -- The outcome with these tokens before its own.
 abbrev pub in_front : List Token → Outcome → Outcome
-in_front tokens (gives others) = gives (tokens ++ others)
+in_front tokens (yields others) = yields (tokens ++ others)
 in_front tokens (bad from to) = bad from to
 
 -- Kinds of leaves, by their numbers.
@@ -71,14 +71,14 @@ module _ (kinds : List ExprKind) where
   -- The outcome of items: where an error is among them, the span of the first; else the tokens in
   -- order, each of its leaf's kind.
   abbrev pub outcome_of : List Item → Outcome
-  outcome_of [] = gives []
+  outcome_of [] = yields []
   outcome_of (token leaf from to slice ∷ items) =
       in_front (record { kind = kind_at kinds leaf; from = from; to = to; slice = slice } ∷ []) (outcome_of items)
   outcome_of (error leaf from to slice ∷ items) = bad from to
 
   -- The item is this token.
   abbrev pub IsToken : Item → ExprToken → Type 0
-  IsToken item t = outcome_of (item ∷ []) ≡ gives (token_value t ∷ [])
+  IsToken item t = outcome_of (item ∷ []) ≡ yields (token_value t ∷ [])
 
 -- The item is an error at this span.
 abbrev pub IsErrorAt : Item → Span → Type 0
@@ -113,7 +113,7 @@ IsOutcome text outcome =
 
 -- The result is an outcome for which `Holds` holds, or memory ran out.
 abbrev pub Answers : (Outcome → Type 0) → Result (Vec ExprToken Global) ExprError → Type 0
-Answers Holds (Ok tokens) = Holds (gives (map token_value tokens.items))
+Answers Holds (Ok tokens) = Holds (yields (map token_value tokens.items))
 Answers Holds (Err errors.Refused) = ⊥
 Answers Holds (Err (errors.Bad span)) = Holds (bad span.from span.to)
 Answers Holds (Err errors.Memory) = Unit {0}

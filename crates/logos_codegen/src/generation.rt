@@ -1,10 +1,10 @@
 //! From a source text to the code of its lexer.
 
 ghost use Rattle.std.specs.Prelude.{◌≡◌, ◌<◌, ◌↔◌, ◌∷◌, ◌++◌, Bool, List, [], length, map, flat_map, option_map, IfOk, IfErr, IsErrAnd, OnOk, IsTrue, string_bytes, option_copied};
-ghost use Rattle.logos_codegen.specs.Views.{Rule, fault_of, ident_slice, callback_view, parser_view, kind_value, utf8_mode, IsGraphOf, rules_of, KeepsGiven, IsLexer, HeadHasItsType, IsHeadOf, analysis_view, too_long, Refuses, IsMemory, StandInOrder, texts_of, named_leaf, reported_as, IsGiven, KeepsEnum, error_callback, variant_at, RunsAreCut, IsAccepted, IsRefused, IsWithinSizes, IsWithinLimits, IsLimit, ReportsGraph, IsFaultless, AreGraphFaults, IsGraphMade, BeginsImplementation, IsFrontOf};
+ghost use Rattle.logos_codegen.specs.Views.{Rule, fault_of, ident_slice, callback_view, parser_view, kind_value, utf8_mode, IsGraphOf, rules_of, KeepsGiven, IsLexer, HeadHasItsType, IsHeadOf, analysis_view, too_long, Refuses, IsMemory, OccurInOrder, texts_of, named_leaf, reported_as, IsGiven, KeepsEnum, error_callback, variant_at, RunsAreCut, IsAccepted, IsRefused, IsWithinSizes, IsWithinLimits, IsLimit, ReportsGraph, IsFaultless, AreGraphFaults, IsGraphMade, BeginsImplementation, IsFrontOf};
 
-use crate::around::{AroundOptions, around_texts};
-use crate::reporting::report_fault;
+use crate::frame::{AroundOptions, around_texts};
+use crate::reports::report_fault;
 use logos_definition::parser::{ExportPath, Parser};
 use logos_generator::code::Code;
 use logos_generator::generator::{Config, Generator};
@@ -58,8 +58,8 @@ impl Generated<'_> {
     ///
     /// Returns `Memory` if memory runs out.
     pub fn text(&self, alloc: Global) -> Result<String, Memory>
-        ensures stand { IfOk result (λ text.
-            StandInOrder (texts_of self.now.code) (string_bytes text)) }
+        ensures occur { IfOk result (λ text.
+            OccurInOrder (texts_of self.now.code) (string_bytes text)) }
         // It begins with the head of the implementation, by the options of the source.
         ensures begins { IfOk result (λ text. BeginsImplementation self.now (string_bytes text)) }
     {

@@ -3,14 +3,14 @@
 
 #![tactic(auto)]
 
-mod around;
 pub mod code;
 pub mod expr;
+mod frame;
 mod generation;
 pub mod generator;
 pub mod laws;
 mod lexing;
-mod reporting;
+mod reports;
 
 pub use generation::{Generated, generate};
 pub use lexing::{LexSourceError, lex_source};
@@ -22,7 +22,7 @@ pub use logos_parts::Parts;
 pub use logos_pattern::{leaf, pattern};
 pub use logos_relex::{Chunk, Edit, ItemAt, Lexed, RelexError};
 pub use logos_stream::{Stream, StreamItem, Streamed};
-pub use logos_strip::stripping::strip_attributes;
+pub use logos_strip::stripper::strip_attributes;
 pub use logos_text::text;
 pub use logos_token::{error, token, util};
 pub use logos_type::{TypePart, TypeToken};

@@ -10,7 +10,7 @@ use Rattle.logos_code.specs.Headline.{IsLexer}
 use Rattle.logos_code.specs.Items.{Callback, Item}
 use Rattle.logos_code.specs.Runs.{CodeFinds, Runs}
 use Rattle.logos_code.specs.declared.action.Action.{Action}
-use Rattle.logos_machine.specs.LexerValue.{LexerValue, Gives, Ends}
+use Rattle.logos_machine.specs.LexerValue.{LexerValue, Yields, Ends}
 use Rattle.logos_machine.proofs.ItemsLemmas.{lexes_by}
 use Rattle.logos_codegen.specs.Source.{IsAccepted}
 use Rattle.logos_codegen.proofs.LexLemmas.{items_are}
@@ -68,7 +68,7 @@ begun code callback input from before old rest new r a = record { items = rest; 
 
 -- one item more, whose line is pushed to the block, of which a front is written
 pub one_more : {C : Type 0} (callback other : Callback) (code : CodeValue) (input : List ℕ) (old new : LexerValue C) (from : ℕ) (before : List ℕ) (was now then : Option (List ℕ)) (block filled left : List ℕ) (item : Item) →
-    Gives callback old new item → old.code ≡ code → old.input ≡ input → new.code ≡ code → new.input ≡ input →
+    Yields callback old new item → old.code ≡ code → old.input ≡ input → new.code ≡ code → new.input ≡ input →
     ((leaf : ℕ) (slice : List ℕ) (answer : Action) → other leaf slice answer → callback leaf slice answer) →
     ((leaf : ℕ) (slice : List ℕ) (answer : Action) → callback leaf slice answer → other leaf slice answer) →
     GoesOn code other input from before was old.to block now → filled ≡ block ++ line_of item → AppendsFront now then filled left →

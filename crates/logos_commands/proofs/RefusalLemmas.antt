@@ -14,10 +14,10 @@ use Rattle.logos_code.specs.Code.{CodeValue}
 use Rattle.logos_code.specs.declared.code.Config.{Config}
 use Rattle.logos_codegen.specs.Given.{IsGiven}
 use Rattle.logos_codegen.specs.Source.{IsRefused}
-use Rattle.logos_commands.specs.declared.outcome.Asked.{Asked as Part}
-use Rattle.logos_commands.specs.declared.outcome.Asked.TheVariants.{Text, Chart, Export}
+use Rattle.logos_commands.specs.declared.outcome.Requested.{Requested as Part}
+use Rattle.logos_commands.specs.declared.outcome.Requested.TheVariants.{Text, Diagram, Export}
 use Rattle.logos_commands.specs.declared.refusals.ExportRefusal.{ExportRefusal}
-use Rattle.logos_commands.specs.Charts.{Destination, file_at, refused, export_destination}
+use Rattle.logos_commands.specs.Diagrams.{Destination, file_at, refused, export_destination}
 use Rattle.logos_commands.specs.Refusals.{IsRefusalOf, IsUnexportedBy, ShowsFaultsOf, ShowsReasonOf}
 use Rattle.logos_commands.specs.Runs.{IsUnexported, IsUnreadable, RefusesLexer, RefusesExport}
 use Rattle.logos_commands.specs.inside.Destinations.{FailsAt}
@@ -82,7 +82,7 @@ export_refused source config graph code name export g Memory r = absurd r
 -- a source that is refused gives no part
 pub part_refused : (source : List ℕ) (part : Part) (failure : Failure) → ShowsFaultsOf (IsRefused source) failure → RefusesLexer source part failure
 part_refused source (Text shape) failure r = r
-part_refused source Chart failure r = r
+part_refused source Diagram failure r = r
 part_refused source Export failure r = inl r
 
 -- what a lexer that was made does not do
@@ -92,5 +92,5 @@ pub lexer_refused : {T : Type 0} (source : List ℕ) (part : Part) (config : Con
     IfErr r (λ failure. status_of failure ≡ 1 → RefusesLexer source part failure)
 lexer_refused source part config graph code name export g (Ok x) plain exported = tt
 lexer_refused source (Text shape) config graph code name export g (Err f) plain exported = λ s. absurd (one_status _ (plain (λ e. cc)) s)
-lexer_refused source Chart config graph code name export g (Err f) plain exported = λ s. absurd (one_status _ (plain (λ e. cc)) s)
+lexer_refused source Diagram config graph code name export g (Err f) plain exported = λ s. absurd (one_status _ (plain (λ e. cc)) s)
 lexer_refused source Export config graph code name export g (Err f) plain exported = λ s. inr (export_refused source config graph code name export g f (exported s))

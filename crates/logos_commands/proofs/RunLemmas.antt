@@ -7,7 +7,7 @@ use Rattle.logos_codegen.specs.Source.{IsAccepted}
 use Rattle.logos_enum.specs.Values.{Slice}
 use Rattle.logos_graph.specs.View.{GraphValue}
 use Rattle.logos_host.specs.declared.failure.Failure.{Failure}
-use Rattle.logos_commands.specs.declared.outcome.Asked.{Asked as Part}
+use Rattle.logos_commands.specs.declared.outcome.Requested.{Requested as Part}
 use Rattle.logos_commands.specs.Runs.{Carries, Effect, HasEffect, IsPart, IsPartOf, ReadsSource, shape_of}
 
 -- a part of the lexer of a source without faults
@@ -19,9 +19,9 @@ part_of effect part source rules utf8 graph code name export a g (Ok x) h =
 part_of effect part source rules utf8 graph code name export a g (Err failure) h = tt
 
 -- a file was read, and what its source gives was delivered
-pub carried : {F : Type 0} (gives makes : F → List ℕ → List ℕ → F → Type 0) (file : List ℕ) (files between after : F) (old new : Option (List ℕ)) (effect : Effect) (Gives : List ℕ → Effect → Type 0) →
-    ReadsSource gives file files between (λ source. Gives source effect) → HasEffect makes effect between after old new → Carries gives makes file files after old new Gives
-carried gives makes file files between after old new effect Gives r h = record {
+pub carried : {F : Type 0} (yields makes : F → List ℕ → List ℕ → F → Type 0) (file : List ℕ) (files between after : F) (old new : Option (List ℕ)) (effect : Effect) (Yields : List ℕ → Effect → Type 0) →
+    ReadsSource yields file files between (λ source. Yields source effect) → HasEffect makes effect between after old new → Carries yields makes file files after old new Yields
+carried yields makes file files between after old new effect Yields r h = record {
   bytes = r.bytes;
   after = r.after;
   given = r.given;

@@ -17,15 +17,15 @@ use Rattle.logos_code.specs.declared.code.Config.{Config}
 use Rattle.logos_codegen.specs.Given.{IsGiven}
 use Rattle.logos_codegen.specs.Source.{IsAccepted, IsRefused}
 use Rattle.logos_host.specs.Reading.{Reads}
-use Rattle.logos_text.specs.Standing.{StandInOrder}
+use Rattle.logos_text.specs.Occurrence.{OccurInOrder}
 use Rattle.logos_text.specs.Texts.{texts_of}
 use Rattle.logos_host.specs.declared.failure.Failure.{Failure}
 use Rattle.logos_host.specs.declared.failure.Failure.TheVariants.{NotUtf8}
 use Rattle.logos_commands.specs.declared.refusals.ExportRefusal.{ExportRefusal}
-use Rattle.logos_commands.specs.declared.outcome.Asked.{Asked as Part}
-use Rattle.logos_commands.specs.declared.outcome.Asked.TheVariants.{Text, Chart, Export}
-use Rattle.logos_commands.specs.Commands.{Asked, asks_text, asks_items, asks_chart, asks_export, asks_strip}
-use Rattle.logos_commands.specs.Charts.{Destination, file_at, refused, export_destination}
+use Rattle.logos_commands.specs.declared.outcome.Requested.{Requested as Part}
+use Rattle.logos_commands.specs.declared.outcome.Requested.TheVariants.{Text, Diagram, Export}
+use Rattle.logos_commands.specs.Commands.{Requested, requests_text, requests_items, requests_diagram, requests_export, requests_strip}
+use Rattle.logos_commands.specs.Diagrams.{Destination, file_at, refused, export_destination}
 use Rattle.logos_commands.specs.Lines.{emits, lines_of}
 use Rattle.logos_commands.specs.Refusals.{ShowsFaultsOf, ShowsReasonOf}
 
@@ -39,15 +39,15 @@ pub data Effect : Type 0 where
 -- The shape of the code of which a part is made.
 abbrev pub shape_of : Part → Config
 shape_of (Text shape) = shape
-shape_of Chart = record { use_state_machine_codegen = true }
+shape_of Diagram = record { use_state_machine_codegen = true }
 shape_of Export = record { use_state_machine_codegen = true }
 
 -- What a part of a lexer is: its text, and LF; the chart of its graph; or the same chart for the
 -- file that the source names. The texts of all tables of the code, and those of all its conditions,
 -- stand in the text.
 abbrev pub IsPart : Part → GraphValue → CodeValue → Slice → Option (List ℕ) → Effect → Type 0
-IsPart (Text shape) graph code name export (prints shown) = (text : List ℕ) × StandInOrder (texts_of code) text × (shown ≡ text ++ 10 ∷ [])
-IsPart Chart graph code name export (prints shown) = shown ≡ mermaid_of graph.states
+IsPart (Text shape) graph code name export (prints shown) = (text : List ℕ) × OccurInOrder (texts_of code) text × (shown ≡ text ++ 10 ∷ [])
+IsPart Diagram graph code name export (prints shown) = shown ≡ mermaid_of graph.states
 IsPart Export graph code name export (makes_file path shown) = (file_at path ≡ export_destination export name.text) × (shown ≡ mermaid_of graph.states)
 IsPart part graph code name export effect = ⊥
 
@@ -114,7 +114,7 @@ pub record IsUnreadable (source : List ℕ) (faults : List Fault) : Type 0 where
 -- this has no path.
 abbrev pub RefusesLexer : List ℕ → Part → Failure → Type 0
 RefusesLexer source (Text shape) failure = ShowsFaultsOf (IsRefused source) failure
-RefusesLexer source Chart failure = ShowsFaultsOf (IsRefused source) failure
+RefusesLexer source Diagram failure = ShowsFaultsOf (IsRefused source) failure
 RefusesLexer source Export failure = ShowsFaultsOf (IsRefused source) failure ⊎ ShowsReasonOf (IsUnexported source) failure
 
 -- Why the items of an input are refused: the faults of the source, or that the input is not a text.
@@ -142,39 +142,39 @@ abbrev pub HasEffect : {F : Type 0} → (F → List ℕ → List ℕ → F → T
 HasEffect makes (prints text) files after old new = (after ≡ files) × Appends old new text
 HasEffect makes (makes_file path text) files after old new = makes files path text after × Keeps old new
 
-module _ {F : Type 0} (gives : F → List ℕ → List ℕ → F → Type 0) where
+module _ {F : Type 0} (yields : F → List ℕ → List ℕ → F → Type 0) where
   -- A file is read, and then an input, and all items are printed.
   abbrev pub PrintsItems : List ℕ → List ℕ → F → F → Option (List ℕ) → Option (List ℕ) → Type 0
   PrintsItems file input files after old new =
-      Reads gives files file (λ source between. Reads gives between input (λ bytes read. (after ≡ read) × PrintsItemsOf source bytes old new))
+      Reads yields files file (λ source between. Reads yields between input (λ bytes read. (after ≡ read) × PrintsItemsOf source bytes old new))
 
   -- A file is read, and then an input, which are refused so.
   abbrev pub RefusesItems : List ℕ → List ℕ → F → F → Failure → Type 0
   RefusesItems file input files after failure =
-      Reads gives files file (λ source between. Reads gives between input (λ bytes read. (after ≡ read) × RefusesInput source bytes failure))
+      Reads yields files file (λ source between. Reads yields between input (λ bytes read. (after ≡ read) × RefusesInput source bytes failure))
 
   -- A file is read, and of its source this holds.
   abbrev pub ReadsSource : List ℕ → F → F → (List ℕ → Type 0) → Type 0
-  ReadsSource file files after Holds = Reads gives files file (λ source read. (after ≡ read) × Holds source)
+  ReadsSource file files after Holds = Reads yields files file (λ source read. (after ≡ read) × Holds source)
 
   module _ (makes : F → List ℕ → List ℕ → F → Type 0) where
     -- A file is read, and the command has an effect that its source gives.
     abbrev pub Carries : List ℕ → F → F → Option (List ℕ) → Option (List ℕ) → (List ℕ → Effect → Type 0) → Type 0
-    Carries file files after old new Gives =
-        Reads gives files file (λ source read. (effect : Effect) × Gives source effect × HasEffect makes effect read after old new)
+    Carries file files after old new Yields =
+        Reads yields files file (λ source read. (effect : Effect) × Yields source effect × HasEffect makes effect read after old new)
 
     -- What is asked for is done.
-    abbrev pub IsDone : Asked → F → F → Option (List ℕ) → Option (List ℕ) → Type 0
-    IsDone (asks_text file shape) files after old new = Carries file files after old new (IsPartOf (Text shape))
-    IsDone (asks_items file input shape) files after old new = PrintsItems file input files after old new
-    IsDone (asks_chart file) files after old new = Carries file files after old new (IsPartOf Chart)
-    IsDone (asks_export file) files after old new = Carries file files after old new (IsPartOf Export)
-    IsDone (asks_strip file) files after old new = Carries file files after old new IsLeft
+    abbrev pub IsDone : Requested → F → F → Option (List ℕ) → Option (List ℕ) → Type 0
+    IsDone (requests_text file shape) files after old new = Carries file files after old new (IsPartOf (Text shape))
+    IsDone (requests_items file input shape) files after old new = PrintsItems file input files after old new
+    IsDone (requests_diagram file) files after old new = Carries file files after old new (IsPartOf Diagram)
+    IsDone (requests_export file) files after old new = Carries file files after old new (IsPartOf Export)
+    IsDone (requests_strip file) files after old new = Carries file files after old new IsLeft
 
   -- What is asked for cannot be had: the files give what is refused so, and stay as they are.
-  abbrev pub IsDenied : Asked → F → F → Failure → Type 0
-  IsDenied (asks_text file shape) files after failure = ReadsSource file files after (λ source. RefusesLexer source (Text shape) failure)
-  IsDenied (asks_items file input shape) files after failure = RefusesItems file input files after failure
-  IsDenied (asks_chart file) files after failure = ReadsSource file files after (λ source. RefusesLexer source Chart failure)
-  IsDenied (asks_export file) files after failure = ReadsSource file files after (λ source. RefusesLexer source Export failure)
-  IsDenied (asks_strip file) files after failure = ReadsSource file files after (λ source. RefusesStripping source failure)
+  abbrev pub IsDenied : Requested → F → F → Failure → Type 0
+  IsDenied (requests_text file shape) files after failure = ReadsSource file files after (λ source. RefusesLexer source (Text shape) failure)
+  IsDenied (requests_items file input shape) files after failure = RefusesItems file input files after failure
+  IsDenied (requests_diagram file) files after failure = ReadsSource file files after (λ source. RefusesLexer source Diagram failure)
+  IsDenied (requests_export file) files after failure = ReadsSource file files after (λ source. RefusesLexer source Export failure)
+  IsDenied (requests_strip file) files after failure = ReadsSource file files after (λ source. RefusesStripping source failure)

@@ -1,7 +1,7 @@
 //! Commands, read from the words of the command line.
 
 ghost use Rattle.std.specs.Prelude.{◌≡◌, bytes_eq, map, option_map, string_bytes};
-ghost use Rattle.logos_commands.specs.Commands.{asked, chart_in, command_asked, export_in, items_in, shape_in, strip_in, text_in};
+ghost use Rattle.logos_commands.specs.Commands.{requested, diagram_in, command_requested, export_in, items_in, shape_in, strip_in, text_in};
 
 use crate::item_lines::LexRequest;
 use logos_codegen::generator::Config;
@@ -15,7 +15,7 @@ pub(super) enum Command<'w> {
     /// `lex`: print the items that the lexer whose enum is in the file finds in the input.
     Items(LexRequest<'w>),
     /// `mermaid`: print the chart of the graph of that lexer.
-    Chart { file: &'w str },
+    Diagram { file: &'w str },
     /// `export`: write the same chart to the file that the source names.
     Export { file: &'w str },
     /// `strip`: print the enum in the file without the attributes of the derive macro.
@@ -23,26 +23,26 @@ pub(super) enum Command<'w> {
 }
 
 /// Returns the command that the words are, or `None`.
-pub(super) fn command_of(words: &[String]) -> Option<Command<'_>>
-    ensures { option_map command_asked result ≡ asked (map string_bytes words.now) }
+pub(super) fn command_of(arguments: &[String]) -> Option<Command<'_>>
+    ensures { option_map command_requested result ≡ requested (map string_bytes arguments.now) }
 {
-    let [name, words @ ..] = words else {
+    let [name, arguments @ ..] = arguments else {
         return None;
     };
     if is_word(name, "gen") {
-        return text_of(words);
+        return text_of(arguments);
     }
     if is_word(name, "lex") {
-        return items_of(words);
+        return items_of(arguments);
     }
     if is_word(name, "mermaid") {
-        return chart_of(words);
+        return diagram_of(arguments);
     }
     if is_word(name, "export") {
-        return export_of(words);
+        return export_of(arguments);
     }
     if is_word(name, "strip") {
-        return strip_of(words);
+        return strip_of(arguments);
     }
     None
 }
@@ -55,25 +55,25 @@ fn is_word(word: &String, text: &str) -> bool
 }
 
 /// Returns the command `gen` with these words after its name.
-fn text_of(words: &[String]) -> Option<Command<'_>>
-    ensures { option_map command_asked result ≡ text_in (map string_bytes words.now) }
+fn text_of(arguments: &[String]) -> Option<Command<'_>>
+    ensures { option_map command_requested result ≡ text_in (map string_bytes arguments.now) }
 {
-    let [file, words @ ..] = words else {
+    let [file, arguments @ ..] = arguments else {
         return None;
     };
-    let config = shape_of(words)?;
+    let config = shape_of(arguments)?;
     let file = file.as_str();
     Some(Command::Text { file, config })
 }
 
 /// Returns the command `lex` with these words after its name.
-fn items_of(words: &[String]) -> Option<Command<'_>>
-    ensures { option_map command_asked result ≡ items_in (map string_bytes words.now) }
+fn items_of(arguments: &[String]) -> Option<Command<'_>>
+    ensures { option_map command_requested result ≡ items_in (map string_bytes arguments.now) }
 {
-    let [file, input, words @ ..] = words else {
+    let [file, input, arguments @ ..] = arguments else {
         return None;
     };
-    let config = shape_of(words)?;
+    let config = shape_of(arguments)?;
     Some(Command::Items(LexRequest {
         source: file.as_str(),
         input: input.as_str(),
@@ -82,11 +82,11 @@ fn items_of(words: &[String]) -> Option<Command<'_>>
 }
 
 /// Returns the command `mermaid` with these words after its name.
-fn chart_of(words: &[String]) -> Option<Command<'_>>
-    ensures { option_map command_asked result ≡ chart_in (map string_bytes words.now) }
+fn diagram_of(arguments: &[String]) -> Option<Command<'_>>
+    ensures { option_map command_requested result ≡ diagram_in (map string_bytes arguments.now) }
 {
-    match words {
-        [file] => Some(Command::Chart {
+    match arguments {
+        [file] => Some(Command::Diagram {
             file: file.as_str(),
         }),
         _ => None,
@@ -94,10 +94,10 @@ fn chart_of(words: &[String]) -> Option<Command<'_>>
 }
 
 /// Returns the command `export` with these words after its name.
-fn export_of(words: &[String]) -> Option<Command<'_>>
-    ensures { option_map command_asked result ≡ export_in (map string_bytes words.now) }
+fn export_of(arguments: &[String]) -> Option<Command<'_>>
+    ensures { option_map command_requested result ≡ export_in (map string_bytes arguments.now) }
 {
-    match words {
+    match arguments {
         [file] => Some(Command::Export {
             file: file.as_str(),
         }),
@@ -106,10 +106,10 @@ fn export_of(words: &[String]) -> Option<Command<'_>>
 }
 
 /// Returns the command `strip` with these words after its name.
-fn strip_of(words: &[String]) -> Option<Command<'_>>
-    ensures { option_map command_asked result ≡ strip_in (map string_bytes words.now) }
+fn strip_of(arguments: &[String]) -> Option<Command<'_>>
+    ensures { option_map command_requested result ≡ strip_in (map string_bytes arguments.now) }
 {
-    match words {
+    match arguments {
         [file] => Some(Command::Strip {
             file: file.as_str(),
         }),
@@ -119,10 +119,10 @@ fn strip_of(words: &[String]) -> Option<Command<'_>>
 
 /// Returns the shape that the last words of a command ask for. Without such words it is one loop
 /// with a state.
-fn shape_of(words: &[String]) -> Option<Config>
-    ensures { result ≡ shape_in (map string_bytes words.now) }
+fn shape_of(arguments: &[String]) -> Option<Config>
+    ensures { result ≡ shape_in (map string_bytes arguments.now) }
 {
-    match words {
+    match arguments {
         [] => Some(Config {
             use_state_machine_codegen: true,
         }),

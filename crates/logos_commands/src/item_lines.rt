@@ -39,10 +39,10 @@ pub(super) fn lex<'w, F: Files, O: Write>(
     files: &mut F,
     out: &mut O,
 ) -> Result<(), Failure<'w>>
-    ensures done { OnOk result (PrintsItems F.read_gives request.entry.source.now
+    ensures done { OnOk result (PrintsItems F.read_yields request.entry.source.now
         request.entry.input.now files.old files.new (O.contents out.old) (O.contents out.new)) }
     ensures denied { IfErr result (λ failure. status_of failure ≡ 1 →
-        RefusesItems F.read_gives request.entry.source.now request.entry.input.now files.old
+        RefusesItems F.read_yields request.entry.source.now request.entry.input.now files.old
         files.new failure) }
     ensures silent { IfErr result (λ failure. status_of failure ≡ 1 →
         Keeps (O.contents out.old) (O.contents out.new)) }

@@ -2,8 +2,8 @@
 
 #![tactic(auto)]
 
-mod chart_path;
 mod command;
+mod diagram_path;
 mod item_lines;
 mod lines;
 mod outcome;

@@ -1,7 +1,7 @@
 //! The lines of items.
 
 ghost use Rattle.std.specs.Prelude.{◌≡◌, ◌+◌, ◌≤◌, ◌++◌, length, drop};
-ghost use Rattle.logos_commands.specs.Words.{item_of, line_of, span_line};
+ghost use Rattle.logos_commands.specs.Imports.{item_of, line_of, span_line};
 
 use itoa::write_digits;
 use logos_codegen::machine::Item;
@@ -33,7 +33,7 @@ pub(super) fn write_line(line: &mut [u8; LONGEST], item: Item<'_>) -> usize
 /// Writes a span and a line end at the end of the array, and returns where they begin.
 #[inline(always)]
 fn write_span(line: &mut [u8; LONGEST], span: Span) -> usize
-    ensures place { (27 ≤ result) × (result ≤ LONGEST) }
+    ensures row_start { (27 ≤ result) × (result ≤ LONGEST) }
     ensures text { drop result line.new ≡ span_line span.from span.to }
 {
     let at = write_before(line, LONGEST, b"\n");
@@ -47,7 +47,7 @@ fn write_span(line: &mut [u8; LONGEST], span: Span) -> usize
 #[inline(always)]
 fn write_before(line: &mut [u8; LONGEST], end: usize, text: &[u8]) -> usize
     requires { (length text.now ≤ end) × (end ≤ LONGEST) }
-    ensures place { result + length text.now ≡ end }
+    ensures row_start { result + length text.now ≡ end }
     ensures text { drop result line.new ≡ text.now ++ drop end line.old }
 {
     let at = end - text.len();

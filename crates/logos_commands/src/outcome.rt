@@ -1,9 +1,9 @@
 //! The outcomes of commands, each made as a whole before any of it is written.
 
 ghost use Rattle.std.specs.Prelude.{◌≡◌, ◌≢◌, ◌++◌, ◌∷◌, [], IfErr, IfOk, option_map, string_bytes};
-ghost use Rattle.logos_commands.specs.Views.{ident_slice, mermaid_of, StandInOrder, texts_of, export_destination, file_at, EndsWithLine, FailsAt, IsNoMisuse, effect_of, status_of, IsLeft, IsPart, IsPartOf, ReadsSource, prints, shape_of, RefusesExport, RefusesLexer, RefusesStripping};
+ghost use Rattle.logos_commands.specs.Views.{ident_slice, mermaid_of, OccurInOrder, texts_of, export_destination, file_at, EndsWithLine, FailsAt, IsNoMisuse, effect_of, status_of, IsLeft, IsPart, IsPartOf, ReadsSource, prints, shape_of, RefusesExport, RefusesLexer, RefusesStripping};
 
-use crate::chart_path::chart_path;
+use crate::diagram_path::diagram_path;
 use crate::refusals::{ExportRefusal, refused_export, refused_source};
 use logos_codegen::generator::Config;
 use logos_codegen::graph::{Graph, State};
@@ -18,16 +18,16 @@ pub(super) enum CommandOutcome {
     /// A text for standard output.
     Text(String),
     /// A chart, and the path of the file that it is written to.
-    Chart { path: String, text: String },
+    Diagram { path: String, text: String },
 }
 
 /// What a command makes of a lexer.
 #[derive(Clone, Copy)]
-pub(super) enum Asked {
+pub(super) enum Requested {
     /// Its Rust text, in this shape.
     Text(Config),
     /// The chart of its graph.
-    Chart,
+    Diagram,
     /// The same chart, for the file that its source names.
     Export,
 }
@@ -41,39 +41,43 @@ const ANY_SHAPE: Config = Config {
 pub(super) fn of_file<'w, F: Files>(
     alloc: Global,
     file: &'w str,
-    asked: Asked,
+    requested: Requested,
     files: &mut F,
 ) -> Result<CommandOutcome, Failure<'w>>
-    ensures done { IfOk result (λ outcome. ReadsSource F.read_gives file.now files.old files.new
-        (λ source. IsPartOf asked source (effect_of outcome))) }
+    ensures done { IfOk result (λ outcome. ReadsSource F.read_yields file.now files.old files.new
+        (λ source. IsPartOf requested source (effect_of outcome))) }
     ensures denied { IfErr result (λ failure. status_of failure ≡ 1 →
-        ReadsSource F.read_gives file.now files.old files.new
-        (λ source. RefusesLexer source asked failure)) }
+        ReadsSource F.read_yields file.now files.old files.new
+        (λ source. RefusesLexer source requested failure)) }
     ensures known { IfErr result IsNoMisuse }
 {
     let source = read_text(file, files)?;
-    of_source(alloc, source.as_str(), asked)
+    of_source(alloc, source.as_str(), requested)
 }
 
 /// Makes the outcome of a command on a source.
-fn of_source(alloc: Global, source: &str, asked: Asked) -> Result<CommandOutcome, Failure<'static>>
-    ensures done { IfOk result (λ outcome. IsPartOf asked source.now (effect_of outcome)) }
+fn of_source(
+    alloc: Global,
+    source: &str,
+    requested: Requested,
+) -> Result<CommandOutcome, Failure<'static>>
+    ensures done { IfOk result (λ outcome. IsPartOf requested source.now (effect_of outcome)) }
     ensures denied { IfErr result (λ failure. status_of failure ≡ 1 →
-        RefusesLexer source.now asked failure) }
+        RefusesLexer source.now requested failure) }
     ensures known { IfErr result IsNoMisuse }
 {
-    match generate(alloc, source, shape_of(asked)) {
-        Ok(made) => of_lexer(alloc, &made, asked),
+    match generate(alloc, source, shape_of(requested)) {
+        Ok(made) => of_lexer(alloc, &made, requested),
         Err(refusal) => Err(refused_source(refusal)),
     }
 }
 
 /// Returns the shape of the code that a command needs.
-fn shape_of(asked: Asked) -> Config
-    ensures { result ≡ shape_of asked }
+fn shape_of(requested: Requested) -> Config
+    ensures { result ≡ shape_of requested }
 {
-    match asked {
-        Asked::Text(config) => config,
+    match requested {
+        Requested::Text(config) => config,
         _ => ANY_SHAPE,
     }
 }
@@ -82,27 +86,27 @@ fn shape_of(asked: Asked) -> Config
 fn of_lexer(
     alloc: Global,
     made: &Generated<'_>,
-    asked: Asked,
+    requested: Requested,
 ) -> Result<CommandOutcome, Failure<'static>>
-    ensures part { IfOk result (λ outcome. IsPart asked made.now.graph made.now.code
+    ensures part { IfOk result (λ outcome. IsPart requested made.now.graph made.now.code
         (ident_slice made.now.name) (option_map string_bytes made.now.export_path)
         (effect_of outcome)) }
-    ensures plain { asked ≢ Asked.Export → IfErr result (λ failure. status_of failure ≡ 3) }
+    ensures plain { requested ≢ Requested.Export → IfErr result (λ failure. status_of failure ≡ 3) }
     ensures export { IfErr result (λ failure. status_of failure ≡ 1 → RefusesExport
         (export_destination (option_map string_bytes made.now.export_path) made.now.name.text.now)
         failure) }
     ensures known { IfErr result IsNoMisuse }
 {
-    match asked {
-        Asked::Text(_) => Ok(CommandOutcome::Text(text_of_lexer(alloc, made)?)),
-        Asked::Chart => Ok(CommandOutcome::Text(tested_chart(alloc, &made.graph)?)),
-        Asked::Export => export_of_lexer(alloc, made),
+    match requested {
+        Requested::Text(_) => Ok(CommandOutcome::Text(text_of_lexer(alloc, made)?)),
+        Requested::Diagram => Ok(CommandOutcome::Text(tested_diagram(alloc, &made.graph)?)),
+        Requested::Export => export_of_lexer(alloc, made),
     }
 }
 
 /// Returns the Rust text of a lexer, and LF.
 fn text_of_lexer(alloc: Global, made: &Generated<'_>) -> Result<String, Failure<'static>>
-    ensures text { IfOk result (λ text. EndsWithLine (StandInOrder (texts_of made.now.code))
+    ensures text { IfOk result (λ text. EndsWithLine (OccurInOrder (texts_of made.now.code))
         (string_bytes text)) }
     ensures failed { IfErr result (λ failure. status_of failure ≡ 3) }
     ensures known { IfErr result IsNoMisuse }
@@ -118,10 +122,10 @@ pub(super) fn stripped<'w, F: Files>(
     file: &'w str,
     files: &mut F,
 ) -> Result<CommandOutcome, Failure<'w>>
-    ensures done { IfOk result (λ outcome. ReadsSource F.read_gives file.now files.old files.new
+    ensures done { IfOk result (λ outcome. ReadsSource F.read_yields file.now files.old files.new
         (λ source. IsLeft source (effect_of outcome))) }
     ensures denied { IfErr result (λ failure. status_of failure ≡ 1 →
-        ReadsSource F.read_gives file.now files.old files.new
+        ReadsSource F.read_yields file.now files.old files.new
         (λ source. RefusesStripping source failure)) }
     ensures known { IfErr result IsNoMisuse }
 {
@@ -150,7 +154,7 @@ fn stripped_source(alloc: Global, source: &str) -> Result<String, Failure<'stati
 
 /// Makes the chart of the graph of a lexer, for the file that its source names.
 fn export_of_lexer(alloc: Global, made: &Generated<'_>) -> Result<CommandOutcome, Failure<'static>>
-    ensures chart { IfOk result (λ outcome. IsPart Asked.Export made.now.graph made.now.code
+    ensures diagram { IfOk result (λ outcome. IsPart Requested.Export made.now.graph made.now.code
         (ident_slice made.now.name) (option_map string_bytes made.now.export_path)
         (effect_of outcome)) }
     ensures denied { IfErr result (λ failure. status_of failure ≡ 1 → RefusesExport
@@ -158,31 +162,31 @@ fn export_of_lexer(alloc: Global, made: &Generated<'_>) -> Result<CommandOutcome
         failure) }
     ensures known { IfErr result IsNoMisuse }
 {
-    let path = match path_of_chart(alloc, made) {
+    let path = match path_of_diagram(alloc, made) {
         Ok(path) => path,
         Err(failure) => return Err(failure),
     };
-    let text = tested_chart(alloc, &made.graph)?;
-    Ok(CommandOutcome::Chart { path, text })
+    let text = tested_diagram(alloc, &made.graph)?;
+    Ok(CommandOutcome::Diagram { path, text })
 }
 
 /// Returns the path of the file that a source names for its chart.
-fn path_of_chart(alloc: Global, made: &Generated<'_>) -> Result<String, Failure<'static>>
-    ensures file { IfOk result (λ chart. file_at (string_bytes chart) ≡ export_destination
+fn path_of_diagram(alloc: Global, made: &Generated<'_>) -> Result<String, Failure<'static>>
+    ensures file { IfOk result (λ diagram. file_at (string_bytes diagram) ≡ export_destination
         (option_map string_bytes made.now.export_path) made.now.name.text.now) }
     ensures failure { IfErr result (FailsAt (export_destination
         (option_map string_bytes made.now.export_path) made.now.name.text.now)) }
     ensures known { IfErr result IsNoMisuse }
 {
     match &made.export_path {
-        Some(path) => chart_path(alloc, path.as_str(), made.name.text),
+        Some(path) => diagram_path(alloc, path.as_str(), made.name.text),
         None => Err(refused_export(alloc, ExportRefusal::NoPath)),
     }
 }
 
 /// Returns the chart of a graph, after testing that each state differs from the next.
-fn tested_chart(alloc: Global, graph: &Graph<'_>) -> Result<String, Failure<'static>>
-    ensures chart { IfOk result (λ text. string_bytes text ≡ mermaid_of graph.now.states) }
+fn tested_diagram(alloc: Global, graph: &Graph<'_>) -> Result<String, Failure<'static>>
+    ensures diagram { IfOk result (λ text. string_bytes text ≡ mermaid_of graph.now.states) }
     ensures failed { IfErr result (λ failure. status_of failure ≡ 3) }
     ensures known { IfErr result IsNoMisuse }
 {

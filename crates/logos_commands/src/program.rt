@@ -1,11 +1,11 @@
 //! The program `logos`, from its arguments to an exit status. `main` calls it.
 
 ghost use Rattle.std.specs.Prelude.{◌≡◌, ◌≢◌, ◌≤◌, ◌⊎◌, ◌↔◌, None, map, string_bytes, IfErr, IfOk, IfSome, OnOk};
-ghost use Rattle.logos_commands.specs.Views.{Appends, Carries, Failure as Why, HasEffect, IsDenied, IsDone, IsLeft, IsPartOf, Keeps, ReadsSource, RefusesLexer, RefusesStripping, asked, effect_of, status_of};
+ghost use Rattle.logos_commands.specs.Views.{Appends, Carries, Failure as Why, HasEffect, IsDenied, IsDone, IsLeft, IsPartOf, Keeps, ReadsSource, RefusesLexer, RefusesStripping, requested, effect_of, status_of};
 
 use crate::command::{Command, command_of};
 use crate::item_lines::lex;
-use crate::outcome::{Asked, CommandOutcome, of_file, stripped};
+use crate::outcome::{CommandOutcome, Requested, of_file, stripped};
 use logos_host::{Failure, Files, print_bytes, report_plainly, write_file};
 use std::alloc::Global;
 use std::io::Write;
@@ -23,14 +23,14 @@ pub fn run_with<F: Files, O: Write, E: Write>(
 ) -> u8
     requires { IfErr arguments (λ failure. (status_of failure ≡ 2) ⊎ (status_of failure ≡ 3)) }
     ensures usage { IfOk arguments.entry (λ passed.
-        (result ≡ 2) ↔ (asked (map string_bytes passed.items) ≡ None)) }
+        (result ≡ 2) ↔ (requested (map string_bytes passed.items) ≡ None)) }
     ensures done { IfOk arguments.entry (λ passed. result ≡ 0 →
-        IfSome (asked (map string_bytes passed.items))
-        (λ command. IsDone F.read_gives F.write_makes command files.old files.new
+        IfSome (requested (map string_bytes passed.items))
+        (λ command. IsDone F.read_yields F.write_makes command files.old files.new
         (O.contents out.old) (O.contents out.new))) }
     ensures denied { IfOk arguments.entry (λ passed. result ≡ 1 →
-        IfSome (asked (map string_bytes passed.items))
-        (λ command. (failure : Why) × IsDenied F.read_gives command files.old files.new failure)) }
+        IfSome (requested (map string_bytes passed.items))
+        (λ command. (failure : Why) × IsDenied F.read_yields command files.old files.new failure)) }
     ensures silent { result ≡ 1 → Keeps (O.contents out.old) (O.contents out.new) }
     ensures untouched { result ≡ 2 →
         (files.new ≡ files.old) × Keeps (O.contents out.old) (O.contents out.new) }
@@ -51,27 +51,27 @@ pub fn run_with<F: Files, O: Write, E: Write>(
 /// writing to it failed.
 pub fn run<F: Files, O: Write, E: Write>(
     alloc: Global,
-    words: &[String],
+    arguments: &[String],
     files: &mut F,
     out: &mut O,
     err: &mut E,
 ) -> u8
-    ensures usage { (result ≡ 2) ↔ (asked (map string_bytes words.now) ≡ None) }
+    ensures usage { (result ≡ 2) ↔ (requested (map string_bytes arguments.now) ≡ None) }
     // At status 0 the files gave a source that is accepted, and what the command gives was printed
     // or written whole.
-    ensures done { result ≡ 0 → IfSome (asked (map string_bytes words.now))
-        (λ command. IsDone F.read_gives F.write_makes command files.old files.new
+    ensures done { result ≡ 0 → IfSome (requested (map string_bytes arguments.now))
+        (λ command. IsDone F.read_yields F.write_makes command files.old files.new
         (O.contents out.old) (O.contents out.new)) }
     // At status 1 what the files gave is refused, or the path of a chart is. Nothing was written.
-    ensures denied { result ≡ 1 → IfSome (asked (map string_bytes words.now))
-        (λ command. (failure : Why) × IsDenied F.read_gives command files.old files.new failure) }
+    ensures denied { result ≡ 1 → IfSome (requested (map string_bytes arguments.now))
+        (λ command. (failure : Why) × IsDenied F.read_yields command files.old files.new failure) }
     ensures silent { result ≡ 1 → Keeps (O.contents out.old) (O.contents out.new) }
     // At status 2 no file was read or written, and nothing was printed.
     ensures untouched { result ≡ 2 →
         (files.new ≡ files.old) × Keeps (O.contents out.old) (O.contents out.new) }
     ensures known { result ≤ 3 }
 {
-    let Some(command) = command_of(words) else {
+    let Some(command) = command_of(arguments) else {
         return failed(&NO_COMMAND, err);
     };
     match command {
@@ -80,10 +80,10 @@ pub fn run<F: Files, O: Write, E: Write>(
             Err(failure) => failed(&failure, err),
         },
         Command::Text { file, config } => {
-            run_part(alloc, (file, Asked::Text(config)), files, out, err)
+            run_part(alloc, (file, Requested::Text(config)), files, out, err)
         }
-        Command::Chart { file } => run_part(alloc, (file, Asked::Chart), files, out, err),
-        Command::Export { file } => run_part(alloc, (file, Asked::Export), files, out, err),
+        Command::Diagram { file } => run_part(alloc, (file, Requested::Diagram), files, out, err),
+        Command::Export { file } => run_part(alloc, (file, Requested::Export), files, out, err),
         Command::Strip { file } => run_strip(alloc, file, files, out, err),
     }
 }
@@ -97,14 +97,14 @@ const NO_COMMAND: Failure<'static> = Failure::Misuse {
 /// Writes a part of the lexer of the source in a file, and returns the exit status.
 fn run_part<F: Files, O: Write, E: Write>(
     alloc: Global,
-    request: (&str, Asked),
+    request: (&str, Requested),
     files: &mut F,
     out: &mut O,
     err: &mut E,
 ) -> u8
-    ensures done { result ≡ 0 → Carries F.read_gives F.write_makes request.entry.0.now files.old files.new
+    ensures done { result ≡ 0 → Carries F.read_yields F.write_makes request.entry.0.now files.old files.new
         (O.contents out.old) (O.contents out.new) (IsPartOf request.entry.1) }
-    ensures denied { result ≡ 1 → (failure : Why) × ReadsSource F.read_gives request.entry.0.now files.old
+    ensures denied { result ≡ 1 → (failure : Why) × ReadsSource F.read_yields request.entry.0.now files.old
         files.new (λ source. RefusesLexer source request.entry.1 failure) }
     ensures silent { result ≡ 1 → Keeps (O.contents out.old) (O.contents out.new) }
     ensures known { (result ≤ 3) × (result ≢ 2) }
@@ -124,9 +124,9 @@ fn run_strip<F: Files, O: Write, E: Write>(
     out: &mut O,
     err: &mut E,
 ) -> u8
-    ensures done { result ≡ 0 → Carries F.read_gives F.write_makes file.now files.old files.new
+    ensures done { result ≡ 0 → Carries F.read_yields F.write_makes file.now files.old files.new
         (O.contents out.old) (O.contents out.new) IsLeft }
-    ensures denied { result ≡ 1 → (failure : Why) × ReadsSource F.read_gives file.now files.old
+    ensures denied { result ≡ 1 → (failure : Why) × ReadsSource F.read_yields file.now files.old
         files.new (λ source. RefusesStripping source failure) }
     ensures silent { result ≡ 1 → Keeps (O.contents out.old) (O.contents out.new) }
     ensures known { (result ≤ 3) × (result ≢ 2) }
@@ -166,7 +166,7 @@ fn deliver<'o, F: Files, O: Write>(
 {
     match outcome {
         CommandOutcome::Text(text) => print_bytes(text.as_bytes(), out),
-        CommandOutcome::Chart { path, text } => write_file(path.as_str(), text.as_bytes(), files),
+        CommandOutcome::Diagram { path, text } => write_file(path.as_str(), text.as_bytes(), files),
     }
 }
 

@@ -6,7 +6,7 @@ use Rattle.std.proofs.lemmas.Option.{slice_get-get_or}
 use Rattle.logos_cycles.specs.declared.evidence.Membership.{Membership}
 use Rattle.logos_cycles.specs.Cycles.{targets_of, Leads}
 use Rattle.logos_cycles.specs.inside.Memberships.{IsEvidence, HasInner}
-use Rattle.logos_cycles.proofs.PlaceLemmas.{inner_leads, leads_inner}
+use Rattle.logos_cycles.proofs.SlotLemmas.{inner_leads, leads_inner}
 
 -- the first of these are marked where they lead to themselves
 abbrev pub AreMarked : List (List ℕ) → List Bool → ℕ → Type 0

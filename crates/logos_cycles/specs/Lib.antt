@@ -1,4 +1,4 @@
 pub mod Cycles
 pub mod inside
-pub mod Words
+pub mod Imports
 pub mod Views

@@ -1,11 +1,11 @@
 //! Finds the membership of each node among the components of a graph. The functions here have no
 //! contracts: what they find is checked afterwards.
 
-mod backward;
-mod forward;
+mod backward_walk;
+mod forward_walk;
 
-use crate::evidence::backward::Backward;
-use crate::evidence::forward::Forward;
+use crate::evidence::backward_walk::Backward;
+use crate::evidence::forward_walk::Forward;
 use std::alloc::{AllocError, Global};
 
 /// The membership of a node among the components of its graph. A component is a greatest set of

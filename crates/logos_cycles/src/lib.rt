@@ -3,11 +3,11 @@
 #![tactic(auto)]
 
 ghost use Rattle.std.specs.Prelude.{true, false, ◌≡◌, ℕ, ◌<◌, ◌↔◌, List, IfOk, IsTrue, length, map, vec_len, slice_index_or};
-ghost use Rattle.logos_cycles.specs.Words.{Leads};
+ghost use Rattle.logos_cycles.specs.Imports.{Leads};
 
 mod check;
 mod evidence;
-mod plain;
+mod reference;
 
 use std::alloc::{AllocError, Global};
 
@@ -32,5 +32,5 @@ pub fn on_cycles(alloc: Global, lists: &[Vec<usize>]) -> Result<Vec<bool>, Alloc
     if check::is_evidence(lists, &memberships) {
         return check::marks(alloc, lists, &memberships);
     }
-    plain::marks(alloc, lists)
+    reference::marks(alloc, lists)
 }

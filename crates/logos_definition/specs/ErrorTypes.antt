@@ -49,13 +49,13 @@ abbrev pub error_text : ErrorView → List ℕ
 error_text e = type_or_run e.type e.type_run
 
 -- The span of the type.
-abbrev pub run_place : Option TokenList → Span
-run_place (Some run) = run_span run
-run_place None = run_span none
+abbrev pub run_slot : Option TokenList → Span
+run_slot (Some run) = run_span run
+run_slot None = run_span none
 
 -- The span of an error type.
 abbrev pub error_span : ErrorView → Span
-error_span e = run_place e.type_run
+error_span e = run_slot e.type_run
 
 abbrev pub unknown_error_argument : Slice → Fault
 unknown_error_argument name = fault_with UnknownNested ((codes "Unknown nested attribute: " ++ name.text) ++ codes "\n\nExpected one of: callback") name.span ErrorArgument

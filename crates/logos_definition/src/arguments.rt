@@ -1,7 +1,7 @@
 //! Reads the callbacks among the arguments of definitions and of error types.
 
 ghost use Rattle.std.specs.Prelude.{◌≡◌, OnOk, OnErr, option_map};
-ghost use Rattle.logos_definition.specs.Words.{tokens_of, callback_view, value_of, IsReport, ident_slice, named_callback, unnamed_callback};
+ghost use Rattle.logos_definition.specs.Imports.{tokens_of, callback_view, value_of, IsReport, ident_slice, named_callback, unnamed_callback};
 
 use crate::definition::faults::{report_callback_form, report_named_expected};
 use logos_attribute::callback::{read_callback, set_callback};

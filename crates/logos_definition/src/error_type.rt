@@ -6,14 +6,14 @@ ghost use Rattle.logos_definition.specs.Views.{type_tree, tokens_of, ident_slice
 use crate::arguments::{add_callback, add_unnamed};
 use crate::definition::faults::report_unexpected;
 use logos_attribute::nested::{AttributeParser, Nested, NestedValue};
-use logos_attribute::reporting::report_run;
+use logos_attribute::reports::report_run;
 use logos_pattern::leaf::Callback;
 use logos_token::error::{Detail, Errors, FaultCode, Memory};
 use logos_token::token::{Ident, Span, TokenStream, Tokens};
 use logos_token::util::MaybeVoid;
 use logos_type::{TypeExpr, print_type};
 use logos_type_params::read_value;
-use logos_type_params::reporting::report_about_with;
+use logos_type_params::reports::report_about_with;
 use std::alloc::Global;
 
 /// The error type of a lexer, and the callback that makes an error.

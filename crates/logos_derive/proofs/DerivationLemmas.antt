@@ -21,7 +21,7 @@ one_accepted {shape} {around} {source} {graph} {code} {name} {export} derivation
   made = a.made;
   is = a.is;
   implements = record {
-    lexer = record { graph = graph; code = code; name = name; export = export; given = g; around = around; stand = a.implements.shown };
+    lexer = record { graph = graph; code = code; name = name; export = export; given = g; around = around; occur = a.implements.shown };
     pieces = a.implements.pieces;
   };
   warns = a.warns;
@@ -35,7 +35,7 @@ all_accepted shape (Err error) g a = tt
 -- a source that is refused has faults
 some_faults : {source : List ℕ} {faults : List Fault} → IsRefused source faults → faults ≢ []
 some_faults (unread {fault} ending is) = λ e. let clash : fault ∷ [] ≡ [] = sym is ∙ e in absurd cc
-some_faults (faulty short shallow gives reported some) = some
+some_faults (faulty short shallow yields reported some) = some
 
 -- a refused source
 one_refused : {shape : Shape} {source : List ℕ} {faults : List Fault} (derivation : Derivation) → IsRefused source faults → IsRefusedFor source faults derivation → IsDerivation shape source derivation

@@ -1,6 +1,6 @@
 -- The implementation of an enum, with the pieces of its source.
 use Rattle.std.specs.Prelude.{ℕ, ◌≤◌, List, [], ◌∷◌, string_bytes}
-use Rattle.logos_derive.specs.Parts.{IsPartOf, StandsAt}
+use Rattle.logos_derive.specs.Parts.{IsPartOf, OccursAt}
 use Rattle.logos_derive.specs.declared.implementation.Implementation.{Implementation}
 use Rattle.logos_derive.specs.declared.implementation.Piece.{Piece}
 use Rattle.logos_tables.specs.Shapes.{IsLexerText}
@@ -11,7 +11,7 @@ use Rattle.logos_tables.specs.declared.shape.Shape.{Shape}
 pub record IsPieceOf (source text : List ℕ) (piece : Piece) : Type 0 where
   pub part : List ℕ
   pub is_part : IsPartOf source piece.span part
-  pub stands : StandsAt text piece.from part piece.to
+  pub occurs : OccursAt text piece.from part piece.to
 
 -- These are pieces of a source in a text from an offset on, in order, and no two overlap.
 abbrev pub ArePieces : List ℕ → List ℕ → ℕ → List Piece → Type 0

@@ -3,5 +3,5 @@ pub mod Implementations
 pub mod Diagnostics
 pub mod Derivations
 pub mod inside
-pub mod Words
+pub mod Imports
 pub mod Views

@@ -6,7 +6,7 @@ use Rattle.logos_token.specs.Spelling.{Spells}
 use Rattle.logos_token.specs.Tokens.{TokenList}
 
 -- These bytes stand in a text from an offset on, and end at another one.
-pub record StandsAt (text : List ℕ) (from : ℕ) (part : List ℕ) (to : ℕ) : Type 0 where
+pub record OccursAt (text : List ℕ) (from : ℕ) (part : List ℕ) (to : ℕ) : Type 0 where
   pub ends : to ≡ from + length part
   pub within : to ≤ length text
   pub is : slice_range text from to ≡ part

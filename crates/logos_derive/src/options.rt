@@ -1,6 +1,6 @@
 //! Where the options of an enum are written that its implementation repeats.
 
-ghost use Rattle.logos_enum.specs.Words.{count_of, tokens_of};
+ghost use Rattle.logos_enum.specs.Imports.{count_of, tokens_of};
 
 use logos_attribute::nested::{AttributeParser, Nested, NestedValue};
 use logos_enum::{Attribute, split_attribute};

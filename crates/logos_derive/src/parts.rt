@@ -1,7 +1,7 @@
 //! The tokens at a span of a source, and what stands at an offset of a text.
 
 ghost use Rattle.std.specs.Prelude.{IfOk, IfSome, string_bytes};
-ghost use Rattle.logos_derive.specs.Words.{IsPartOf, StandsAt};
+ghost use Rattle.logos_derive.specs.Imports.{IsPartOf, OccursAt};
 
 use logos_token::error::Memory;
 use logos_token::token::{Span, TokenError, print, tokenize};
@@ -26,7 +26,7 @@ pub(crate) fn part_text(alloc: Global, source: &str, span: Span) -> Result<Optio
 /// Returns the byte offset after a part that stands at a byte offset of a text. `None` if it does
 /// not stand there.
 pub(crate) fn after_part(text: &str, offset: usize, part: &str) -> Option<usize>
-    ensures { IfSome result (StandsAt text.now offset part.now) }
+    ensures { IfSome result (OccursAt text.now offset part.now) }
 {
     let end = offset.checked_add(part.len())?;
     let found = text.get(offset..end)?;

@@ -4,7 +4,7 @@ use Rattle.std.proofs.lemmas.List.{append-nil, map-append}
 use Rattle.logos_token.specs.Tokens.{Token, TokenList, none, also, append, IsRestOf}
 use Rattle.logos_enum.specs.declared.error.ReadError.{ReadError}
 use Rattle.logos_enum.specs.Marks.{is_none}
-use Rattle.logos_enum.specs.Rules.{Outcome, Rule, Then, Listed, preceded_by, Stands}
+use Rattle.logos_enum.specs.Rules.{Outcome, Rule, Then, Listed, preceded_by, Occurs}
 use Rattle.logos_enum.specs.Rules.Then.{goes, stops}
 use Rattle.logos_enum.specs.Rules.Listed.{stopped}
 
@@ -35,11 +35,11 @@ joined-nil before rest = ap (λ list. Ok (list, rest)) (append-nil before)
 
 module _ {A B : Type 0} (First : Rule A) (Next : A → Rule B) (run : TokenList) where
   -- what stands of the first rule, and of the one behind it, stands of both
-  pub then-stops : (error : ReadError) → Stands (λ e. First run (Err e)) error → Stands (λ e. Then First Next run (Err e)) error
+  pub then-stops : (error : ReadError) → Occurs (λ e. First run (Err e)) error → Occurs (λ e. Then First Next run (Err e)) error
   then-stops error (inl e) = inl e
   then-stops error (inr h) = inr (stops h)
 
-  pub then-goes : (value : A) (rest : TokenList) (error : ReadError) → First run (Ok (value, rest)) → Stands (λ e. Next value rest (Err e)) error → Stands (λ e. Then First Next run (Err e)) error
+  pub then-goes : (value : A) (rest : TokenList) (error : ReadError) → First run (Ok (value, rest)) → Occurs (λ e. Next value rest (Err e)) error → Occurs (λ e. Then First Next run (Err e)) error
   then-goes value rest error h (inl e) = inl e
   then-goes value rest error h (inr k) = inr (goes h k)
 
@@ -51,7 +51,7 @@ one-more view old new value outcome e = joined-push (map view old) (view value) 
 -- what stops an item stops the list, and what is wrong with the rest of it is wrong with the whole
 pub listed-stops : {A : Type 0} (ends : TokenList → Bool) (Item : Rule A) (run rest : TokenList) → ends rest ≡ false →
     ((error : ReadError) → Listed ends Item rest (Err error) → Listed ends Item run (Err error)) → {error : ReadError} →
-    Stands (λ e. Item rest (Err e)) error → Stands (λ e. Listed ends Item run (Err e)) error
+    Occurs (λ e. Item rest (Err e)) error → Occurs (λ e. Listed ends Item run (Err e)) error
 listed-stops ends Item run rest b f (inl m) = inl m
 listed-stops ends Item run rest b f {error} (inr h) = inr (f error (stopped b h))
 

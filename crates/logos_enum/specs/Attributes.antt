@@ -79,7 +79,7 @@ abbrev mutual
 
 -- All attributes that stand here: their tokens.
 pub data Attributes (run : TokenList) : Outcome TokenList → Type 0 where
-  stand : {attributes rest : TokenList} → after_attributes run ≡ Ok rest → run ≡ append attributes rest → Attributes run (Ok (attributes, rest))
+  occur : {attributes rest : TokenList} → after_attributes run ≡ Ok rest → run ≡ append attributes rest → Attributes run (Ok (attributes, rest))
   broken : {error : ReadError} → after_attributes run ≡ Err error → Attributes run (Err error)
 
 -- The tokens after the parentheses, if some stand here.
@@ -105,5 +105,5 @@ announced_in run = after_keyword (after_visibility run)
 -- and the rest follows.
 pub record IsFront (run attributes rest : TokenList) : Type 0 where
   pub middle : TokenList
-  pub stand : Attributes run (Ok (attributes, middle))
+  pub occur : Attributes run (Ok (attributes, middle))
   pub announced : announced_in middle ≡ Some rest

@@ -72,7 +72,7 @@ parameter_of head run = record { kind = head.kind; name = head.name; run = run }
 
 -- A parameter with all its tokens, up to the comma or the `>` after it.
 pub data OneParameter (run : TokenList) : Outcome ParameterValue → Type 0 where
-  stands : {head : Head} {front rest : TokenList} →
+  occurs : {head : Head} {front rest : TokenList} →
       shape run (Ok (head, rest)) → run ≡ append front (after_extent OfDefault run) → OneParameter run (Ok (parameter_of head front, rest))
   broken : {error : ReadError} → shape run (Err error) → OneParameter run (Err error)
 

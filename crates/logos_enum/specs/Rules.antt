@@ -58,5 +58,5 @@ pub data Listed {A : Type 0} (ends : TokenList → Bool) (Item : Rule A) : Token
   stopped : {run : TokenList} {error : ReadError} → ends run ≡ false → Item run (Err error) → Listed ends Item run (Err error)
 
 -- There was not enough memory, or this holds of the error.
-abbrev pub Stands : (ReadError → Type 0) → ReadError → Type 0
-Stands Holds error = (error ≡ Memory) ⊎ Holds error
+abbrev pub Occurs : (ReadError → Type 0) → ReadError → Type 0
+Occurs Holds error = (error ≡ Memory) ⊎ Holds error

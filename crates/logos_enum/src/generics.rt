@@ -1,7 +1,7 @@
 //! Reads generic parameters.
 
 ghost use Rattle.std.specs.Prelude.{◌≡◌, ◌<◌, ◌≤◌, List, map, Ok, Err, MatchResult, IfOk, IfErr};
-ghost use Rattle.logos_enum.specs.Views.{also, identifier, count_of, tokens_of, begins_with, greater, head_of, head_in, some_in, bounds_in, constant_in, default_in, tail, shape, OneParameter, closing_in, parameters, Generics, Listed, Stands, ident_slice, head_value, parameter_value};
+ghost use Rattle.logos_enum.specs.Views.{also, identifier, count_of, tokens_of, begins_with, greater, head_of, head_in, some_in, bounds_in, constant_in, default_in, tail, shape, OneParameter, closing_in, parameters, Generics, Listed, Occurs, ident_slice, head_value, parameter_value};
 
 use crate::attributes::read_attributes;
 use crate::error::ReadError;
@@ -195,7 +195,7 @@ fn read_parameters<'t, 's>(
     ensures ok { IfOk result
         (λ read. Listed (begins_with greater) OneParameter (tokens_of tokens.entry)
         (Ok (map parameter_value read.0.items, tokens_of read.1))) }
-    ensures err { IfErr result (Stands
+    ensures err { IfErr result (Occurs
         (λ error. Listed (begins_with greater) OneParameter (tokens_of tokens.entry) (Err error))) }
 {
     let mut list = Vec::new(alloc);
@@ -230,7 +230,7 @@ pub(crate) fn read_generics<'t, 's>(
     ensures ok { IfOk result
         (λ read. Generics (tokens_of tokens.entry)
         (Ok (map parameter_value read.0.items, tokens_of read.1))) }
-    ensures err { IfErr result (Stands (λ error. Generics (tokens_of tokens.entry) (Err error))) }
+    ensures err { IfErr result (Occurs (λ error. Generics (tokens_of tokens.entry) (Err error))) }
 {
     let Some(inside) = after_mark('<', tokens) else {
         return Ok((Vec::new(alloc), tokens));

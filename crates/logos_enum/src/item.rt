@@ -1,7 +1,7 @@
 //! Reads a whole enum. `logos_parser`, `logos_strip` and the finder of enums in files call it.
 
 ghost use Rattle.std.specs.Prelude.{◌≡◌, ◌<◌, ◌≤◌, List, map, Ok, Err, Result, Some, None, MatchOption, MatchResult, IfOk, IfErr};
-ghost use Rattle.logos_enum.specs.Views.{TokenList, none, count_of, tokens_of, ReadError as ReadErrorValue, Memory, announced_in, IsFront, from_brace, where_in, Body, end_in, NoFront, item, Reads, EnumValue, variant_value, enum_value, Stands};
+ghost use Rattle.logos_enum.specs.Views.{TokenList, none, count_of, tokens_of, ReadError as ReadErrorValue, Memory, announced_in, IsFront, from_brace, where_in, Body, end_in, NoFront, item, Reads, EnumValue, variant_value, enum_value, Occurs};
 
 use crate::attributes::{read_attributes, skip_keyword, skip_visibility};
 use crate::error::ReadError;
@@ -65,7 +65,7 @@ fn read_body<'t, 's>(
     ensures ok { IfOk result
         (λ read. Body (tokens_of tokens.entry)
         (Ok (map variant_value read.0.items, tokens_of read.1))) }
-    ensures err { IfErr result (Stands (λ error. Body (tokens_of tokens.entry) (Err error))) }
+    ensures err { IfErr result (Occurs (λ error. Body (tokens_of tokens.entry) (Err error))) }
 {
     let Some(braced) = open_brace(tokens) else {
         return Err(grammar_at(tokens));
@@ -120,7 +120,7 @@ fn read_item<'t, 's>(
     ensures ok { IfOk result
         (λ read. item (tokens_of attributes.entry) (tokens_of tokens.entry)
         (Ok (enum_value read, none))) }
-    ensures err { IfErr result (Stands
+    ensures err { IfErr result (Occurs
         (λ error. item (tokens_of attributes.entry) (tokens_of tokens.entry) (Err error))) }
 {
     let (name, after_name) = read_name(tokens)?;
@@ -160,7 +160,7 @@ pub fn read_enum<'t, 's>(
     tokens: Tokens<'t, 's>,
 ) -> Result<ItemEnum<'t, 's>, ReadError>
     ensures ok { IfOk result (λ read. Reads (tokens_of tokens.entry) (Ok (enum_value read))) }
-    ensures err { IfErr result (Stands (λ error. Reads (tokens_of tokens.entry) (Err error))) }
+    ensures err { IfErr result (Occurs (λ error. Reads (tokens_of tokens.entry) (Err error))) }
     ensures complete { (value : EnumValue) → Reads (tokens_of tokens.entry) (Ok value) →
         IfErr result (λ error. error ≡ Memory) }
 {

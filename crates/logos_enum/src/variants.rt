@@ -1,7 +1,7 @@
 //! Reads the variants of an enum.
 
 ghost use Rattle.std.specs.Prelude.{◌≡◌, ◌<◌, ◌≤◌, List, map, Ok, Err, MatchOption, MatchResult, IfOk, IfErr};
-ghost use Rattle.logos_enum.specs.Views.{none, count_of, tokens_of, from_comma, value_in, discriminant_in, variant, variants, variant_value, Stands};
+ghost use Rattle.logos_enum.specs.Views.{none, count_of, tokens_of, from_comma, value_in, discriminant_in, variant, variants, variant_value, Occurs};
 
 use crate::attributes::read_attributes;
 use crate::error::ReadError;
@@ -80,7 +80,7 @@ fn read_variant<'t, 's>(
         (λ read. variant (tokens_of tokens.entry) (Ok (variant_value read.0, tokens_of read.1))) }
     ensures shorter { IfOk result
         (λ read. count_of (tokens_of read.1) < count_of (tokens_of tokens.entry)) }
-    ensures err { IfErr result (Stands (λ error. variant (tokens_of tokens.entry) (Err error))) }
+    ensures err { IfErr result (Occurs (λ error. variant (tokens_of tokens.entry) (Err error))) }
 {
     let (attributes, named) = read_attributes(tokens)?;
     let (name, held) = read_name(named)?;
@@ -101,7 +101,7 @@ pub(crate) fn read_variants<'t, 's>(
 ) -> Result<Vec<Variant<'t, 's>>, ReadError>
     ensures ok { IfOk result
         (λ list. variants (tokens_of tokens.entry) (Ok (map variant_value list.items, none))) }
-    ensures err { IfErr result (Stands (λ error. variants (tokens_of tokens.entry) (Err error))) }
+    ensures err { IfErr result (Occurs (λ error. variants (tokens_of tokens.entry) (Err error))) }
 {
     let mut list = Vec::new(alloc);
     let mut rest = tokens;

@@ -5,5 +5,5 @@ pub mod Losses
 pub mod Matching
 pub mod Meetings
 pub mod inside
-pub mod Words
+pub mod Imports
 pub mod Views

@@ -2,7 +2,7 @@
 use Rattle.std.specs.Prelude.{◌≡◌, ◌↔◌, ◌⊎◌, ◌<◌, ◌≤◌, ℕ, List, Contains}
 use Rattle.std.specs.List.{AllPairs}
 use Rattle.logos_automaton.specs.Munch.{Rule, RuleMatches, priority_of}
-use Rattle.logos_evidence.specs.declared.matching.Match.{Match}
+use Rattle.logos_evidence.specs.declared.matches.Match.{Match}
 
 -- A leaf matches from the point up to an end, with its priority.
 pub record IsMatch (rules : List Rule) (bytes : List ℕ) (from : ℕ) (m : Match) : Type 0 where

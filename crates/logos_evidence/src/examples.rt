@@ -1,10 +1,10 @@
 //! What a leaf finds.
 
 ghost use Rattle.std.specs.Prelude.{◌≡◌, [], IfOk, MatchOption};
-ghost use Rattle.logos_evidence.specs.Words.{IsGraphOf, rules_of, HasNoExample, IsShortestExample, example_next, example_goal, shown};
+ghost use Rattle.logos_evidence.specs.Imports.{IsGraphOf, rules_of, HasNoExample, IsShortestExample, example_next, example_goal, shown};
 ghost use Rattle.logos_evidence.specs.inside.Machines as machines;
 
-use crate::walking::{next_at_end, next_by, seen_by, states_of};
+use crate::graph_steps::{next_at_end, next_by, seen_by, states_of};
 use logos_graph::graph::{Graph, StateData};
 use logos_search::{Machine, Point, shortest};
 use std::alloc::{AllocError, Global};

@@ -1,12 +1,12 @@
 //! Where a leaf matches and another one takes the match.
 
 ghost use Rattle.std.specs.Prelude.{◌≡◌, ◌==◌, [], IfOk, MatchOption, option_map};
-ghost use Rattle.logos_evidence.specs.Words.{list_any, IsGraphOf, rules_of, IsShortestLoss, NeverLoses, dfa_of, loss_next, loss_goal, shown};
+ghost use Rattle.logos_evidence.specs.Imports.{list_any, IsGraphOf, rules_of, IsShortestLoss, NeverLoses, dfa_of, loss_next, loss_goal, shown};
 ghost use Rattle.logos_evidence.specs.inside.Machines as machines;
 
 use crate::examples::{is_last, point_from};
+use crate::graph_steps::{next_at_end, next_by, seen_by, states_of};
 use crate::steps::{listed, listed_at_end, step_by};
-use crate::walking::{next_at_end, next_by, seen_by, states_of};
 use logos_automaton::dfa::Dfa;
 use logos_graph::graph::{Graph, StateData};
 use logos_search::{Machine, Point, shortest};

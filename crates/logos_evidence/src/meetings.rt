@@ -1,10 +1,10 @@
 //! Where leaves meet.
 
 ghost use Rattle.std.specs.Prelude.{◌≡◌, ◌<◌, ◌∷◌, ℕ, List, IfOk, IsTrue, MatchOption, false, length, if◌then◌else◌, option_map, bytes_eq};
-ghost use Rattle.logos_evidence.specs.Words.{IsStrictlyIncreasing, AllStart, highest_of, top_of, IsGraphOf, rules_of, IsShortestMeeting, NeverMeet, meeting_next, meeting_goal};
+ghost use Rattle.logos_evidence.specs.Imports.{IsStrictlyIncreasing, AllStart, highest_of, top_of, IsGraphOf, rules_of, IsShortestMeeting, NeverMeet, meeting_next, meeting_goal};
 ghost use Rattle.logos_evidence.specs.inside.Machines as machines;
 
-use crate::matching::priority_of;
+use crate::matches::priority_of;
 use crate::steps::{listed, listed_at_end, step_by};
 use logos_graph::graph::Graph;
 use logos_pattern::leaf::Leaf;

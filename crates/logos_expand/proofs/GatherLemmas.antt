@@ -3,26 +3,26 @@ use Rattle.std.proofs.Common.{◌≡◌, ◌==◌, ◌≤◌, ◌<◌, ◌+◌, 
 use Rattle.std.proofs.lemmas.List.{append-nil}
 use Rattle.std.proofs.Math.Seq.{drop-cons}
 use Rattle.std.proofs.Math.ListN.{drop_of_length-le}
-use Rattle.logos_codegen.specs.Words.{Rule}
+use Rattle.logos_codegen.specs.Imports.{Rule}
 use Rattle.logos_code.specs.Code.{CodeValue}
 use Rattle.logos_tables.specs.declared.shape.Shape.{Shape}
 use Rattle.logos_codegen.specs.Given.{IsGiven}
 use Rattle.logos_codegen.specs.Source.{IsAccepted, IsRefused, IsWithinSizes}
-use Rattle.logos_expand.specs.declared.expanding.Gathered.{Gathered}
+use Rattle.logos_expand.specs.declared.expansion.Gathered.{Gathered}
 use Rattle.logos_causes.specs.Sets.{HasSets}
 use Rattle.logos_report.specs.Sets.{sizes_of}
 use Rattle.logos_report.specs.declared.clues.Clues.{Clues}
-use Rattle.logos_report.specs.declared.refused.Refused.{Refused}
+use Rattle.logos_report.specs.declared.file_report.Refused.{Refused}
 use Rattle.logos_expand.specs.Expanding.{IsExpansion, IsExpanded, IsFileOf, IsUnreadable, Replaces, text_at}
 use Rattle.logos_tables.specs.Shapes.{config_of}
-use Rattle.logos_expand.specs.Expanding.Replaces.{ended as r_ended, stays as r_stays, gives as r_gives}
+use Rattle.logos_expand.specs.Expanding.Replaces.{ended as r_ended, stays as r_stays, yields as r_gives}
 use Rattle.logos_expand.specs.Heads.{IsFileWith}
 use Rattle.logos_expand.specs.inside.Steps.{AddsRefusal, AreFaultsOf, GathersOne, IsExpansionBy}
 use Rattle.logos_expand.specs.Gathering.{AreRefused, Gathers, GathersAll}
 use Rattle.logos_expand.specs.Gathering.AreRefused.{whole, lexers}
-use Rattle.logos_expand.specs.Gathering.Gathers.{ended as g_ended, stays as g_stays, gives as g_gives, refuses as g_refuses}
-use Rattle.logos_rust_file.specs.declared.finding.FoundEnum.{FoundEnum}
-use Rattle.logos_rust_file.specs.declared.replacing.Replacement.{Replacement}
+use Rattle.logos_expand.specs.Gathering.Gathers.{ended as g_ended, stays as g_stays, yields as g_gives, refuses as g_refuses}
+use Rattle.logos_rust_file.specs.declared.finder.FoundEnum.{FoundEnum}
+use Rattle.logos_rust_file.specs.declared.replacement.Replacement.{Replacement}
 use Rattle.logos_rust_file.specs.Files.{AreEnumsOf}
 use Rattle.logos_rust_file.specs.Replacing.{AreInOrder, found_span, part_span, replaced}
 use Rattle.logos_graph.specs.View.{GraphValue}
@@ -93,9 +93,9 @@ stays_one shape text one gathered e = record {
   completes = λ rest more worse g. g_stays e g;
 }
 
-pub gives_one : (shape : Shape) (text : List ℕ) (one : FoundEnum) (part : Replacement) (old new : Gathered) (source : List ℕ) → source ≡ text_at text one → one.derives ≡ true → part.span ≡ one.span →
+pub yields_one : (shape : Shape) (text : List ℕ) (one : FoundEnum) (part : Replacement) (old new : Gathered) (source : List ℕ) → source ≡ text_at text one → one.derives ≡ true → part.span ≡ one.span →
     IsExpansion shape source (string_bytes part.text) → new.parts.items ≡ old.parts.items ++ part ∷ [] → new.refused.items ≡ old.refused.items → GathersOne shape text one old new
-gives_one shape text one part old new source k e s x p r = record {
+yields_one shape text one part old new source k e s x p r = record {
   parts = part ∷ [];
   refused = [];
   parts_are = p;
@@ -159,9 +159,9 @@ lexers_refused shape text found gathered a g l = lexers a g (λ e. absurd (let n
 
 -- ---- the parts stand in order
 
-earlier : (from place : ℕ) (spans : List Span) (to : ℕ) → from ≤ place → AreInOrder place spans to → AreInOrder from spans to
-earlier from place [] to l s = omega (arith, l, s)
-earlier from place (span ∷ rest) to l s = (omega (arith, l, s.0), s.1, s.2)
+earlier : (from location : ℕ) (spans : List Span) (to : ℕ) → from ≤ location → AreInOrder location spans to → AreInOrder from spans to
+earlier from location [] to l s = omega (arith, l, s)
+earlier from location (span ∷ rest) to l s = (omega (arith, l, s.0), s.1, s.2)
 
 order_parts : (shape : Shape) (text : List ℕ) (found : List FoundEnum) (parts : List Replacement) (refused : List Refused) (from to : ℕ) → Gathers shape text found parts refused → AreInOrder from (map found_span found) to →
     AreInOrder from (map part_span parts) to
@@ -188,7 +188,7 @@ expansion_made shape source shown graph code name export g b = record {
   laid = b.prints.laid;
   stripped = b.stripped;
   is_written = b.prints.is_written;
-  is_lexer = record { graph = graph; code = code; name = name; export = export; given = g; around = b.prints.around; stand = b.prints.stand };
+  is_lexer = record { graph = graph; code = code; name = name; export = export; given = g; around = b.prints.around; occur = b.prints.occur };
   is_laid_out = b.prints.is_laid_out;
   is = b.prints.is;
 }

@@ -3,8 +3,8 @@ use Rattle.std.specs.Prelude.{◌≡◌, ℕ, List, [], ◌∷◌, ◌++◌, ◌
 use Rattle.logos_expand.specs.Heads.{IsFileWith}
 use Rattle.logos_tables.specs.Shapes.{IsLexerText}
 use Rattle.logos_tables.specs.declared.shape.Shape.{Shape}
-use Rattle.logos_rust_file.specs.declared.finding.FoundEnum.{FoundEnum}
-use Rattle.logos_rust_file.specs.declared.replacing.Replacement.{Replacement}
+use Rattle.logos_rust_file.specs.declared.finder.FoundEnum.{FoundEnum}
+use Rattle.logos_rust_file.specs.declared.replacement.Replacement.{Replacement}
 use Rattle.logos_rust_file.specs.Files.{AreEnumsOf}
 use Rattle.logos_rust_file.specs.Replacing.{replaced}
 use Rattle.logos_layout.specs.Conditions.{conditions_text}
@@ -79,7 +79,7 @@ text_at text found = slice_range text found.span.from found.span.to
 pub data Replaces (shape : Shape) (text : List ℕ) : List FoundEnum → List Replacement → Type 0 where
   ended : Replaces shape text [] []
   stays : {one : FoundEnum} {rest : List FoundEnum} {parts : List Replacement} → one.derives ≡ false → Replaces shape text rest parts → Replaces shape text (one ∷ rest) parts
-  gives : {one : FoundEnum} {part : Replacement} {rest : List FoundEnum} {parts : List Replacement} →
+  yields : {one : FoundEnum} {part : Replacement} {rest : List FoundEnum} {parts : List Replacement} →
       one.derives ≡ true → part.span ≡ one.span → IsExpansion shape (text_at text one) (string_bytes part.text) → Replaces shape text rest parts → Replaces shape text (one ∷ rest) (part ∷ parts)
 
 -- A file with parts replaced, which has no first line if there are none.

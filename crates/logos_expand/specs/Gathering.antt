@@ -5,18 +5,18 @@ use Rattle.logos_host.specs.declared.message_format.MessageFormat.TheVariants.{H
 use Rattle.logos_tables.specs.declared.shape.Shape.{Shape}
 use Rattle.logos_causes.specs.Sets.{HasSets}
 use Rattle.logos_codegen.specs.Source.{IsRefused}
-use Rattle.logos_expand.specs.declared.expanding.Gathered.{Gathered}
-use Rattle.logos_report.specs.declared.refused.Refused.{Refused}
+use Rattle.logos_expand.specs.declared.expansion.Gathered.{Gathered}
+use Rattle.logos_report.specs.declared.file_report.Refused.{Refused}
 use Rattle.logos_expand.specs.Expanding.{IsExpansion, IsUnreadable, text_at}
-use Rattle.logos_rust_file.specs.declared.finding.FoundEnum.{FoundEnum}
-use Rattle.logos_rust_file.specs.declared.replacing.Replacement.{Replacement}
+use Rattle.logos_rust_file.specs.declared.finder.FoundEnum.{FoundEnum}
+use Rattle.logos_rust_file.specs.declared.replacement.Replacement.{Replacement}
 use Rattle.logos_rust_file.specs.Files.{AreEnumsOf}
 use Rattle.logos_host.specs.declared.failure.Failure.{Failure}
 use Rattle.logos_host.specs.declared.failure.Failure.TheVariants as failures
 use Rattle.logos_host.specs.Failures.{status_of}
-use Rattle.logos_page.specs.Pages.{StandInOrder}
+use Rattle.logos_page.specs.Pages.{OccurInOrder}
 use Rattle.logos_report.specs.Parts.{refused_texts}
-use Rattle.logos_report.specs.Places.{SourceValue}
+use Rattle.logos_report.specs.Locations.{SourceValue}
 use Rattle.logos_report.specs.Sets.{sizes_of}
 use Rattle.logos_messages.specs.Messages.{AreRefusedMessages}
 
@@ -26,7 +26,7 @@ pub data Gathers (shape : Shape) (text : List ℕ) : List FoundEnum → List Rep
   ended : Gathers shape text [] [] []
   stays : {one : FoundEnum} {rest : List FoundEnum} {parts : List Replacement} {refused : List Refused} →
       one.derives ≡ false → Gathers shape text rest parts refused → Gathers shape text (one ∷ rest) parts refused
-  gives : {one : FoundEnum} {part : Replacement} {rest : List FoundEnum} {parts : List Replacement} {refused : List Refused} →
+  yields : {one : FoundEnum} {part : Replacement} {rest : List FoundEnum} {parts : List Replacement} {refused : List Refused} →
       one.derives ≡ true → part.span ≡ one.span → IsExpansion shape (text_at text one) (string_bytes part.text) → Gathers shape text rest parts refused →
       Gathers shape text (one ∷ rest) (part ∷ parts) refused
   refuses : {one : FoundEnum} {bad : Refused} {rest : List FoundEnum} {parts : List Replacement} {refused : List Refused} →
@@ -50,14 +50,14 @@ EndsWithLines source refused text = (front lines : List ℕ) × (text ≡ front 
 
 -- What is shown of faults, in order: a report, with or without colors, or lines of JSON.
 abbrev pub ShowsRefused : MessageFormat → SourceValue → List Refused → List ℕ → Type 0
-ShowsRefused Human source refused shown = (is_colored : Bool) × StandInOrder (refused_texts is_colored source refused) shown
+ShowsRefused Human source refused shown = (is_colored : Bool) × OccurInOrder (refused_texts is_colored source refused) shown
 ShowsRefused Json source refused shown = EndsWithLines source refused shown
 
 -- This text shows all faults of a file, in order.
 pub record ShowsFaults (format : MessageFormat) (shape : Shape) (source : SourceValue) (shown : List ℕ) : Type 0 where
   pub refused : List Refused
   pub are : AreRefused shape source.text refused
-  pub stand : ShowsRefused format source refused shown
+  pub occur : ShowsRefused format source refused shown
 
 -- What was asked for was refused, for a reason, or a file or memory failed.
 abbrev pub FailsBy : (Failure → Type 0) → Failure → Type 0

@@ -2,9 +2,9 @@
 
 #![tactic(auto)]
 
-mod expanding;
+mod expansion;
 mod head;
-mod printing;
+mod printer;
 
-pub use expanding::{Expansion, expand};
+pub use expansion::{Expansion, expand};
 pub use head::shape_name;

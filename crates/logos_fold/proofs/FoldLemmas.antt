@@ -8,9 +8,9 @@ use Rattle.logos_code.specs.CodeView.{state_at, no_state}
 use Rattle.logos_code.specs.Headline.{IsSound, NamesWhatIsThere}
 use Rattle.logos_code.specs.Runs.{stays, target}
 use Rattle.logos_code.specs.declared.code.rows.MatchUse.{MatchUse}
-use Rattle.logos_code.specs.declared.code.rows.MatchUse.TheVariants.{Emits, Skips, Asks}
+use Rattle.logos_code.specs.declared.code.rows.MatchUse.TheVariants.{Emits, Skips, CallsBack}
 use Rattle.logos_code.proofs.TargetLemmas.{All-slice_get, target_there}
-use Rattle.logos_walk.specs.Walk.{place_of}
+use Rattle.logos_walk.specs.Walk.{row_start_of}
 use Rattle.logos_fold.specs.Folds.{Goes, IsEnded, IsFew, IsFolded, IsFoldedRow, IsWithin, flags_of}
 
 -- a state is small
@@ -40,16 +40,16 @@ pub goes_stays : (code : CodeValue) (s b : ℕ) → s < length code.states → s
 goes_stays code s b there on = record { next = s; there = there; is = refl; takes = inl (on, refl) }
 
 -- the place in an entry
-pub place_is : (entry : ℕ) → place_of entry ≡ entry % 1048576
-place_is entry = and_mask entry 20
+pub row_start_is : (entry : ℕ) → row_start_of entry ≡ entry % 1048576
+row_start_is entry = and_mask entry 20
 
 -- an entry without flags
-pub folded_goes : (code : CodeValue) (s b place : ℕ) → IsFew code → Goes code s b place → IsFolded code s b place × IsWithin code (place_of place)
-folded_goes code s b place few g =
+pub folded_goes : (code : CodeValue) (s b row_start : ℕ) → IsFew code → Goes code s b row_start → IsFolded code s b row_start × IsWithin code (row_start_of row_start)
+folded_goes code s b row_start few g =
     let there = g.there in
     let is = g.is in
-    let small : place < 1048576 = omega (arith, few, there, is) in
-    let same : place_of place ≡ place = place_is place ∙ omega (arith, small) in (
+    let small : row_start < 1048576 = omega (arith, few, there, is) in
+    let same : row_start_of row_start ≡ row_start = row_start_is row_start ∙ omega (arith, small) in (
       record {
         goes = λ z w. subst (Goes code s b) (sym same) g;
         ends = λ o. absurd (omega (arith, o, small));
@@ -58,10 +58,10 @@ folded_goes code s b place few g =
     )
 
 -- an entry that says nothing
-pub folded_token : (code : CodeValue) (s b place : ℕ) → place < 1048576 → place + 255 < 272 * length code.states →
-    IsFolded code s b (1073741824 + place) × IsWithin code (place_of (1073741824 + place))
-folded_token code s b place small within =
-    let same : place_of (1073741824 + place) ≡ place = place_is (1073741824 + place) ∙ omega (arith, small) in (
+pub folded_token : (code : CodeValue) (s b row_start : ℕ) → row_start < 1048576 → row_start + 255 < 272 * length code.states →
+    IsFolded code s b (1073741824 + row_start) × IsWithin code (row_start_of (1073741824 + row_start))
+folded_token code s b row_start small within =
+    let same : row_start_of (1073741824 + row_start) ≡ row_start = row_start_is (1073741824 + row_start) ∙ omega (arith, small) in (
       record {
         goes = λ z w. absurd (omega (arith, w, small));
         ends = λ o. absurd (omega (arith, o, small));
@@ -70,33 +70,33 @@ folded_token code s b place small within =
     )
 
 -- the bits of an entry with flags
-pub ended_is : (entry leaf : ℕ) (used : MatchUse) (place : ℕ) → leaf < 512 → place < 1048576 → entry ≡ flags_of used + 1048576 * leaf + place → IsEnded entry leaf used place
-ended_is entry leaf Emits place l p e = record {
+pub ended_is : (entry leaf : ℕ) (used : MatchUse) (row_start : ℕ) → leaf < 512 → row_start < 1048576 → entry ≡ flags_of used + 1048576 * leaf + row_start → IsEnded entry leaf used row_start
+ended_is entry leaf Emits row_start l p e = record {
   ended = omega (arith, e, l, p);
   has_use = (omega (arith, e, l, p), omega (arith, e, l, p));
   is_leaf = omega (arith, e, l, p);
-  is_place = place_is entry ∙ omega (arith, e, l, p);
+  is_row_start = row_start_is entry ∙ omega (arith, e, l, p);
 }
-ended_is entry leaf Skips place l p e = record {
+ended_is entry leaf Skips row_start l p e = record {
   ended = omega (arith, e, l, p);
   has_use = omega (arith, e, l, p);
   is_leaf = omega (arith, e, l, p);
-  is_place = place_is entry ∙ omega (arith, e, l, p);
+  is_row_start = row_start_is entry ∙ omega (arith, e, l, p);
 }
-ended_is entry leaf Asks place l p e = record {
+ended_is entry leaf CallsBack row_start l p e = record {
   ended = omega (arith, e, l, p);
   has_use = (omega (arith, e, l, p), omega (arith, e, l, p));
   is_leaf = omega (arith, e, l, p);
-  is_place = place_is entry ∙ omega (arith, e, l, p);
+  is_row_start = row_start_is entry ∙ omega (arith, e, l, p);
 }
 
 either : (a b : ℕ) → a < b + 1 → (a < b) ⊎ (b ≡ a)
 either a b h = grind arith
 
 -- a row without entries
-pub blank : (code : CodeValue) (s k : ℕ) → s < length code.states → k < 272 → IsWithin code (place_of (slice_index (replicate 272 0) k))
+pub blank : (code : CodeValue) (s k : ℕ) → s < length code.states → k < 272 → IsWithin code (row_start_of (slice_index (replicate 272 0) k))
 blank code s k there h =
-    let none : place_of (slice_index (replicate 272 0) k) ≡ 0 = ap place_of (get_or-replicate 272 k 0 0 h) ∙ place_is 0 in
+    let none : row_start_of (slice_index (replicate 272 0) k) ≡ 0 = ap row_start_of (get_or-replicate 272 k 0 0 h) ∙ row_start_is 0 in
     omega (arith, none, there)
 
 module _ (code : CodeValue) (s : ℕ) (row : List ℕ) (b entry : ℕ) (long : length row ≡ 272) (within : b < 256) where
@@ -110,18 +110,18 @@ module _ (code : CodeValue) (s : ℕ) (row : List ℕ) (b entry : ℕ) (long : l
       now : b ≡ k → IsFolded code s k (slice_index (set row b entry) k)
       now e = subst (λ n. IsFolded code s n (slice_index (set row b entry) n)) e (rw (get_or-set_same row b entry 0 (omega (arith, within, long))) is)
 
-  pub row_within : IsWithin code (place_of entry) → ((k : ℕ) → k < 272 → IsWithin code (place_of (slice_index row k))) → (k : ℕ) → k < 272 →
-      IsWithin code (place_of (slice_index (set row b entry) k))
+  pub row_within : IsWithin code (row_start_of entry) → ((k : ℕ) → k < 272 → IsWithin code (row_start_of (slice_index row k))) → (k : ℕ) → k < 272 →
+      IsWithin code (row_start_of (slice_index (set row b entry) k))
   row_within is each k h = ⊎_elim other same (apart k b)
     where
       apart : (x y : ℕ) → (x ≢ y) ⊎ (y ≡ x)
       apart x y = grind arith
 
-      other : k ≢ b → IsWithin code (place_of (slice_index (set row b entry) k))
+      other : k ≢ b → IsWithin code (row_start_of (slice_index (set row b entry) k))
       other d = rw (get_or-set_other row b k entry 0 d) (each k h)
 
-      same : b ≡ k → IsWithin code (place_of (slice_index (set row b entry) k))
-      same e = subst (λ n. IsWithin code (place_of (slice_index (set row b entry) n))) e (rw (get_or-set_same row b entry 0 (omega (arith, within, long))) is)
+      same : b ≡ k → IsWithin code (row_start_of (slice_index (set row b entry) k))
+      same e = subst (λ n. IsWithin code (row_start_of (slice_index (set row b entry) n))) e (rw (get_or-set_same row b entry 0 (omega (arith, within, long))) is)
 
 -- the rows of one state more
 module _ (code : CodeValue) (rows row : List ℕ) (s : ℕ) (count : length rows ≡ 272 * s) (long : length row ≡ 272) (is : IsFoldedRow code s row) where
@@ -141,17 +141,17 @@ module _ (code : CodeValue) (rows row : List ℕ) (s : ℕ) (count : length rows
       now : s ≡ k → IsFolded code k b (slice_index (rows ++ row) (272 * k + b))
       now e = subst (λ n. IsFolded code n b (slice_index (rows ++ row) (272 * n + b))) e (rw added (is.each b within))
 
-  pub rows_within : ((k : ℕ) → k < 272 * s → IsWithin code (place_of (slice_index rows k))) → (k : ℕ) → k < 272 * (s + 1) → IsWithin code (place_of (slice_index (rows ++ row) k))
+  pub rows_within : ((k : ℕ) → k < 272 * s → IsWithin code (row_start_of (slice_index rows k))) → (k : ℕ) → k < 272 * (s + 1) → IsWithin code (row_start_of (slice_index (rows ++ row) k))
   rows_within each k h = ⊎_elim old now (ways k (272 * s))
     where
       ways : (x y : ℕ) → (x < y) ⊎ (y ≤ x)
       ways x y = grind arith
 
-      old : k < 272 * s → IsWithin code (place_of (slice_index (rows ++ row) k))
+      old : k < 272 * s → IsWithin code (row_start_of (slice_index (rows ++ row) k))
       old l = rw (get_or_append_left rows row 0 k (omega (arith, l, count))) (each k l)
 
-      now : 272 * s ≤ k → IsWithin code (place_of (slice_index (rows ++ row) k))
+      now : 272 * s ≤ k → IsWithin code (row_start_of (slice_index (rows ++ row) k))
       now g =
           let b = k - 272 * s in
           let back : length rows + b ≡ k = omega (arith, g, count) in
-          subst (λ n. IsWithin code (place_of (slice_index (rows ++ row) n))) back (rw (get_or-append-add rows row b 0) (is.within b (omega (arith, h, g))))
+          subst (λ n. IsWithin code (row_start_of (slice_index (rows ++ row) n))) back (rw (get_or-append-add rows row b 0) (is.within b (omega (arith, h, g))))

@@ -1,6 +1,6 @@
 -- What folded rows say of a code.
 use Rattle.std.specs.Prelude.{◌≡◌, ℕ, ◌+◌, ◌*◌, ◌/◌, ◌%◌, ◌<◌, ◌≤◌, ◌⊎◌, true, false, List, length, Some, slice_index}
-use Rattle.logos_walk.specs.Walk.{IsClosed, place_of}
+use Rattle.logos_walk.specs.Walk.{IsClosed, row_start_of}
 use Rattle.std.specs.Int.{bit_at}
 use Rattle.logos_code.specs.Code.{CodeValue}
 use Rattle.logos_code.specs.CodeView.{state_at}
@@ -8,7 +8,7 @@ use Rattle.logos_code.specs.Headline.{IsSound}
 use Rattle.logos_code.specs.Rows.{Says}
 use Rattle.logos_code.specs.Runs.{stays, target}
 use Rattle.logos_code.specs.declared.code.rows.MatchUse.{MatchUse}
-use Rattle.logos_code.specs.declared.code.rows.MatchUse.TheVariants.{Emits, Skips, Asks}
+use Rattle.logos_code.specs.declared.code.rows.MatchUse.TheVariants.{Emits, Skips, CallsBack}
 use Rattle.logos_code.specs.declared.code.rows.Step.TheVariants.{Halts, Looks}
 
 -- A code with its folded rows.
@@ -32,10 +32,10 @@ TakesTo code s b next =
     ((stays code loop b ≡ true) × (next ≡ s)) ⊎ ((stays code loop b ≡ false) × (target code (state_at code s).fork b ≡ Some next))
 
 -- The offset is that of the state in which a try stands after the byte.
-pub record Goes (code : CodeValue) (s b place : ℕ) : Type 0 where
+pub record Goes (code : CodeValue) (s b row_start : ℕ) : Type 0 where
   pub next : ℕ
   pub there : next < length code.states
-  pub is : place ≡ 272 * next
+  pub is : row_start ≡ 272 * next
   pub takes : TakesTo code s b next
 
 -- The leaf of an entry: nine bits from the twentieth on.
@@ -46,21 +46,21 @@ leaf_of entry = entry / 1048576 % 512
 abbrev pub flags_of : MatchUse → ℕ
 flags_of Emits = 3221225472
 flags_of Skips = 2147483648
-flags_of Asks = 3758096384
+flags_of CallsBack = 3758096384
 
 -- The bits of the flags say what becomes of the match.
 abbrev pub HasUse : ℕ → MatchUse → Type 0
 HasUse entry Emits = (bit_at entry 30 ≡ 1) × (bit_at entry 29 ≡ 0)
 HasUse entry Skips = bit_at entry 30 ≡ 0
-HasUse entry Asks = (bit_at entry 30 ≡ 1) × (bit_at entry 29 ≡ 1)
+HasUse entry CallsBack = (bit_at entry 30 ≡ 1) × (bit_at entry 29 ≡ 1)
 
 -- The entry of a byte before which a match of the leaf ends, and after which the next try stands at
 -- the offset.
-pub record IsEnded (entry leaf : ℕ) (used : MatchUse) (place : ℕ) : Type 0 where
+pub record IsEnded (entry leaf : ℕ) (used : MatchUse) (row_start : ℕ) : Type 0 where
   pub ended : bit_at entry 31 ≡ 1
   pub has_use : HasUse entry used
   pub is_leaf : leaf_of entry ≡ leaf
-  pub is_place : place_of entry ≡ place
+  pub is_row_start : row_start_of entry ≡ row_start
 
 -- In the state, a match of the entry's leaf ends before the byte.
 pub record EndsAs (code : CodeValue) (s b entry : ℕ) : Type 0 where
@@ -73,17 +73,17 @@ pub record EndsAs (code : CodeValue) (s b entry : ℕ) : Type 0 where
 -- of the state after the byte in the try that begins there. With the other flag alone it says
 -- nothing.
 pub record IsFolded (code : CodeValue) (s b entry : ℕ) : Type 0 where
-  pub goes : bit_at entry 31 ≡ 0 → bit_at entry 30 ≡ 0 → Goes code s b (place_of entry)
-  pub ends : bit_at entry 31 ≡ 1 → EndsAs code s b entry × Goes code code.root b (place_of entry)
+  pub goes : bit_at entry 31 ≡ 0 → bit_at entry 30 ≡ 0 → Goes code s b (row_start_of entry)
+  pub ends : bit_at entry 31 ≡ 1 → EndsAs code s b entry × Goes code code.root b (row_start_of entry)
 
 -- A row begins at the offset.
 abbrev pub IsWithin : CodeValue → ℕ → Type 0
-IsWithin code place = place + 255 < 272 * length code.states
+IsWithin code row_start = row_start + 255 < 272 * length code.states
 
 -- An entry for each byte.
 pub record IsFoldedRow (code : CodeValue) (s : ℕ) (row : List ℕ) : Type 0 where
   pub each : (b : ℕ) → b < 256 → IsFolded code s b (slice_index row b)
-  pub within : (k : ℕ) → k < 272 → IsWithin code (place_of (slice_index row k))
+  pub within : (k : ℕ) → k < 272 → IsWithin code (row_start_of (slice_index row k))
 
 -- The folded rows of all states, one after another.
 pub record AreFolded (code : CodeValue) (rows : List ℕ) : Type 0 where

@@ -1,7 +1,7 @@
 //! Entries of folded rows.
 
 ghost use Rattle.std.specs.Prelude.{◌≡◌, ◌+◌, ◌<◌, false, length, IfSome};
-ghost use Rattle.logos_fold.specs.Words.{first_halting, flags_of, place_of, state_at, stays, Goes, IsEnded, IsFew, IsFolded, IsFoldedRow, IsSound, IsStepOf, IsWithin, LeadsToPlace, Says};
+ghost use Rattle.logos_fold.specs.Imports.{first_halting, flags_of, row_start_of, state_at, stays, Goes, IsEnded, IsFew, IsFolded, IsFoldedRow, IsSound, IsStepOf, IsWithin, LeadsToRowStart, Says};
 
 use logos_code::code::Code;
 use logos_code::code::rows::{
@@ -28,7 +28,7 @@ const LEAF: u32 = 1 << 20;
 
 /// Returns the step for which the entry of a code stands.
 fn step_of(entry: u32) -> Step
-    requires { LeadsToPlace entry }
+    requires { LeadsToRowStart entry }
     ensures { IsStepOf entry result }
 {
     match entry {
@@ -38,8 +38,11 @@ fn step_of(entry: u32) -> Step
         HALTS..CLOSES => before(entry - HALTS, MatchUse::Emits),
         CLOSES..SHUTS => Step::Closes(LeafId((entry - CLOSES) as usize), MatchUse::Emits),
         SHUTS..ASKS => Step::Closes(LeafId((entry - SHUTS) as usize), MatchUse::Skips),
-        ASKS..ASKS_AFTER => before(entry - ASKS, MatchUse::Asks),
-        ASKS_AFTER..STUCK => Step::Closes(LeafId((entry - ASKS_AFTER) as usize), MatchUse::Asks),
+        ASKS..ASKS_AFTER => before(entry - ASKS, MatchUse::CallsBack),
+        ASKS_AFTER..STUCK => Step::Closes(
+            LeafId((entry - ASKS_AFTER) as usize),
+            MatchUse::CallsBack,
+        ),
         STUCK..UNSAID => Step::Stuck,
         _ => Step::Unsaid,
     }
@@ -68,7 +71,7 @@ fn step_at(code: &Code, state: usize, byte: u8) -> Step
 
 /// Returns the offset of the state in which a try stands after the byte, if it is known that the
 /// byte keeps the try going.
-fn place_after(code: &Code, state: usize, byte: u8) -> Option<usize>
+fn row_start_after(code: &Code, state: usize, byte: u8) -> Option<usize>
     requires few { IsFew code.now }
     requires sound { IsSound code.now }
     requires state { state < length code.now.states }
@@ -77,13 +80,13 @@ fn place_after(code: &Code, state: usize, byte: u8) -> Option<usize>
     match step_at(code, state, byte) {
         Step::Leads(next) => Some(WIDTH * next),
         Step::Stays(_) => Some(WIDTH * state),
-        Step::Closes(..) => place_of_target(code, state, byte),
+        Step::Closes(..) => row_start_of_target(code, state, byte),
         _ => None,
     }
 }
 
 /// Returns the offset of the state to which the byte leads.
-fn place_of_target(code: &Code, state: usize, byte: u8) -> Option<usize>
+fn row_start_of_target(code: &Code, state: usize, byte: u8) -> Option<usize>
     requires few { IsFew code.now }
     requires sound { IsSound code.now }
     requires state { state < length code.now.states }
@@ -103,33 +106,33 @@ fn flags(used: MatchUse) -> u32
     match used {
         MatchUse::Emits => ENDED + TOKEN,
         MatchUse::Skips => ENDED,
-        MatchUse::Asks => ENDED + TOKEN + CALLS,
+        MatchUse::CallsBack => ENDED + TOKEN + CALLS,
     }
 }
 
 /// Returns the entry of a byte before which a match ends, and after which the next try stands at
 /// the offset.
-fn ended(leaf: LeafId, used: MatchUse, place: usize) -> u32
+fn ended(leaf: LeafId, used: MatchUse, row_start: usize) -> u32
     requires leaf { leaf.0 < LEAVES_NAMED }
-    requires place { place < ENTRIES }
-    ensures { IsEnded result leaf.0 used place }
+    requires row_start { row_start < ENTRIES }
+    ensures { IsEnded result leaf.0 used row_start }
 {
-    flags(used) + LEAF * leaf.0 as u32 + place as u32
+    flags(used) + LEAF * leaf.0 as u32 + row_start as u32
 }
 
 /// Returns the entry of a byte that does not keep the try going, from the offset after the byte in
 /// a new try.
-fn fold_end(code: &Code, state: usize, byte: u8, place: usize) -> u32
+fn fold_end(code: &Code, state: usize, byte: u8, row_start: usize) -> u32
     requires few { IsFew code.now }
     requires state { state < length code.now.states }
-    requires place { Goes code.now code.now.root byte place }
+    requires row_start { Goes code.now code.now.root byte row_start }
     ensures folded { IsFolded code.now state byte result }
-    ensures within { IsWithin code.now (place_of result) }
+    ensures within { IsWithin code.now (row_start_of result) }
 {
     match step_at(code, state, byte) {
-        Step::Halts(leaf, used) if leaf.0 < LEAVES_NAMED => ended(leaf, used, place),
-        Step::Looks(leaf, used) if leaf.0 < LEAVES_NAMED => ended(leaf, used, place),
-        _ => TOKEN + place as u32,
+        Step::Halts(leaf, used) if leaf.0 < LEAVES_NAMED => ended(leaf, used, row_start),
+        Step::Looks(leaf, used) if leaf.0 < LEAVES_NAMED => ended(leaf, used, row_start),
+        _ => TOKEN + row_start as u32,
     }
 }
 
@@ -139,13 +142,13 @@ fn fold(code: &Code, state: usize, byte: u8) -> u32
     requires sound { IsSound code.now }
     requires state { state < length code.now.states }
     ensures folded { IsFolded code.now state byte result }
-    ensures within { IsWithin code.now (place_of result) }
+    ensures within { IsWithin code.now (row_start_of result) }
 {
-    if let Some(place) = place_after(code, state, byte) {
-        return place as u32;
+    if let Some(row_start) = row_start_after(code, state, byte) {
+        return row_start as u32;
     }
-    match place_after(code, code.root(), byte) {
-        Some(place) => fold_end(code, state, byte, place),
+    match row_start_after(code, code.root(), byte) {
+        Some(row_start) => fold_end(code, state, byte, row_start),
         None => TOKEN,
     }
 }

@@ -1,7 +1,7 @@
 //! The folded rows of a code.
 
 ghost use Rattle.std.specs.Prelude.{◌≡◌, IfOk, IfSome, None, length};
-ghost use Rattle.logos_fold.specs.Words.{AreFolded, IsFew, IsMany};
+ghost use Rattle.logos_fold.specs.Imports.{AreFolded, IsFew, IsMany};
 
 use crate::entries::{ENTRIES, row_of};
 use logos_code::code::Code;
@@ -18,7 +18,7 @@ pub struct Folded<'c, 's> {
 
 impl<'c, 's> Model for Folded<'c, 's> {
     ghost use Rattle.std.specs.Prelude.{[]};
-    ghost use Rattle.logos_fold.specs.Words.{codes, named, AreFolded, FoldedValue};
+    ghost use Rattle.logos_fold.specs.Imports.{codes, named, AreFolded, FoldedValue};
     ghost use Rattle.logos_type.specs.contracts.type_expr.TypePart as p;
 
     ghost Value = { FoldedValue };

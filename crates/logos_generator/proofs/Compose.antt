@@ -5,7 +5,7 @@ use Rattle.logos_graph.specs.View.{GraphValue, rule_of, rules_of}
 use Rattle.logos_automaton.specs.Munch.{Use, Rule, IsInput, Found, ended, matched, failed, Finds}
 use Rattle.logos_code.specs.Code.{CodeValue}
 use Rattle.logos_code.specs.Runs.{CodeFinds, Runs, RunsOn}
-use Rattle.logos_code.specs.Items.{Callback, Search, Item, Items, IsNext, Lexes, over, match, fault, NextItem, passes, gives, fails}
+use Rattle.logos_code.specs.Items.{Callback, Search, Item, Items, IsNext, Lexes, over, match, fault, NextItem, passes, yields, fails}
 use Rattle.logos_graph.specs.Graph.{GraphState}
 use Rattle.logos_graph.specs.Found.{FindsTheLongest}
 use Rattle.logos_code.specs.Headline.{IsLexer}
@@ -65,7 +65,7 @@ next_by : (uses : List Use) (callback : Callback) (bytes : List ℕ) (search oth
     {from : ℕ} {item : Item} {end : ℕ} → NextItem uses callback bytes search from item end → NextItem uses callback bytes other from item end
 next_by uses callback bytes search other h (passes from to leaf answer item end s a e l) =
     passes from to leaf answer item end (h from (matched leaf to) s) a e (next_by uses callback bytes search other h l)
-next_by uses callback bytes search other h (gives from to leaf answer item s a e) = gives from to leaf answer item (h from (matched leaf to) s) a e
+next_by uses callback bytes search other h (yields from to leaf answer item s a e) = yields from to leaf answer item (h from (matched leaf to) s) a e
 next_by uses callback bytes search other h (fails from to s) = fails from to (h from (failed to) s)
 
 -- the next item of a run is the next one of maximal munch

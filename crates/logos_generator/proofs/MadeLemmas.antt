@@ -56,8 +56,8 @@ not_found {A = A} p (y ∷ xs) (suc i) x e is h = go (p y) (λ f. not_found p xs
     go false later e = later e
 
 -- two edges with one target stand at one place
-same_place : (edges : List Edge) → AllPairs (λ edge other. edge.1 ≢ other.1) edges → (i j : ℕ) (edge other : Edge) → slice_get edges i ≡ Some edge → slice_get edges j ≡ Some other → edge.1 ≡ other.1 → edge ≡ other
-same_place edges apart i j edge other a b same = ⊎_elim (λ h. absurd (clash i j edge other a b h same)) (λ o. ⊎_elim (λ h. absurd (clash j i other edge b a h (sym same))) equal o) (order i j)
+same_row_start : (edges : List Edge) → AllPairs (λ edge other. edge.1 ≢ other.1) edges → (i j : ℕ) (edge other : Edge) → slice_get edges i ≡ Some edge → slice_get edges j ≡ Some other → edge.1 ≡ other.1 → edge ≡ other
+same_row_start edges apart i j edge other a b same = ⊎_elim (λ h. absurd (clash i j edge other a b h same)) (λ o. ⊎_elim (λ h. absurd (clash j i other edge b a h (sym same))) equal o) (order i j)
   where
     order : (a b : ℕ) → (a < b) ⊎ ((b < a) ⊎ (a ≡ b))
     order a b = grind arith
@@ -131,7 +131,7 @@ module _ (code : CodeValue) (tests : List (List Bool)) (realised : (k b : ℕ) �
             λ p. edge_at f.0 edge f.1 b h (sym test ∙ p) ∙ ap Some back,
             λ e.
                 let g = found_edge (λ (e : Edge). is_in e.0 b) edges s e in
-                let same = same_place edges apart f.0 g.0 edge g.1 f.1 g.2 (back ∙ sym g.4) in
+                let same = same_row_start edges apart f.0 g.0 edge g.1 f.1 g.2 (back ∙ sym g.4) in
                 test ∙ ap (λ (x : Edge). is_in x.0 b) same ∙ g.3,
           )
 

@@ -9,7 +9,7 @@ use Rattle.std.specs.List.{take_while}
 use Rattle.logos_hir.specs.Text.{IsBytes}
 use Rattle.logos_code.specs.Bytes.{passes_test}
 use Rattle.logos_code.specs.Code.{CodeValue, CodeState}
-use Rattle.logos_code.specs.Runs.{Stand, Turn, enters, acts, marked, looped, target, forked, turn, stays}
+use Rattle.logos_code.specs.Runs.{Status, Turn, enters, acts, marked, looped, target, forked, turn, stays}
 use Rattle.logos_graph.specs.Graph.{GraphState, next_by, next_at_end}
 use Rattle.logos_generator.specs.Makes.{mark_made, led_by, Makes, IsClosed}
 use Rattle.logos_generator.proofs.ScanLemmas.{mark_at, passed, last_of, reach, last_of-remark, last_of-step, last_of-stuck, reach-step, reach-stuck}
@@ -106,8 +106,8 @@ module _ (code : CodeValue) (graph : List GraphState) where
     Bound state at = (at ≤ length bytes) ⊎ ((at ≡ length bytes + 1) × (state.eoi ≡ None))
 
     -- the try goes on, and finds the same there
-    pub record GoesOn (at : Stand) (what : Turn) : Type 0 where
-      pub next : Stand
+    pub record GoesOn (at : Status) (what : Turn) : Type 0 where
+      pub next : Status
       pub is : what ≡ enters next
       pub state : GraphState
       pub has : slice_get graph next.state ≡ Some state
@@ -118,12 +118,12 @@ module _ (code : CodeValue) (graph : List GraphState) where
           at.offset + reach graph at.state (drop at.offset bytes) ≡ next.offset + reach graph next.state (drop next.offset bytes)
 
     -- the try is over, and acts on what is found
-    pub record IsDone (at : Stand) (what : Turn) : Type 0 where
+    pub record IsDone (at : Status) (what : Turn) : Type 0 where
       pub offset : ℕ
       pub is : what ≡ acts (last_of graph at.state (drop at.offset bytes) at.offset at.context) offset
       pub reached : at.offset + reach graph at.state (drop at.offset bytes) ≡ offset
 
-    abbrev pub Turns : Stand → Turn → Type 0
+    abbrev pub Turns : Status → Turn → Type 0
     Turns at what = GoesOn at what ⊎ IsDone at what
 
     -- a byte, or the end of the input
@@ -211,7 +211,7 @@ module _ (code : CodeValue) (graph : List GraphState) where
                 here : Bound state at → at + 1 ≡ length bytes + 1
                 here b = ⊎_elim (λ f. omega (arith, f, u.0)) (λ f. absurd (some_none (sym e ∙ f.1))) b
 
-    pub turns : (at : Stand) (state : GraphState) (made : CodeState) → slice_get graph at.state ≡ Some state → Makes code at.state state made → IsClosed graph state → Bound state at.offset →
+    pub turns : (at : Status) (state : GraphState) (made : CodeState) → slice_get graph at.state ≡ Some state → Makes code at.state state made → IsClosed graph state → Bound state at.offset →
         Turns at (turn code bytes start made at)
     turns at state made is makes closed bound = ⊎_elim
         (λ g. inl record {

@@ -15,8 +15,8 @@ use Rattle.logos_machine.specs.Loops.{AnswersAmong}
 
 -- A code is a lexer of a graph's rules if it runs as the graph does, in its mode and with the uses
 -- of its leaves, and the graph finds what maximal munch finds.
-abbrev pub GraphsGiveLexers : Type 0
-GraphsGiveLexers = (graph : GraphValue) (code : CodeValue) →
+abbrev pub GraphsYieldLexers : Type 0
+GraphsYieldLexers = (graph : GraphValue) (code : CodeValue) →
     FindsTheLongest (rules_of graph.leaves) graph.utf8 graph.states → RunsAs graph.states graph.utf8 code →
     code.utf8 ≡ graph.utf8 → code.leaves ≡ map (λ leaf. (rule_of leaf).use_of) graph.leaves →
     IsLexer (rules_of graph.leaves) graph.utf8 code

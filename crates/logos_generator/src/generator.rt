@@ -1,7 +1,7 @@
 //! Turns a graph into a code value.
 
 ghost use Rattle.std.specs.Prelude.{◌≡◌, [], IfOk, OnOk, OnErr, map, option_copied};
-ghost use Rattle.logos_generator.specs.Words.{rule_of, RunsAs, fresh, code_leaf_value, leaf_value, IsCopy, KeepsGiven, HasNodesOf, jump_tables_of, tests_of, leaf_use};
+ghost use Rattle.logos_generator.specs.Imports.{rule_of, RunsAs, fresh, code_leaf_value, leaf_value, IsCopy, KeepsGiven, HasNodesOf, jump_tables_of, tests_of, leaf_use};
 
 mod fork;
 mod leaves;
@@ -37,7 +37,7 @@ pub struct Generator<'g, 's> {
 
 impl<'g, 's> Model for Generator<'g, 's> {
     ghost use Rattle.std.specs.Prelude.{◌≡◌, [], option_copied};
-    ghost use Rattle.logos_generator.specs.Words.{codes, named, GeneratorValue};
+    ghost use Rattle.logos_generator.specs.Imports.{codes, named, GeneratorValue};
     ghost use Rattle.logos_hir.specs.contracts.hir.Hir as e;
     ghost use Rattle.logos_type.specs.contracts.type_expr.TypePart as p;
 

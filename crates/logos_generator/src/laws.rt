@@ -2,7 +2,7 @@
 //! function: the call does nothing.
 
 ghost use Rattle.std.specs.Prelude.{ℕ, ◌≤◌, Bool, false, List, length};
-ghost use Rattle.logos_generator.specs.Words.{IsInput, Rule, Item, Items, AreInOrder, Parts, IsLeftOut, answers_of, GraphsGiveLexers, RunsAreItems, NextIsTheNext, ItemsAreOnce, ItemsGoOver, LexersAgree, RunsAreCut};
+ghost use Rattle.logos_generator.specs.Imports.{IsInput, Rule, Item, Items, AreInOrder, Parts, IsLeftOut, answers_of, GraphsYieldLexers, RunsAreItems, NextIsTheNext, ItemsAreOnce, ItemsGoOver, LexersAgree, RunsAreCut};
 
 use logos_code::action::Action;
 use logos_hir::leaf::LeafId;
@@ -26,7 +26,7 @@ pub fn items_part_the_input<C: Fn(LeafId, &[u8]) -> Action>(callback: &C)
 /// A code that runs as a graph does, whose leaves are used as the graph's, is a lexer of the
 /// graph's rules if the graph finds what maximal munch finds.
 pub fn code_of_a_graph_is_a_lexer()
-    ensures { GraphsGiveLexers }
+    ensures { GraphsYieldLexers }
 {}
 
 /// The runs of a lexer's code are the lists of items of maximal munch.

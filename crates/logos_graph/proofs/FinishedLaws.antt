@@ -29,7 +29,7 @@ use Rattle.logos_reduce.specs.Raw.{IsRaw}
 use Rattle.logos_reduce.specs.Reduction as table
 use Rattle.logos_reduce.specs.Settle.{AllAccepted, IsNeededOrSpare}
 use Rattle.logos_reduce.specs.Table.{size, to, mark, type_of, edges}
-use Rattle.logos_reduce.specs.History.{GivesEvidence}
+use Rattle.logos_reduce.specs.History.{YieldsEvidence}
 use Rattle.logos_reduce.specs.declared.reduction.Reduction.{Reduction}
 use Rattle.logos_reduce.specs.declared.table.Table.{Table}
 use Rattle.logos_reduce.proofs.settling.LeadLemmas.{none_is_none, kept_accept}
@@ -352,7 +352,7 @@ module _ (raw : Table) (root : ℕ) (reduction : Reduction) (made : table.IsRedu
       first_end = first_no_end;
     }
 
-  module _ (apart : table.IsLeast final) (order : table.IsInOrder final) (spareless : table.IsSpareless final) (evidence : GivesEvidence reduction) (graph : List GraphState) (shows : Shows final graph) where
+  module _ (apart : table.IsLeast final) (order : table.IsInOrder final) (spareless : table.IsSpareless final) (evidence : YieldsEvidence reduction) (graph : List GraphState) (shows : Shows final graph) where
     abbrev ends : (s t k : ℕ) → to final s 256 ≡ Some t → to final t k ≡ None
     ends = evidence.ends
 

@@ -99,16 +99,16 @@ module _ (table : Table) (graph : List GraphState) (shows : Shows table graph) w
         none_of : (o : Option ℕ) → o ≡ None → option_map (mark table) (state_after table o word) ≡ None
         none_of o e = ap (λ (o : Option ℕ). option_map (mark table) (state_after table o word)) e
 
-        by_place : (a : ℕ) → to table s k ≡ Some a → to table t k ≡ None → (k < 256) ⊎ (256 ≤ k) → Evidence (length (k ∷ word)) s t
-        by_place a e f (inl l) = at_byte (length (k ∷ word)) s t k a (omega arith) hs ht l e f
-        by_place a e f (inr l) =
+        by_slot : (a : ℕ) → to table s k ≡ Some a → to table t k ≡ None → (k < 256) ⊎ (256 ≤ k) → Evidence (length (k ∷ word)) s t
+        by_slot a e f (inl l) = at_byte (length (k ∷ word)) s t k a (omega arith) hs ht l e f
+        by_slot a e f (inr l) =
             let m = edge_symbol table s k a e in
             let z : k ≡ 256 = omega arith in
             at_end (length (k ∷ word)) s t a hs ht (ap (to table s) (sym z) ∙ e) (ap (to table t) (sym z) ∙ f)
 
-        other_place : (b : ℕ) → to table s k ≡ None → to table t k ≡ Some b → (k < 256) ⊎ (256 ≤ k) → Evidence (length (k ∷ word)) s t
-        other_place b e f (inl l) = turned (length (k ∷ word)) t s (at_byte (length (k ∷ word)) t s k b (omega arith) ht hs l f e)
-        other_place b e f (inr l) =
+        other_slot : (b : ℕ) → to table s k ≡ None → to table t k ≡ Some b → (k < 256) ⊎ (256 ≤ k) → Evidence (length (k ∷ word)) s t
+        other_slot b e f (inl l) = turned (length (k ∷ word)) t s (at_byte (length (k ∷ word)) t s k b (omega arith) ht hs l f e)
+        other_slot b e f (inr l) =
             let m = edge_symbol table t k b f in
             let z : k ≡ 256 = omega arith in
             turned (length (k ∷ word)) t s (at_end (length (k ∷ word)) t s b ht hs (ap (to table t) (sym z) ∙ f) (ap (to table s) (sym z) ∙ e))
@@ -131,8 +131,8 @@ module _ (table : Table) (graph : List GraphState) (shows : Shows table graph) w
 
         go : (o : Option ℕ) → to table s k ≡ o → (p : Option ℕ) → to table t k ≡ p → ((s t : ℕ) → s < size table → t < size table → WordDistinguishes table s t word → Evidence (length word) s t) → Evidence (length (k ∷ word)) s t
         go None e None f ih = absurd (d (none_of (to table s k) e ∙ sym (none_of (to table t k) f)))
-        go (Some a) e None f ih = by_place a e f (cases_lt k 256)
-        go None e (Some b) f ih = other_place b e f (cases_lt k 256)
+        go (Some a) e None f ih = by_slot a e f (cases_lt k 256)
+        go None e (Some b) f ih = other_slot b e f (cases_lt k 256)
         go (Some a) e (Some b) f ih =
             on a b e f
             (λ q. d (ap (λ (o : Option ℕ). option_map (mark table) (state_after table o word)) e ∙ q ∙ sym (ap (λ (o : Option ℕ). option_map (mark table) (state_after table o word)) f)))

@@ -29,8 +29,8 @@ module _ (rules : List Rule) (bytes : List ℕ) (from at : ℕ) (order : from �
   abbrev MatchesHere : ℕ → ℕ → Type 0
   MatchesHere leaf to = RuleMatches rules leaf bytes from to
 
-  last_place : (to : ℕ) → to < at + 1 → (to < at) ⊎ (to ≡ at)
-  last_place to l = go (cases_lt to at)
+  last_slot : (to : ℕ) → to < at + 1 → (to < at) ⊎ (to ≡ at)
+  last_slot to l = go (cases_lt to at)
     where
       go : (to < at) ⊎ (at ≤ to) → (to < at) ⊎ (to ≡ at)
       go (inl x) = inl x
@@ -39,7 +39,7 @@ module _ (rules : List Rule) (bytes : List ℕ) (from at : ℕ) (order : from �
   best_grows : (x : Option ℕ) (last : Option (ℕ × ℕ)) → FirstOrNone rules x bytes from at → BestBelow rules bytes from at last →
       BestBelow rules bytes from (at + 1) (marked (record { accept = x; early = None }) at last)
   best_grows (Some leaf) last first best = record { order = order; below = omega arith; first = first; longest = λ other end o l m. omega arith }
-  best_grows None None none best = λ leaf to o l m. go leaf to o m (last_place to l)
+  best_grows None None none best = λ leaf to o l m. go leaf to o m (last_slot to l)
     where
       go : (leaf to : ℕ) → from ≤ to → MatchesHere leaf to → (to < at) ⊎ (to ≡ at) → ⊥
       go leaf to o m (inl x) = best leaf to o x m
@@ -48,7 +48,7 @@ module _ (rules : List Rule) (bytes : List ℕ) (from at : ℕ) (order : from �
     order = best.order;
     below = let b = best.below in omega arith;
     first = best.first;
-    longest = λ other end o l m. go other end o m (last_place end l);
+    longest = λ other end o l m. go other end o m (last_slot end l);
   }
     where
       go : (other end : ℕ) → from ≤ end → MatchesHere other end → (end < at) ⊎ (end ≡ at) → end ≤ p.1

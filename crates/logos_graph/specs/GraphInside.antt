@@ -6,7 +6,7 @@ use Rattle.logos_graph.specs.Backward.{HaveBackward}
 use Rattle.logos_graph.specs.FinishedGraph.{IsFinished}
 use Rattle.logos_graph.specs.GraphView.{graph_state_of}
 use Rattle.logos_graph.specs.ReduceShown.{Shows}
-use Rattle.logos_reduce.specs.History.{GivesEvidence}
+use Rattle.logos_reduce.specs.History.{YieldsEvidence}
 use Rattle.logos_graph.specs.View.{GraphValue}
 use Rattle.logos_graph.specs.declared.graph.value.Graph.TheInside.{Inside}
 
@@ -22,7 +22,7 @@ value_of graph = record {
 -- Without faults there is a finished graph, with the table that it shows; else there are no states.
 -- Each state has the states that lead to it.
 pub record IsConsistent (graph : Inside) : Type 0 where
-  pub shown : IfSome graph.reduced (λ reduced. Shows reduced.table (value_of graph).states × GivesEvidence reduced)
+  pub shown : IfSome graph.reduced (λ reduced. Shows reduced.table (value_of graph).states × YieldsEvidence reduced)
   pub has_table : (value_of graph).faults ≡ [] → IsSome graph.reduced
   pub finished : (value_of graph).faults ≡ [] → IsFinished (value_of graph).states (length (value_of graph).leaves)
   pub backward : HaveBackward graph.states.items

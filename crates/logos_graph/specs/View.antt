@@ -1,6 +1,6 @@
 -- What contracts see of a graph and of its leaves.
 use Rattle.std.specs.Prelude.{Bool, List, map}
-use Rattle.logos_pattern.specs.Leaf.{pattern_tree, is_skip, asks}
+use Rattle.logos_pattern.specs.Leaf.{pattern_tree, is_skip, calls_back}
 use Rattle.logos_automaton.specs.Munch.{Rule}
 use Rattle.logos_graph.specs.Graph.{GraphState}
 use Rattle.logos_automaton.specs.Faults.{Fault}
@@ -9,7 +9,7 @@ use Rattle.logos_automaton.specs.Automaton.{Automaton}
 
 -- The rule that a leaf stands for.
 abbrev pub rule_of : Leaf → Rule
-rule_of leaf = record { tree = pattern_tree leaf.pattern; priority = leaf.priority; use_of = record { skips = is_skip leaf.kind; asks = asks leaf } }
+rule_of leaf = record { tree = pattern_tree leaf.pattern; priority = leaf.priority; use_of = record { skips = is_skip leaf.kind; calls_back = calls_back leaf } }
 
 -- The rules that leaves stand for.
 abbrev pub rules_of : List Leaf → List Rule

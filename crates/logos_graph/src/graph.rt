@@ -3,10 +3,10 @@
 ghost use Rattle.std.specs.Prelude.{◌≡◌};
 ghost use Rattle.logos_graph.specs.StateEquality.{same_state, same_state_laws};
 
+mod construction;
+mod display;
 mod evidence;
-mod making;
 mod mermaid;
-mod printing;
 mod states;
 mod value;
 

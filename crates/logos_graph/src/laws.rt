@@ -2,7 +2,7 @@
 //! function: the call does nothing.
 
 ghost use Rattle.std.specs.Prelude.{◌≡◌, ℕ, ◌<◌, ◌≤◌, Bool, false, List, Some, length};
-ghost use Rattle.logos_graph.specs.Words.{IsBytes, Rule, Found, Finds, matched, Fault, AreFaults, GraphState, walk, HasType, IsReduced};
+ghost use Rattle.logos_graph.specs.Imports.{IsBytes, Rule, Found, Finds, matched, Fault, AreFaults, GraphState, walk, HasType, IsReduced};
 
 /// At a point of an input, maximal munch finds one thing.
 pub fn one_is_found()

@@ -1,7 +1,7 @@
-//! Leaves as rules of an automaton. `graph::making` calls it before it builds the automaton.
+//! Leaves as rules of an automaton. `graph::construction` calls it before it builds the automaton.
 
 ghost use Rattle.std.specs.Prelude.{◌≡◌, ◌^◌, ◌≤◌, ◌↔◌, IsTrue, IfOk};
-ghost use Rattle.logos_graph.specs.Words.{size_of, rule_of, rules_of};
+ghost use Rattle.logos_graph.specs.Imports.{size_of, rule_of, rules_of};
 ghost use Rattle.logos_automaton.specs.View as views;
 
 use logos_automaton::measures::{limited_size, plus};
@@ -28,7 +28,7 @@ fn rule_view<'l>(leaf: &'l Leaf<'_>) -> RuleView<'l>
         tree: leaf.pattern.hir(),
         priority: leaf.priority,
         skips: matches!(leaf.kind, VariantKind::Skip),
-        asks: leaf.callback.is_some(),
+        calls_back: leaf.callback.is_some(),
     }
 }
 

@@ -1,8 +1,8 @@
-//! Makes the table of an automaton, with late marks alone. `graph::making` calls it between the
+//! Makes the table of an automaton, with late marks alone. `graph::construction` calls it between the
 //! automaton and the reduction.
 
 ghost use Rattle.std.specs.Prelude.{◌≡◌, ℕ, ◌+◌, ◌<◌, ◌^◌, Some, IfOk, IfSome, List, [], length, vec_len, slice_index, slice_get};
-ghost use Rattle.logos_graph.specs.Words.{All, dfa_of, AreFaults, NamesLeaves, priority_of, first_of, best_with, IsRawMark, IsMarkOf, AreRawRows, rules_of, IsTotal, ReadsOneByteLate, MarksOneByteLate, size, mark, type_of, edges, mark_in, IsRaw, target_by, IsClosed, rows_of};
+ghost use Rattle.logos_graph.specs.Imports.{All, dfa_of, AreFaults, NamesLeaves, priority_of, first_of, best_with, IsRawMark, IsMarkOf, AreRawRows, rules_of, IsTotal, ReadsOneByteLate, MarksOneByteLate, size, mark, type_of, edges, mark_in, IsRaw, target_by, IsClosed, rows_of};
 
 use logos_automaton::dfa::parts::{end_at, leaves_at, row_at, state_count};
 use logos_automaton::dfa::{Dfa, Row as ByteRow};

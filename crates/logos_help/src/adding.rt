@@ -3,7 +3,7 @@
 ghost use Rattle.std.specs.Prelude.{◌≡◌, OnOk, OnErr};
 ghost use Rattle.logos_report.specs.Views.{sizes_of};
 
-use crate::by_code::help_for;
+use crate::codes::help_for;
 use crate::sight::Sight;
 use logos_report::{Clues, Part};
 use logos_token::error::{Errors, Memory, SpannedError};

@@ -4,11 +4,11 @@
 #![tactic(auto)]
 
 mod adding;
-mod by_code;
-mod by_sight;
-mod for_pattern;
+mod codes;
+mod patterns;
 mod sight;
+mod sights;
 
 pub use adding::add_helps;
-pub use by_code::help_for;
+pub use codes::help_for;
 pub use sight::Sight;

@@ -3,12 +3,12 @@
 
 #![tactic(auto)]
 
-pub mod build;
-pub mod fold;
+pub mod builder;
+pub mod case_folding;
 pub mod hir;
 pub mod laws;
 pub mod leaf;
-pub mod measure;
+pub mod measures;
 pub mod property;
 pub mod sets;
-pub mod simplify;
+pub mod simplifier;

@@ -1,7 +1,7 @@
 //! Sets of characters and of bytes, as ranges.
 
 ghost use Rattle.std.specs.Prelude.{◌≡◌, ℕ, ◌+◌, ◌<◌, ◌≤◌, true, ◌||◌, ◌&&◌, not, nat_le, [], IfOk, OnOk, MatchOption};
-ghost use Rattle.logos_hir.specs.Words.{IsNonDecreasingBy, scalar, AreCanonical, in_range, in_ranges, is_range, next, IsPlace, AreRanges, free_from, in_gap, AddsCharacters, HasCharacters};
+ghost use Rattle.logos_hir.specs.Imports.{IsNonDecreasingBy, scalar, AreCanonical, in_range, in_ranges, is_range, next, IsLimit, AreRanges, free_from, in_gap, AddsCharacters, HasCharacters};
 ghost use Rattle.logos_hir.specs.Hir.{pairs};
 
 use crate::hir::Range;
@@ -31,19 +31,19 @@ fn after(c: u32) -> u32
 }
 
 /// Returns the character before a scalar value that is not the first.
-fn before(place: u32) -> u32
-    requires place { IsPlace place }
-    requires some { 0 < place }
+fn before(limit: u32) -> u32
+    requires limit { IsLimit limit }
+    requires some { 0 < limit }
     ensures char { scalar result ≡ true }
-    ensures next { next result ≡ place }
+    ensures next { next result ≡ limit }
 {
-    if place == 0xE000 { 0xD7FF } else { place - 1 }
+    if limit == 0xE000 { 0xD7FF } else { limit - 1 }
 }
 
 /// Appends the characters from `first` up to `end`, which is left out, and up to `last`.
 fn push_gap(out: &mut Vec<Range>, first: u32, end: u32, last: u32) -> Result<(), AllocError>
-    requires first { IsPlace first }
-    requires end { IsPlace end }
+    requires first { IsLimit first }
+    requires end { IsLimit end }
     requires last { scalar last ≡ true }
     requires canonical { AreCanonical (pairs out.old.items) }
     requires free { free_from 0 (pairs out.old.items) ≤ first }

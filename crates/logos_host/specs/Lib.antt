@@ -6,5 +6,5 @@ pub mod Paths
 pub mod PlainMessages
 pub mod Reading
 pub mod Writers
-pub mod Words
+pub mod Imports
 pub mod Views

@@ -1,14 +1,14 @@
 //! Comparing files with bytes, and with each other.
 
 ghost use Rattle.std.specs.Prelude.{◌≡◌, ℕ, List, Bool, ⊤, IfOk};
-ghost use Rattle.logos_host.specs.declared.comparison.Standing.{Standing as StandingValue};
+ghost use Rattle.logos_host.specs.declared.comparison.Occurrence.{Occurrence as OccurrenceValue};
 
 use crate::files::Files;
 use std::alloc::AllocError;
 
 /// How a file compares with some bytes.
 #[derive(Clone, Copy, Debug, PartialEq, Eq)]
-pub enum Standing {
+pub enum Occurrence {
     /// The file has exactly these bytes.
     Same,
     /// The file has other bytes, cannot be read, or is a folder, a device or a pipe.
@@ -21,7 +21,7 @@ pub enum Standing {
 pub trait ComparableFiles: Files {
     // Holds of the files before a comparison, the path, the bytes, how the file compares with them,
     // and the files after it.
-    ghost compare_finds: { Self → List ℕ → List ℕ → StandingValue → Self → Type 0 } = { λ _ _ _ _ _. ⊤ };
+    ghost compare_finds: { Self → List ℕ → List ℕ → OccurrenceValue → Self → Type 0 } = { λ _ _ _ _ _. ⊤ };
 
     // Holds of files, two paths, and whether these lead to one file.
     ghost same_finds: { Self → List ℕ → List ℕ → Bool → Type 0 } = { λ _ _ _ _. ⊤ };
@@ -31,11 +31,11 @@ pub trait ComparableFiles: Files {
     /// # Errors
     ///
     /// Returns `AllocError` if memory runs out.
-    fn compare(&mut self, path: &str, bytes: &[u8]) -> Result<Standing, AllocError>
-        ensures finds { IfOk result (λ standing.
-            Self.compare_finds self.old path.now bytes.now standing self.new) }
-        ensures same { IfOk result (λ standing. standing ≡ Standing.Same →
-            Self.read_gives self.old path.now bytes.now self.new) };
+    fn compare(&mut self, path: &str, bytes: &[u8]) -> Result<Occurrence, AllocError>
+        ensures finds { IfOk result (λ occurrence.
+            Self.compare_finds self.old path.now bytes.now occurrence self.new) }
+        ensures same { IfOk result (λ occurrence. occurrence ≡ Occurrence.Same →
+            Self.read_yields self.old path.now bytes.now self.new) };
 
     /// Returns the bytes of the file at a path, for a message: none if it is not a regular file,
     /// cannot be read, or has more than 67,108,864 bytes.

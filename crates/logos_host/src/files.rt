@@ -18,7 +18,7 @@ pub enum FileError {
 /// Files by their paths.
 pub trait Files {
     // Holds of the files before a read, the path, all bytes that are read, and the files after it.
-    ghost read_gives: { Self → List ℕ → List ℕ → Self → Type 0 } = { λ _ _ _ _. ⊤ };
+    ghost read_yields: { Self → List ℕ → List ℕ → Self → Type 0 } = { λ _ _ _ _. ⊤ };
 
     // Holds of the files before a write, the path, all bytes of the file there from then on, and
     // the files after it.
@@ -30,7 +30,7 @@ pub trait Files {
     ///
     /// Returns `Failed` if the file cannot be read, and `Memory` if memory runs out.
     fn read(&mut self, path: &str) -> Result<Vec<u8>, FileError>
-        ensures { IfOk result (λ bytes. read_gives self.old path.now bytes.items self.new) };
+        ensures { IfOk result (λ bytes. read_yields self.old path.now bytes.items self.new) };
 
     /// Writes these bytes to the file at this path, in place of what the file has, and makes the
     /// folders of the path that are missing.

@@ -1,7 +1,7 @@
 //! The paths of files.
 
 ghost use Rattle.std.specs.Prelude.{◌≡◌};
-ghost use Rattle.logos_host.specs.Words.{file_name};
+ghost use Rattle.logos_host.specs.Imports.{file_name};
 
 /// Returns the name at the end of a path: what follows its last `/`, or all of it.
 pub fn file_name(path: &str) -> &str

@@ -1,6 +1,6 @@
 //! The files of the system, for programs that read sources.
 
-use crate::comparison::{ComparableFiles, Standing};
+use crate::comparison::{ComparableFiles, Occurrence};
 use crate::files::{FileError, Files};
 use crate::system::{Disk, file_error};
 use std::alloc::AllocError;
@@ -34,7 +34,7 @@ impl<R: Runtime + AllocGlobal + Clone + Drop> Files for SourceDisk<'_, R> {
 }
 
 impl<R: Runtime + AllocGlobal + Clone + Drop> ComparableFiles for SourceDisk<'_, R> {
-    fn compare(&mut self, path: &str, bytes: &[u8]) -> Result<Standing, AllocError> {
+    fn compare(&mut self, path: &str, bytes: &[u8]) -> Result<Occurrence, AllocError> {
         Disk { rt: self.rt }.compare(path, bytes)
     }
 

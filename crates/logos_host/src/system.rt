@@ -1,9 +1,9 @@
 //! The files of the system.
 
-use crate::comparison::{ComparableFiles, Standing};
+use crate::atomic_file::write_whole;
+use crate::comparison::{ComparableFiles, Occurrence};
 use crate::files::{FileError, Files};
 use crate::reason::Reason;
-use crate::whole::write_whole;
 use std::alloc::AllocError;
 use std::fs::Metadata;
 use std::io::ErrorKind;
@@ -35,19 +35,19 @@ impl<R: Runtime + AllocGlobal + Clone + Drop> Files for Disk<'_, R> {
 }
 
 impl<R: Runtime + AllocGlobal + Clone + Drop> ComparableFiles for Disk<'_, R> {
-    fn compare(&mut self, path: &str, bytes: &[u8]) -> Result<Standing, AllocError> {
+    fn compare(&mut self, path: &str, bytes: &[u8]) -> Result<Occurrence, AllocError> {
         let size = match fs::metadata(self.rt, path) {
             Ok(found) if found.is_file() => found.len(),
-            Ok(_) => return Ok(Standing::Differs),
-            Err(_) => return Ok(Standing::Missing),
+            Ok(_) => return Ok(Occurrence::Differs),
+            Err(_) => return Ok(Occurrence::Missing),
         };
         if size != bytes.len() as u64 {
-            return Ok(Standing::Differs);
+            return Ok(Occurrence::Differs);
         }
         match self.read(path) {
-            Ok(found) if found.as_slice() == bytes => Ok(Standing::Same),
+            Ok(found) if found.as_slice() == bytes => Ok(Occurrence::Same),
             Err(FileError::Memory) => Err(AllocError),
-            _ => Ok(Standing::Differs),
+            _ => Ok(Occurrence::Differs),
         }
     }
 

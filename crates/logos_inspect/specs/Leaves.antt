@@ -1,7 +1,7 @@
 -- The row of a leaf in a table.
 use Rattle.std.specs.Prelude.{◌≡◌, ◌+◌, ◌-◌, ◌*◌, ◌^◌, ◌↔◌, min, ℕ, IsTrue, if◌then◌else◌, List, length, slice_range, Option, Some, None, option_map, option_copied}
 use Rattle.logos_lexeme.specs.declared.lexeme.Span.{Span}
-use Rattle.logos_lines.specs.Places.{place_at}
+use Rattle.logos_lines.specs.Locations.{location_at}
 use Rattle.logos_hir.specs.Measure.{fitted}
 use Rattle.logos_hir.specs.Priority.{value}
 use Rattle.logos_pattern.specs.Leaf.{pattern_tree, source_of, is_token, callback_span}
@@ -55,4 +55,4 @@ pub record IsRowOf (file : List ℕ) (offset : ℕ) (text : List ℕ) (leaf : Le
   pub priority : row.priority ≡ leaf.priority
   pub default : IsTrue row.is_default ↔ (default_priority leaf.pattern ≡ Some leaf.priority)
   pub callback : ShowsCallback text leaf.callback (option_copied row.callback)
-  pub line : row.line ≡ (place_at file (moved offset leaf.span.from)).line
+  pub line : row.line ≡ (location_at file (moved offset leaf.span.from)).line

@@ -16,7 +16,7 @@ pub record IsMarkedBelow (states : List GraphState) (count leaf : ℕ) : Type 0 
   pub number : ℕ
   pub below : number < count
   pub state : GraphState
-  pub stands : slice_get states number ≡ Some state
+  pub occurs : slice_get states number ≡ Some state
   pub marks : Marks state.state_type leaf
 
 -- A state marks a leaf.

@@ -1,7 +1,7 @@
 //! The rows of leaves in a table.
 
 ghost use Rattle.std.specs.Prelude.{◌≡◌, ◌↔◌, IsTrue, IfOk, Some, option_map, option_copied};
-ghost use Rattle.logos_inspect.specs.Views.{place_at, held, IsRowOf, IsTextAt, ShowsCallback, default_priority, held_priority, moved, variant_name};
+ghost use Rattle.logos_inspect.specs.Views.{location_at, held, IsRowOf, IsTextAt, ShowsCallback, default_priority, held_priority, moved, variant_name};
 
 use logos_lines::LineIndex;
 use logos_pattern::leaf::{Callback, Leaf, LeafOptions, VariantKind};
@@ -125,7 +125,7 @@ fn text_at(text: &str, span: Span) -> &str
 
 /// Returns the line of the file at an offset that counts from another one.
 fn line_at(lines: &LineIndex<'_>, offset: usize, from: usize) -> usize
-    ensures { result ≡ (place_at lines.now (moved offset from)).line }
+    ensures { result ≡ (location_at lines.now (moved offset from)).line }
 {
     lines.line_column(offset.saturating_add(from)).line
 }

@@ -1,7 +1,7 @@
 //! The leaves that a graph marks.
 
 ghost use Rattle.std.specs.Prelude.{◌≡◌, ℕ, ◌<◌, ◌⊎◌, ◌↔◌, IfOk, length, option_map};
-ghost use Rattle.logos_inspect.specs.Words.{leaf_number, state_type_of, AreMarks, IsSet, Marks, AddsMark};
+ghost use Rattle.logos_inspect.specs.Imports.{leaf_number, state_type_of, AreMarks, IsSet, Marks, AddsMark};
 
 use logos_graph::graph::{Graph, StateType};
 use logos_hir::leaf::LeafId;

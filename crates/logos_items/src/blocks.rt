@@ -1,7 +1,7 @@
 //! Blocks of text, written when they are full.
 
 ghost use Rattle.std.specs.Prelude.{IfErr};
-ghost use Rattle.logos_items.specs.Words.{IsNoMisuse};
+ghost use Rattle.logos_items.specs.Imports.{IsNoMisuse};
 
 use logos_host::{Failure, write_full};
 use std::io::Write;

@@ -1,7 +1,7 @@
 //! All items of an input, written by blocks.
 
 ghost use Rattle.std.specs.Prelude.{IfErr};
-ghost use Rattle.logos_items.specs.Words.{IsNoMisuse, TakesMatches};
+ghost use Rattle.logos_items.specs.Imports.{IsNoMisuse, TakesMatches};
 
 use crate::blocks::write_if_full;
 use logos_codegen::code::Code;

@@ -1,7 +1,7 @@
 //! The items of an input, a line each.
 
 ghost use Rattle.std.specs.Prelude.{IfErr};
-ghost use Rattle.logos_items.specs.Words.{IsNoMisuse};
+ghost use Rattle.logos_items.specs.Imports.{IsNoMisuse};
 
 use crate::inputs::{ItemBlock, write_all};
 use crate::lines::{ERROR, ItemOrder, Lines, head_at, milliseconds, no_lines, now, push_totals};
@@ -65,14 +65,14 @@ impl<'t> ItemBlock for InputLines<'t> {
                 self.cursor.go_to(span.from);
                 lines.counts.count_token(leaf.0);
                 let head = head_at(&lines.heads, leaf.0);
-                let position = self.cursor.position();
-                push_item(&mut lines.block, &mut lines.line, position, head, slice)
+                let location = self.cursor.location();
+                push_item(&mut lines.block, &mut lines.line, location, head, slice)
             }
             Item::Error { span, slice, .. } => {
                 self.cursor.go_to(span.from);
                 lines.counts.count_error();
-                let position = self.cursor.position();
-                push_item(&mut lines.block, &mut lines.line, position, ERROR, slice)
+                let location = self.cursor.location();
+                push_item(&mut lines.block, &mut lines.line, location, ERROR, slice)
             }
         }
     }

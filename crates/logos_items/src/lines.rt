@@ -2,7 +2,7 @@
 //! counted.
 
 ghost use Rattle.std.specs.Prelude.{◌≡◌, ◌++◌, OnOk};
-ghost use Rattle.logos_items.specs.Words.{totals_text};
+ghost use Rattle.logos_items.specs.Imports.{totals_text};
 
 use crate::blocks::BLOCK;
 use logos_answers::{Counts, LINE, Totals, code_name_at};

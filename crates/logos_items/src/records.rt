@@ -1,7 +1,7 @@
 //! The items of an input, an object of JSON each.
 
 ghost use Rattle.std.specs.Prelude.{IfErr};
-ghost use Rattle.logos_items.specs.Words.{IsNoMisuse, TakesMatches};
+ghost use Rattle.logos_items.specs.Imports.{IsNoMisuse, TakesMatches};
 
 use crate::blocks::{BLOCK, write_if_full};
 use logos_answers::{Counts, code_name_at, note_of};
@@ -102,7 +102,7 @@ fn add_record(
             cursor.go_to(span.from);
             records.counts.count_token(leaf.0);
             let record = ItemRecord {
-                position: cursor.position(),
+                location: cursor.location(),
                 from: span.from,
                 leaf: Some(leaf.0),
                 variant: code_name_at(leaves, leaf.0),
@@ -114,7 +114,7 @@ fn add_record(
             cursor.go_to(span.from);
             records.counts.count_error();
             let record = ItemRecord {
-                position: cursor.position(),
+                location: cursor.location(),
                 from: span.from,
                 leaf: None,
                 variant: None,

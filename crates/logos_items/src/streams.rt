@@ -1,7 +1,7 @@
 //! The items of standard input, a line each, written as they are found.
 
 ghost use Rattle.std.specs.Prelude.{◌<◌, IfErr};
-ghost use Rattle.logos_items.specs.Words.{IsNoMisuse, KeepsCode, TakesMatches, unread_length};
+ghost use Rattle.logos_items.specs.Imports.{IsNoMisuse, KeepsCode, TakesMatches, unread_length};
 
 use crate::blocks::write_if_full;
 use crate::lines::{ERROR, ItemOrder, Lines, head_at, milliseconds, no_lines, now, push_totals};
@@ -10,7 +10,7 @@ use logos_codegen::Generated;
 use logos_codegen::leaf::LeafId;
 use logos_codegen::machine::Action;
 use logos_host::{Failure, Reason, print_bytes, write_through};
-use logos_lines::Position;
+use logos_lines::Location;
 use logos_options::STANDARD_INPUT;
 use logos_stream::{Stream, StreamItem, Streamed};
 use std::alloc::{AllocError, Global};
@@ -100,11 +100,11 @@ fn write_stream<R: Read + Drop, C: Fn(LeafId, &[u8]) -> Action + Copy, O: Write>
     requires { TakesMatches C.Fn stream.old.code stream.old.callback }
     ensures { IfErr result IsNoMisuse }
 {
-    let mut position = Position { line: 1, column: 1 };
+    let mut location = Location { line: 1, column: 1 };
     for _ in 0..u64::MAX {
         let next = stream.next();
-        let start = after(position, stream.skipped());
-        position = after(start, stream.slice());
+        let start = after(location, stream.skipped());
+        location = after(start, stream.slice());
         match next {
             Streamed::Item(item) => {
                 add_item(lines, start, item, stream.slice())?;
@@ -122,7 +122,7 @@ fn write_stream<R: Read + Drop, C: Fn(LeafId, &[u8]) -> Action + Copy, O: Write>
 /// Adds the line of an item, and counts it.
 fn add_item(
     lines: &mut Lines,
-    position: Position,
+    location: Location,
     item: StreamItem,
     slice: &[u8],
 ) -> Result<(), AllocError> {
@@ -130,11 +130,11 @@ fn add_item(
         StreamItem::Token { leaf, .. } => {
             lines.counts.count_token(leaf.0);
             let head = head_at(&lines.heads, leaf.0);
-            push_item(&mut lines.block, &mut lines.line, position, head, slice)
+            push_item(&mut lines.block, &mut lines.line, location, head, slice)
         }
         StreamItem::Error { .. } => {
             lines.counts.count_error();
-            push_item(&mut lines.block, &mut lines.line, position, ERROR, slice)
+            push_item(&mut lines.block, &mut lines.line, location, ERROR, slice)
         }
     }
 }
@@ -174,28 +174,28 @@ fn write_found<O: Write>(lines: &mut Lines, out: &mut O) -> Result<(), Failure<'
 }
 
 /// Returns the position after some bytes.
-fn after(position: Position, bytes: &[u8]) -> Position {
-    let mut position = position;
+fn after(location: Location, bytes: &[u8]) -> Location {
+    let mut location = location;
     for byte in bytes {
-        position = after_byte(position, *byte);
+        location = after_byte(location, *byte);
     }
-    position
+    location
 }
 
 /// Returns the position after one more byte. Bytes that continue a character have its column.
 #[inline(always)]
-fn after_byte(position: Position, byte: u8) -> Position {
+fn after_byte(location: Location, byte: u8) -> Location {
     if byte == b'\n' {
-        return Position {
-            line: position.line.saturating_add(1),
+        return Location {
+            line: location.line.saturating_add(1),
             column: 1,
         };
     }
     if (128 <= byte) & (byte < 192) {
-        return position;
+        return location;
     }
-    Position {
-        line: position.line,
-        column: position.column.saturating_add(1),
+    Location {
+        line: location.line,
+        column: location.column.saturating_add(1),
     }
 }

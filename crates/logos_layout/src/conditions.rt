@@ -1,7 +1,7 @@
 //! The conditions under which an item is compiled.
 
 ghost use Rattle.std.specs.Prelude.{◌≡◌, ◌++◌, OnOk, codes, string_bytes};
-ghost use Rattle.logos_layout.specs.Words.{after_word, attribute_text, condition_text, conditions_text, text_if, tokens_of, tree_of};
+ghost use Rattle.logos_layout.specs.Imports.{after_word, attribute_text, condition_text, conditions_text, text_if, tokens_of, tree_of};
 
 use logos_token::error::Memory;
 use logos_token::token::{Delimiter, TokenTree, Tokens, print};

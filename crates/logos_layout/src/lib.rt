@@ -4,20 +4,20 @@
 
 mod blanks;
 mod classes;
-mod comparing;
+mod comparison;
 mod conditions;
-mod inner;
-mod laying;
+mod inner_attributes;
+mod kept_lexemes;
+mod layout;
+mod line_breaks;
 mod lines;
 mod pieces;
-mod plain;
+mod plain_comments;
 mod state;
-mod staying;
-mod thinned;
-mod walk;
-mod writing;
+mod without_derive;
+mod writer;
 
 pub use conditions::push_conditions;
-pub use inner::without_inner;
-pub use laying::{Note, Setting, lay_out};
-pub use writing::write_left;
+pub use inner_attributes::without_inner;
+pub use layout::{Note, Setting, lay_out};
+pub use writer::write_left;

@@ -4,4 +4,4 @@ pub mod Sources
 pub mod VariantFaults
 pub mod Variants
 pub mod inside
-pub mod Words
+pub mod Imports

@@ -39,7 +39,7 @@ param_of given = record { name = given.name.text; type = given.type }
 -- The leaves of the skips and variants of an enum with these options. First the parameters that
 -- hold themselves are reported, then the subpatterns are read; the leaves of the skips come before
 -- those of the variants. The faults of each step are added after those of the steps before it.
-pub record GivesLeaves (o : OptionsView) (variants : List VariantValue) (leaves : List LeafView) (old new : List Fault) : Type 0 where
+pub record YieldsLeaves (o : OptionsView) (variants : List VariantValue) (leaves : List LeafView) (old new : List Fault) : Type 0 where
   pub params : Params
   pub names : List Stored
   pub skips : List LeafView
@@ -61,7 +61,7 @@ pub record ReadsSource (item : EnumValue) (o : OptionsView) (leaves : List LeafV
   pub of_attributes : List Fault
   pub parameters : ReadsParameters no_options declared [] of_parameters item.parameters
   pub attributes : ReadsAttributes declared o of_parameters of_attributes item.attributes
-  pub leaves_say : GivesLeaves o item.variants leaves of_attributes new
+  pub leaves_say : YieldsLeaves o item.variants leaves of_attributes new
 
 -- The options without the skips.
 abbrev pub IsWithoutSkips : OptionsView → OptionsView → Type 0

@@ -1,7 +1,7 @@
 //! Leaves of definitions. Skips and attributes of variants call it, once for each leaf.
 
 ghost use Rattle.std.specs.Prelude.{◌≡◌, ◌++◌, IfOk, IfSome, OnOk, OnErr, true, false, option_map, chars, string_bytes};
-ghost use Rattle.logos_leaf.specs.Words.{literal_tree, KindValue, pattern_tree, source_of, is_token, kind_value, token_of, literal_view, IsReport, definition_view, IsRead, pattern_text, subst_report, names_of, bytes_of, is_string, escaped_of, leaf_with, options_of, token_priority, token_leaf, regex_priority, greedy_faults, tree_report, IsTokenLeaf, IsRegexLeaf, leaf_view, leaf_by, IsFoldedLeaf, IsWholeLeaf};
+ghost use Rattle.logos_leaf.specs.Imports.{literal_tree, KindValue, pattern_tree, source_of, is_token, kind_value, token_of, literal_view, IsReport, definition_view, IsRead, pattern_text, subst_report, names_of, bytes_of, is_string, escaped_of, leaf_with, options_of, token_priority, token_leaf, regex_priority, greedy_faults, tree_report, IsTokenLeaf, IsRegexLeaf, leaf_view, leaf_by, IsFoldedLeaf, IsWholeLeaf};
 
 use crate::fault::{report_greedy_dot, report_overflow};
 use logos_definition::definition::Definition;

@@ -1,7 +1,7 @@
 //! The leaves of an enum. `logos_parser` calls `read_leaves` once for each source.
 
 ghost use Rattle.std.specs.Prelude.{◌≡◌, IfOk, OnOk, map, []};
-ghost use Rattle.logos_leaf.specs.Words.{tokens_of, texts, params_with, parameter_value, enum_value, variant_value, names_of, definition_view, no_options, parser_view, leaf_view, SkipsAdd, ReadsParameters, ReadsAttributes, GivesLeaves, IsSourceRead, IsWithoutSkips, AreMadeWith};
+ghost use Rattle.logos_leaf.specs.Imports.{tokens_of, texts, params_with, parameter_value, enum_value, variant_value, names_of, definition_view, no_options, parser_view, leaf_view, SkipsAdd, ReadsParameters, ReadsAttributes, YieldsLeaves, IsSourceRead, IsWithoutSkips, AreMadeWith};
 
 use crate::leaf::regex_leaf;
 use crate::variant::{add_variants, push_leaf};
@@ -89,7 +89,7 @@ fn make_leaves<'s>(
     variants: &[Variant<'_, 's>],
     parser: &mut Parser<'s>,
 ) -> Result<Vec<Leaf<'s>>, Memory>
-    ensures leaves { IfOk result (λ leaves. GivesLeaves (parser_view parser.old)
+    ensures leaves { IfOk result (λ leaves. YieldsLeaves (parser_view parser.old)
         (map variant_value variants.now) (map leaf_view leaves.items)
         parser.old.errors parser.new.errors) }
     ensures options { OnOk result (IsWithoutSkips

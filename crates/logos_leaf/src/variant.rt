@@ -1,7 +1,7 @@
 //! Leaves of variants, which their attributes define. `read_leaves` calls it for each variant.
 
 ghost use Rattle.std.specs.Prelude.{◌≡◌, ◌++◌, IfOk, OnOk, map, option_map};
-ghost use Rattle.logos_leaf.specs.Words.{option_to_list, tokens_of, texts, params_with, attribute_value, field_value, fields_value, in_parenthesis, variant_value, kind_value, names_of, parser_view, leaf_view, HoldsType, KindIs, TokenGives, RegexGives, AttributeGives, AttributesAdd, VariantAdds, VariantsAdd};
+ghost use Rattle.logos_leaf.specs.Imports.{option_to_list, tokens_of, texts, params_with, attribute_value, field_value, fields_value, in_parenthesis, variant_value, kind_value, names_of, parser_view, leaf_view, HoldsType, KindIs, TokenYields, RegexYields, AttributeYields, AttributesAdd, VariantAdds, VariantsAdd};
 
 mod fault;
 
@@ -95,7 +95,7 @@ fn read_token<'s>(
     kind: &VariantKind<'s>,
     parser: &mut Parser<'s>,
 ) -> Result<Option<Leaf<'s>>, Memory>
-    ensures given { IfOk result (λ leaf. TokenGives (kind_value kind.now)
+    ensures given { IfOk result (λ leaf. TokenYields (kind_value kind.now)
         (attribute_value attribute.entry) parser.old.errors parser.new.errors
         (option_map leaf_view leaf)) }
     ensures unchanged { OnOk result (parser_view parser.new ≡ parser_view parser.old) }
@@ -115,7 +115,7 @@ fn read_regex<'s>(
     subpatterns: &Subpatterns<'s>,
     parser: &mut Parser<'s>,
 ) -> Result<Option<Leaf<'s>>, Memory>
-    ensures given { IfOk result (λ leaf. RegexGives (names_of subpatterns.now)
+    ensures given { IfOk result (λ leaf. RegexYields (names_of subpatterns.now)
         (kind_value kind.now) (attribute_value attribute.entry)
         parser.old.errors parser.new.errors (option_map leaf_view leaf)) }
     ensures unchanged { OnOk result (parser_view parser.new ≡ parser_view parser.old) }
@@ -135,7 +135,7 @@ fn read_attribute<'s>(
     subpatterns: &Subpatterns<'s>,
     parser: &mut Parser<'s>,
 ) -> Result<Option<Leaf<'s>>, Memory>
-    ensures given { IfOk result (λ leaf. AttributeGives (names_of subpatterns.now)
+    ensures given { IfOk result (λ leaf. AttributeYields (names_of subpatterns.now)
         (kind_value kind.now) (attribute_value attribute.entry)
         parser.old.errors parser.new.errors (option_map leaf_view leaf)) }
     ensures unchanged { OnOk result (parser_view parser.new ≡ parser_view parser.old) }

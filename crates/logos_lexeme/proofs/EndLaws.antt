@@ -304,8 +304,8 @@ number-one based bytes from a b p q = Run-one (GoesOn based bytes) (GoesOn-one b
 character-one : (bytes : List ℕ) (from a b : ℕ) → IsCharacter bytes from a → IsCharacter bytes from b → a ≡ b
 character-one bytes from a b p q = p.after ∙ sym q.after
 
-same_place : (n a b : ℕ) → a ≡ n → b ≡ n → a ≡ b
-same_place n a b p q = p ∙ sym q
+same_spot : (n a b : ℕ) → a ≡ n → b ≡ n → a ≡ b
+same_spot n a b p q = p ∙ sym q
 
 line-one : (bytes : List ℕ) (from a b : ℕ) → IsFirst (IsLineEnd bytes) from a → IsFirst (IsLineEnd bytes) from b → a ≡ b
 line-one bytes from a b p q = IsFirst-one p q
@@ -320,7 +320,7 @@ Ends-one bytes from (Quotes content) a b p q = quotes-one bytes (from + prefix_o
 Ends-one bytes from (Raw content count) a b p q = IsRaw-one count bytes (from + prefix_of content + 1 + count + 1) a b p q
 Ends-one bytes from (Apostrophes content) a b p q = apostrophes-one bytes (from + prefix_of content + 1) a b p q
 Ends-one bytes from Character a b p q = character-one bytes from a b p q
-Ends-one bytes from (Single kind) a b p q = same_place (past bytes from) a b p q
+Ends-one bytes from (Single kind) a b p q = same_spot (past bytes from) a b p q
 Ends-one bytes from Nothing a b p q = absurd p
 
 -- and behind the place

@@ -5,13 +5,13 @@ use Rattle.std.proofs.lemmas.Bool.{cases_lt, cases_Bool, false≢true, eqb-true,
 use Rattle.std.proofs.lemmas.List.{get_or_past}
 use Rattle.std.proofs.lemmas.List.Sums.{prefix_len_passes, prefix_len_stops}
 use Rattle.logos_lexeme.specs.LexemeRuns.{IsFirst}
-use Rattle.logos_lexeme.specs.LiteralBodies.{is_simple, is_hex, hex_value, greatest_of, digits_between, is_blank, BreaksLine, IsAllowed, IsUnicodeEscape, IsEscape, simple, hex, unicode, StandsFor, escape, continuation}
+use Rattle.logos_lexeme.specs.LiteralBodies.{is_simple, is_hex, hex_value, greatest_of, digits_between, is_blank, BreaksLine, IsAllowed, IsUnicodeEscape, IsEscape, simple, hex, unicode, Represents, escape, continuation}
 use Rattle.logos_lexeme.specs.inside.LiteralReads.{IsPlain, itself, break}
 use Rattle.logos_lexeme.specs.LiteralPieces.{run_length, is_hex_or_line, hex_escape, has_unicode, unicode_escape, escape_at, is_allowed, is_return, plain_at, breaks_line, piece_at}
 use Rattle.logos_lexeme.specs.declared.lexeme.openings.Content.{Content}
 use Rattle.logos_lexeme.specs.declared.lexeme.openings.Content.TheVariants.{Text, Bytes, C}
 use Rattle.logos_lexeme.proofs.RunLaws.{IsFirst-one}
-use Rattle.logos_lexeme.proofs.BodyLaws.{StandsFor-one, says-escape, says-plain, plain-says}
+use Rattle.logos_lexeme.proofs.BodyLaws.{Represents-one, says-escape, says-plain, plain-says}
 
 -- a function says what a relation allows, and nothing where it allows nothing
 abbrev pub Tells : (ℕ → List ℕ → Type 0) → Option (List ℕ × ℕ) → Type 0
@@ -185,18 +185,18 @@ module _ (content : Content) (bytes : List ℕ) (at : ℕ) where
       none n f next held (itself a v) = false≢true (sym n ∙ allowed-into content (get_or bytes at 0) a)
       none n f next held (break r) = false≢true (sym f ∙ return-test bytes at r.0 r.1)
 
-  pub piece-tells : (escapes : Bool) → Tells (StandsFor escapes content bytes at) (piece_at escapes content bytes at)
+  pub piece-tells : (escapes : Bool) → Tells (Represents escapes content bytes at) (piece_at escapes content bytes at)
   unfolding piece_at
   piece-tells escapes =
-      cond_both (not (escapes && (get_or bytes at 0 == 92))) _ _ (Tells (StandsFor escapes content bytes at))
+      cond_both (not (escapes && (get_or bytes at 0 == 92))) _ _ (Tells (Represents escapes content bytes at))
       (λ t. let other = no_escape t in
-      tells-same (IsPlain content bytes at) (StandsFor escapes content bytes at) (plain-says content bytes at escapes other) (says-plain content bytes at escapes other) (plain_at content bytes at) plain-tells)
+      tells-same (IsPlain content bytes at) (Represents escapes content bytes at) (plain-says content bytes at escapes other) (says-plain content bytes at escapes other) (plain_at content bytes at) plain-tells)
       (λ f.
       let p = and_parts escapes (get_or bytes at 0 == 92) (escaped f) in
       let e = eqb-true (get_or bytes at 0) 92 p.1 in
-      cond_both (breaks_line bytes (at + 1)) _ _ (Tells (StandsFor escapes content bytes at))
+      cond_both (breaks_line bytes (at + 1)) _ _ (Tells (Represents escapes content bytes at))
       (λ t. continuation p.0 (record { backslash = e; breaks = breaks-from bytes (at + 1) t; blanks = run-first is_blank bytes (at + 1) no_blank }))
-      (λ n. tells-same (IsEscape content bytes at) (StandsFor escapes content bytes at) (λ next held h. escape p.0 h)
+      (λ n. tells-same (IsEscape content bytes at) (Represents escapes content bytes at) (λ next held h. escape p.0 h)
       (says-escape content bytes at escapes p.0 e (λ b. false≢true (sym n ∙ breaks-into bytes (at + 1) b))) (escape_at content bytes at) (escape-tells content bytes at e)))
     where
       no_escape : not (escapes && (get_or bytes at 0 == 92)) ≡ true → escapes ≡ true → get_or bytes at 0 ≢ 92
@@ -207,11 +207,11 @@ module _ (content : Content) (bytes : List ℕ) (at : ℕ) where
 
   -- so it is the piece that stands there
 
-  tells-all : (escapes : Bool) (found : Option (List ℕ × ℕ)) → Tells (StandsFor escapes content bytes at) found → (next : ℕ) (held : List ℕ) → StandsFor escapes content bytes at next held → found ≡ Some (held, next)
+  tells-all : (escapes : Bool) (found : Option (List ℕ × ℕ)) → Tells (Represents escapes content bytes at) found → (next : ℕ) (held : List ℕ) → Represents escapes content bytes at next held → found ≡ Some (held, next)
   tells-all escapes None t next held s = absurd (t next held s)
   tells-all escapes (Some (said, end)) t next held s =
-      let one = StandsFor-one escapes content bytes at end next said held t s in
+      let one = Represents-one escapes content bytes at end next said held t s in
       rw (one.0, one.1) refl
 
-  pub piece-all : (escapes : Bool) (next : ℕ) (held : List ℕ) → StandsFor escapes content bytes at next held → piece_at escapes content bytes at ≡ Some (held, next)
+  pub piece-all : (escapes : Bool) (next : ℕ) (held : List ℕ) → Represents escapes content bytes at next held → piece_at escapes content bytes at ≡ Some (held, next)
   piece-all escapes next held s = tells-all escapes (piece_at escapes content bytes at) (piece-tells escapes) next held s

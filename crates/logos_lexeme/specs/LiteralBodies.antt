@@ -95,11 +95,11 @@ IsReturn bytes at next = (slice_index bytes at ≡ 13) × (slice_index bytes (at
 
 -- A piece of a string from `at` to `next`, and the bytes that it stands for; `escapes` says whether
 -- the string has escapes.
-pub data StandsFor (escapes : Bool) (content : Content) (bytes : List ℕ) (at next : ℕ) : List ℕ → Type 0 where
-  plain : (escapes ≡ true → slice_index bytes at ≢ 92) → IsAllowed content (slice_index bytes at) → next ≡ at + 1 → StandsFor escapes content bytes at next (slice_index bytes at ∷ [])
-  return : IsReturn bytes at next → StandsFor escapes content bytes at next (10 ∷ [])
-  escape : {held : List ℕ} → escapes ≡ true → IsEscape content bytes at next held → StandsFor escapes content bytes at next held
-  continuation : escapes ≡ true → IsContinuation bytes at next → StandsFor escapes content bytes at next []
+pub data Represents (escapes : Bool) (content : Content) (bytes : List ℕ) (at next : ℕ) : List ℕ → Type 0 where
+  plain : (escapes ≡ true → slice_index bytes at ≢ 92) → IsAllowed content (slice_index bytes at) → next ≡ at + 1 → Represents escapes content bytes at next (slice_index bytes at ∷ [])
+  return : IsReturn bytes at next → Represents escapes content bytes at next (10 ∷ [])
+  escape : {held : List ℕ} → escapes ≡ true → IsEscape content bytes at next held → Represents escapes content bytes at next held
+  continuation : escapes ≡ true → IsContinuation bytes at next → Represents escapes content bytes at next []
 
 -- The bytes of a piece.
 abbrev pub bytes_of : Piece → List ℕ
@@ -109,12 +109,12 @@ bytes_of (piece.Character character) = encode_utf8 character
 
 -- A piece of a string, whatever its bytes.
 abbrev pub IsPiece : Bool → Content → List ℕ → ℕ → ℕ → Type 0
-IsPiece escapes content bytes at next = (held : List ℕ) × StandsFor escapes content bytes at next held
+IsPiece escapes content bytes at next = (held : List ℕ) × Represents escapes content bytes at next held
 
 -- The span consists of pieces one after another, which stand for these bytes.
 pub data Holds (escapes : Bool) (content : Content) (bytes : List ℕ) : (at to : ℕ) → List ℕ → Type 0 where
   none : {at : ℕ} → Holds escapes content bytes at at []
-  more : {at mid to : ℕ} {first rest held : List ℕ} → StandsFor escapes content bytes at mid first → Holds escapes content bytes mid to rest → held ≡ first ++ rest → Holds escapes content bytes at to held
+  more : {at mid to : ℕ} {first rest held : List ℕ} → Represents escapes content bytes at mid first → Holds escapes content bytes mid to rest → held ≡ first ++ rest → Holds escapes content bytes at to held
 
 -- One character or escape between apostrophes.
 pub data IsCharacterPiece (content : Content) (bytes : List ℕ) (at next : ℕ) : Type 0 where

@@ -2,7 +2,7 @@
 use Rattle.std.proofs.Common.{◌≡◌, ℕ, suc, ◌+◌, ◌<◌, List, [], ◌∷◌, length, drop, true, false, refl, arith}
 use Rattle.std.proofs.lemmas.Bool.{cond-true, cond-false}
 use Rattle.std.proofs.Math.Seq.{drop-cons}
-use Rattle.logos_lines.specs.Places.{ends_line, line_length}
+use Rattle.logos_lines.specs.Locations.{ends_line, line_length}
 
 pub ended : (text : List ℕ) → ends_line text ≡ true → line_length text ≡ 0
 ended [] e = refl

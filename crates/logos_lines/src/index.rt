@@ -1,10 +1,10 @@
 //! The lines of a text. Reports and tables make one for each file that they show.
 
 ghost use Rattle.std.specs.Prelude.{◌≡◌, ◌<◌, ◌≤◌, ◌+◌, ◌^◌, ◌∷◌, [], ℕ, List, Some, None, ◌⊎◌, IfOk, IfSome, MatchOption, OnOk, IsCharBoundary, ◌++◌, ◌==◌, if◌then◌else◌, length, drop};
-ghost use Rattle.logos_lines.specs.Views.{place_at, ends_line, line_length, ends_search, next_column, AreStarts, AreStops, IsLineOf, IsLongLine, IsNoLine, IsStart};
+ghost use Rattle.logos_lines.specs.Views.{location_at, ends_line, line_length, ends_search, next_column, AreStarts, AreStops, IsLineOf, IsLongLine, IsNoLine, IsStart};
 
 use crate::cursor::Cursor;
-use crate::place::{Position, continues};
+use crate::location::{Location, continues};
 use std::alloc::{AllocError, Global};
 use std::marker::Model;
 
@@ -20,7 +20,7 @@ pub struct LineIndex<'t> {
     text: &'t str,
     starts: Vec<usize>,
     /// The positions of the offsets 0, 256, 512 .. of the text.
-    stops: Vec<Position>,
+    stops: Vec<Location>,
 }
 
 impl<'t> Model for LineIndex<'t> {
@@ -55,23 +55,23 @@ impl<'t> LineIndex<'t> {
 
     /// Returns the line and the column of an offset. An offset past the end of the text has those
     /// of the end, and one inside a character those after its first byte.
-    pub fn line_column(&self, offset: usize) -> Position
-        ensures { result ≡ place_at self.now offset }
+    pub fn line_column(&self, offset: usize) -> Location
+        ensures { result ≡ location_at self.now offset }
     {
         let bytes = self.text.as_bytes();
         let stop = offset.min(bytes.len()) / STEP;
         let mut cursor = Cursor::at(bytes, stop * STEP, self.stops[stop]);
         cursor.go_to(offset);
-        cursor.position()
+        cursor.location()
     }
 
     /// Returns the offset of a line and a column, or `None` if the text does not have them. On
     /// boundaries between characters this is the inverse of `line_column`.
     pub fn offset(&self, line: usize, column: usize) -> Option<usize>
         ensures found { IfSome result (λ offset. IsCharBoundary self.now offset
-            × (place_at self.now offset ≡ record { line = line; column = column })) }
+            × (location_at self.now offset ≡ record { line = line; column = column })) }
         ensures every { (offset : ℕ) → IsCharBoundary self.now offset →
-            place_at self.now offset ≡ record { line = line; column = column } →
+            location_at self.now offset ≡ record { line = line; column = column } →
             result ≡ Some offset }
     {
         let start = self.start_of(line)?;
@@ -139,14 +139,14 @@ fn push_start(starts: &mut Vec<usize>, at: usize, byte: u8) -> Result<(), AllocE
 }
 
 /// Returns the positions of the offsets 0, 256, 512 .. of a text.
-fn stops_of(alloc: Global, bytes: &[u8]) -> Result<Vec<Position>, AllocError>
+fn stops_of(alloc: Global, bytes: &[u8]) -> Result<Vec<Location>, AllocError>
     ensures { IfOk result (λ stops. AreStops bytes.now stops.items) }
 {
     let mut cursor = Cursor::new(bytes);
     let mut stops = Vec::new(alloc);
     for stop in 0..bytes.len() / STEP + 1 {
         cursor.go_to(stop * STEP);
-        stops.push(cursor.position())?;
+        stops.push(cursor.location())?;
     }
     Ok(stops)
 }
@@ -171,9 +171,9 @@ fn next_column(byte: u8, column: usize) -> usize
 fn offset_in_line(text: &str, start: usize, line: usize, column: usize) -> Option<usize>
     requires { IsStart text.now line start }
     ensures found { IfSome result (λ offset. IsCharBoundary text.now offset
-        × (place_at text.now offset ≡ record { line = line; column = column })) }
+        × (location_at text.now offset ≡ record { line = line; column = column })) }
     ensures every { (offset : ℕ) → IsCharBoundary text.now offset →
-        place_at text.now offset ≡ record { line = line; column = column } →
+        location_at text.now offset ≡ record { line = line; column = column } →
         result ≡ Some offset }
 {
     let bytes = text.as_bytes();

@@ -4,8 +4,8 @@
 
 mod cursor;
 mod index;
-mod place;
+mod location;
 
 pub use cursor::Cursor;
 pub use index::LineIndex;
-pub use place::{Position, one_place};
+pub use location::{Location, one_location};

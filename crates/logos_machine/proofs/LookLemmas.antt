@@ -13,7 +13,7 @@ use Rattle.logos_code.specs.Runs.{acts, looped, stays, marked, turn, Does}
 use Rattle.logos_machine.specs.inside.Looks.{Sees}
 use Rattle.logos_code.specs.declared.code.rows.Step.{Step}
 use Rattle.logos_code.specs.declared.code.rows.Step.TheVariants.{Leads, Stays, Halts, Looks, Closes, Stuck, Unsaid}
-use Rattle.logos_machine.proofs.StandLemmas.{unmarked_root}
+use Rattle.logos_machine.proofs.StatusLemmas.{unmarked_root}
 
 and_false : (b : Bool) → (b && false) ≡ false
 and_false true = refl

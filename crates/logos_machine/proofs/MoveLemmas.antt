@@ -6,7 +6,7 @@ use Rattle.logos_code.specs.Code.{CodeValue, CodeState, Mark}
 use Rattle.logos_code.specs.CodeView.{code_of, fork_of, no_state, state_at, state_of}
 use Rattle.logos_code.specs.declared.code.CodeParts.{CodeParts}
 use Rattle.logos_code.specs.declared.code.CodeState.{CodeState as TheState}
-use Rattle.logos_code.specs.Runs.{Stand, acts, led, target, looped, marked, Does}
+use Rattle.logos_code.specs.Runs.{Status, acts, led, target, looped, marked, Does}
 use Rattle.logos_machine.specs.Streams.{IsClosed, StopsWithin}
 use Rattle.logos_machine.proofs.StepLemmas.{closed_turn, does_lead}
 
@@ -17,7 +17,7 @@ seen_none : {A B : Type 0} (f : A → B) (o : Option A) → option_map f o ≡ N
 seen_none f None e = cc
 seen_none f (Some a) e = absurd cc
 
-module _ (code : CodeValue) (part : List ℕ) (start : ℕ) (at : Stand) (state : CodeState) (is : slice_get code.states at.state ≡ Some state)
+module _ (code : CodeValue) (part : List ℕ) (start : ℕ) (at : Status) (state : CodeState) (is : slice_get code.states at.state ≡ Some state)
     (offset : ℕ) (seen : Option (Option ℕ)) (stops : offset ≡ at.offset + looped code state.fast_loop (drop at.offset part)) (sees : seen ≡ option_map (target code state.fork) (slice_get part offset)) where
   -- no byte is where the fast loop ends
   pub comes_to_end : seen ≡ None → length part ≤ at.offset + looped code state.fast_loop (drop at.offset part)
@@ -43,7 +43,7 @@ past_mark None offset past = tt
 past_mark (Some mark) offset past = λ late. past
 
 -- what a closed state does depends on no byte
-pub acts_closed : (code : CodeValue) (part : List ℕ) (start : ℕ) (at : Stand) (state : CodeState) (context : Option (ℕ × ℕ)) → slice_get code.states at.state ≡ Some state → IsClosed state → start < at.offset →
+pub acts_closed : (code : CodeValue) (part : List ℕ) (start : ℕ) (at : Status) (state : CodeState) (context : Option (ℕ × ℕ)) → slice_get code.states at.state ≡ Some state → IsClosed state → start < at.offset →
     context ≡ marked state.mark at.offset at.context → StopsWithin code part start (length part) at × Does code part start at (acts context at.offset)
 acts_closed code part start at state context is closed past kept =
     ((state, is, inr (closed, past)), (state, is, closed_turn code part start at state closed past ∙ ap (λ c. acts c at.offset) (sym kept)))

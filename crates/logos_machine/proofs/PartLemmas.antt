@@ -5,7 +5,7 @@ use Rattle.std.proofs.lemmas.Str.{IsUtf8-append, IsUtf8-nil}
 use Rattle.logos_automaton.specs.Munch.{Use, matched}
 use Rattle.logos_code.specs.Code.{CodeValue}
 use Rattle.logos_code.specs.Headline.{IsSound}
-use Rattle.logos_code.specs.Items.{Callback, Search, Item, MayAnswer, items_of, Lexes, match, fault, NextItem, passes, gives, fails}
+use Rattle.logos_code.specs.Items.{Callback, Search, Item, MayAnswer, items_of, Lexes, match, fault, NextItem, passes, yields, fails}
 use Rattle.logos_code.specs.Runs.{CodeFinds, Runs, RunsOn}
 use Rattle.logos_code.specs.declared.action.Action.{Action}
 use Rattle.logos_machine.specs.Streams.{item_later, MayFollow, PassesOver, passes_none, passes_match, RunsOver, AreBegun, PartsAreOfTheWhole}
@@ -20,7 +20,7 @@ module _ (uses : List Use) (callback : Callback) (bytes : List ℕ) (search : Se
   -- after the next item a run goes on where it ends
   pub next_first : {from end : ℕ} {item : Item} → NextItem uses callback bytes search from item end → (rest : List Item) → Lexes uses callback bytes search end rest → Lexes uses callback bytes search from (item ∷ rest)
   next_first (passes from to leaf answer item end s m e x) rest l = matched_first from to leaf answer [] (item ∷ rest) s m e (next_first x rest l)
-  next_first (gives from to leaf answer item s m e) rest l = matched_first from to leaf answer (item ∷ []) rest s m e l
+  next_first (yields from to leaf answer item s m e) rest l = matched_first from to leaf answer (item ∷ []) rest s m e l
   next_first (fails from to s) rest l = fault from to rest s l
 
   pub over_first : {from end : ℕ} → PassesOver uses callback bytes search from end → (rest : List Item) → Lexes uses callback bytes search end rest → Lexes uses callback bytes search from rest

@@ -3,7 +3,7 @@ use Rattle.std.proofs.Common.{◌≡◌, ◌≢◌, ℕ, ◌+◌, ◌<◌, ◌�
 use Rattle.std.proofs.lemmas.Bool.Decides.{eqb_tells}
 use Rattle.logos_code.specs.Code.{CodeValue, CodeState, Fork, Mark, by_conditions, by_table}
 use Rattle.logos_code.specs.Headline.{IsLate}
-use Rattle.logos_code.specs.Runs.{Stand, Turn, acts, returns, target, looped, marked, led, forked, turn, Does}
+use Rattle.logos_code.specs.Runs.{Status, Turn, acts, returns, target, looped, marked, led, forked, turn, Does}
 use Rattle.logos_machine.specs.Streams.{IsClosed, NoBranches}
 
 differs : (a b : ℕ) → a ≢ b → (a == b) ≡ false
@@ -19,7 +19,7 @@ pub and_other : (c : Bool) (a b : ℕ) → a ≢ b → (c && (a == b)) ≡ false
 and_other true a b other = differs a b other
 and_other false a b other = refl
 
-module _ (code : CodeValue) (bytes : List ℕ) (start : ℕ) (at : Stand) (state : CodeState) (is : slice_get code.states at.state ≡ Some state) where
+module _ (code : CodeValue) (bytes : List ℕ) (start : ℕ) (at : Status) (state : CodeState) (is : slice_get code.states at.state ≡ Some state) where
   abbrev turn_at : ℕ → Turn
   turn_at offset = forked code state (slice_get bytes offset) (at.state == code.root && offset == start) offset (marked state.mark offset at.context)
 
@@ -87,7 +87,7 @@ target_none code (by_conditions []) none b = refl
 target_none code (by_conditions (branch ∷ branches)) none b = absurd none
 target_none code (by_table entries) none b = absurd none
 
-module _ (code : CodeValue) (bytes : List ℕ) (start : ℕ) (at : Stand) (state : CodeState) (closed : IsClosed state) (past : start < at.offset) where
+module _ (code : CodeValue) (bytes : List ℕ) (start : ℕ) (at : Status) (state : CodeState) (closed : IsClosed state) (past : start < at.offset) where
   forked_closed : (context : Option (ℕ × ℕ)) (o : Option ℕ) (fresh : Bool) → fresh ≡ false → forked code state o fresh at.offset context ≡ acts context at.offset
   forked_closed context (Some b) fresh e = ap (λ t. led t at.offset context) (target_none code state.fork closed.fork b)
   forked_closed context None true e = absurd cc

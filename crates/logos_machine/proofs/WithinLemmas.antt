@@ -4,14 +4,14 @@ use Rattle.std.proofs.lemmas.List.{drop-append-le, take-append-le, length-drop}
 use Rattle.logos_automaton.specs.Munch.{Use, Found, matched, failed}
 use Rattle.logos_code.specs.declared.action.Action.{Action}
 use Rattle.logos_code.specs.declared.action.Action.TheVariants.{Emit, Skip, Error}
-use Rattle.logos_code.specs.Items.{Callback, Item, token, error, items_of, skips, MayAnswer, passes, gives, fails}
+use Rattle.logos_code.specs.Items.{Callback, Item, token, error, items_of, skips, MayAnswer, passes, yields, fails}
 use Rattle.logos_code.specs.Runs.{RunsOn, CodeFinds}
 use Rattle.logos_machine.specs.LexerValue.{LexerValue}
-use Rattle.logos_machine.specs.Streams.{first_stand, LooksPast, MayFollow, passes_none, passes_match, RunsOver}
-use Rattle.logos_machine.specs.Within.{GivesWithin, KeepsGiven, Waits}
+use Rattle.logos_machine.specs.Streams.{first_status, LooksPast, MayFollow, passes_none, passes_match, RunsOver}
+use Rattle.logos_machine.specs.Within.{YieldsWithin, KeepsGiven, Waits}
 use Rattle.logos_machine.specs.inside.Parts.{TriedWithin}
-use Rattle.logos_machine.specs.inside.Stands.{IsMatch}
-use Rattle.logos_machine.proofs.AgreeLemmas.{open_tries, tries_whatever_follows}
+use Rattle.logos_machine.specs.inside.IsAt.{IsMatch}
+use Rattle.logos_machine.proofs.AgreeLemmas.{open_attempts, attempts_whatever_follows}
 use Rattle.logos_machine.proofs.LexerLemmas.{moved, item_span}
 
 -- a span of the part holds the same bytes, whatever follows
@@ -44,7 +44,7 @@ module _ {C : Type 0} (callback : Callback) (old : LexerValue C) where
 
   module _ (from to steps : ℕ) (found : Found) (t : TriedWithin old.code old.input from found steps) where
     finds_within : (rest : List ℕ) → MayFollow old.code rest → CodeFinds old.code (old.input ++ rest) from found
-    finds_within rest follows = (steps, tries_whatever_follows old.code old.input rest from steps found follows t.tries)
+    finds_within rest follows = (steps, attempts_whatever_follows old.code old.input rest from steps found follows t.attempts)
 
   -- past a match that gives no item
   pub passes_within : (from to leaf steps : ℕ) (answer : Action) → GoesOnWithin from → TriedWithin old.code old.input from (matched leaf to) steps →
@@ -71,30 +71,30 @@ module _ {C : Type 0} (callback : Callback) (old : LexerValue C) where
         subst (λ (l : LexerValue C). KeepsGiven old l) (sym is_new) made
 
     -- the item of a match
-    pub gives_within : (leaf : ℕ) (answer : Action) (item : Item) → GoesOnWithin from → TriedWithin old.code old.input from (matched leaf to) steps →
+    pub yields_within : (leaf : ℕ) (answer : Action) (item : Item) → GoesOnWithin from → TriedWithin old.code old.input from (matched leaf to) steps →
         MayAnswer old.code.leaves callback old.input leaf (slice_range old.input from to) answer → items_of old.code.leaves callback old.input answer leaf from to ≡ item ∷ [] →
-        GivesWithin callback old new item
-    gives_within leaf answer item i t may is =
+        YieldsWithin callback old new item
+    yields_within leaf answer item i t may is =
         let fits : IsMatch old.code old.input from leaf to = t.within in
         let order : from ≤ to = (let f = fits.1 in omega (arith, f)) in
-        let made : GivesWithin callback old (moved old from to steps) item = record {
+        let made : YieldsWithin callback old (moved old from to steps) item = record {
           span = item_span (moved old from to steps) from to refl refl old.code.leaves callback old.input answer leaf item is;
           after = i.after;
           nonempty = fits.1;
           within = fits.2;
-          is = λ rest f. i.next rest f item to (gives from to leaf answer item (finds_within from to steps (matched leaf to) t rest f)
+          is = λ rest f. i.next rest f item to (yields from to leaf answer item (finds_within from to steps (matched leaf to) t rest f)
               (may_front old.code.leaves callback old.input rest from to order fits.2 leaf answer may)
               (items_front old.code.leaves callback old.input rest from to order fits.2 answer leaf ∙ is));
-          tries = (matched leaf to, t.tries);
+          attempts = (matched leaf to, t.attempts);
         } in
-        subst (λ (l : LexerValue C). GivesWithin callback old l item) (sym is_new) made
+        subst (λ (l : LexerValue C). YieldsWithin callback old l item) (sym is_new) made
 
     -- an error
-    pub gives_error_within : (item : Item) → GoesOnWithin from → TriedWithin old.code old.input from (failed to) steps → item ≡ error None from to (slice_range old.input from to) → GivesWithin callback old new item
-    gives_error_within item i t is =
+    pub yields_error_within : (item : Item) → GoesOnWithin from → TriedWithin old.code old.input from (failed to) steps → item ≡ error None from to (slice_range old.input from to) → YieldsWithin callback old new item
+    yields_error_within item i t is =
         let span : (from < to) × (to ≤ length old.input) = t.within in
         let order : from ≤ to = (let f = span.0 in omega (arith, f)) in
-        let made : GivesWithin callback old (moved old from to steps) (error None from to (slice_range old.input from to)) = record {
+        let made : YieldsWithin callback old (moved old from to steps) (error None from to (slice_range old.input from to)) = record {
           span = (refl {a = from}, refl {a = to});
           after = i.after;
           nonempty = span.0;
@@ -102,12 +102,12 @@ module _ {C : Type 0} (callback : Callback) (old : LexerValue C) where
           is = λ rest f. i.next rest f (error None from to (slice_range old.input from to)) to
               (subst (λ (l : List ℕ). RunsOn old.code callback (old.input ++ rest) from (error None from to l) to) (range_front old.input rest from to order span.1)
               (fails from to (finds_within from to steps (failed to) t rest f)));
-          tries = (failed to, t.tries);
+          attempts = (failed to, t.attempts);
         } in
-        subst (λ (l : LexerValue C). GivesWithin callback old l item) (sym is_new) (subst (λ i. GivesWithin callback old (moved old from to steps) i) (sym is) made)
+        subst (λ (l : LexerValue C). YieldsWithin callback old l item) (sym is_new) (subst (λ i. YieldsWithin callback old (moved old from to steps) i) (sym is) made)
 
   -- what comes next depends on what follows
-  pub waits_within : (from : ℕ) (new : LexerValue C) → new ≡ moved old from from old.steps → GoesOnWithin from → LooksPast old.code old.input from (first_stand old.code from) → Waits callback old new
+  pub waits_within : (from : ℕ) (new : LexerValue C) → new ≡ moved old from from old.steps → GoesOnWithin from → LooksPast old.code old.input from (first_status old.code from) → Waits callback old new
   waits_within from new is_new i looks =
       let made : Waits callback old (moved old from from old.steps) = record {
         from = refl;
@@ -116,6 +116,6 @@ module _ {C : Type 0} (callback : Callback) (old : LexerValue C) where
         steps = refl;
         passed = λ rest f. i.over rest f from (passes_none from);
         looks = looks;
-        undecided = λ found n t. open_tries old.code old.input from looks t;
+        undecided = λ found n t. open_attempts old.code old.input from looks t;
       } in
       subst (λ (l : LexerValue C). Waits callback old l) (sym is_new) made

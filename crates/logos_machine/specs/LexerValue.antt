@@ -4,10 +4,10 @@ use Rattle.std.specs.Option.{option_map_or, option_to_list}
 use denote.Param.Members.{Shared}
 use denote.Ref.{Bor}
 use Rattle.logos_code.specs.Code.{CodeValue}
-use Rattle.logos_code.specs.CodeView.{asks_for}
+use Rattle.logos_code.specs.CodeView.{calls_back_for}
 use Rattle.logos_automaton.specs.Munch.{Found, Rule, Use}
 use Rattle.logos_code.specs.Items.{Callback, Item, token, error, MayAnswer, items_of}
-use Rattle.logos_code.specs.Runs.{Runs, RunsOn, Tries}
+use Rattle.logos_code.specs.Runs.{Runs, RunsOn, Attempts}
 use Rattle.logos_code.specs.declared.action.Action.{Action}
 use Rattle.logos_hir.specs.declared.leaf.LeafId.{LeafId}
 use Rattle.logos_machine.specs.declared.machine.Item.{Item as TheItem}
@@ -31,7 +31,7 @@ answers_of g f leaf slice answer = (shown : Bor (List ℕ)) × (shown.now ≡ sl
 
 -- The leaf has a callback, by the uses of all leaves.
 abbrev pub has_callback : List Use → ℕ → Bool
-has_callback uses leaf = option_map_or (λ use_of. use_of.asks) (slice_get uses leaf) false
+has_callback uses leaf = option_map_or (λ use_of. use_of.calls_back) (slice_get uses leaf) false
 
 -- The closure may be called on a leaf and a slice.
 abbrev pub Takes : {C : Type 0} → Shared C (LeafId × (Bor (List ℕ) × Unit {0})) Action → C → LeafId → List ℕ → Type 0
@@ -39,7 +39,7 @@ Takes g f leaf slice = (shown : Bor (List ℕ)) → shown.now ≡ slice → g.pr
 
 -- The closure may be called on each leaf of the code that has a callback, and on each slice.
 abbrev pub TakesMatches : {C : Type 0} → Shared C (LeafId × (Bor (List ℕ) × Unit {0})) Action → CodeValue → C → Type 0
-TakesMatches g code f = (leaf : LeafId) (slice : List ℕ) → IsTrue (asks_for code leaf.0) → Takes g f leaf slice
+TakesMatches g code f = (leaf : LeafId) (slice : List ℕ) → IsTrue (calls_back_for code leaf.0) → Takes g f leaf slice
 
 -- The same of a leaf by its rule.
 abbrev pub TakesMatchesOf : {C : Type 0} → Shared C (LeafId × (Bor (List ℕ) × Unit {0})) Action → List Rule → C → Type 0
@@ -56,7 +56,7 @@ item_of (Token leaf span slice) = token leaf.0 span.from span.to slice.now
 item_of (Error leaf span slice) = error (option_map (λ l. l.0) leaf) span.from span.to slice.now
 
 -- What a call of `next` does: it gives the next item of the run, and stands after it.
-pub record Gives {C : Type 0} (callback : Callback) (old new : LexerValue C) (item : Item) : Type 0 where
+pub record Yields {C : Type 0} (callback : Callback) (old new : LexerValue C) (item : Item) : Type 0 where
   pub span : HasSpan new item
   -- The item lies after the last one, is nonempty, and ends in the input.
   pub after : old.to ≤ new.from
@@ -78,11 +78,11 @@ pub record Keeps {C : Type 0} (old new : LexerValue C) : Type 0 where
   pub code : new.code ≡ old.code
   pub input : new.input ≡ old.input
   pub callback : new.callback ≡ old.callback
-  pub steps : (found : Found) × Tries new.code new.input new.from found new.steps
+  pub steps : (found : Found) × Attempts new.code new.input new.from found new.steps
   pub few : new.steps ≤ (length new.input - new.from) + 2
 
 -- What a match gives: the item, if the answer gives one.
-pub record MatchGives (code : CodeValue) (callback : Callback) (bytes : List ℕ) (leaf from to : ℕ) (item : Option Item) : Type 0 where
+pub record MatchYields (code : CodeValue) (callback : Callback) (bytes : List ℕ) (leaf from to : ℕ) (item : Option Item) : Type 0 where
   pub answer : Action
   pub may : MayAnswer code.leaves callback bytes leaf (slice_range bytes from to) answer
   pub is : items_of code.leaves callback bytes answer leaf from to ≡ option_to_list item

@@ -7,7 +7,7 @@ use Rattle.logos_code.specs.Items.{Callback, Item}
 use Rattle.logos_code.specs.Runs.{Runs}
 use Rattle.logos_code.specs.declared.action.Action.{Action}
 use Rattle.logos_hir.specs.declared.leaf.LeafId.{LeafId}
-use Rattle.logos_machine.specs.LexerValue.{LexerValue, Ends, Gives, Keeps, answers_of}
+use Rattle.logos_machine.specs.LexerValue.{LexerValue, Ends, Yields, Keeps, answers_of}
 
 -- Each answer of the one callback is among those of the other.
 abbrev pub AnswersAmong : Callback → Callback → Type 0
@@ -29,7 +29,7 @@ module _ {C : Type 0} (calls : Shared C (LeafId × (Bor (List ℕ) × Unit {0}))
   -- `next` adds its item to those that the lexer has given.
   abbrev pub NextAddsItem : Type 0
   NextAddsItem = (old new : LexerValue C) (items : List Item) (item : Item) →
-      Keeps old new → Gives (answers_of calls old.callback) old new item → HasGiven old items → HasGiven new (items ++ item ∷ [])
+      Keeps old new → Yields (answers_of calls old.callback) old new item → HasGiven old items → HasGiven new (items ++ item ∷ [])
 
   -- At the end of the input, what the lexer has given is a run of its code.
   abbrev pub EndIsRun : Type 0

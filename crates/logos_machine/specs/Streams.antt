@@ -4,12 +4,12 @@ use Rattle.logos_automaton.specs.Munch.{Use, Found, ended, matched, failed}
 use Rattle.logos_code.specs.Code.{CodeValue, CodeState, Fork, by_conditions, by_table}
 use Rattle.logos_code.specs.Headline.{IsSound}
 use Rattle.logos_code.specs.Items.{Callback, Search, Item, token, error, MayAnswer, items_of}
-use Rattle.logos_code.specs.Runs.{Stand, enters, acts, looped, Does, Acts, Tries, CodeFinds, Runs, RunsOn}
+use Rattle.logos_code.specs.Runs.{Status, enters, acts, looped, Does, Acts, Attempts, CodeFinds, Runs, RunsOn}
 use Rattle.logos_code.specs.declared.action.Action.{Action}
 
 -- Where a try begins.
-abbrev pub first_stand : CodeValue → ℕ → Stand
-first_stand code start = record { state = code.root; offset = start; context = None }
+abbrev pub first_status : CodeValue → ℕ → Status
+first_status code start = record { state = code.root; offset = start; context = None }
 
 -- Where the fast loop ends of a state that is entered at the offset.
 abbrev pub stop_at : CodeValue → List ℕ → CodeState → ℕ → ℕ
@@ -41,7 +41,7 @@ IsOpen state = IsSome state.fast_loop ⊎ (HasBranches state.fork ⊎ IsSome sta
 module _ (code : CodeValue) (bytes : List ℕ) (start seen : ℕ) where
   -- What the state does depends on none but the first `seen` bytes: its fast loop ends before one
   -- of them, or the state is closed, after the first byte of the match attempt.
-  abbrev pub StopsWithin : Stand → Type 0
+  abbrev pub StopsWithin : Status → Type 0
   StopsWithin at = (state : CodeState) × (slice_get code.states at.state ≡ Some state) × ((stop_at code bytes state at.offset < seen) ⊎ (IsClosed state × (start < at.offset)))
 
   -- In UTF-8 mode an error ends with them, or before.
@@ -52,29 +52,29 @@ module _ (code : CodeValue) (bytes : List ℕ) (start seen : ℕ) where
 
   -- From a stand on, the match attempt finds this in that many states, and depends on none but the
   -- first `seen` bytes.
-  pub data GoesWithin : Stand → Found → ℕ → Type 0 where
-    leads_within : (at next : Stand) (found : Found) (n : ℕ) → StopsWithin at →
+  pub data GoesWithin : Status → Found → ℕ → Type 0 where
+    leads_within : (at next : Status) (found : Found) (n : ℕ) → StopsWithin at →
         Does code bytes start at (enters next) → GoesWithin next found n → GoesWithin at found (suc n)
-    acts_within : (at : Stand) (context : Option (ℕ × ℕ)) (offset : ℕ) (found : Found) → StopsWithin at →
+    acts_within : (at : Status) (context : Option (ℕ × ℕ)) (offset : ℕ) (found : Found) → StopsWithin at →
         Does code bytes start at (acts context offset) → Acts code bytes start context offset found → EndsWithin found → GoesWithin at found 1
 
   -- So does a try from the start.
-  abbrev pub TriesWithin : Found → ℕ → Type 0
-  TriesWithin = GoesWithin (first_stand code start)
+  abbrev pub AttemptsWithin : Found → ℕ → Type 0
+  AttemptsWithin = GoesWithin (first_status code start)
 
 -- What the match attempt finds is open at the end of the bytes: it comes there before its first
 -- byte, or in a state that more bytes, or the end of the input, lead on from.
-pub data LooksPast (code : CodeValue) (bytes : List ℕ) (start : ℕ) : Stand → Type 0 where
-  looks_here : (at : Stand) (state : CodeState) → slice_get code.states at.state ≡ Some state →
+pub data LooksPast (code : CodeValue) (bytes : List ℕ) (start : ℕ) : Status → Type 0 where
+  looks_here : (at : Status) (state : CodeState) → slice_get code.states at.state ≡ Some state →
       length bytes ≤ stop_at code bytes state at.offset → (at.offset ≤ start) ⊎ IsOpen state → LooksPast code bytes start at
-  looks_later : (at next : Stand) → Does code bytes start at (enters next) → LooksPast code bytes start next → LooksPast code bytes start at
+  looks_later : (at next : Status) → Does code bytes start at (enters next) → LooksPast code bytes start next → LooksPast code bytes start at
 
 -- What a match attempt that depends on none but the first bytes finds is what a match attempt finds
 -- in each input that has these bytes; in UTF-8 mode, where no character goes over their end.
-abbrev pub TriesAgree : Type 0
-TriesAgree = (code : CodeValue) (bytes others : List ℕ) (start seen n : ℕ) (found : Found) → seen ≤ length bytes →
-    take seen bytes ≡ take seen others → (IsTrue code.utf8 → IsCharBoundary others seen) → TriesWithin code bytes start seen found n →
-    TriesWithin code others start seen found n × Tries code others start found n
+abbrev pub AttemptsAgree : Type 0
+AttemptsAgree = (code : CodeValue) (bytes others : List ℕ) (start seen n : ℕ) (found : Found) → seen ≤ length bytes →
+    take seen bytes ≡ take seen others → (IsTrue code.utf8 → IsCharBoundary others seen) → AttemptsWithin code bytes start seen found n →
+    AttemptsWithin code others start seen found n × Attempts code others start found n
 
 -- The bytes that may follow a part: in UTF-8 mode, UTF-8.
 abbrev pub MayFollow : CodeValue → List ℕ → Type 0
@@ -105,8 +105,8 @@ RunsOver code callback bytes = PassesOver code.leaves callback bytes (CodeFinds 
 -- Runs do not depend on what is before them: with other bytes in front, each gives the same items,
 -- so many bytes later.
 pub record RunsGoLater (callback : Callback) : Type 0 where
-  pub tries : (code : CodeValue) (front bytes : List ℕ) (start n : ℕ) (found : Found) → IsSound code → Tries code bytes start found n →
-      Tries code (front ++ bytes) (length front + start) (found_later (length front) found) n
+  pub attempts : (code : CodeValue) (front bytes : List ℕ) (start n : ℕ) (found : Found) → IsSound code → Attempts code bytes start found n →
+      Attempts code (front ++ bytes) (length front + start) (found_later (length front) found) n
   pub runs : (code : CodeValue) (front bytes : List ℕ) (from : ℕ) (items : List Item) → IsSound code → Runs code callback bytes from items →
       Runs code callback (front ++ bytes) (length front + from) (map (item_later (length front)) items)
   pub next : (code : CodeValue) (front bytes : List ℕ) (from end : ℕ) (item : Item) → IsSound code → RunsOn code callback bytes from item end →

@@ -3,13 +3,13 @@ use Rattle.std.specs.Prelude.{◌≡◌, ℕ, ◌<◌, ◌≤◌, Bool, true, fa
 use Rattle.logos_automaton.specs.Munch.{Found}
 use Rattle.logos_code.specs.Items.{Callback, Item}
 use Rattle.logos_code.specs.Runs.{RunsOn}
-use Rattle.logos_machine.specs.LexerValue.{LexerValue, HasSpan, Gives, Ends, item_of}
-use Rattle.logos_machine.specs.Streams.{first_stand, MayFollow, TriesWithin, LooksPast, RunsOver}
+use Rattle.logos_machine.specs.LexerValue.{LexerValue, HasSpan, Yields, Ends, item_of}
+use Rattle.logos_machine.specs.Streams.{first_status, MayFollow, AttemptsWithin, LooksPast, RunsOver}
 use Rattle.logos_machine.specs.declared.machine.part.Within.{Within}
 use Rattle.logos_machine.specs.declared.machine.part.Within.TheVariants.{Item as Given, More, End}
 
 -- An item is given that every continuation of the part gives.
-pub record GivesWithin {C : Type 0} (callback : Callback) (old new : LexerValue C) (item : Item) : Type 0 where
+pub record YieldsWithin {C : Type 0} (callback : Callback) (old new : LexerValue C) (item : Item) : Type 0 where
   pub span : HasSpan new item
   pub after : old.to ≤ new.from
   pub nonempty : new.from < new.to
@@ -17,7 +17,7 @@ pub record GivesWithin {C : Type 0} (callback : Callback) (old new : LexerValue 
   -- It is the next one, whatever follows the part.
   pub is : (rest : List ℕ) → MayFollow old.code rest → RunsOn old.code callback (old.input ++ rest) old.to item new.to
   -- The last match attempt depends on the part alone.
-  pub tries : (found : Found) × TriesWithin new.code new.input new.from (length new.input) found new.steps
+  pub attempts : (found : Found) × AttemptsWithin new.code new.input new.from (length new.input) found new.steps
 
 -- No item is given: what comes next depends on what follows.
 pub record Waits {C : Type 0} (callback : Callback) (old new : LexerValue C) : Type 0 where
@@ -28,9 +28,9 @@ pub record Waits {C : Type 0} (callback : Callback) (old new : LexerValue C) : T
   -- What was passed gives no item, whatever follows the part.
   pub passed : (rest : List ℕ) → MayFollow old.code rest → RunsOver old.code callback (old.input ++ rest) old.to new.to
   -- What the next match attempt finds is open at the end of the part.
-  pub looks : LooksPast new.code new.input new.to (first_stand new.code new.to)
+  pub looks : LooksPast new.code new.input new.to (first_status new.code new.to)
   -- So no match attempt finds anything there that depends on the part alone.
-  pub undecided : (found : Found) (n : ℕ) → TriesWithin new.code new.input new.to (length new.input) found n → ⊥
+  pub undecided : (found : Found) (n : ℕ) → AttemptsWithin new.code new.input new.to (length new.input) found n → ⊥
 
 -- Code, input and callback stay.
 pub record KeepsGiven {C : Type 0} (old new : LexerValue C) : Type 0 where
@@ -41,9 +41,9 @@ pub record KeepsGiven {C : Type 0} (old new : LexerValue C) : Type 0 where
 -- What a call of `next_within` does: on the last part what `next` does, on another one only what
 -- holds for every continuation.
 abbrev pub DoesWithin : {C : Type 0} → Bool → Callback → LexerValue C → LexerValue C → Within → Type 0
-DoesWithin true callback old new (Given item) = Gives callback old new (item_of item)
+DoesWithin true callback old new (Given item) = Yields callback old new (item_of item)
 DoesWithin true callback old new More = ⊥
 DoesWithin true callback old new End = Ends callback old new
-DoesWithin false callback old new (Given item) = GivesWithin callback old new (item_of item)
+DoesWithin false callback old new (Given item) = YieldsWithin callback old new (item_of item)
 DoesWithin false callback old new More = Waits callback old new
 DoesWithin false callback old new End = ⊥

@@ -1,7 +1,7 @@
 //! Laws of the definitions. The contract of each function is a law. To use one in a proof, call its
 //! function: the call does nothing.
 
-ghost use Rattle.logos_machine.specs.Views.{answers_of, EndIsRun, NextAddsItem, PartsAreOfTheWhole, RunsGoLater, RunsGoOver, TriesAgree};
+ghost use Rattle.logos_machine.specs.Views.{answers_of, EndIsRun, NextAddsItem, PartsAreOfTheWhole, RunsGoLater, RunsGoOver, AttemptsAgree};
 
 use crate::machine::Action;
 use logos_hir::leaf::LeafId;
@@ -26,8 +26,8 @@ pub fn runs_go_over<C: Fn(LeafId, &[u8]) -> Action, D: Fn(LeafId, &[u8]) -> Acti
 
 /// A try that looks at none but the first bytes of an input finds the same in each input that has
 /// these bytes.
-pub fn tries_agree()
-    ensures { TriesAgree }
+pub fn attempts_agree()
+    ensures { AttemptsAgree }
 {}
 
 /// Runs do not depend on what is before them: with more bytes in front each gives the same items,

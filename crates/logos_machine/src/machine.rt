@@ -1,7 +1,7 @@
 //! Lexers: runs of a code value on an input.
 
 ghost use Rattle.std.specs.Prelude.{◌≡◌, ◌<◌, ◌≤◌, length, option_map, slice_range, MatchBool, MatchOption, IfOk, IfErr, IsTrue, IsUtf8, drop, None};
-ghost use Rattle.logos_machine.specs.Views.{IsValidUpTo, asks_for, token, error, answers_of, begun, item_of, Gives, Ends, Keeps, MatchGives, Takes, TakesMatches};
+ghost use Rattle.logos_machine.specs.Views.{IsValidUpTo, calls_back_for, token, error, answers_of, begun, item_of, Yields, Ends, Keeps, MatchYields, Takes, TakesMatches};
 
 mod attempt;
 mod fast_loop;
@@ -134,7 +134,7 @@ impl<'c, 's, 'i, C: Fn(LeafId, &[u8]) -> Action> Lexer<'c, 's, 'i, C> {
         ensures keeps { Keeps self.old self.new }
         ensures item { MatchOption result
             (Ends (answers_of C.Fn self.old.callback) self.old self.new)
-            (λ i. Gives (answers_of C.Fn self.old.callback) self.old self.new (item_of i)) }
+            (λ i. Yields (answers_of C.Fn self.old.callback) self.old self.new (item_of i)) }
     {
         let code = self.code;
         let input = self.input;
@@ -143,23 +143,23 @@ impl<'c, 's, 'i, C: Fn(LeafId, &[u8]) -> Action> Lexer<'c, 's, 'i, C> {
             match attempt(code, input, from) {
                 Outcome::Skips(to) => from = to,
                 Outcome::Emits(leaf, to, steps) => {
-                    self.stand_after(from, to, steps);
+                    self.status_after(from, to, steps);
                     return Some(token(input, leaf, Span { from, to }));
                 }
-                Outcome::Asks(leaf, to, steps) => {
+                Outcome::CallsBack(leaf, to, steps) => {
                     let span = Span { from, to };
                     if let Some(item) = matched_item(code, input, &self.callback, leaf, span) {
-                        self.stand_after(from, to, steps);
+                        self.status_after(from, to, steps);
                         return Some(item);
                     }
                     from = to;
                 }
                 Outcome::Fails(to, steps) => {
-                    self.stand_after(from, to, steps);
+                    self.status_after(from, to, steps);
                     return Some(error(input, Span { from, to }));
                 }
                 Outcome::Ends(steps) => {
-                    self.stand_after(from, from, steps);
+                    self.status_after(from, from, steps);
                     return None;
                 }
             }
@@ -168,7 +168,7 @@ impl<'c, 's, 'i, C: Fn(LeafId, &[u8]) -> Action> Lexer<'c, 's, 'i, C> {
 
     /// Moves after the item at the span, whose try entered so many states.
     #[inline(always)]
-    fn stand_after(&mut self, from: usize, to: usize, steps: usize)
+    fn status_after(&mut self, from: usize, to: usize, steps: usize)
         requires order { from ≤ to }
         requires within { to ≤ length self.old.input }
         ensures { self.new ≡ record {
@@ -295,12 +295,12 @@ pub fn matched_item<'i, C: Fn(LeafId, &[u8]) -> Action>(
     leaf: LeafId,
     span: Span,
 ) -> Option<Item<'i>>
-    requires callable { IsTrue (asks_for code.now leaf.0) → Takes C.Fn callback.now leaf
+    requires callable { IsTrue (calls_back_for code.now leaf.0) → Takes C.Fn callback.now leaf
         (slice_range input.now span.from span.to) }
     requires leaf { leaf.0 < length code.now.leaves }
     requires order { span.from ≤ span.to }
     requires within { span.to ≤ length input.now }
-    ensures { MatchGives code.now (answers_of C.Fn callback.now) input.now leaf.0 span.from span.to
+    ensures { MatchYields code.now (answers_of C.Fn callback.now) input.now leaf.0 span.from span.to
         (option_map item_of result) }
 {
     let slice = &input[span.from..span.to];
@@ -324,12 +324,12 @@ fn answer<C: Fn(LeafId, &[u8]) -> Action>(
     leaf: LeafId,
     slice: &[u8],
 ) -> Action
-    requires callable { IsTrue (asks_for code.now leaf.0) → Takes C.Fn callback.now leaf slice.now }
+    requires callable { IsTrue (calls_back_for code.now leaf.0) → Takes C.Fn callback.now leaf slice.now }
     requires leaf { leaf.0 < length code.now.leaves }
-    ensures { MatchBool (asks_for code.now leaf.0)
+    ensures { MatchBool (calls_back_for code.now leaf.0)
         (answers_of C.Fn callback.now leaf.0 slice.now result) (result ≡ Action.Emit) }
 {
-    if code.asks(leaf) {
+    if code.calls_back(leaf) {
         callback(leaf, slice)
     } else {
         Action::Emit

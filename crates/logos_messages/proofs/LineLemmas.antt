@@ -8,7 +8,7 @@ use Rattle.logos_json.proofs.LineLemmas.{gains_nothing, gains_then}
 use Rattle.logos_json.specs.Lines.{Gains, LinesValue}
 use Rattle.logos_json.specs.Members.{list_member}
 use Rattle.logos_lines.specs.Starts.{IsLineOf}
-use Rattle.logos_messages.specs.Growing.{GivesLines, GivesNotes}
+use Rattle.logos_messages.specs.Growing.{YieldsLines, YieldsNotes}
 use Rattle.logos_messages.specs.Shown.{AreLinesOf, Marked, Note}
 use Rattle.logos_messages.specs.Tokens.{marked_tokens, note_tokens}
 
@@ -26,10 +26,10 @@ lines_both text [] others a b = b
 lines_both text (line ∷ lines) others a b = (a.0, lines_both text lines others a.1 b)
 
 -- No lines, and lines after lines.
-pub no_lines : (text : List ℕ) (line : LinesValue) → GivesLines text line line
+pub no_lines : (text : List ℕ) (line : LinesValue) → YieldsLines text line line
 no_lines text line = record { lines = []; are = tt; gained = gains_nothing line }
 
-pub lines_then : {text : List ℕ} {old middle new : LinesValue} → GivesLines text old middle → GivesLines text middle new → GivesLines text old new
+pub lines_then : {text : List ℕ} {old middle new : LinesValue} → YieldsLines text old middle → YieldsLines text middle new → YieldsLines text old new
 lines_then {text} {old} {middle} {new} a b = record {
   lines = a.lines ++ b.lines;
   are = lines_both text a.lines b.lines a.are b.are;
@@ -37,21 +37,21 @@ lines_then {text} {old} {middle} {new} a b = record {
 }
 
 -- One line.
-pub one_line : {text shown : List ℕ} (number from to : ℕ) {old new : LinesValue} → IsLineOf text number shown → Gains (marked_tokens (record { text = shown; from = from; to = to })) old new → GivesLines text old new
+pub one_line : {text shown : List ℕ} (number from to : ℕ) {old new : LinesValue} → IsLineOf text number shown → Gains (marked_tokens (record { text = shown; from = from; to = to })) old new → YieldsLines text old new
 one_line {text} {shown} number from to is g =
     let line : Marked = record { text = shown; from = from; to = to } in
     record { lines = line ∷ []; are = ((number, is), tt); gained = one_item marked_tokens line g }
 
 -- No notes, one note, and notes after notes.
-pub no_notes : (line : LinesValue) → GivesNotes line line
+pub no_notes : (line : LinesValue) → YieldsNotes line line
 no_notes line = record { notes = []; gained = gains_nothing line }
 
-pub one_note : {level text : List ℕ} {old new : LinesValue} → Gains (note_tokens (record { level = level; text = text })) old new → GivesNotes old new
+pub one_note : {level text : List ℕ} {old new : LinesValue} → Gains (note_tokens (record { level = level; text = text })) old new → YieldsNotes old new
 one_note {level} {text} g =
     let note : Note = record { level = level; text = text } in
     record { notes = note ∷ []; gained = one_item note_tokens note g }
 
-pub notes_then : {old middle new : LinesValue} → GivesNotes old middle → GivesNotes middle new → GivesNotes old new
+pub notes_then : {old middle new : LinesValue} → YieldsNotes old middle → YieldsNotes middle new → YieldsNotes old new
 notes_then {old} {middle} {new} a b = record { notes = a.notes ++ b.notes; gained = items_then note_tokens a.notes b.notes a.gained b.gained }
 
 -- A list of two runs.

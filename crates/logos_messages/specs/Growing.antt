@@ -5,46 +5,46 @@ use Rattle.json.specs.Token.{Token}
 use Rattle.logos_json.specs.Lines.{Gains, LinesValue}
 use Rattle.logos_json.specs.Members.{list_member}
 use Rattle.logos_lexeme.specs.declared.lexeme.Span.{Span}
-use Rattle.logos_report.specs.Places.{SourceValue}
+use Rattle.logos_report.specs.Locations.{SourceValue}
 use Rattle.logos_messages.specs.Shown.{AreLinesOf, Marked, Note, Shown}
 use Rattle.logos_messages.specs.Tokens.{diagnostic_tokens, marked_tokens, note_tokens, other_tokens, span_tokens, spans_tokens}
 
 -- Lines of a file were pushed.
-pub record GivesLines (text : List ℕ) (old new : LinesValue) : Type 0 where
+pub record YieldsLines (text : List ℕ) (old new : LinesValue) : Type 0 where
   pub lines : List Marked
   pub are : AreLinesOf text lines
   pub gained : Gains (flat_map marked_tokens lines) old new
 
 -- The same as a member.
-pub record GivesLineList (text : List ℕ) (old new : LinesValue) : Type 0 where
+pub record YieldsLineList (text : List ℕ) (old new : LinesValue) : Type 0 where
   pub lines : List Marked
   pub are : AreLinesOf text lines
   pub gained : Gains (list_member (codes "text") (flat_map marked_tokens lines)) old new
 
 -- Notes were pushed.
-pub record GivesNotes (old new : LinesValue) : Type 0 where
+pub record YieldsNotes (old new : LinesValue) : Type 0 where
   pub notes : List Note
   pub gained : Gains (flat_map note_tokens notes) old new
 
 -- The same as a member.
-pub record GivesNoteList (old new : LinesValue) : Type 0 where
+pub record YieldsNoteList (old new : LinesValue) : Type 0 where
   pub notes : List Note
   pub gained : Gains (list_member (codes "children") (flat_map note_tokens notes)) old new
 
 -- A span was pushed, with lines of the file.
-pub record GivesSpan (source : SourceValue) (begin : ℕ) (span : Span) (label : Option (List ℕ)) (old new : LinesValue) : Type 0 where
+pub record YieldsSpan (source : SourceValue) (begin : ℕ) (span : Span) (label : Option (List ℕ)) (old new : LinesValue) : Type 0 where
   pub lines : List Marked
   pub are : AreLinesOf source.text lines
   pub gained : Gains (span_tokens source begin span label lines) old new
 
 -- The second span of a fault was pushed, if it has one.
-pub record GivesOther (source : SourceValue) (begin : ℕ) (also : Option Span) (old new : LinesValue) : Type 0 where
+pub record YieldsOther (source : SourceValue) (begin : ℕ) (also : Option Span) (old new : LinesValue) : Type 0 where
   pub lines : List Marked
   pub are : AreLinesOf source.text lines
   pub gained : Gains (other_tokens source begin also lines) old new
 
 -- The spans of a fault or a warning were pushed, as a member.
-pub record GivesSpanList (source : SourceValue) (begin : ℕ) (span : Span) (also : Option Span) (old new : LinesValue) : Type 0 where
+pub record YieldsSpanList (source : SourceValue) (begin : ℕ) (span : Span) (also : Option Span) (old new : LinesValue) : Type 0 where
   pub lines : List Marked
   pub are : AreLinesOf source.text lines
   pub other_lines : List Marked
@@ -52,7 +52,7 @@ pub record GivesSpanList (source : SourceValue) (begin : ℕ) (span : Span) (als
   pub gained : Gains (spans_tokens source begin span also lines other_lines) old new
 
 -- What begins with this head was pushed, with this report.
-pub record GivesMessage (source : SourceValue) (begin : ℕ) (head : List Token) (span : Span) (also : Option Span) (rendered : Option (List ℕ)) (old new : LinesValue) : Type 0 where
+pub record YieldsMessage (source : SourceValue) (begin : ℕ) (head : List Token) (span : Span) (also : Option Span) (rendered : Option (List ℕ)) (old new : LinesValue) : Type 0 where
   pub shown : Shown
   pub lines : AreLinesOf source.text shown.lines
   pub other_lines : AreLinesOf source.text shown.other_lines

@@ -2,11 +2,11 @@
 use Rattle.std.specs.Prelude.{◌≡◌, ◌==◌, nat_lt, ℕ, Bool, true, false, List, [], ◌∷◌, ◌++◌, drop, take}
 use Rattle.json.specs.Token.{Token}
 use Rattle.logos_json.specs.Lines.{AreLines, LinesValue, Puts}
-use Rattle.logos_report.specs.declared.refused.Refused.{Refused}
+use Rattle.logos_report.specs.declared.file_report.Refused.{Refused}
 use Rattle.logos_report.specs.Faults.{fault_texts, left_out, rest_line, seen_of}
-use Rattle.logos_page.specs.Pages.{StandInOrder}
+use Rattle.logos_page.specs.Pages.{OccurInOrder}
 use Rattle.logos_report.specs.Parts.{all_faults}
-use Rattle.logos_report.specs.Places.{SourceValue}
+use Rattle.logos_report.specs.Locations.{SourceValue}
 use Rattle.logos_token.specs.Faults.{Fault}
 use Rattle.logos_token.specs.declared.error.fault_code.FaultCode.{FaultCode}
 use Rattle.logos_messages.specs.Shown.{IsShown, Shown}
@@ -22,7 +22,7 @@ pub record IsFaultLine (source : SourceValue) (begin : ℕ) (fault : Fault) (tok
 -- These tokens are the line that says how many faults of a code are left out, as its report does.
 pub record IsRestLine (code : FaultCode) (count : ℕ) (tokens : List Token) : Type 0 where
   pub rendered : List ℕ
-  pub stands : StandInOrder (rest_line false code count ∷ []) rendered
+  pub occurs : OccurInOrder (rest_line false code count ∷ []) rendered
   pub is : tokens ≡ rest_tokens code count rendered
 
 -- The lines for a fault: its own if it is shown, and else how many are left out, at the first of

@@ -1,8 +1,8 @@
 -- What is shown of a fault or a warning beside itself.
 use Rattle.std.specs.Prelude.{ℕ, List, [], ◌∷◌, Option, IfSome}
 use Rattle.logos_lines.specs.Starts.{IsLineOf}
-use Rattle.logos_report.specs.Places.{SourceValue}
-use Rattle.logos_page.specs.Pages.{StandInOrder}
+use Rattle.logos_report.specs.Locations.{SourceValue}
+use Rattle.logos_page.specs.Pages.{OccurInOrder}
 
 -- A line of a file, and the columns of a span in it, without the last one.
 pub record Marked : Type 0 where
@@ -33,4 +33,4 @@ AreLinesOf text (line ∷ lines) = ((number : ℕ) × IsLineOf text number line.
 pub record IsShown (source : SourceValue) (texts : List (List ℕ)) (shown : Shown) : Type 0 where
   pub lines : AreLinesOf source.text shown.lines
   pub other_lines : AreLinesOf source.text shown.other_lines
-  pub rendered : IfSome shown.rendered (λ text. StandInOrder texts text)
+  pub rendered : IfSome shown.rendered (λ text. OccurInOrder texts text)

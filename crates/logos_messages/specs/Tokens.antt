@@ -4,11 +4,11 @@ use Rattle.std.specs.List.{flat_map}
 use Rattle.json.specs.Token.{Token, begin_object, end_object, key}
 use Rattle.logos_json.specs.Members.{bool_member, list_member, maybe_text, null_member, number_member, text_member}
 use Rattle.logos_lexeme.specs.declared.lexeme.Span.{Span}
-use Rattle.logos_lines.specs.declared.place.Position.{Position}
-use Rattle.logos_lines.specs.Places.{place_at}
+use Rattle.logos_lines.specs.declared.location.Location.{Location}
+use Rattle.logos_lines.specs.Locations.{location_at}
 use Rattle.logos_report.specs.Codes.{is_error}
 use Rattle.logos_report.specs.Faults.{first_line}
-use Rattle.logos_report.specs.Places.{SourceValue, in_file}
+use Rattle.logos_report.specs.Locations.{SourceValue, in_file}
 use Rattle.logos_report.specs.declared.warnings.Warning.{Warning}
 use Rattle.logos_token.specs.FaultNames.{name_of}
 use Rattle.logos_token.specs.Faults.{Fault}
@@ -26,8 +26,8 @@ bytes_tokens source begin span =
     text_member (codes "file_name") source.path ++ (number_member (codes "byte_start") (in_file begin span.from) ++ number_member (codes "byte_end") (in_file begin span.to))
 
 -- The lines and the columns of two positions.
-abbrev pub positions_tokens : Position → Position → List Token
-positions_tokens first last =
+abbrev pub locations_tokens : Location → Location → List Token
+locations_tokens first last =
     number_member (codes "line_start") first.line ++ (number_member (codes "line_end") last.line ++ (number_member (codes "column_start") first.column ++ number_member (codes "column_end") last.column))
 
 -- Whether a span is the one that the fault is about, and its label.
@@ -38,9 +38,9 @@ label_tokens None = bool_member (codes "is_primary") true ++ null_member (codes 
 -- A span: its file, its bytes, its lines and columns, its label, and lines of the file.
 abbrev pub span_tokens : SourceValue → ℕ → Span → Option (List ℕ) → List Marked → List Token
 span_tokens source begin span label lines =
-    let first = place_at source.text (in_file begin span.from) in
-    let last = place_at source.text (in_file begin span.to) in
-    begin_object ∷ (bytes_tokens source begin span ++ (positions_tokens first last ++ (label_tokens label ++ (list_member (codes "text") (flat_map marked_tokens lines) ++ end_object ∷ []))))
+    let first = location_at source.text (in_file begin span.from) in
+    let last = location_at source.text (in_file begin span.to) in
+    begin_object ∷ (bytes_tokens source begin span ++ (locations_tokens first last ++ (label_tokens label ++ (list_member (codes "text") (flat_map marked_tokens lines) ++ end_object ∷ []))))
 
 -- The second span of a fault, if it has one.
 abbrev pub other_tokens : SourceValue → ℕ → Option Span → List Marked → List Token

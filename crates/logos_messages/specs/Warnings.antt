@@ -3,7 +3,7 @@ use Rattle.std.specs.Prelude.{◌≡◌, ℕ, List, [], ◌∷◌, false}
 use Rattle.json.specs.Token.{Token}
 use Rattle.logos_json.specs.Lines.{AreLines, LinesValue, Puts}
 use Rattle.logos_report.specs.declared.warnings.Warning.{Warning}
-use Rattle.logos_report.specs.Places.{SourceValue}
+use Rattle.logos_report.specs.Locations.{SourceValue}
 use Rattle.logos_report.specs.Warnings.{warning_texts}
 use Rattle.logos_messages.specs.Shown.{IsShown, Shown}
 use Rattle.logos_messages.specs.Tokens.{warning_tokens}

@@ -1,7 +1,7 @@
 //! The line of a fault.
 
 ghost use Rattle.std.specs.Prelude.{◌≡◌, false, IfOk, IfSome, OnOk, option_map, string_bytes};
-ghost use Rattle.logos_messages.specs.Words.{GivesMessage, PutsFault, StandInOrder, fault_head, fault_of, fault_texts};
+ghost use Rattle.logos_messages.specs.Imports.{YieldsMessage, PutsFault, OccurInOrder, fault_head, fault_of, fault_texts};
 
 use crate::head::push_head;
 use crate::notes::{push_notes, text_of};
@@ -49,7 +49,7 @@ fn push_message(
     rendered: Option<&str>,
     put_in: &Option<String>,
 )
-    ensures { GivesMessage message.entry.part.source.now message.entry.part.offset
+    ensures { YieldsMessage message.entry.part.source.now message.entry.part.offset
         (fault_head (fault_of message.entry.known.fault.now)) message.entry.known.fault.now.span
         message.entry.known.fault.now.also (option_map (λ t. t.now) rendered.entry)
         lines.old lines.new }
@@ -72,7 +72,7 @@ fn rendered(
     alloc: Global,
     message: FaultMessage<'_, '_, '_, '_>,
 ) -> Result<Option<String>, AllocError>
-    ensures { IfOk result (λ text. IfSome text (λ text. StandInOrder (fault_texts false
+    ensures { IfOk result (λ text. IfSome text (λ text. OccurInOrder (fault_texts false
         message.entry.part.source.now message.entry.part.offset
         (fault_of message.entry.known.fault.now)) (string_bytes text))) }
 {

@@ -1,7 +1,7 @@
 //! What the line of a fault begins with.
 
 ghost use Rattle.std.specs.Prelude.{◌≡◌, ◌++◌, [], ◌∷◌, codes, if◌then◌else◌};
-ghost use Rattle.logos_messages.specs.Words.{Gains, code_member, error_tokens, fault_head, fault_of, level_of, message_tokens, name_of};
+ghost use Rattle.logos_messages.specs.Imports.{Gains, code_member, error_tokens, fault_head, fault_of, level_of, message_tokens, name_of};
 
 use logos_json::JsonLines;
 use logos_report::{first_line, is_error};

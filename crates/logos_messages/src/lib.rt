@@ -4,10 +4,10 @@
 
 mod fault;
 mod head;
-mod marked;
+mod marked_lines;
 mod messages;
 mod notes;
-mod rest;
+mod rest_line;
 mod spans;
 mod warnings;
 

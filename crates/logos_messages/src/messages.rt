@@ -2,10 +2,10 @@
 
 ghost use Rattle.std.specs.Prelude.{◌≡◌, ◌≤◌, ◌<◌, ◌+◌, ◌++◌, List, ℕ, IfOk, OnErr, OnOk, length, take};
 ghost use Rattle.logos_json.specs.Lines.{LinesValue};
-ghost use Rattle.logos_messages.specs.Words.{AreMessages, AreRefusedMessages, PutsAfter, PutsCounted, PutsFrom, all_faults, fault_of, faults_of, listed_faults};
+ghost use Rattle.logos_messages.specs.Imports.{AreMessages, AreRefusedMessages, PutsAfter, PutsCounted, PutsFrom, all_faults, fault_of, faults_of, listed_faults};
 
 use crate::fault::{FaultMessage, push_fault_line};
-use crate::rest::push_rest_line;
+use crate::rest_line::push_rest_line;
 use logos_json::JsonLines;
 use logos_report::{
     Clues, FaultListing, KnownFault, MOST, NextFaults, Part, Refused, Source, count_in,

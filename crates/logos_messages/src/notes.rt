@@ -1,7 +1,7 @@
 //! The notes and the help of a fault.
 
 ghost use Rattle.std.specs.Prelude.{◌≡◌, [], ◌∷◌, option_map, string_bytes};
-ghost use Rattle.logos_messages.specs.Words.{Gains, GivesNoteList, GivesNotes, list_member, note_tokens, nothing_tokens};
+ghost use Rattle.logos_messages.specs.Imports.{Gains, YieldsNoteList, YieldsNotes, list_member, note_tokens, nothing_tokens};
 
 use crate::fault::FaultMessage;
 use logos_json::JsonLines;
@@ -13,7 +13,7 @@ pub(crate) fn push_notes(
     message: FaultMessage<'_, '_, '_, '_>,
     put_in: &Option<String>,
 )
-    ensures { GivesNoteList lines.old lines.new }
+    ensures { YieldsNoteList lines.old lines.new }
 {
     lines.begin_list("children");
     push_other_lines(lines, message.known.fault.message.as_str());
@@ -25,7 +25,7 @@ pub(crate) fn push_notes(
 
 /// Appends with which subpattern the byte of a fault counts, if it does.
 fn push_put_in(lines: &mut JsonLines, put_in: &Option<String>)
-    ensures { GivesNotes lines.old lines.new }
+    ensures { YieldsNotes lines.old lines.new }
 {
     if let Some(text) = put_in {
         push_one(lines, "note", text.as_str());
@@ -35,7 +35,7 @@ fn push_put_in(lines: &mut JsonLines, put_in: &Option<String>)
 /// Appends a note for each pattern that can look at what stands before its first byte, but no more
 /// than 50.
 fn push_starts(lines: &mut JsonLines, starts: &[Start])
-    ensures { GivesNotes lines.old lines.new }
+    ensures { YieldsNotes lines.old lines.new }
 {
     for start in &starts[..starts.len().min(MOST)] {
         push_one(lines, "note", start.name.as_str());
@@ -44,7 +44,7 @@ fn push_starts(lines: &mut JsonLines, starts: &[Start])
 
 /// Appends what is known of a set of ambiguous leaves, and what to do about a fault.
 fn push_advice(lines: &mut JsonLines, message: FaultMessage<'_, '_, '_, '_>)
-    ensures { GivesNotes lines.old lines.new }
+    ensures { YieldsNotes lines.old lines.new }
 {
     push_known(lines, message.member);
     push_help(lines, message.known.help);
@@ -52,7 +52,7 @@ fn push_advice(lines: &mut JsonLines, message: FaultMessage<'_, '_, '_, '_>)
 
 /// Appends what is known of a set of ambiguous leaves, if this is one of its faults.
 fn push_known(lines: &mut JsonLines, member: Option<Member<'_>>)
-    ensures { GivesNotes lines.old lines.new }
+    ensures { YieldsNotes lines.old lines.new }
 {
     if let Some(member) = member {
         push_one(lines, "note", member.meeting.note.as_str());
@@ -71,14 +71,14 @@ pub(crate) fn text_of(text: &Option<String>) -> Option<&str>
 
 /// Appends a note or a help.
 pub(crate) fn push_one(lines: &mut JsonLines, level: &str, text: &str)
-    ensures { GivesNotes lines.old lines.new }
+    ensures { YieldsNotes lines.old lines.new }
 {
     push_note(lines, level, text);
 }
 
 /// Appends a note for each line of a message after its first one.
 fn push_other_lines(lines: &mut JsonLines, message: &str)
-    ensures { GivesNotes lines.old lines.new }
+    ensures { YieldsNotes lines.old lines.new }
 {
     for text in message.split('\n').skip(1) {
         push_other_line(lines, text);
@@ -87,7 +87,7 @@ fn push_other_lines(lines: &mut JsonLines, message: &str)
 
 /// Appends a note for a line of a message, without the blanks in front of it, unless it is empty.
 fn push_other_line(lines: &mut JsonLines, text: &str)
-    ensures { GivesNotes lines.old lines.new }
+    ensures { YieldsNotes lines.old lines.new }
 {
     if !text.is_empty() {
         push_note(lines, "note", text.trim_start());
@@ -96,7 +96,7 @@ fn push_other_line(lines: &mut JsonLines, text: &str)
 
 /// Appends what to do about a fault, if there is something to say.
 fn push_help(lines: &mut JsonLines, help: Option<&str>)
-    ensures { GivesNotes lines.old lines.new }
+    ensures { YieldsNotes lines.old lines.new }
 {
     if let Some(help) = help {
         push_note(lines, "help", help);

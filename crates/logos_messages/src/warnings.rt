@@ -1,7 +1,7 @@
 //! The warnings of a part of a file, one line for each.
 
 ghost use Rattle.std.specs.Prelude.{◌≡◌, ◌++◌, ℕ, List, false, IfOk, IfSome, OnErr, OnOk, option_map, string_bytes};
-ghost use Rattle.logos_messages.specs.Words.{AreWarnings, Gains, GivesMessage, GivesNoteList, GivesNotes, PutsWarning, PutsWarnings, StandInOrder, shown_of, warning_head, warning_texts};
+ghost use Rattle.logos_messages.specs.Imports.{AreWarnings, Gains, YieldsMessage, YieldsNoteList, YieldsNotes, PutsWarning, PutsWarnings, OccurInOrder, shown_of, warning_head, warning_texts};
 
 use crate::head::push_message;
 use crate::notes::{push_one, text_of};
@@ -83,7 +83,7 @@ fn push_line(
 
 /// Appends a warning, and this report of it.
 fn push_object(lines: &mut JsonLines, part: Part<'_, '_>, warning: &Warning, rendered: Option<&str>)
-    ensures { GivesMessage part.entry.source.now part.entry.offset
+    ensures { YieldsMessage part.entry.source.now part.entry.offset
         (warning_head (string_bytes warning.now.message)) warning.now.span warning.now.also
         (option_map (λ t. t.now) rendered.entry) lines.old lines.new }
 {
@@ -106,7 +106,7 @@ fn push_head(lines: &mut JsonLines, message: &str)
 
 /// Appends the note and the help of a warning, as a member.
 fn push_notes(lines: &mut JsonLines, warning: &Warning)
-    ensures { GivesNoteList lines.old lines.new }
+    ensures { YieldsNoteList lines.old lines.new }
 {
     lines.begin_list("children");
     push_text(lines, "note", text_of(&warning.note));
@@ -116,7 +116,7 @@ fn push_notes(lines: &mut JsonLines, warning: &Warning)
 
 /// Appends a note or a help, if there is one.
 fn push_text(lines: &mut JsonLines, level: &str, text: Option<&str>)
-    ensures { GivesNotes lines.old lines.new }
+    ensures { YieldsNotes lines.old lines.new }
 {
     if let Some(text) = text {
         push_one(lines, level, text);
@@ -129,7 +129,7 @@ fn rendered(
     part: Part<'_, '_>,
     warning: &Warning,
 ) -> Result<Option<String>, AllocError>
-    ensures { IfOk result (λ text. IfSome text (λ text. StandInOrder (warning_texts false
+    ensures { IfOk result (λ text. IfSome text (λ text. OccurInOrder (warning_texts false
         part.entry.source.now part.entry.offset warning.now) (string_bytes text))) }
 {
     if has_long_line(part, warning.span) {

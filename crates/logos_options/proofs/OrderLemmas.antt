@@ -2,7 +2,7 @@
 use Rattle.std.proofs.Common.{◌≡◌, ◌≢◌, ◌∙◌, ◌++◌, ℕ, Bool, true, false, List, [], ◌∷◌, Option, Some, None, ap, if◌then◌else◌, is_some, refl, replicate, set, sym}
 use Rattle.std.proofs.lemmas.List.{append-nil, get_or-set_other, set_comm}
 use Rattle.logos_options.specs.ArgumentSteps.{OptionValue}
-use Rattle.logos_options.specs.Arguments.{ArgumentsValue, arguments_of, is_set, nothing_given, settled, with_given, with_role, with_step, with_words}
+use Rattle.logos_options.specs.Arguments.{ArgumentsValue, arguments_of, is_set, nothing_given, settled, with_given, with_role, with_step, with_arguments}
 use Rattle.logos_options.specs.Options.{number, role_of}
 use Rattle.logos_options.specs.Paths.{not_begun}
 use Rattle.logos_options.specs.Programs.{takes}
@@ -55,7 +55,7 @@ module _ (program : Program) (first second : Option (List ℕ)) (settings : List
   still_held : role_of one.option ≢ Text → IsHeld (with_given program (held first second settings question) one)
   still_held n = by_takes (takes program one.option) (role_of one.option) n
 
-none_left : (program : Program) (words : List (List ℕ)) → with_words program None words ≡ None
+none_left : (program : Program) (arguments : List (List ℕ)) → with_arguments program None arguments ≡ None
 none_left program [] = refl
 none_left program (word ∷ rest) = refl
 
@@ -68,19 +68,19 @@ held_after program None one refused n = refused
 held_after program (Some parsed) one (holds first second settings question) n = still_held program first second settings question one n
 
 -- Reading the arguments is reading the options that they spell.
-reads : (program : Program) (words : List (List ℕ)) (list : List OptionValue) → AreWhole words list → AreSettled list → (r : Option ArgumentsValue) → IsHeld r →
-    with_words program r words ≡ with_options program r list
+reads : (program : Program) (arguments : List (List ℕ)) (list : List OptionValue) → AreWhole arguments list → AreSettled list → (r : Option ArgumentsValue) → IsHeld r →
+    with_arguments program r arguments ≡ with_options program r list
 reads program [] [] nothing s r h = refl
 reads program [] (one ∷ rest) w s r h = elim w [ ]
-reads program (word ∷ words) [] w s r h = elim w [ ]
-reads program (word ∷ words) (one ∷ rest) (in_one e m) s None refused = sym (none_after program rest)
-reads program (word ∷ words) (one ∷ rest) (in_one e m) s (Some parsed) (holds f g v q) =
-    ap (λ o. with_words program (with_step program (held f g v q) o) words) e
-    ∙ reads program words rest m s.1 (with_given program (held f g v q) one) (still_held program f g v q one s.0)
-reads program (word ∷ value ∷ words) (one ∷ rest) (in_two e m) s None refused = sym (none_after program rest)
-reads program (word ∷ value ∷ words) (one ∷ rest) (in_two e m) s (Some parsed) (holds f g v q) =
-    ap (λ o. with_words program (with_step program (held f g v q) o) (value ∷ words)) e
-    ∙ reads program words rest m s.1 (with_given program (held f g v q) one) (still_held program f g v q one s.0)
+reads program (word ∷ arguments) [] w s r h = elim w [ ]
+reads program (word ∷ arguments) (one ∷ rest) (in_one e m) s None refused = sym (none_after program rest)
+reads program (word ∷ arguments) (one ∷ rest) (in_one e m) s (Some parsed) (holds f g v q) =
+    ap (λ o. with_arguments program (with_step program (held f g v q) o) arguments) e
+    ∙ reads program arguments rest m s.1 (with_given program (held f g v q) one) (still_held program f g v q one s.0)
+reads program (word ∷ value ∷ arguments) (one ∷ rest) (in_two e m) s None refused = sym (none_after program rest)
+reads program (word ∷ value ∷ arguments) (one ∷ rest) (in_two e m) s (Some parsed) (holds f g v q) =
+    ap (λ o. with_arguments program (with_step program (held f g v q) o) (value ∷ arguments)) e
+    ∙ reads program arguments rest m s.1 (with_given program (held f g v q) one) (still_held program f g v q one s.0)
 
 -- Two options may change their places.
 abbrev chain : Bool → Bool → ArgumentsValue → Option ArgumentsValue
@@ -171,9 +171,9 @@ rotated program r h (x ∷ xs) ys s t apart =
 whole_both : (one other : List (List ℕ)) (xs ys : List OptionValue) → AreWhole one xs → AreWhole other ys → AreWhole (one ++ other) (xs ++ ys)
 whole_both [] other [] ys nothing w = w
 whole_both [] other (x ∷ xs) ys v w = elim v [ ]
-whole_both (word ∷ words) other [] ys v w = elim v [ ]
-whole_both (word ∷ words) other (x ∷ xs) ys (in_one e m) w = in_one e (whole_both words other xs ys m w)
-whole_both (word ∷ value ∷ words) other (x ∷ xs) ys (in_two e m) w = in_two e (whole_both words other xs ys m w)
+whole_both (word ∷ arguments) other [] ys v w = elim v [ ]
+whole_both (word ∷ arguments) other (x ∷ xs) ys (in_one e m) w = in_one e (whole_both arguments other xs ys m w)
+whole_both (word ∷ value ∷ arguments) other (x ∷ xs) ys (in_two e m) w = in_two e (whole_both arguments other xs ys m w)
 
 settled_both : (xs ys : List OptionValue) → AreSettled xs → AreSettled ys → AreSettled (xs ++ ys)
 settled_both [] ys s t = t

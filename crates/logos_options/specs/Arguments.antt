@@ -83,10 +83,10 @@ abbrev pub with_word : Program → ArgumentsValue → List ℕ → Option Argume
 with_word program arguments word = if is_some arguments.text then Some arguments else with_step program arguments (step arguments.progress word)
 
 -- All these arguments, one after another.
-abbrev pub with_words : Program → Option ArgumentsValue → List (List ℕ) → Option ArgumentsValue
-with_words program arguments [] = arguments
-with_words program None (word ∷ rest) = None
-with_words program (Some arguments) (word ∷ rest) = with_words program (with_word program arguments word) rest
+abbrev pub with_arguments : Program → Option ArgumentsValue → List (List ℕ) → Option ArgumentsValue
+with_arguments program arguments [] = arguments
+with_arguments program None (word ∷ rest) = None
+with_arguments program (Some arguments) (word ∷ rest) = with_arguments program (with_word program arguments word) rest
 
 -- No option waits for a value, or a text is requested.
 abbrev pub settled_by : ArgumentsValue → Option OptionName → Option OptionName → Option ArgumentsValue
@@ -100,7 +100,7 @@ settled (Some arguments) = settled_by arguments arguments.text arguments.progres
 
 -- The arguments of a command line, if the program takes them.
 abbrev pub arguments_of : Program → List (List ℕ) → Option ArgumentsValue
-arguments_of program words = settled (with_words program (Some nothing_given) words)
+arguments_of program arguments = settled (with_arguments program (Some nothing_given) arguments)
 
 -- The values of the program's types.
 abbrev pub settings_value : Settings → List (Option (List ℕ))

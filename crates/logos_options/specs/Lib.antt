@@ -6,4 +6,4 @@ pub mod Paths
 pub mod Programs
 pub mod Styles
 pub mod WholeOptions
-pub mod Words
+pub mod Imports

@@ -34,7 +34,7 @@ not_begun = record { pending = None; is_over = false }
 
 -- The paths of words, in order.
 abbrev pub paths_of : List (List ℕ) → List (List ℕ)
-paths_of words = paths_from not_begun words
+paths_of arguments = paths_from not_begun arguments
 
 -- The texts behind references.
 abbrev pub texts_of : List (Bor (List ℕ)) → List (List ℕ)

@@ -10,11 +10,11 @@ use Rattle.logos_options.specs.declared.options.OptionRole.TheVariants as roles
 -- value in the next one.
 pub data AreWhole : List (List ℕ) → List OptionValue → Type 0 where
   nothing : AreWhole [] []
-  in_one : {word : List ℕ} {one : OptionValue} {words : List (List ℕ)} {rest : List OptionValue} →
-      step not_begun word ≡ Some (record { progress = not_begun; found = Some (given one) }) → AreWhole words rest → AreWhole (word ∷ words) (one ∷ rest)
-  in_two : {word value : List ℕ} {option : OptionName} {words : List (List ℕ)} {rest : List OptionValue} →
-      step not_begun word ≡ Some (record { progress = record { pending = Some option; is_over = false }; found = None }) → AreWhole words rest →
-      AreWhole (word ∷ value ∷ words) (record { option = option; value = value } ∷ rest)
+  in_one : {word : List ℕ} {one : OptionValue} {arguments : List (List ℕ)} {rest : List OptionValue} →
+      step not_begun word ≡ Some (record { progress = not_begun; found = Some (given one) }) → AreWhole arguments rest → AreWhole (word ∷ arguments) (one ∷ rest)
+  in_two : {word value : List ℕ} {option : OptionName} {arguments : List (List ℕ)} {rest : List OptionValue} →
+      step not_begun word ≡ Some (record { progress = record { pending = Some option; is_over = false }; found = None }) → AreWhole arguments rest →
+      AreWhole (word ∷ value ∷ arguments) (record { option = option; value = value } ∷ rest)
 
 -- None of these options requests a text.
 abbrev pub AreSettled : List OptionValue → Type 0

@@ -1,7 +1,7 @@
 //! The arguments of a command line, one after another. `arguments` and `paths` read them.
 
 ghost use Rattle.std.specs.Prelude.{◌≡◌, IfErr, IfOk, None, Some, option_map};
-ghost use Rattle.logos_options.specs.Words.{status_of, option_named, begins_option, split_at_equals, step, step_value, with_assigned, with_option, with_written};
+ghost use Rattle.logos_options.specs.Imports.{status_of, option_named, begins_option, split_at_equals, step, step_value, with_assigned, with_option, with_written};
 
 use crate::options::OptionName;
 use logos_host::Failure;

@@ -1,7 +1,7 @@
 //! The arguments of a command line: paths and options. `logos_cli` and `logos_show` read them here.
 
 ghost use Rattle.std.specs.Prelude.{◌≡◌, IfErr, IfOk, None, Some, is_some, map, option_map, set, string_bytes};
-ghost use Rattle.logos_options.specs.Words.{arguments_of, arguments_value, nothing_given, number, option_value, role_of, settings_value, settled, status_of, use_value, with_found, with_path, with_question, with_role, with_setting, with_word, with_words};
+ghost use Rattle.logos_options.specs.Imports.{arguments_of, arguments_value, nothing_given, number, option_value, role_of, settings_value, settled, status_of, use_value, with_found, with_path, with_question, with_role, with_setting, with_word, with_arguments};
 
 use crate::argument_steps::{ArgumentProgress, GivenOption, Use, next_step};
 use crate::options::{OPTIONS, OptionName, OptionRole};
@@ -61,13 +61,13 @@ impl<'w> Settings<'w> {
 /// # Errors
 ///
 /// Returns `Misuse` or `UnknownOption` if the program does not take such arguments.
-pub fn arguments_of(program: Program, words: &[String]) -> Result<Arguments<'_>, Failure<'_>>
+pub fn arguments_of(program: Program, arguments: &[String]) -> Result<Arguments<'_>, Failure<'_>>
     ensures read { IfOk result (λ parsed.
-        arguments_of program (map string_bytes words.now) ≡ Some (arguments_value parsed)) }
+        arguments_of program (map string_bytes arguments.now) ≡ Some (arguments_value parsed)) }
     ensures misuse { IfErr result (λ failure.
-        (arguments_of program (map string_bytes words.now) ≡ None) × (status_of failure ≡ 2)) }
+        (arguments_of program (map string_bytes arguments.now) ≡ None) × (status_of failure ≡ 2)) }
 {
-    match read_words(program, words) {
+    match read_arguments(program, arguments) {
         Ok(parsed) => settled(parsed),
         Err(failure) => Err(failure),
     }
@@ -81,11 +81,11 @@ pub fn misuse<'w>(what: &'static str, word: &'w str) -> Failure<'w>
 }
 
 /// Reads all arguments.
-fn read_words(program: Program, words: &[String]) -> Result<Arguments<'_>, Failure<'_>>
-    ensures read { IfOk result (λ parsed. with_words program (Some nothing_given)
-        (map string_bytes words.now) ≡ Some (arguments_value parsed)) }
-    ensures misuse { IfErr result (λ failure. (with_words program (Some nothing_given)
-        (map string_bytes words.now) ≡ None) × (status_of failure ≡ 2)) }
+fn read_arguments(program: Program, arguments: &[String]) -> Result<Arguments<'_>, Failure<'_>>
+    ensures read { IfOk result (λ parsed. with_arguments program (Some nothing_given)
+        (map string_bytes arguments.now) ≡ Some (arguments_value parsed)) }
+    ensures misuse { IfErr result (λ failure. (with_arguments program (Some nothing_given)
+        (map string_bytes arguments.now) ≡ None) × (status_of failure ≡ 2)) }
 {
     let mut parsed = Arguments {
         first: None,
@@ -100,7 +100,7 @@ fn read_words(program: Program, words: &[String]) -> Result<Arguments<'_>, Failu
             is_over: false,
         },
     };
-    for word in words {
+    for word in arguments {
         parsed = match read_word(program, parsed, word.as_str()) {
             Ok(next) => next,
             Err(failure) => return Err(failure),

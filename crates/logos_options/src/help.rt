@@ -1,7 +1,7 @@
 //! The help of a program, which shows each option that the program takes.
 
 ghost use Rattle.std.specs.Prelude.{◌≡◌, IfErr};
-ghost use Rattle.logos_options.specs.Words.{IsNoMisuse, IsOutputFailure, status_of};
+ghost use Rattle.logos_options.specs.Imports.{IsNoMisuse, IsOutputFailure, status_of};
 
 use crate::options::{OptionRow, ROWS};
 use crate::program::Program;

@@ -1,7 +1,7 @@
 //! Laws of arguments. No code calls these functions: the contract of each is a proved law.
 
 ghost use Rattle.std.specs.Prelude.{◌≡◌, ◌++◌, ℕ, List};
-ghost use Rattle.logos_options.specs.Words.{AreApart, AreSettled, AreWhole, OptionValue, arguments_of};
+ghost use Rattle.logos_options.specs.Imports.{AreApart, AreSettled, AreWhole, OptionValue, arguments_of};
 ghost use Rattle.logos_options.specs.declared.program.Program.{Program as AnyProgram};
 
 /// The order of options does not matter. The arguments spell whole options, none requests a text,

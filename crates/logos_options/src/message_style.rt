@@ -1,7 +1,7 @@
 //! How messages are written: the settings `--color` and `--message-format`.
 
 ghost use Rattle.std.specs.Prelude.{◌≡◌, IfErr, IfOk, None, Some, option_map};
-ghost use Rattle.logos_options.specs.Words.{color_given, format_given, settings_value, status_of, style_given};
+ghost use Rattle.logos_options.specs.Imports.{color_given, format_given, settings_value, status_of, style_given};
 
 use crate::arguments::{Settings, misuse};
 use crate::options::OptionName;

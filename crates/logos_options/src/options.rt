@@ -2,7 +2,7 @@
 //! that take it with its lines in their help. Whoever reads arguments looks options up here.
 
 ghost use Rattle.std.specs.Prelude.{◌≡◌, ◌<◌, Some, is_some, map};
-ghost use Rattle.logos_options.specs.Words.{is_named, named_in, number, option_named, role_of, row_value, takes_value, word_of};
+ghost use Rattle.logos_options.specs.Imports.{is_named, named_in, number, option_named, role_of, row_value, takes_value, word_of};
 
 /// An option, by its name. The table has the rows of the options in this order.
 #[derive(Clone, Copy, Debug, PartialEq, Eq)]

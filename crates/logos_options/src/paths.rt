@@ -1,7 +1,7 @@
 //! The paths of a command line.
 
 ghost use Rattle.std.specs.Prelude.{◌≡◌, ◌++◌, IfOk, OnOk, map, option_map, string_bytes};
-ghost use Rattle.logos_options.specs.Words.{found_path, next_paths, next_progress, path_named, paths_of, step, texts_of, use_value};
+ghost use Rattle.logos_options.specs.Imports.{found_path, next_paths, next_progress, path_named, paths_of, step, texts_of, use_value};
 
 use crate::argument_steps::{ArgumentProgress, Use, next_step};
 use logos_token::error::Memory;
@@ -15,16 +15,16 @@ pub const STANDARD_INPUT: &str = "/dev/stdin";
 /// # Errors
 ///
 /// Returns `Memory` if memory runs out.
-pub fn paths_of<'w>(alloc: Global, words: &'w [String]) -> Result<Vec<&'w str>, Memory>
+pub fn paths_of<'w>(alloc: Global, arguments: &'w [String]) -> Result<Vec<&'w str>, Memory>
     ensures { IfOk result (λ paths.
-        texts_of paths.items ≡ paths_of (map string_bytes words.now)) }
+        texts_of paths.items ≡ paths_of (map string_bytes arguments.now)) }
 {
     let mut paths = Vec::new(alloc);
     let mut progress = ArgumentProgress {
         pending: None,
         is_over: false,
     };
-    for word in words {
+    for word in arguments {
         progress = push_path(&mut paths, progress, word.as_str())?;
     }
     Ok(paths)

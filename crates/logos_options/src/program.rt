@@ -1,7 +1,7 @@
 //! The programs that have options.
 
 ghost use Rattle.std.specs.Prelude.{◌≡◌};
-ghost use Rattle.logos_options.specs.Words.{cli_takes, show_takes};
+ghost use Rattle.logos_options.specs.Imports.{cli_takes, show_takes};
 
 use crate::options::{OptionName, OptionRow, ROWS};
 

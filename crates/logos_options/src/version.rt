@@ -1,7 +1,7 @@
 //! The version of a program, and the line that names its commit.
 
 ghost use Rattle.std.specs.Prelude.{◌≡◌, ◌-◌, IfErr, drop, length};
-ghost use Rattle.logos_options.specs.Words.{IsNoMisuse, commit_line, is_commit_line, is_hex_digit, list_all, status_of};
+ghost use Rattle.logos_options.specs.Imports.{IsNoMisuse, commit_line, is_commit_line, is_hex_digit, list_all, status_of};
 
 use logos_host::{ComparableFiles, Failure, print_bytes};
 use std::alloc::AllocError;

@@ -1,26 +1,26 @@
 -- What stands in a page that grows step by step.
 use Rattle.std.proofs.Common.{◌≡◌, ◌≤◌, ℕ, suc, ◌+◌, List, [], ◌∷◌, ◌++◌, append_assoc, sym, ap, ◌∙◌, refl, arith, subst, Bool}
 use Rattle.std.proofs.lemmas.List.{append-nil}
-use Rattle.logos_page.specs.Pages.{PageValue, StandInOrder, Gains, Adds, Shows, begun, ended, painted, times}
+use Rattle.logos_page.specs.Pages.{PageValue, OccurInOrder, Gains, Adds, Shows, begun, ended, painted, times}
 use Rattle.logos_page.specs.declared.page.Style.{Style}
 
 -- texts that stand in a front and in what follows it stand in both
-stand_both : (one other : List (List ℕ)) (front back : List ℕ) → StandInOrder one front → StandInOrder other back → StandInOrder (one ++ other) (front ++ back)
-stand_both [] [] front back s t = tt
-stand_both [] (text ∷ other) front back s t =
+occur_both : (one other : List (List ℕ)) (front back : List ℕ) → OccurInOrder one front → OccurInOrder other back → OccurInOrder (one ++ other) (front ++ back)
+occur_both [] [] front back s t = tt
+occur_both [] (text ∷ other) front back s t =
     (front ++ t.0, t.1, ap (λ x. front ++ x) t.2 ∙ sym (append_assoc front t.0 (text ++ t.1)), t.3)
-stand_both (text ∷ one) other front back s t =
-    (s.0, s.1 ++ back, ap (λ x. x ++ back) s.2 ∙ append_assoc s.0 (text ++ s.1) back ∙ ap (λ x. s.0 ++ x) (append_assoc text s.1 back), stand_both one other s.1 back s.3 t)
+occur_both (text ∷ one) other front back s t =
+    (s.0, s.1 ++ back, ap (λ x. x ++ back) s.2 ∙ append_assoc s.0 (text ++ s.1) back ∙ ap (λ x. s.0 ++ x) (append_assoc text s.1 back), occur_both one other s.1 back s.3 t)
 
 adds_then : (one other : List (List ℕ)) (old middle new : List ℕ) → Adds one old middle → Adds other middle new → Adds (one ++ other) old new
 adds_then one other old middle new a b = record {
   added = a.added ++ b.added;
   is = b.is ∙ ap (λ x. x ++ b.added) a.is ∙ append_assoc old a.added b.added;
-  stand = stand_both one other a.added b.added a.stand b.stand;
+  occur = occur_both one other a.added b.added a.occur b.occur;
 }
 
 adds_nothing : (text : List ℕ) → Adds [] text text
-adds_nothing text = record { added = []; is = sym (append-nil text); stand = tt }
+adds_nothing text = record { added = []; is = sym (append-nil text); occur = tt }
 
 -- nothing was pushed
 pub shows_nothing : (page : PageValue) → Shows [] page page
@@ -37,14 +37,14 @@ shows_then {one} {other} {old} {middle} {new} a b = record {
 pub shown : {bytes : List ℕ} {old new : PageValue} → Gains bytes old new → Shows (bytes ∷ []) old new
 shown {bytes} {old} {new} g = record {
   colored = g.colored;
-  whole = λ w. let m = g.whole w in (m.0, record { added = bytes; is = m.1; stand = ([], [], sym (append-nil bytes), tt) });
+  whole = λ w. let m = g.whole w in (m.0, record { added = bytes; is = m.1; occur = ([], [], sym (append-nil bytes), tt) });
 }
 
 -- or it is of no account
 pub grown : {bytes : List ℕ} {old new : PageValue} → Gains bytes old new → Shows [] old new
 grown {bytes} {old} {new} g = record {
   colored = g.colored;
-  whole = λ w. let m = g.whole w in (m.0, record { added = bytes; is = m.1; stand = tt });
+  whole = λ w. let m = g.whole w in (m.0, record { added = bytes; is = m.1; occur = tt });
 }
 
 pub gains_nothing : (page : PageValue) → Gains [] page page
@@ -61,7 +61,7 @@ gains_then {one} {other} {old} {middle} {new} a b = record {
 pub unseen : {texts : List (List ℕ)} {old new : PageValue} → Shows texts old new → Shows [] old new
 unseen {texts} {old} {new} s = record {
   colored = s.colored;
-  whole = λ w. let m = s.whole w in (m.0, record { added = m.1.added; is = m.1.is; stand = tt });
+  whole = λ w. let m = s.whole w in (m.0, record { added = m.1.added; is = m.1.is; occur = tt });
 }
 
 times_next : (count : ℕ) (text : List ℕ) → times (count + 1) text ≡ times count text ++ text

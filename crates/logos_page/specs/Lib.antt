@@ -1,4 +1,4 @@
 pub mod Pages
 pub mod Shown
-pub mod Words
+pub mod Imports
 pub mod Views

@@ -10,9 +10,9 @@ pub record PageValue : Type 0 where
   pub is_whole : Bool
 
 -- The texts stand in the whole, one after another and without overlap.
-abbrev pub StandInOrder : List (List ℕ) → List ℕ → Type 0
-StandInOrder [] whole = Unit {0}
-StandInOrder (text ∷ texts) whole = (before after : List ℕ) × (whole ≡ before ++ (text ++ after)) × StandInOrder texts after
+abbrev pub OccurInOrder : List (List ℕ) → List ℕ → Type 0
+OccurInOrder [] whole = Unit {0}
+OccurInOrder (text ∷ texts) whole = (before after : List ℕ) × (whole ≡ before ++ (text ++ after)) × OccurInOrder texts after
 
 -- Exactly these bytes were pushed, if the page still has all that was pushed.
 pub record Gains (bytes : List ℕ) (old new : PageValue) : Type 0 where
@@ -23,7 +23,7 @@ pub record Gains (bytes : List ℕ) (old new : PageValue) : Type 0 where
 pub record Adds (texts : List (List ℕ)) (old new : List ℕ) : Type 0 where
   pub added : List ℕ
   pub is : new ≡ old ++ added
-  pub stand : StandInOrder texts added
+  pub occur : OccurInOrder texts added
 
 -- What was pushed shows these texts in order, if the page still has all that was pushed.
 pub record Shows (texts : List (List ℕ)) (old new : PageValue) : Type 0 where

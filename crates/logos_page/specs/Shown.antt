@@ -13,12 +13,12 @@ is_unsafe c =
 
 -- The character that is shown for one other than a tab: the picture of an ASCII control character,
 -- U+FFFD, or itself.
-abbrev pub stand_in : ℕ → ℕ
-stand_in c = if nat_lt c 32 then 0x2400 + c else if c == 127 then 0x2421 else if is_unsafe c then 0xFFFD else c
+abbrev pub occur_in : ℕ → ℕ
+occur_in c = if nat_lt c 32 then 0x2400 + c else if c == 127 then 0x2421 else if is_unsafe c then 0xFFFD else c
 
 -- A character as it is shown, in UTF-8: a tab as four blanks.
 abbrev pub shown_char : ℕ → List ℕ
-shown_char c = if c == 9 then codes "    " else encode_utf8 (stand_in c)
+shown_char c = if c == 9 then codes "    " else encode_utf8 (occur_in c)
 
 -- A text as it is shown.
 abbrev pub shown_text : List ℕ → List ℕ

@@ -3,7 +3,7 @@
 ghost use Rattle.std.specs.Prelude.{◌≡◌, ◌↔◌, [], true, IfOk, IsOk, IsTrue, decimal, encode_utf8, length, string_bytes};
 ghost use Rattle.logos_page.specs.Views.{shown_char, shown_text, Gains, begun, ended, painted, style_text, times};
 
-use crate::shown::stand_in;
+use crate::shown::occur_in;
 use std::alloc::{AllocError, Global};
 use std::marker::Model;
 
@@ -78,7 +78,7 @@ impl Page {
         if character == '\t' {
             self.push("    ");
         } else {
-            self.push_char(stand_in(character));
+            self.push_char(occur_in(character));
         }
     }
 

@@ -2,7 +2,7 @@
 //! it is, since some characters move its cursor, change its colors or the order of what it shows.
 
 ghost use Rattle.std.specs.Prelude.{◌≡◌, ◌<◌, ◌+◌};
-ghost use Rattle.logos_page.specs.Words.{is_in_range, is_unsafe, stand_in};
+ghost use Rattle.logos_page.specs.Imports.{is_in_range, is_unsafe, occur_in};
 
 use unicode_width::UnicodeWidthChar;
 
@@ -11,8 +11,8 @@ const TAB: usize = 4;
 
 /// Returns the character that is shown for one other than a tab: itself, the picture of an ASCII
 /// control character, or U+FFFD for another that is not shown as it is.
-pub(crate) fn stand_in(character: char) -> char
-    ensures { result ≡ stand_in character }
+pub(crate) fn occur_in(character: char) -> char
+    ensures { result ≡ occur_in character }
 {
     let code = character as u32;
     if code < 32 {
@@ -66,7 +66,7 @@ pub fn columns_of(character: char) -> usize {
     if character == '\t' {
         return TAB;
     }
-    match stand_in(character).width() {
+    match occur_in(character).width() {
         Some(width) => width,
         None => 1,
     }

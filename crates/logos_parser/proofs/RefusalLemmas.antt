@@ -11,7 +11,7 @@ use Rattle.logos_attribute.specs.Reports.{fault, only}
 use Rattle.logos_enum.specs.declared.error.ReadError.{ReadError}
 use Rattle.logos_enum.specs.declared.error.ReadError.TheVariants.{NotAnEnum, Grammar, TypeUnsupported, LimitTypeNesting, Memory as OutOfMemory}
 use Rattle.logos_enum.specs.Enum.{Reads}
-use Rattle.logos_enum.specs.Rules.{Stands}
+use Rattle.logos_enum.specs.Rules.{Occurs}
 use Rattle.logos_parser.specs.Endings.{lexical_fault, IsMisread, IsShallow, EndsTokens, EndsReading, nesting_limit, unreadable, misread}
 use Rattle.logos_parser.specs.Refusals.{Refuses}
 use Rattle.logos_parser.specs.declared.refusal.Refusal.{Refusal}
@@ -46,16 +46,16 @@ tokens_end source tokens faults s shallow ends = go ends.error ends.reads ends.a
     go OutOfMemory reads are = absurd are
 
 -- the refusal of tokens that are not an enum
-pub misread_ends : (tokens : TokenList) (error : ReadError) (out : Refusal) → Stands (λ e. Reads tokens (Err e)) error → Refuses (IsMisread error) out →
+pub misread_ends : (tokens : TokenList) (error : ReadError) (out : Refusal) → Occurs (λ e. Reads tokens (Err e)) error → Refuses (IsMisread error) out →
     Refuses (EndsTokens tokens) out
-misread_ends tokens error out stands r = refuses_by (IsMisread error) (EndsTokens tokens) (λ faults are. go error stands are) out r
+misread_ends tokens error out occurs r = refuses_by (IsMisread error) (EndsTokens tokens) (λ faults are. go error occurs are) out r
   where
-    go : (e : ReadError) {faults : List Fault} → Stands (λ e. Reads tokens (Err e)) e → IsMisread e faults → EndsTokens tokens faults
-    go (NotAnEnum span) stands are = elim stands [ inl e ↦ absurd (cc) | inr reads ↦ record { error = NotAnEnum span; reads = reads; are = are } ]
-    go (Grammar span) stands are = elim stands [ inl e ↦ absurd (cc) | inr reads ↦ record { error = Grammar span; reads = reads; are = are } ]
-    go (TypeUnsupported span) stands are = elim stands [ inl e ↦ absurd (cc) | inr reads ↦ record { error = TypeUnsupported span; reads = reads; are = are } ]
-    go (LimitTypeNesting span) stands are = elim stands [ inl e ↦ absurd (cc) | inr reads ↦ record { error = LimitTypeNesting span; reads = reads; are = are } ]
-    go OutOfMemory stands are = absurd are
+    go : (e : ReadError) {faults : List Fault} → Occurs (λ e. Reads tokens (Err e)) e → IsMisread e faults → EndsTokens tokens faults
+    go (NotAnEnum span) occurs are = elim occurs [ inl e ↦ absurd (cc) | inr reads ↦ record { error = NotAnEnum span; reads = reads; are = are } ]
+    go (Grammar span) occurs are = elim occurs [ inl e ↦ absurd (cc) | inr reads ↦ record { error = Grammar span; reads = reads; are = are } ]
+    go (TypeUnsupported span) occurs are = elim occurs [ inl e ↦ absurd (cc) | inr reads ↦ record { error = TypeUnsupported span; reads = reads; are = are } ]
+    go (LimitTypeNesting span) occurs are = elim occurs [ inl e ↦ absurd (cc) | inr reads ↦ record { error = LimitTypeNesting span; reads = reads; are = are } ]
+    go OutOfMemory occurs are = absurd are
 
 pub result_ends : {T : Type 0} (source : List ℕ) (tokens : TokenList) (result : Result T Refusal) → Spells source tokens → depth_of tokens ≤ 128 →
     IfErr result (Refuses (EndsTokens tokens)) → IfErr result (Refuses (OneEnds source))

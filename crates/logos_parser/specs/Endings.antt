@@ -16,7 +16,7 @@ use Rattle.logos_type_params.specs.TypeParams.{limit_type_nesting}
 use Rattle.logos_attribute.specs.Reports.{fault, fault_with, only}
 
 -- The source spells this enum, and the span reaches from its first token to its last.
-pub record GivesEnum (source : List ℕ) (value : EnumValue) (item : Span) : Type 0 where
+pub record YieldsEnum (source : List ℕ) (value : EnumValue) (item : Span) : Type 0 where
   pub tokens : TokenList
   pub spelled : Spells source tokens
   pub reads : Reads tokens (Ok value)

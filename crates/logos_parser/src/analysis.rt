@@ -3,9 +3,9 @@
 ghost use Rattle.std.specs.Prelude.{◌≡◌, ◌<◌, ◌≤◌, ◌∷◌, ◌++◌, [], length, map, option_map, IfOk, IfErr, IsErrAnd, OnOk};
 ghost use Rattle.logos_parser.specs.Views.{source_limit, Fault, run_span, stream_tokens, tokens_of, enum_value, generics_of, generics, parser_view, leaf_view, utf8_mode, IsShallow, too_long, EndsReading, EndsTokens, type_faults, HasItsType, IsEnumAnalysis, IsTokenAnalysis, IsAnalysis, ReadsEnum, no_options, type_tree, utf8_faults, Refuses, analysis_view};
 
+use crate::ending_faults::{misread, unreadable};
 use crate::enum_type::enum_type;
 use crate::mode::report_not_utf8;
-use crate::reading::{misread, unreadable};
 use crate::refusal::Refusal;
 use logos_definition::parser::Parser;
 use logos_enum::{ItemEnum, read_enum};

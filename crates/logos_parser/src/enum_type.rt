@@ -1,7 +1,7 @@
 //! The type that an enum is. `analyze` calls it last.
 
 ghost use Rattle.std.specs.Prelude.{◌≡◌, ◌∷◌, ◌++◌, [], IfOk, OnOk, map, option_map};
-ghost use Rattle.logos_parser.specs.Words.{tree_of, type_tree, generics_of, argument, arguments, lifetime_argument, bracketed, enum_type};
+ghost use Rattle.logos_parser.specs.Imports.{tree_of, type_tree, generics_of, argument, arguments, lifetime_argument, bracketed, enum_type};
 
 use logos_type::{TypeExpr, TypePart, TypeToken};
 use logos_type_params::Generics;

@@ -5,10 +5,10 @@
 #![tactic(auto)]
 
 pub mod analysis;
+pub mod ending_faults;
 pub mod enum_type;
 pub mod item;
 mod mode;
 pub mod nested;
 pub mod parser;
-pub mod reading;
 pub mod refusal;

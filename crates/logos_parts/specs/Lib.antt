@@ -1,2 +1,2 @@
 pub mod PartsValue
-pub mod Words
+pub mod Imports

@@ -71,8 +71,8 @@ callback_value (Label tokens) = named (stream_tokens tokens)
 callback_value (Inline inline) = inline_value inline
 
 -- The leaf has a callback.
-abbrev pub asks : Leaf → Bool
-asks leaf = is_some leaf.callback
+abbrev pub calls_back : Leaf → Bool
+calls_back leaf = is_some leaf.callback
 
 -- How a pattern prints.
 abbrev pub pattern_text : Pattern → List ℕ

@@ -13,7 +13,7 @@ pub use error::{Kind, PatternError};
 pub use hir::{Class, Hir, Look, Range};
 pub use literal::Literal;
 pub use logos_hir::laws::{lazy_and_greedy, looks_hold_at_the_end};
-use logos_hir::measure;
+use logos_hir::measures;
 use logos_pattern_tokens::token::Flags;
 pub use logos_syntax::parser::one_tree;
 use logos_syntax::parser::parse;
@@ -113,7 +113,7 @@ impl<'s> Pattern<'s> {
     pub fn priority(&self) -> Option<usize>
         ensures { result ≡ fitted (value (pattern_tree self.now)) }
     {
-        measure::priority(&self.hir)
+        measures::priority(&self.hir)
     }
 
     /// Returns whether a greedy repetition without an upper bound repeats a dot: a class of all
@@ -122,14 +122,14 @@ impl<'s> Pattern<'s> {
     pub fn check_for_greedy_all(&self) -> bool
         ensures { result ≡ has_greedy_dot (pattern_tree self.now) }
     {
-        measure::check_for_greedy_all(&self.hir)
+        measures::check_for_greedy_all(&self.hir)
     }
 
     /// Returns whether each literal of the tree is UTF-8, and each class of bytes holds ASCII only.
     pub fn is_utf8(&self) -> bool
         ensures { result ≡ is_text (pattern_tree self.now) }
     {
-        measure::is_utf8(&self.hir)
+        measures::is_utf8(&self.hir)
     }
 
     /// Returns the pattern's tree.

@@ -53,10 +53,10 @@ token_view (values.Setting change) = sets change
 token_view (values.Repeat op) = repeats op
 
 -- What a function returned is, by its view, what reading gives, unless memory ran out.
-abbrev pub Gives : {X Y : Type 0} → (X → Y) → Result X Fault → Option Y → Type 0
-Gives view (Ok x) read = read ≡ Some (view x)
-Gives view (Err (faults.Syntax kind)) read = read ≡ None
-Gives view (Err faults.Memory) read = Unit {0}
+abbrev pub Yields : {X Y : Type 0} → (X → Y) → Result X Fault → Option Y → Type 0
+Yields view (Ok x) read = read ≡ Some (view x)
+Yields view (Err (faults.Syntax kind)) read = read ≡ None
+Yields view (Err faults.Memory) read = Unit {0}
 
 infixl 10 ◌>>=◌
 abbrev pub ◌>>=◌ : {A B : Type 0} → Option A → (A → Option B) → Option B

@@ -2,7 +2,7 @@
 //! an atom and in escapes.
 
 ghost use Rattle.std.specs.Prelude.{◌≡◌, ◌==◌, option_map, position};
-ghost use Rattle.logos_pattern_tokens.specs.Views.{Gives, token_view, is_digit, hex_digit, hex_from, scalar_of, cut_at, number_from, fits, number_at, lazy_at, count_end, order_at, most_at, bounds_at, count_at};
+ghost use Rattle.logos_pattern_tokens.specs.Views.{Yields, token_view, is_digit, hex_digit, hex_from, scalar_of, cut_at, number_from, fits, number_at, lazy_at, count_end, order_at, most_at, bounds_at, count_at};
 
 use crate::error::{Fault, Kind};
 use crate::token::{Operator, Token};
@@ -21,7 +21,7 @@ pub fn hex_digit(c: char) -> Option<u32>
 /// From the left, `HexSyntax` at a character that is not a hexadecimal digit, and `HexNotScalar`
 /// where the number passes 10FFFF. `HexNotScalar` also if the number is that of a surrogate.
 pub fn scalar_of(digits: &[char]) -> Result<char, Fault>
-    ensures { Gives (λ n. n) result (scalar_of digits.now) }
+    ensures { Yields (λ n. n) result (scalar_of digits.now) }
 {
     let mut number = 0;
     for c in digits {
@@ -44,14 +44,14 @@ pub fn scalar_of(digits: &[char]) -> Result<char, Fault>
 pub fn cut_at(end: char, text: &[char]) -> Option<(&[char], &[char])>
     ensures { option_map (λ x. (x.0.now, x.1.now)) result ≡ cut_at end text.now }
 {
-    match place_of(end, text) {
+    match slot_of(end, text) {
         Some(at) => Some((&text[..at], &text[at + 1..])),
         None => None,
     }
 }
 
 /// Returns the index of the first `end` in the text.
-fn place_of(end: char, text: &[char]) -> Option<usize>
+fn slot_of(end: char, text: &[char]) -> Option<usize>
     ensures { result ≡ position (λ c. c == end) text.now }
 {
     text.iter().position(|c| *c == end)
@@ -97,7 +97,7 @@ fn number_from(start: u32, text: &[char]) -> Option<(u32, &[char])>
 /// `CountTooLarge` if the number is 2^32 or more.
 #[tactic(auto, unfolding(crate::specs::Token::number_at))]
 fn number_at(text: &[char]) -> Result<(u32, &[char]), Fault>
-    ensures { Gives (λ x. (x.0, x.1.now)) result (number_at text.now) }
+    ensures { Yields (λ x. (x.0, x.1.now)) result (number_at text.now) }
 {
     match text {
         [c, ..] if is_digit(*c) => {
@@ -146,7 +146,7 @@ fn count_end<'t>(
     most: Option<u32>,
     text: &'t [char],
 ) -> Result<(Token<'t>, &'t [char]), Fault>
-    ensures { Gives (λ x. (token_view x.0, x.1.now)) result (count_end least most text.now) }
+    ensures { Yields (λ x. (token_view x.0, x.1.now)) result (count_end least most text.now) }
 {
     match text {
         ['}', rest @ ..] => Ok(lazy_at(least, most, rest)),
@@ -163,7 +163,7 @@ fn count_end<'t>(
 /// first.
 #[tactic(auto, unfolding(crate::specs::Token::most_at, crate::specs::Token::order_at))]
 fn most_at(least: u32, text: &[char]) -> Result<(Token<'_>, &[char]), Fault>
-    ensures { Gives (λ x. (token_view x.0, x.1.now)) result (most_at least text.now) }
+    ensures { Yields (λ x. (token_view x.0, x.1.now)) result (most_at least text.now) }
 {
     match text {
         [] => Err(Fault::Syntax(Kind::Unclosed)),
@@ -185,7 +185,7 @@ fn most_at(least: u32, text: &[char]) -> Result<(Token<'_>, &[char]), Fault>
 /// Returns `Unclosed` if the text is empty, and else those of `most_at` or `count_end`.
 #[tactic(auto, unfolding(crate::specs::Token::bounds_at))]
 fn bounds_at(least: u32, text: &[char]) -> Result<(Token<'_>, &[char]), Fault>
-    ensures { Gives (λ x. (token_view x.0, x.1.now)) result (bounds_at least text.now) }
+    ensures { Yields (λ x. (token_view x.0, x.1.now)) result (bounds_at least text.now) }
 {
     match text {
         [] => Err(Fault::Syntax(Kind::Unclosed)),
@@ -203,7 +203,7 @@ fn bounds_at(least: u32, text: &[char]) -> Result<(Token<'_>, &[char]), Fault>
 /// first.
 #[tactic(auto, unfolding(crate::specs::Token::count_at))]
 pub fn count_at(text: &[char]) -> Result<(Token<'_>, &[char]), Fault>
-    ensures { Gives (λ x. (token_view x.0, x.1.now)) result (count_at text.now) }
+    ensures { Yields (λ x. (token_view x.0, x.1.now)) result (count_at text.now) }
 {
     let (least, rest) = number_at(text)?;
     bounds_at(least, rest)

@@ -1,7 +1,7 @@
 //! Reads what comes after a backslash. Both readers of tokens call it at a backslash.
 
 ghost use Rattle.std.specs.Prelude.{◌≡◌, MatchResult};
-ghost use Rattle.logos_pattern_tokens.specs.Views.{Gives, is_among, is_escapable, single_of, begins, is_form, plain_property, property_of, property_at, braces_at, fixed_at, byte_at, hex_at, boundary_at, single_at, escape_at};
+ghost use Rattle.logos_pattern_tokens.specs.Views.{Yields, is_among, is_escapable, single_of, begins, is_form, plain_property, property_of, property_at, braces_at, fixed_at, byte_at, hex_at, boundary_at, single_at, escape_at};
 
 use crate::counts::{cut_at, hex_digit, scalar_of};
 use crate::error::{Fault, Kind};
@@ -68,7 +68,7 @@ fn is_form(name: &[char]) -> bool
 /// has it, and `Memory`.
 #[tactic(auto, unfolding(crate::specs::Escapes::plain_property))]
 fn plain_property(alloc: Global, name: &[char]) -> Result<Set, Fault>
-    ensures { Gives (λ set. set) result (plain_property name.now) }
+    ensures { Yields (λ set. set) result (plain_property name.now) }
 {
     if is_form(name) {
         return Err(Fault::Syntax(Kind::PropertyForm));
@@ -91,7 +91,7 @@ fn property_of<'t>(
     name: &[char],
     rest: &'t [char],
 ) -> Result<(Atom, &'t [char]), Fault>
-    ensures { Gives (λ x. (x.0, x.1.now)) result (property_of negated name.now rest.now) }
+    ensures { Yields (λ x. (x.0, x.1.now)) result (property_of negated name.now rest.now) }
 {
     let set = plain_property(alloc, name)?;
     Ok((Atom::Property(set, negated), rest))
@@ -105,7 +105,7 @@ fn property_of<'t>(
 /// `UnknownProperty`; else those of `plain_property`.
 #[tactic(auto, unfolding(crate::specs::Escapes::property_at))]
 fn property_at(alloc: Global, negated: bool, text: &[char]) -> Result<(Atom, &[char]), Fault>
-    ensures { Gives (λ x. (x.0, x.1.now)) result (property_at negated text.now) }
+    ensures { Yields (λ x. (x.0, x.1.now)) result (property_at negated text.now) }
 {
     match text {
         [] => Err(Fault::Syntax(Kind::UnknownProperty)),
@@ -131,7 +131,7 @@ fn property_at(alloc: Global, negated: bool, text: &[char]) -> Result<(Atom, &[c
 /// another character, and `HexNotScalar`.
 #[tactic(auto, unfolding(crate::specs::Escapes::braces_at))]
 fn braces_at(text: &[char]) -> Result<(Atom, &[char]), Fault>
-    ensures { Gives (λ x. (x.0, x.1.now)) result (braces_at text.now) }
+    ensures { Yields (λ x. (x.0, x.1.now)) result (braces_at text.now) }
 {
     let Some((digits, rest)) = cut_at('}', text) else {
         return Err(Fault::Syntax(digits_fault(text)));
@@ -159,7 +159,7 @@ fn digits_fault(digits: &[char]) -> Kind {
 /// Returns `HexSyntax` if there are fewer digits, and `HexNotScalar`.
 #[tactic(auto, unfolding(crate::specs::Escapes::fixed_at))]
 fn fixed_at(width: usize, text: &[char]) -> Result<(Atom, &[char]), Fault>
-    ensures { Gives (λ x. (x.0, x.1.now)) result (fixed_at width text.now) }
+    ensures { Yields (λ x. (x.0, x.1.now)) result (fixed_at width text.now) }
 {
     if text.len() < width {
         return Err(Fault::Syntax(Kind::HexSyntax));
@@ -176,7 +176,7 @@ fn fixed_at(width: usize, text: &[char]) -> Result<(Atom, &[char]), Fault>
 /// Returns `HexSyntax` if there are fewer digits.
 #[tactic(auto, unfolding(crate::specs::Escapes::byte_at))]
 fn byte_at(text: &[char]) -> Result<(Atom, &[char]), Fault>
-    ensures { Gives (λ x. (x.0, x.1.now)) result (byte_at text.now) }
+    ensures { Yields (λ x. (x.0, x.1.now)) result (byte_at text.now) }
 {
     match text {
         [a, b, rest @ ..] => match (hex_digit(*a), hex_digit(*b)) {
@@ -194,7 +194,7 @@ fn byte_at(text: &[char]) -> Result<(Atom, &[char]), Fault>
 /// Returns `HexSyntax` if the text is empty; else those of `braces_at`, `byte_at` or `fixed_at`.
 #[tactic(auto, unfolding(crate::specs::Escapes::hex_at))]
 fn hex_at(letter: char, text: &[char]) -> Result<(Atom, &[char]), Fault>
-    ensures { Gives (λ x. (x.0, x.1.now)) result (hex_at letter text.now) }
+    ensures { Yields (λ x. (x.0, x.1.now)) result (hex_at letter text.now) }
 {
     match text {
         [] => Err(Fault::Syntax(Kind::HexSyntax)),
@@ -214,7 +214,7 @@ fn hex_at(letter: char, text: &[char]) -> Result<(Atom, &[char]), Fault>
 /// Returns `WordBoundaryForm` if a brace follows.
 #[tactic(auto, unfolding(crate::specs::Escapes::boundary_at))]
 fn boundary_at(text: &[char]) -> Result<(Atom, &[char]), Fault>
-    ensures { Gives (λ x. (x.0, x.1.now)) result (boundary_at text.now) }
+    ensures { Yields (λ x. (x.0, x.1.now)) result (boundary_at text.now) }
 {
     match text {
         ['{', ..] => Err(Fault::Syntax(Kind::WordBoundaryForm)),
@@ -237,7 +237,7 @@ fn no_escape(c: char) -> Kind {
 /// Returns `WordBoundaryForm` for `<` and `>`, and `EscapeUnknown` if there is no such escape.
 #[tactic(auto, unfolding(crate::specs::Escapes::single_at))]
 fn single_at(c: char, rest: &[char]) -> Result<(Atom, &[char]), Fault>
-    ensures { Gives (λ x. (x.0, x.1.now)) result (single_at c rest.now) }
+    ensures { Yields (λ x. (x.0, x.1.now)) result (single_at c rest.now) }
 {
     match single_of(c) {
         Some(atom) => Ok((atom, rest)),
@@ -253,7 +253,7 @@ fn single_at(c: char, rest: &[char]) -> Result<(Atom, &[char]), Fault>
 /// else the fault of the escape; and `Memory`.
 #[tactic(auto, unfolding(crate::specs::Escapes::escape_at))]
 pub fn escape_at(alloc: Global, text: &[char]) -> Result<(Atom, &[char]), Fault>
-    ensures { Gives (λ x. (x.0, x.1.now)) result (escape_at text.now) }
+    ensures { Yields (λ x. (x.0, x.1.now)) result (escape_at text.now) }
 {
     let [c, rest @ ..] = text else {
         return Err(Fault::Syntax(Kind::EscapeUnknown));

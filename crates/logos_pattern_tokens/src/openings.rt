@@ -1,7 +1,7 @@
 //! Reads what comes after an opening parenthesis. The reader of tokens calls it at `(`.
 
 ghost use Rattle.std.specs.Prelude.{◌≡◌};
-ghost use Rattle.logos_pattern_tokens.specs.Views.{no_change, set_once, with_letter, Gives, token_view, sets, opens, plain, is_name_start, is_name_part, are_name_parts, is_name, name_at, python_at, dash, next_letter, setting_end, letters_from, no_letters, option_at, group_at};
+ghost use Rattle.logos_pattern_tokens.specs.Views.{no_change, set_once, with_letter, Yields, token_view, sets, opens, plain, is_name_start, is_name_part, are_name_parts, is_name, name_at, python_at, dash, next_letter, setting_end, letters_from, no_letters, option_at, group_at};
 
 use crate::counts::cut_at;
 use crate::error::{Fault, Kind};
@@ -58,7 +58,7 @@ fn name_fault(text: &[char]) -> Kind {
 /// name comes before the `>`.
 #[tactic(auto, unfolding(crate::specs::Openings::name_at))]
 fn name_at(text: &[char]) -> Result<(Token<'_>, &[char]), Fault>
-    ensures { Gives (λ x. (token_view x.0, x.1.now)) result (name_at text.now) }
+    ensures { Yields (λ x. (token_view x.0, x.1.now)) result (name_at text.now) }
 {
     let Some((name, rest)) = cut_at('>', text) else {
         return Err(Fault::Syntax(name_fault(text)));
@@ -77,7 +77,7 @@ fn name_at(text: &[char]) -> Result<(Token<'_>, &[char]), Fault>
 /// those of `name_at`.
 #[tactic(auto, unfolding(crate::specs::Openings::python_at))]
 fn python_at(text: &[char]) -> Result<(Token<'_>, &[char]), Fault>
-    ensures { Gives (λ x. (token_view x.0, x.1.now)) result (python_at text.now) }
+    ensures { Yields (λ x. (token_view x.0, x.1.now)) result (python_at text.now) }
 {
     match text {
         [] => Err(Fault::Syntax(Kind::Unclosed)),
@@ -116,7 +116,7 @@ fn no_change() -> Change
 ///
 /// Returns `FlagSyntax` if it was set before.
 fn set_once(flag: Option<bool>, on: bool) -> Result<Option<bool>, Fault>
-    ensures { Gives (λ x. x) result (set_once flag on) }
+    ensures { Yields (λ x. x) result (set_once flag on) }
 {
     match flag {
         None => Ok(Some(on)),
@@ -131,7 +131,7 @@ fn set_once(flag: Option<bool>, on: bool) -> Result<Option<bool>, Fault>
 /// Returns `FlagUnsupported` for `x`, and `FlagSyntax` if the letter is that of no flag or came
 /// before.
 fn with_letter(change: Change, on: bool, letter: char) -> Result<Change, Fault>
-    ensures { Gives (λ x. x) result (with_letter change on letter) }
+    ensures { Yields (λ x. x) result (with_letter change on letter) }
 {
     let mut next = change;
     match letter {
@@ -155,7 +155,7 @@ fn with_letter(change: Change, on: bool, letter: char) -> Result<Change, Fault>
 /// Returns `FlagSyntax` if there was a dash before.
 #[tactic(auto, unfolding(crate::specs::Openings::dash))]
 fn dash(letters: Letters) -> Result<Letters, Fault>
-    ensures { Gives (λ x. x) result (dash letters) }
+    ensures { Yields (λ x. x) result (dash letters) }
 {
     if letters.on {
         Ok(Letters {
@@ -175,7 +175,7 @@ fn dash(letters: Letters) -> Result<Letters, Fault>
 /// Those of `dash` and `with_letter`.
 #[tactic(auto, unfolding(crate::specs::Openings::next_letter))]
 fn next_letter(letters: Letters, c: char) -> Result<Letters, Fault>
-    ensures { Gives (λ x. x) result (next_letter letters c) }
+    ensures { Yields (λ x. x) result (next_letter letters c) }
 {
     if c == '-' {
         return dash(letters);
@@ -199,7 +199,7 @@ fn setting_end<'t>(
     token: Token<'t>,
     rest: &'t [char],
 ) -> Result<(Token<'t>, &'t [char]), Fault>
-    ensures { Gives (λ x. (token_view x.0, x.1.now)) result
+    ensures { Yields (λ x. (token_view x.0, x.1.now)) result
         (setting_end letters (token_view token.entry) rest.now) }
 {
     if letters.pending {
@@ -216,7 +216,7 @@ fn setting_end<'t>(
 /// Returns `Unclosed` if the text ends before; else those of `next_letter` and `setting_end`, from
 /// the left.
 fn letters_from(start: Letters, text: &[char]) -> Result<(Token<'_>, &[char]), Fault>
-    ensures { Gives (λ x. (token_view x.0, x.1.now)) result (letters_from start text.now) }
+    ensures { Yields (λ x. (token_view x.0, x.1.now)) result (letters_from start text.now) }
 {
     let mut letters = start;
     let mut rest = text;
@@ -244,7 +244,7 @@ fn letters_from(start: Letters, text: &[char]) -> Result<(Token<'_>, &[char]), F
 /// Returns `Unclosed` if the text is empty; else those of `name_at`, `python_at` or `letters_from`.
 #[tactic(auto, unfolding(crate::specs::Openings::option_at))]
 fn option_at(text: &[char]) -> Result<(Token<'_>, &[char]), Fault>
-    ensures { Gives (λ x. (token_view x.0, x.1.now)) result (option_at text.now) }
+    ensures { Yields (λ x. (token_view x.0, x.1.now)) result (option_at text.now) }
 {
     match text {
         [] => Err(Fault::Syntax(Kind::Unclosed)),
@@ -275,7 +275,7 @@ fn no_letters() -> Letters
 /// left.
 #[tactic(auto, unfolding(crate::specs::Openings::group_at))]
 pub fn group_at(text: &[char]) -> Result<(Token<'_>, &[char]), Fault>
-    ensures { Gives (λ x. (token_view x.0, x.1.now)) result (group_at text.now) }
+    ensures { Yields (λ x. (token_view x.0, x.1.now)) result (group_at text.now) }
 {
     match text {
         ['?', rest @ ..] => option_at(rest),

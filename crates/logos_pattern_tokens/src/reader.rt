@@ -2,7 +2,7 @@
 //! once for each token.
 
 ghost use Rattle.std.specs.Prelude.{◌≡◌};
-ghost use Rattle.logos_pattern_tokens.specs.Views.{Gives, token_view, escape_token_at, token_at};
+ghost use Rattle.logos_pattern_tokens.specs.Views.{Yields, token_view, escape_token_at, token_at};
 
 use crate::counts::{count_at, lazy_at};
 use crate::error::{Fault, Kind};
@@ -18,7 +18,7 @@ use std::alloc::Global;
 /// Those of `escape_at`.
 #[tactic(auto, unfolding(crate::specs::Reader::escape_token_at))]
 fn escape_token_at(alloc: Global, text: &[char]) -> Result<(Token<'_>, &[char]), Fault>
-    ensures { Gives (λ x. (token_view x.0, x.1.now)) result (escape_token_at text.now) }
+    ensures { Yields (λ x. (token_view x.0, x.1.now)) result (escape_token_at text.now) }
 {
     let (atom, rest) = escape_at(alloc, text)?;
     Ok((Token::Atom(atom), rest))
@@ -32,7 +32,7 @@ fn escape_token_at(alloc: Global, text: &[char]) -> Result<(Token<'_>, &[char]),
 /// Returns `Unclosed` if the text is empty; else the fault of the token, and `Memory`.
 #[tactic(auto, unfolding(crate::specs::Reader::token_at))]
 pub fn token_at(alloc: Global, text: &[char]) -> Result<(Token<'_>, &[char]), Fault>
-    ensures { Gives (λ x. (token_view x.0, x.1.now)) result (token_at text.now) }
+    ensures { Yields (λ x. (token_view x.0, x.1.now)) result (token_at text.now) }
 {
     let [c, rest @ ..] = text else {
         return Err(Fault::Syntax(Kind::Unclosed));

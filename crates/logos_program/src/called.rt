@@ -26,7 +26,7 @@ fn name_in(path: &[u8]) -> &[u8] {
 
 /// Returns what the name of a program's file asks for. Names may go on, as `logos_cli-0.1.0` does.
 /// Any other name asks for `logos`.
-fn asked_by(name: &[u8]) -> Called {
+fn requested_by(name: &[u8]) -> Called {
     if name.starts_with(b"logos_cli") {
         return Called::LogosCli;
     }
@@ -38,10 +38,10 @@ fn asked_by(name: &[u8]) -> Called {
 
 /// Returns what the name asks for by which the program was called. It asks for no memory, so each
 /// of the three asks for what it needs alone.
-pub(crate) fn asked_by_name<R: Env>(rt: &R) -> Called {
+pub(crate) fn requested_by_name<R: Env>(rt: &R) -> Called {
     let mut path = [0; LONGEST_PATH];
     match rt.arg(0, &mut path) {
-        Ok(length) => asked_by(name_in(&path[..length])),
+        Ok(length) => requested_by(name_in(&path[..length])),
         Err(_) => Called::Logos,
     }
 }

@@ -5,7 +5,7 @@
 
 mod called;
 
-use called::{Called, asked_by_name};
+use called::{Called, requested_by_name};
 use logos_cli::run_logos_cli;
 use logos_commands::run_with;
 use logos_host::{Disk, arguments};
@@ -26,7 +26,7 @@ fn run_logos(rt: &HostRuntime) -> u8 {
 }
 
 fn main(rt: HostRuntime) -> io::Result<ExitCode> {
-    let status = match asked_by_name(&rt) {
+    let status = match requested_by_name(&rt) {
         Called::Logos => run_logos(&rt),
         Called::LogosCli => run_logos_cli(&rt),
         Called::LogosShow => run_logos_show(&rt),

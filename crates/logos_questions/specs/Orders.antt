@@ -1,7 +1,7 @@
 -- What the arguments of `logos_show` request.
 use Rattle.std.specs.Prelude.{ℕ, List, Option, Some, None, option_map}
-use Rattle.logos_answers.specs.Places.{number_named, place_named}
-use Rattle.logos_lines.specs.declared.place.Position.{Position}
+use Rattle.logos_answers.specs.Locations.{number_named, location_named}
+use Rattle.logos_lines.specs.declared.location.Location.{Location}
 use Rattle.logos_options.specs.ArgumentSteps.{OptionValue}
 use Rattle.logos_options.specs.Arguments.{ArgumentsValue, arguments_of, settings_value}
 use Rattle.logos_options.specs.Styles.{style_given}
@@ -21,7 +21,7 @@ use Rattle.logos_questions.specs.declared.questions.ShowRequest.TheVariants.{Hel
 pub data QuestionValue : Type 0 where
   leaves : QuestionValue
   items : (input : List ℕ) → QuestionValue
-  matches : (input : List ℕ) → (place : Position) → QuestionValue
+  matches : (input : List ℕ) → (location : Location) → QuestionValue
   examples : QuestionValue
   inputs : (most : ℕ) → QuestionValue
   comparison : (other : List ℕ) → QuestionValue
@@ -35,10 +35,10 @@ pub record OrderValue : Type 0 where
   pub style : MessageStyle
 
 -- What is requested.
-pub data Asked : Type 0 where
-  asks_help : Asked
-  asks_version : Asked
-  asks_showing : (order : OrderValue) → Asked
+pub data Requested : Type 0 where
+  requests_help : Requested
+  requests_version : Requested
+  requests_showing : (order : OrderValue) → Requested
 
 -- At most this many inputs, of a file alone.
 abbrev pub inputs_given : Option ℕ → Option (List ℕ) → Option QuestionValue
@@ -47,10 +47,10 @@ inputs_given (Some most) None = Some (inputs most)
 inputs_given (Some most) (Some input) = None
 
 -- What matches from a position of an input.
-abbrev pub matches_given : Option Position → Option (List ℕ) → Option QuestionValue
+abbrev pub matches_given : Option Location → Option (List ℕ) → Option QuestionValue
 matches_given None input = None
-matches_given (Some place) None = None
-matches_given (Some place) (Some input) = Some (matches input place)
+matches_given (Some location) None = None
+matches_given (Some location) (Some input) = Some (matches input location)
 
 -- Examples, of a file alone.
 abbrev pub examples_given : Option (List ℕ) → Option QuestionValue
@@ -66,7 +66,7 @@ comparison_given (Some other) = Some (comparison other)
 abbrev pub question_named : OptionName → List ℕ → Option (List ℕ) → Option QuestionValue
 question_named options.Compare word input = comparison_given input
 question_named options.Inputs word input = inputs_given (number_named word) input
-question_named options.At word input = matches_given (place_named word) input
+question_named options.At word input = matches_given (location_named word) input
 question_named option word input = examples_given input
 
 -- What is asked of a file. Without a question a second path asks for its items.
@@ -75,39 +75,39 @@ question_given None None = Some leaves
 question_given None (Some input) = Some (items input)
 question_given (Some one) input = question_named one.option one.value input
 
-abbrev pub order_asked : ArgumentsValue → List ℕ → MessageStyle → Option QuestionValue → Option Asked
-order_asked arguments file style None = None
-order_asked arguments file style (Some question) = Some (asks_showing (record { file = file; question = question; settings = arguments.settings; style = style }))
+abbrev pub order_requested : ArgumentsValue → List ℕ → MessageStyle → Option QuestionValue → Option Requested
+order_requested arguments file style None = None
+order_requested arguments file style (Some question) = Some (requests_showing (record { file = file; question = question; settings = arguments.settings; style = style }))
 
-abbrev pub style_asked : ArgumentsValue → List ℕ → Option MessageStyle → Option Asked
-style_asked arguments file None = None
-style_asked arguments file (Some style) = order_asked arguments file style (question_given arguments.question arguments.second)
+abbrev pub style_requested : ArgumentsValue → List ℕ → Option MessageStyle → Option Requested
+style_requested arguments file None = None
+style_requested arguments file (Some style) = order_requested arguments file style (question_given arguments.question arguments.second)
 
 -- A file to show, if there is one.
-abbrev pub order_given : ArgumentsValue → Option (List ℕ) → Option Asked
+abbrev pub order_given : ArgumentsValue → Option (List ℕ) → Option Requested
 order_given arguments None = None
-order_given arguments (Some file) = style_asked arguments file (style_given arguments.settings)
+order_given arguments (Some file) = style_requested arguments file (style_given arguments.settings)
 
 -- A text, or a file to show.
-abbrev pub request_given : ArgumentsValue → Option OptionName → Option Asked
-request_given arguments (Some options.Version) = Some asks_version
-request_given arguments (Some option) = Some asks_help
+abbrev pub request_given : ArgumentsValue → Option OptionName → Option Requested
+request_given arguments (Some options.Version) = Some requests_version
+request_given arguments (Some option) = Some requests_help
 request_given arguments None = order_given arguments arguments.first
 
 -- What these arguments request.
-abbrev pub asked_given : Option ArgumentsValue → Option Asked
-asked_given None = None
-asked_given (Some arguments) = request_given arguments arguments.text
+abbrev pub requested_given : Option ArgumentsValue → Option Requested
+requested_given None = None
+requested_given (Some arguments) = request_given arguments arguments.text
 
 -- What the arguments of a command line request, if they are valid.
-abbrev pub asked : List (List ℕ) → Option Asked
-asked words = asked_given (arguments_of programs.Show words)
+abbrev pub requested : List (List ℕ) → Option Requested
+requested arguments = requested_given (arguments_of programs.Show arguments)
 
 -- The values of the program's types.
 abbrev pub question_value : Question → QuestionValue
 question_value questions.Leaves = leaves
 question_value (questions.Items input) = items input.now
-question_value (questions.Matches input place) = matches input.now place
+question_value (questions.Matches input location) = matches input.now location
 question_value questions.Examples = examples
 question_value (questions.Inputs most) = inputs most
 question_value (questions.Comparison other) = comparison other.now
@@ -116,7 +116,7 @@ abbrev pub order_value : ShowOrder → OrderValue
 order_value order = record { file = order.file.now; question = question_value order.question; settings = settings_value order.settings; style = order.style }
 
 -- What is requested, as a value.
-abbrev pub request_value : ShowRequest → Asked
-request_value Help = asks_help
-request_value Version = asks_version
-request_value (Show order) = asks_showing (order_value order)
+abbrev pub request_value : ShowRequest → Requested
+request_value Help = requests_help
+request_value Version = requests_version
+request_value (Show order) = requests_showing (order_value order)

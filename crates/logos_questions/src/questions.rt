@@ -1,11 +1,11 @@
 //! What the arguments of `logos_show` request.
 
 ghost use Rattle.std.specs.Prelude.{◌≡◌, IfErr, IfOk, Some, map, option_map, string_bytes};
-ghost use Rattle.logos_questions.specs.Words.{arguments_value, asked, inputs_given, matches_given, number_named, option_value, order_given, place_named, question_given, question_named, question_value, request_given, request_value, status_of};
+ghost use Rattle.logos_questions.specs.Imports.{arguments_value, requested, inputs_given, matches_given, number_named, option_value, order_given, location_named, question_given, question_named, question_value, request_given, request_value, status_of};
 
-use logos_answers::{number_by_text, place_by_word};
+use logos_answers::{location_by_word, number_by_text};
 use logos_host::Failure;
-use logos_lines::Position;
+use logos_lines::Location;
 use logos_options::{
     Arguments, GivenOption, MessageStyle, OptionName, Program, Settings, arguments_of, misuse,
     style_given,
@@ -40,7 +40,7 @@ pub enum Question<'w> {
     /// The items of the file at this path.
     Items(&'w str),
     /// What matches from a position of the file at this path.
-    Matches(&'w str, Position),
+    Matches(&'w str, Location),
     /// For each leaf a text that it finds, and one where it loses.
     Examples,
     /// At most this many inputs that together pass all edges of a lexer's graph.
@@ -54,13 +54,13 @@ pub enum Question<'w> {
 /// # Errors
 ///
 /// Returns `Misuse` or `UnknownOption` if they are invalid.
-pub fn request_of(words: &[String]) -> Result<ShowRequest<'_>, Failure<'_>>
-    ensures asked { IfOk result (λ request.
-        asked (map string_bytes words.now) ≡ Some (request_value request)) }
+pub fn request_of(arguments: &[String]) -> Result<ShowRequest<'_>, Failure<'_>>
+    ensures requested { IfOk result (λ request.
+        requested (map string_bytes arguments.now) ≡ Some (request_value request)) }
     ensures misuse { IfErr result (λ failure.
-        (asked (map string_bytes words.now) ≡ None) × (status_of failure ≡ 2)) }
+        (requested (map string_bytes arguments.now) ≡ None) × (status_of failure ≡ 2)) }
 {
-    match arguments_of(Program::Show, words) {
+    match arguments_of(Program::Show, arguments) {
         Ok(arguments) => request_given(arguments),
         Err(failure) => Err(failure),
     }
@@ -68,7 +68,7 @@ pub fn request_of(words: &[String]) -> Result<ShowRequest<'_>, Failure<'_>>
 
 /// Returns what arguments request.
 fn request_given(arguments: Arguments<'_>) -> Result<ShowRequest<'_>, Failure<'_>>
-    ensures asked { IfOk result (λ request. request_given (arguments_value arguments.entry)
+    ensures requested { IfOk result (λ request. request_given (arguments_value arguments.entry)
         (arguments_value arguments.entry).text ≡ Some (request_value request)) }
     ensures misuse { IfErr result (λ failure. (request_given (arguments_value arguments.entry)
         (arguments_value arguments.entry).text ≡ None) × (status_of failure ≡ 2)) }
@@ -82,7 +82,7 @@ fn request_given(arguments: Arguments<'_>) -> Result<ShowRequest<'_>, Failure<'_
 
 /// Returns the file to show.
 fn order_given(arguments: Arguments<'_>) -> Result<ShowRequest<'_>, Failure<'_>>
-    ensures asked { IfOk result (λ request. order_given (arguments_value arguments.entry)
+    ensures requested { IfOk result (λ request. order_given (arguments_value arguments.entry)
         (arguments_value arguments.entry).first ≡ Some (request_value request)) }
     ensures misuse { IfErr result (λ failure. (order_given (arguments_value arguments.entry)
         (arguments_value arguments.entry).first ≡ None) × (status_of failure ≡ 2)) }
@@ -107,17 +107,17 @@ fn order_given(arguments: Arguments<'_>) -> Result<ShowRequest<'_>, Failure<'_>>
 
 /// Returns what is asked of a file, by the question that is given and by the second path.
 fn question_given<'w>(
-    asked: Option<GivenOption<'w>>,
+    requested: Option<GivenOption<'w>>,
     input: Option<&'w str>,
 ) -> Result<Question<'w>, Failure<'w>>
-    ensures asked { IfOk result (λ question. question_given
-        (option_map option_value asked.entry) (option_map (λ path. path.now) input.entry)
+    ensures requested { IfOk result (λ question. question_given
+        (option_map option_value requested.entry) (option_map (λ path. path.now) input.entry)
         ≡ Some (question_value question)) }
     ensures misuse { IfErr result (λ failure. (question_given
-        (option_map option_value asked.entry) (option_map (λ path. path.now) input.entry)
+        (option_map option_value requested.entry) (option_map (λ path. path.now) input.entry)
         ≡ None) × (status_of failure ≡ 2)) }
 {
-    match (asked, input) {
+    match (requested, input) {
         (None, None) => Ok(Question::Leaves),
         (None, Some(input)) => Ok(Question::Items(input)),
         (Some(one), input) => question_named(one, input),
@@ -129,7 +129,7 @@ fn question_named<'w>(
     one: GivenOption<'w>,
     input: Option<&'w str>,
 ) -> Result<Question<'w>, Failure<'w>>
-    ensures asked { IfOk result (λ question. question_named one.entry.option one.entry.value.now
+    ensures requested { IfOk result (λ question. question_named one.entry.option one.entry.value.now
         (option_map (λ path. path.now) input.entry) ≡ Some (question_value question)) }
     ensures misuse { IfErr result (λ failure. (question_named one.entry.option one.entry.value.now
         (option_map (λ path. path.now) input.entry) ≡ None) × (status_of failure ≡ 2)) }
@@ -146,7 +146,7 @@ fn question_named<'w>(
 
 /// Returns the question for inputs, of which `word` is the number, of a file alone.
 fn inputs_given<'w>(word: &'w str, input: Option<&'w str>) -> Result<Question<'w>, Failure<'w>>
-    ensures asked { IfOk result (λ question. inputs_given (number_named word.now)
+    ensures requested { IfOk result (λ question. inputs_given (number_named word.now)
         (option_map (λ path. path.now) input.entry) ≡ Some (question_value question)) }
     ensures misuse { IfErr result (λ failure. (inputs_given (number_named word.now)
         (option_map (λ path. path.now) input.entry) ≡ None) × (status_of failure ≡ 2)) }
@@ -160,14 +160,14 @@ fn inputs_given<'w>(word: &'w str, input: Option<&'w str>) -> Result<Question<'w
 
 /// Returns the question for matches from a line and column of an input, which `word` names.
 fn matches_given<'w>(word: &'w str, input: Option<&'w str>) -> Result<Question<'w>, Failure<'w>>
-    ensures asked { IfOk result (λ question. matches_given (place_named word.now)
+    ensures requested { IfOk result (λ question. matches_given (location_named word.now)
         (option_map (λ path. path.now) input.entry) ≡ Some (question_value question)) }
-    ensures misuse { IfErr result (λ failure. (matches_given (place_named word.now)
+    ensures misuse { IfErr result (λ failure. (matches_given (location_named word.now)
         (option_map (λ path. path.now) input.entry) ≡ None) × (status_of failure ≡ 2)) }
 {
-    match (place_by_word(word), input) {
+    match (location_by_word(word), input) {
         (None, _) => Err(misuse("`--at` is LINE:COLUMN, not", word)),
         (Some(_), None) => Err(misuse("no input for", OptionName::At.word())),
-        (Some(place), Some(input)) => Ok(Question::Matches(input, place)),
+        (Some(location), Some(input)) => Ok(Question::Matches(input, location)),
     }
 }

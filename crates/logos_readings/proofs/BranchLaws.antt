@@ -7,14 +7,14 @@ use Rattle.std.proofs.lemmas.Bool.Decides.{nat_tests}
 use Rattle.std.proofs.lemmas.Option.{slice_get_within, get_or_from_slice_get}
 use Rattle.std.proofs.lemmas.Str.{IsUtf8-from_is_utf8, chars_from_encodes}
 use lib.Utf8.{scalar}
-use Rattle.logos_hir.specs.Text.{IsBytes, StandsAt, InRanges}
+use Rattle.logos_hir.specs.Text.{IsBytes, OccursAt, InRanges}
 use Rattle.logos_hir.specs.Sets.{Set, in_range, in_ranges, members, char_ranges, byte_ranges, AreCanonical}
 use Rattle.logos_hir.specs.Tree.{Tree, empty, literal, byte_class, char_class, look, repetition, capture, concat, alternation, Trees, none, also, trees}
 use Rattle.logos_hir.specs.Matches.{Matches, SomeMatches}
 use Rattle.logos_hir.specs.Build.{list_of, char_tree, byte_tree, one_char_of, one_byte_of, sole_item, sole_char, char_ranges_of, byte_ranges_of, all_ranges, branches_of, bytes_or, chars_or, choice_of, alternation_of}
 use Rattle.logos_hir.proofs.lemmas.RangeLemmas.{is_range_parts, rises_parts, in_ranges-append, InRanges-from_test, in_ranges-from_fact}
 use Rattle.logos_hir.proofs.lemmas.SameMembers.{char_ranges_canonical, char_ranges_members, byte_ranges_members}
-use Rattle.logos_places.proofs.classes.TextLemmas.{Spells-of_StandsAt}
+use Rattle.logos_positions.proofs.classes.TextLemmas.{Spells-of_OccursAt}
 
 list_back : (ts : Trees) → trees (list_of ts) ≡ ts
 list_back none = refl
@@ -133,9 +133,9 @@ module _ (bytes : List ℕ) where
   abbrev CharIn : List (ℕ × ℕ) → ℕ → ℕ → Type 0
   CharIn ranges from to = Matches (char_class ranges) bytes from to
 
-  char_text : (c from to : ℕ) → IsScalar c → StandsAt (encode_utf8 c) bytes from to ↔ CharIn ((c, c) ∷ []) from to
+  char_text : (c from to : ℕ) → IsScalar c → OccursAt (encode_utf8 c) bytes from to ↔ CharIn ((c, c) ∷ []) from to
   char_text c from to s =
-      (λ m. (c, s, its_member c, m), λ m. subst (λ (d : ℕ). StandsAt (encode_utf8 d) bytes from to) (only_member c m.0 m.2) m.3)
+      (λ m. (c, s, its_member c, m), λ m. subst (λ (d : ℕ). OccursAt (encode_utf8 d) bytes from to) (only_member c m.0 m.2) m.3)
 
   sole_is : (text : List ℕ) (c : ℕ) → sole_char text ≡ Some c → IsScalar c × (encode_utf8 c ≡ text)
   sole_is text c e = go (is_utf8 text) refl
@@ -170,15 +170,15 @@ module _ (bytes : List ℕ) where
   char_one from to (char_class ranges) rs e = let same : ranges ≡ rs = cc in subst (λ (r : List (ℕ × ℕ)). CharIn ranges from to ↔ CharIn r from to) same (λ m. m, λ m. m)
   char_one from to (literal text) rs e = go (sole_char text) refl
     where
-      go : (o : Option ℕ) → sole_char text ≡ o → StandsAt text bytes from to ↔ CharIn rs from to
+      go : (o : Option ℕ) → sole_char text ≡ o → OccursAt text bytes from to ↔ CharIn rs from to
       go None f = let g : ◌≡◌ {A = Option (List (ℕ × ℕ))} None (Some rs) = rw f at e in cc
       go (Some c) f =
           let g : ◌≡◌ {A = Option (List (ℕ × ℕ))} (Some ((c, c) ∷ [])) (Some rs) = rw f at e in
           let same : (c, c) ∷ [] ≡ rs = cc in
           let k = sole_is text c f in
           let l = char_text c from to k.0 in
-          let m : StandsAt text bytes from to ↔ CharIn ((c, c) ∷ []) from to = subst (λ (x : List ℕ). StandsAt x bytes from to ↔ CharIn ((c, c) ∷ []) from to) k.1 l in
-          subst (λ (r : List (ℕ × ℕ)). StandsAt text bytes from to ↔ CharIn r from to) same m
+          let m : OccursAt text bytes from to ↔ CharIn ((c, c) ∷ []) from to = subst (λ (x : List ℕ). OccursAt x bytes from to ↔ CharIn ((c, c) ∷ []) from to) k.1 l in
+          subst (λ (r : List (ℕ × ℕ)). OccursAt text bytes from to ↔ CharIn r from to) same m
 
   char_either : (from to : ℕ) (xs ys : List (ℕ × ℕ)) → CharIn (xs ++ ys) from to ↔ (CharIn xs from to ⊎ CharIn ys from to)
   char_either from to xs ys = (
@@ -195,7 +195,7 @@ module _ (bytes : List ℕ) where
       go true e =
           let l = char_text r.0 from to (first_scalar r [] h) in
           let same : (r.0, r.0) ∷ [] ≡ r ∷ [] = ap (λ (n : ℕ). (r.0, n) ∷ []) (eqb-true r.0 r.1 e) in
-          rw e (subst (λ (rs : List (ℕ × ℕ)). StandsAt (encode_utf8 r.0) bytes from to ↔ CharIn rs from to) same l)
+          rw e (subst (λ (rs : List (ℕ × ℕ)). OccursAt (encode_utf8 r.0) bytes from to ↔ CharIn rs from to) same l)
       go false e = rw e (λ m. m, λ m. m)
 
   one_char_same : (from to : ℕ) (ranges : List (ℕ × ℕ)) → Matches (one_char_of (members ranges)) bytes from to ↔ CharIn ranges from to
@@ -212,8 +212,8 @@ module _ (bytes : List ℕ) where
   abbrev ByteIn : List (ℕ × ℕ) → ℕ → ℕ → Type 0
   ByteIn ranges from to = Matches (byte_class ranges) bytes from to
 
-  byte_text : (b from to : ℕ) → StandsAt (b ∷ []) bytes from to ↔ ByteIn ((b, b) ∷ []) from to
-  byte_text b from to = (λ m. (b, its_member b, m), λ m. subst (λ (d : ℕ). StandsAt (d ∷ []) bytes from to) (only_member b m.0 m.1) m.2)
+  byte_text : (b from to : ℕ) → OccursAt (b ∷ []) bytes from to ↔ ByteIn ((b, b) ∷ []) from to
+  byte_text b from to = (λ m. (b, its_member b, m), λ m. subst (λ (d : ℕ). OccursAt (d ∷ []) bytes from to) (only_member b m.0 m.1) m.2)
 
   byte_one : (from to : ℕ) (t : Tree) (rs : List (ℕ × ℕ)) → byte_ranges_of t ≡ Some rs → Matches t bytes from to ↔ ByteIn rs from to
   byte_one from to empty rs e = cc
@@ -226,7 +226,7 @@ module _ (bytes : List ℕ) where
   byte_one from to (byte_class ranges) rs e = let same : ranges ≡ rs = cc in subst (λ (r : List (ℕ × ℕ)). ByteIn ranges from to ↔ ByteIn r from to) same (λ m. m, λ m. m)
   byte_one from to (literal []) rs e = cc
   byte_one from to (literal (b ∷ (c ∷ rest))) rs e = cc
-  byte_one from to (literal (b ∷ [])) rs e = let same : (b, b) ∷ [] ≡ rs = cc in subst (λ (r : List (ℕ × ℕ)). StandsAt (b ∷ []) bytes from to ↔ ByteIn r from to) same (byte_text b from to)
+  byte_one from to (literal (b ∷ [])) rs e = let same : (b, b) ∷ [] ≡ rs = cc in subst (λ (r : List (ℕ × ℕ)). OccursAt (b ∷ []) bytes from to ↔ ByteIn r from to) same (byte_text b from to)
 
   byte_either : (from to : ℕ) (xs ys : List (ℕ × ℕ)) → ByteIn (xs ++ ys) from to ↔ (ByteIn xs from to ⊎ ByteIn ys from to)
   byte_either from to xs ys = (
@@ -242,12 +242,12 @@ module _ (bytes : List ℕ) where
       go : (x : Bool) → (r.0 == r.1) ≡ x → Matches (byte_tree (r ∷ [])) bytes from to ↔ ByteIn (r ∷ []) from to
       go true e =
           let same : (r.0, r.0) ∷ [] ≡ r ∷ [] = ap (λ (n : ℕ). (r.0, n) ∷ []) (eqb-true r.0 r.1 e) in
-          rw e (subst (λ (rs : List (ℕ × ℕ)). StandsAt (r.0 ∷ []) bytes from to ↔ ByteIn rs from to) same (byte_text r.0 from to))
+          rw e (subst (λ (rs : List (ℕ × ℕ)). OccursAt (r.0 ∷ []) bytes from to ↔ ByteIn rs from to) same (byte_text r.0 from to))
       go false e = rw e (λ m. m, λ m. m)
 
-  is_byte : IsBytes bytes → (b from to : ℕ) → StandsAt (b ∷ []) bytes from to → b < 256
+  is_byte : IsBytes bytes → (b from to : ℕ) → OccursAt (b ∷ []) bytes from to → b < 256
   is_byte ok b from to s =
-      let h : slice_get bytes from ≡ Some b = (Spells-of_StandsAt bytes (b ∷ []) from to s).0 in
+      let h : slice_get bytes from ≡ Some b = (Spells-of_OccursAt bytes (b ∷ []) from to s).0 in
       subst (λ (x : ℕ). x < 256) (get_or_from_slice_get bytes from b b h) (ok from b (slice_get_within bytes from b h))
 
   one_byte_same : IsBytes bytes → (from to : ℕ) (ranges : List (ℕ × ℕ)) → Matches (one_byte_of (members ranges)) bytes from to ↔ ByteIn ranges from to

@@ -1,11 +1,11 @@
 -- What builders of trees make matches what it is made of.
 use Rattle.std.proofs.Common.{◌≡◌, ◌↔◌, ◌==◌, ◌&&◌, ℕ, zero, suc, ◌≤◌, inl, inr, min, Bool, true, false, List, [], ◌∷◌, ◌++◌, flat_map, Option, Some, None, IfSome, refl, sym, ap, ◌∙◌, subst, arith, eqb-true}
-use Rattle.logos_hir.specs.Text.{StandsAt}
+use Rattle.logos_hir.specs.Text.{OccursAt}
 use Rattle.logos_hir.specs.Tree.{Tree, empty, literal, byte_class, char_class, look, repetition, capture, concat, alternation, Trees, none, also, trees}
 use Rattle.logos_hir.specs.Matches.{Matches, MatchesInOrder, SomeMatches, Pieces, IsCount}
 use Rattle.logos_hir.specs.Build.{list_of, is_byteless, all_byteless, is_most, cut, times, repetition_of, parts_of, with_text, join, junction, in_a_row, concat_of}
-use Rattle.logos_places.specs.inside.Reader.{Spells}
-use Rattle.logos_places.proofs.classes.TextLemmas.{StandsAt-of_Spells, Spells-of_StandsAt}
+use Rattle.logos_positions.specs.inside.Reader.{Spells}
+use Rattle.logos_positions.proofs.classes.TextLemmas.{OccursAt-of_Spells, Spells-of_OccursAt}
 
 list_back : (ts : Trees) → trees (list_of ts) ≡ ts
 list_back none = refl
@@ -25,14 +25,14 @@ module _ (bytes : List ℕ) where
   spells_join [] more from middle to e s = subst (λ (n : ℕ). Spells bytes more n to) e s
   spells_join (b ∷ text) more from middle to s k = (s.0, spells_join text more (suc from) middle to s.1 k)
 
-  stands_cut : (text more : List ℕ) (from to : ℕ) → StandsAt (text ++ more) bytes from to → (cut : ℕ) × StandsAt text bytes from cut × StandsAt more bytes cut to
-  stands_cut text more from to s =
-      let k = spells_cut text more from to (Spells-of_StandsAt bytes (text ++ more) from to s) in
-      (k.0, StandsAt-of_Spells bytes text from k.0 k.1, StandsAt-of_Spells bytes more k.0 to k.2)
+  occurs_cut : (text more : List ℕ) (from to : ℕ) → OccursAt (text ++ more) bytes from to → (cut : ℕ) × OccursAt text bytes from cut × OccursAt more bytes cut to
+  occurs_cut text more from to s =
+      let k = spells_cut text more from to (Spells-of_OccursAt bytes (text ++ more) from to s) in
+      (k.0, OccursAt-of_Spells bytes text from k.0 k.1, OccursAt-of_Spells bytes more k.0 to k.2)
 
-  stands_join : (text more : List ℕ) (from middle to : ℕ) → StandsAt text bytes from middle → StandsAt more bytes middle to → StandsAt (text ++ more) bytes from to
-  stands_join text more from middle to s k =
-      StandsAt-of_Spells bytes (text ++ more) from to (spells_join text more from middle to (Spells-of_StandsAt bytes text from middle s) (Spells-of_StandsAt bytes more middle to k))
+  occurs_join : (text more : List ℕ) (from middle to : ℕ) → OccursAt text bytes from middle → OccursAt more bytes middle to → OccursAt (text ++ more) bytes from to
+  occurs_join text more from middle to s k =
+      OccursAt-of_Spells bytes (text ++ more) from to (spells_join text more from middle to (Spells-of_OccursAt bytes text from middle s) (Spells-of_OccursAt bytes more middle to k))
 
   -- ---- Concatenations.
 
@@ -48,7 +48,7 @@ module _ (bytes : List ℕ) where
 
   text_to : (text : List ℕ) (ts : List Tree) (from to : ℕ) → InOrder (with_text text ts) from to → InOrder (literal text ∷ ts) from to
   text_to text [] from to m = m
-  text_to text (literal more ∷ rest) from to m = let k = stands_cut text more from m.0 m.1 in (k.0, k.1, (m.0, k.2, m.2))
+  text_to text (literal more ∷ rest) from to m = let k = occurs_cut text more from m.0 m.1 in (k.0, k.1, (m.0, k.2, m.2))
   text_to text (empty ∷ rest) from to m = m
   text_to text (byte_class ranges ∷ rest) from to m = m
   text_to text (char_class ranges ∷ rest) from to m = m
@@ -60,7 +60,7 @@ module _ (bytes : List ℕ) where
 
   text_from : (text : List ℕ) (ts : List Tree) (from to : ℕ) → InOrder (literal text ∷ ts) from to → InOrder (with_text text ts) from to
   text_from text [] from to m = m
-  text_from text (literal more ∷ rest) from to (middle, s, (next, k, m)) = (next, stands_join text more from middle next s k, m)
+  text_from text (literal more ∷ rest) from to (middle, s, (next, k, m)) = (next, occurs_join text more from middle next s k, m)
   text_from text (empty ∷ rest) from to m = m
   text_from text (byte_class ranges ∷ rest) from to m = m
   text_from text (char_class ranges ∷ rest) from to m = m

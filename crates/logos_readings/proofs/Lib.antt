@@ -6,6 +6,6 @@ mod StripItems
 mod StripVariants
 mod StripSound
 mod StripEnums
-mod StandAlike
+mod OccurAlike
 mod BuilderLaws
 mod BranchLaws

@@ -15,10 +15,10 @@ use Rattle.logos_strip.specs.declared.spots.TokenSpot.TheVariants.{Open, Within}
 use Rattle.logos_strip.specs.Stripping.{left, sorted, stripped}
 use Rattle.logos_readings.specs.Stays.{stay, attributes_stay, derive_without_macro, are_attributes, begins_word}
 use Rattle.logos_readings.specs.StrippedParts.{ItemsStay, VariantStays, EnumStays}
-use Rattle.logos_spans.proofs.RuleParts.{Anything, Gives}
+use Rattle.logos_spans.proofs.RuleParts.{Anything, Yields}
 use Rattle.logos_spans.proofs.TokenParts.{append_append}
-use Rattle.logos_spans.proofs.GenericParts.{name_gives, generics_keep}
-use Rattle.logos_spans.proofs.HeadParts.{announced_part, where_gives}
+use Rattle.logos_spans.proofs.GenericParts.{name_yields, generics_keep}
+use Rattle.logos_spans.proofs.HeadParts.{announced_part, where_yields}
 use Rattle.logos_readings.proofs.Rests.{Back, back_rests, back_self}
 use Rattle.logos_readings.proofs.StripAttributes.{attributes_sound}
 use Rattle.logos_readings.proofs.StripItems.{ListStays, Attributed, attributes_at}
@@ -160,9 +160,9 @@ enum_with tokens attributes middle value list va vl a w e =
 
 item_ends : (attributes rest : TokenList) (value : EnumValue) → item attributes rest (Ok (value, none)) → (value.attributes ≡ attributes) × Ends value.variants rest
 item_ends attributes rest value (goes {value = name} {rest = r1} nm (goes {value = ps} {rest = r2} ge (goes {value = w} {rest = r3} wh (goes {value = list} {rest = r4} body (goes {value = u} {rest = r5} en g))))) =
-    let one : Back rest r1 = (subst (Gives (Back rest) Anything) nm (name_gives (Back rest) (back_rests rest) rest (back_self rest))).1 in
+    let one : Back rest r1 = (subst (Yields (Back rest) Anything) nm (name_yields (Back rest) (back_rests rest) rest (back_self rest))).1 in
     let two : Back rest r2 = (generics_keep (Back rest) (back_rests rest) r1 (Ok (ps, r2)) one ge).1 in
-    let three : Back rest r3 = (subst (Gives (Back rest) Anything) wh (where_gives (Back rest) (back_rests rest) r2 two)).1 in
+    let three : Back rest r3 = (subst (Yields (Back rest) Anything) wh (where_yields (Back rest) (back_rests rest) r2 two)).1 in
     let ends : Ends list r3 = body_outcome r3 (Ok (list, r4)) body (end_none r4 r5 u en) in
     let same : enum_of attributes name ps list ≡ value = same-value (enum_of attributes name ps list) value r5 none g in
     subst (λ (v : EnumValue). (v.attributes ≡ attributes) × Ends v.variants rest) same (refl, ends_back list rest r3 three ends)
@@ -172,7 +172,7 @@ enum_stays tokens value (reads {attributes = attributes} {rest = rest} front it)
     let k = item_ends attributes rest value it in
     let middle = front.middle in
     let from : Back middle rest = announced_part (Back middle) (back_rests middle) middle rest (back_self middle) front.announced in
-    enum_with tokens attributes middle value value.variants k.0 refl (attributes_at Enum tokens attributes middle tt front.stand) (word_comes middle rest front.announced) (ends_back value.variants middle rest from k.1)
+    enum_with tokens attributes middle value value.variants k.0 refl (attributes_at Enum tokens attributes middle tt front.occur) (word_comes middle rest front.announced) (ends_back value.variants middle rest from k.1)
 
 -- ---- The same by the parts.
 

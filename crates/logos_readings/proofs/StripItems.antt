@@ -6,7 +6,7 @@ use Rattle.logos_lexeme.specs.declared.lexeme.Spacing.{Spacing}
 use Rattle.logos_lexeme.specs.declared.lexeme.Delimiter.TheVariants.{Parenthesis, Bracket, Brace}
 use Rattle.logos_token.specs.Tokens.{Token, TokenList, identifier, punctuation, literal, doc, group, none, also, append}
 use Rattle.logos_type_reader.proofs.ReadWritten.{type_written}
-use Rattle.logos_enum.specs.Attributes.{Attributes, stand, after_parenthesis, after_visibility}
+use Rattle.logos_enum.specs.Attributes.{Attributes, occur, after_parenthesis, after_visibility}
 use Rattle.logos_enum.specs.Enum.{FieldType, fits, colon_in, label, field_of, field, fields}
 use Rattle.logos_enum.specs.EnumValues.{Typed, FieldValue}
 use Rattle.logos_enum.specs.Generics.{name_in}
@@ -276,7 +276,7 @@ pub record Attributed (scope : Scope) (run attributes rest : TokenList) : Type 0
   pub stays : sorted scope Open run ≡ attributes_stay (change_of scope) attributes ++ sorted scope Open rest
 
 pub attributes_at : (scope : Scope) (run attributes rest : TokenList) → HasAttributes scope → Attributes run (Ok (attributes, rest)) → Attributed scope run attributes rest
-attributes_at scope run attributes rest h (stand e f) =
+attributes_at scope run attributes rest h (occur e f) =
     let p = attributes_passed scope run rest h e in
     let same : attributes ≡ p.front = one-front attributes p.front rest (sym f ∙ p.is) in
     record { proper = ap are_attributes same ∙ p.proper; is = f; stays = p.stays ∙ ap (λ (a : TokenList). attributes_stay (change_of scope) a ++ sorted scope Open rest) (sym same) }

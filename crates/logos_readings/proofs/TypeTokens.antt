@@ -6,7 +6,7 @@ use Rattle.logos_token.specs.Tokens.{Token, TokenList, identifier, punctuation, 
 use Rattle.logos_enum.specs.Marks.{hash}
 use Rattle.logos_strip.specs.Helpers.{is_comma}
 use Rattle.logos_type.specs.Parts.{Tree}
-use Rattle.logos_type_reader.specs.Written.{Ending, Lifetimes, in_angles, LifetimeList, no_lifetime, last_lifetime, lifetimes, Written, a_name, a_form, Form, path, rooted, qualified, borrowed, borrowed_for, pointer_const, pointer_mut, slice, array, tuple, trait_object, bound_function, function, Referent, shared, mutable, Qualified, of_type, of_trait, AnyPath, from_name, from_root, Path, last, longer, Longer, member, angled, angled_member, called, giving, Angled, plain, turbofish, Arguments, finished, final, further, Argument, a_lifetime, a_literal, empty_braces, braces, a_type, a_binding, Bounds, one_bound, last_bound, plus_after, bounds, Bound, lifetime_bound, trait_bound, enclosed, Questioned, unquestioned, questioned, Trait, unbound, for_all, Function, not_safe, safe, Linked, linked, linked_as, unlinked, Taking, takes_only, takes_and_gives}
+use Rattle.logos_type_reader.specs.Written.{Ending, Lifetimes, in_angles, LifetimeList, no_lifetime, last_lifetime, lifetimes, Written, a_name, a_form, Form, path, rooted, qualified, borrowed, borrowed_for, pointer_const, pointer_mut, slice, array, tuple, trait_object, bound_function, function, Referent, shared, mutable, Qualified, of_type, of_trait, AnyPath, from_name, from_root, Path, last, longer, Longer, member, angled, angled_member, called, giving, Angled, plain, turbofish, Arguments, finished, final, further, Argument, a_lifetime, a_literal, empty_braces, braces, a_type, a_binding, Bounds, one_bound, last_bound, plus_after, bounds, Bound, lifetime_bound, trait_bound, enclosed, Questioned, unquestioned, questioned, Trait, unbound, for_all, Function, not_safe, safe, Linked, linked, linked_as, unlinked, Taking, takes_only, takes_and_yields}
 
 -- with this token no attribute begins
 abbrev pub IsPlain : Token → Type 0
@@ -143,4 +143,4 @@ mutual
 
   taking : {n : ℕ} {run rest : TokenList} {ps : List Tree} {e : Ending} → Taking n run ps rest e → Passes run rest
   taking (takes_only h) = one tt refl
-  taking (takes_and_gives h g) = on tt refl (on refl refl (on refl refl (written g)))
+  taking (takes_and_yields h g) = on tt refl (on refl refl (on refl refl (written g)))

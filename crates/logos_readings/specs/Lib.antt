@@ -1,4 +1,4 @@
 pub mod PiecesInTurn
 pub mod Stays
 pub mod StrippedParts
-pub mod Words
+pub mod Imports

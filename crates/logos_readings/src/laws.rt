@@ -2,7 +2,7 @@
 //! proved law.
 
 ghost use Rattle.std.specs.Prelude.{◌≡◌, ◌<◌, ◌≤◌, ◌↔◌, ℕ, ◌+◌, ◌^◌, Bool, List, Ok, Option, IfSome};
-ghost use Rattle.logos_readings.specs.Words.{EnumValue, Piece, Reads, TokenList, pieces, stripped, in_file, moved, StandInReport, StandInText, ArePieces, EnumStays, IsBytes, Matches, MatchesInOrder, SomeMatches, Tree, repetition, trees, alternation_of, concat_of, repetition_of};
+ghost use Rattle.logos_readings.specs.Imports.{EnumValue, Piece, Reads, TokenList, pieces, stripped, in_file, moved, OccurInReport, OccurInText, ArePieces, EnumStays, IsBytes, Matches, MatchesInOrder, SomeMatches, Tree, repetition, trees, alternation_of, concat_of, repetition_of};
 
 /// The pieces of an argument are its first piece, and then the pieces of what is left after that
 /// piece and its comma.
@@ -32,9 +32,9 @@ pub fn offsets_are_sums()
 {}
 
 /// Texts stand in a report as they stand in the text of a lexer.
-pub fn texts_stand_alike()
+pub fn texts_occur_alike()
     ensures { (texts : List (List ℕ)) (whole : List ℕ) →
-        StandInReport texts whole ↔ StandInText texts whole }
+        OccurInReport texts whole ↔ OccurInText texts whole }
 {}
 
 /// What is built of parts, of branches or of a repetition, in its simplest form, matches exactly

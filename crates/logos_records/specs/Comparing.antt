@@ -2,7 +2,7 @@
 use Rattle.std.specs.Prelude.{ℕ, Bool, List, ◌∷◌, ◌++◌, codes, option_map}
 use Rattle.json.specs.Token.{Token, key}
 use Rattle.logos_json.specs.Members.{bool_member, bytes_member, maybe_number, maybe_text, object}
-use Rattle.logos_answers.specs.declared.differing.Finding.{Finding}
+use Rattle.logos_answers.specs.declared.difference.Finding.{Finding}
 
 -- What a lexer finds, as a member: its leaf and its variant, which are null for an error, and its
 -- text.

@@ -5,8 +5,8 @@ use Rattle.logos_json.specs.Members.{bytes_member, maybe_number, maybe_text, num
 use Rattle.logos_records.specs.declared.items.ItemRecord.{ItemRecord}
 
 -- Where an item begins: its line, its column, and its offset in bytes.
-abbrev pub place_members : ItemRecord → List Token
-place_members item = number_member (codes "line") item.position.line ++ (number_member (codes "column") item.position.column ++ number_member (codes "from") item.from)
+abbrev pub location_members : ItemRecord → List Token
+location_members item = number_member (codes "line") item.location.line ++ (number_member (codes "column") item.location.column ++ number_member (codes "from") item.from)
 
 -- What an item is: its leaf and its variant, which are null for an error, and its text.
 abbrev pub kind_members : ItemRecord → List Token
@@ -15,4 +15,4 @@ kind_members item =
 
 -- An item: where it begins, what it is, and its text.
 abbrev pub item_members : ItemRecord → List Token
-item_members item = place_members item ++ kind_members item
+item_members item = location_members item ++ kind_members item

@@ -4,7 +4,7 @@ use Rattle.std.specs.List.{flat_map}
 use Rattle.json.specs.Token.{Token}
 use Rattle.logos_answers.specs.Matches.{bytes_between, longest_from}
 use Rattle.logos_answers.specs.Names.{variant_text}
-use Rattle.logos_evidence.specs.declared.matching.Match.{Match}
+use Rattle.logos_evidence.specs.declared.matches.Match.{Match}
 use Rattle.logos_evidence.specs.Matching.{AreMatches, IsWinner}
 use Rattle.logos_graph.specs.View.{rules_of}
 use Rattle.logos_json.specs.Lines.{AreLines, LinesValue, Puts}

@@ -1,7 +1,7 @@
 //! The object of a comparison of two lexers.
 
 ghost use Rattle.std.specs.Prelude.{◌≡◌, ◌++◌, ◌∷◌, [], codes, false, true};
-ghost use Rattle.logos_records.specs.Words.{Gains, Puts, bool_member, bytes_member, object, finding_member, mode_member};
+ghost use Rattle.logos_records.specs.Imports.{Gains, Puts, bool_member, bytes_member, object, finding_member, mode_member};
 
 use logos_answers::Finding;
 use logos_json::JsonLines;

@@ -1,7 +1,7 @@
 //! The objects of what leaves find, and of where they lose.
 
 ghost use Rattle.std.specs.Prelude.{◌≡◌, ◌++◌, ◌∷◌, [], OnOk, codes, length, option_map};
-ghost use Rattle.logos_records.specs.Words.{loss_value, Gains, IsGraphOf, Puts, PutsExample, PutsExamples, bytes_member, example_members, loss_members, maybe_bytes, null_member, number_member, object};
+ghost use Rattle.logos_records.specs.Imports.{loss_value, Gains, IsGraphOf, Puts, PutsExample, PutsExamples, bytes_member, example_members, loss_members, maybe_bytes, null_member, number_member, object};
 
 use crate::matches::push_leaf_members;
 use logos_answers::{Evidence, Loss, evidence_of};

@@ -1,7 +1,7 @@
 //! The objects of inputs that together pass all edges of a graph.
 
 ghost use Rattle.std.specs.Prelude.{◌≡◌, ◌∷◌, [], IfOk, map};
-ghost use Rattle.logos_records.specs.Words.{flat_map, AreInputRecords, Puts, PutsInputs, input_lines, object};
+ghost use Rattle.logos_records.specs.Imports.{flat_map, AreInputRecords, Puts, PutsInputs, input_lines, object};
 
 use logos_answers::first_of;
 use logos_evidence::covering_inputs;

@@ -1,7 +1,7 @@
 //! The objects of leaves, and of what a lexer costs.
 
 ghost use Rattle.std.specs.Prelude.{◌≡◌, ◌∷◌, []};
-ghost use Rattle.logos_records.specs.Words.{Gains, Puts, object, cost_members, leaf_members, leaf_objects, name_members, shape_members};
+ghost use Rattle.logos_records.specs.Imports.{Gains, Puts, object, cost_members, leaf_members, leaf_objects, name_members, shape_members};
 
 use logos_inspect::{Costs, LeafRow};
 use logos_json::JsonLines;

@@ -1,7 +1,7 @@
 //! The objects of what matches from an offset of an input.
 
 ghost use Rattle.std.specs.Prelude.{◌≡◌, ◌≤◌, IfOk, OnOk, Some, length};
-ghost use Rattle.logos_records.specs.Words.{flat_map, AllStart, AreMatchRecords, Gains, IsBytes, IsGraphOf, Puts, PutsMatches, rules_of, end_members, match_lines, named_leaf};
+ghost use Rattle.logos_records.specs.Imports.{flat_map, AllStart, AreMatchRecords, Gains, IsBytes, IsGraphOf, Puts, PutsMatches, rules_of, end_members, match_lines, named_leaf};
 
 use logos_answers::{bytes_between, longest_of, variant_at};
 use logos_evidence::{Match, matches_from, winner};

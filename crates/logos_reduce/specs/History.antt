@@ -10,7 +10,7 @@ HistoryOf r = IsHistory r.table r.splits.items (slice_index r.blocks.items)
 
 -- Different states stand for blocks that were parted, and a state that is entered by the end leads
 -- nowhere.
-pub record GivesEvidence (r : Reduction) : Type 0 where
+pub record YieldsEvidence (r : Reduction) : Type 0 where
   pub history : HistoryOf r
   pub some : 0 < length r.splits.items
   pub states : vec_len r.blocks ≡ size r.table

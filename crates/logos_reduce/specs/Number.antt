@@ -23,12 +23,12 @@ module _ (edge : ℕ → ℕ → Option ℕ) where
   pub record IsInTurn (numbers states : List ℕ) (i k : ℕ) : Type 0 where
     pub met : (r l b : ℕ) → r < length states → ComesBefore r l i k →
         edge (slice_index states r) l ≡ Some b → IsMet numbers b
-    pub place : ℕ → ℕ
+    pub slot : ℕ → ℕ
     pub symbol : ℕ → ℕ
-    pub first : (j : ℕ) → 0 < j → j < length states → IsFirstInto states j (place j) (symbol j)
-    pub passed : (j : ℕ) → 0 < j → j < length states → ComesBefore (place j) (symbol j) i k
+    pub first : (j : ℕ) → 0 < j → j < length states → IsFirstInto states j (slot j) (symbol j)
+    pub passed : (j : ℕ) → 0 < j → j < length states → ComesBefore (slot j) (symbol j) i k
     pub rises : (j h : ℕ) → 0 < j → j < h → h < length states →
-        ComesBefore (place j) (symbol j) (place h) (symbol h)
+        ComesBefore (slot j) (symbol j) (slot h) (symbol h)
 
 -- Each block is that of a state.
 abbrev pub AreUsed : ℕ → (ℕ → ℕ) → List ℕ → Type 0

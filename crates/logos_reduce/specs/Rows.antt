@@ -12,7 +12,7 @@ target_by row k = target_of (slice_index row k)
 
 -- The rows at these indeices among the distinct ones.
 abbrev pub rows_at : List ℕ → List (List ℕ) → List (List ℕ)
-rows_at places distinct = map (λ place. slice_index_or distinct place []) places
+rows_at slots distinct = map (λ slot. slice_index_or distinct slot []) slots
 
 -- Where a state leads by a symbol.
 abbrev pub target_in : List (List ℕ) → ℕ → ℕ → Option ℕ

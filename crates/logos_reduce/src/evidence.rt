@@ -2,7 +2,7 @@
 //! the reduction, for two states that a caller names.
 
 ghost use Rattle.std.specs.Prelude.{◌≡◌, ◌≢◌, ◌⊎◌, ◌↔◌, ◌<◌, ℕ, IsTrue, IfOk, IfSome, MatchOption, Some, None};
-ghost use Rattle.logos_reduce.specs.Views.{size, to, GivesEvidence, mark_with_end, mark_after, Distinguishes, IsEvidence, state_after, ArePartedAt};
+ghost use Rattle.logos_reduce.specs.Views.{size, to, YieldsEvidence, mark_with_end, mark_after, Distinguishes, IsEvidence, state_after, ArePartedAt};
 
 use crate::reduction::Reduction;
 use crate::rows::{END, WIDTH};
@@ -73,7 +73,7 @@ fn ordered(a: usize, b: usize) -> (usize, usize)
 
 /// Returns the block whose split parted two states.
 fn parted_at(reduced: &Reduction, s: usize, t: usize) -> usize
-    requires evidence { GivesEvidence reduced.now }
+    requires evidence { YieldsEvidence reduced.now }
     requires s_in { s < size reduced.now.table }
     requires t_in { t < size reduced.now.table }
     requires different { s ≢ t }
@@ -109,7 +109,7 @@ impl Reduction {
     ///
     /// `AllocError` where there is no memory for the bytes.
     pub fn evidence(&self, alloc: Global, s: usize, t: usize) -> Result<(Vec<u8>, bool), AllocError>
-        requires evidence { GivesEvidence self.now }
+        requires evidence { YieldsEvidence self.now }
         requires s_in { s < size self.now.table }
         requires t_in { t < size self.now.table }
         requires different { s ≢ t }

@@ -33,7 +33,7 @@ fn meet_targets(
     merged: &Partition,
     i: usize,
 ) -> Result<(), AllocError>
-    requires place { i < vec_len order.old.states }
+    requires slot { i < vec_len order.old.states }
     requires len { vec_len merged.now.blocks.of ≡ size table.now }
     requires room { vec_len merged.now.leaders ≡ vec_len order.old.numbers }
     requires within { (s : ℕ) → s < size table.now →

@@ -2,7 +2,7 @@
 //! numbering those that it meets.
 
 ghost use Rattle.std.specs.Prelude.{true, ◌≡◌, ℕ, ◌+◌, ◌<◌, ◌++◌, ◌∷◌, ◌⊎◌, [], OnOk, IfOk, length, vec_len, slice_index};
-ghost use Rattle.logos_reduce.specs.Words.{IsOrder, IsMet, Grows};
+ghost use Rattle.logos_reduce.specs.Imports.{IsOrder, IsMet, Grows};
 
 use std::alloc::{AllocError, Global};
 

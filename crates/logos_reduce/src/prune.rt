@@ -123,11 +123,11 @@ fn pruned_rows(rows: Rows, order: &Order) -> Rows
         ≡ met_target order.now.numbers.items (target_in (rows_of rows) s k) }
 {
     let Rows {
-        places,
+        slots,
         mut distinct,
     } = rows;
     prune_all(&mut distinct.keys, order);
-    Rows { places, distinct }
+    Rows { slots, distinct }
 }
 
 /// Returns the table without the edges to states that have no mark and lead to none.

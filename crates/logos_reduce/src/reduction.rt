@@ -1,7 +1,7 @@
 //! Reduces a table. `logos_graph` calls it with the table of an automaton.
 
 ghost use Rattle.std.specs.Prelude.{◌<◌, IfOk};
-ghost use Rattle.logos_reduce.specs.Views.{IsRaw, IsReductionOf, IsLeast, IsInOrder, IsSpareless, size, GivesEvidence};
+ghost use Rattle.logos_reduce.specs.Views.{IsRaw, IsReductionOf, IsLeast, IsInOrder, IsSpareless, size, YieldsEvidence};
 
 use crate::merge::blocks::{Blocks, Split};
 use crate::merge::{Partition, merge};
@@ -39,7 +39,7 @@ pub fn reduce(alloc: Global, table: Table, root: usize) -> Result<Reduction, All
     ensures least { IfOk result (λ r. IsLeast r.table) }
     ensures in_order { IfOk result (λ r. IsInOrder r.table) }
     ensures spareless { IfOk result (λ r. IsRaw table root → IsSpareless r.table) }
-    ensures evidence { IfOk result (λ r. IsRaw table root → GivesEvidence r) }
+    ensures evidence { IfOk result (λ r. IsRaw table root → YieldsEvidence r) }
 {
     let settled = settle(alloc, table)?;
     let pruned = prune(alloc, settled)?;

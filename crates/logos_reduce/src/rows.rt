@@ -31,12 +31,12 @@ pub struct DistinctRows {
 #[derive(Drop)]
 pub struct Rows {
     /// For each row of the list its index among the distinct ones.
-    pub(crate) places: Vec<usize>,
+    pub(crate) slots: Vec<usize>,
     /// The rows of the list, with few of them twice.
     pub(crate) distinct: DistinctRows,
     ghost wide: { AreWide distinct.keys.items },
-    ghost placed: { (i : ℕ) → i < vec_len places →
-        slice_index places.items i < length distinct.keys.items },
+    ghost placed: { (i : ℕ) → i < vec_len slots →
+        slice_index slots.items i < length distinct.keys.items },
 }
 
 impl Rows {
@@ -47,7 +47,7 @@ impl Rows {
         ensures { rows_of result ≡ [] }
     {
         Rows {
-            places: Vec::new(alloc),
+            slots: Vec::new(alloc),
             distinct: DistinctRows {
                 keys: Vec::new(alloc),
                 found: HashMap::new(alloc),
@@ -59,7 +59,7 @@ impl Rows {
     pub fn len(&self) -> usize
         ensures { result ≡ length (rows_of self.now) }
     {
-        self.places.len()
+        self.slots.len()
     }
 
     /// Returns the row at an index.
@@ -67,15 +67,15 @@ impl Rows {
         requires { i < length (rows_of self.now) }
         ensures { result.now ≡ slice_index_or (rows_of self.now) i [] }
     {
-        &self.distinct.keys[self.places[i]]
+        &self.distinct.keys[self.slots[i]]
     }
 
     /// Returns the index of row `i` among the distinct rows.
-    pub fn place(&self, i: usize) -> usize
+    pub fn slot(&self, i: usize) -> usize
         requires { i < length (rows_of self.now) }
-        ensures { result ≡ slice_index self.now.places.items i }
+        ensures { result ≡ slice_index self.now.slots.items i }
     {
-        self.places[i]
+        self.slots[i]
     }
 
     /// Returns how many distinct rows the list has.
@@ -86,51 +86,51 @@ impl Rows {
     }
 
     /// Returns the distinct row at an index.
-    pub(crate) fn distinct(&self, place: usize) -> &Row
-        requires { place < length self.now.distinct.keys.items }
-        ensures { result.now ≡ slice_index_or self.now.distinct.keys.items place [] }
+    pub(crate) fn distinct(&self, slot: usize) -> &Row
+        requires { slot < length self.now.distinct.keys.items }
+        ensures { result.now ≡ slice_index_or self.now.distinct.keys.items slot [] }
     {
-        &self.distinct.keys[place]
+        &self.distinct.keys[slot]
     }
 
     /// Returns the index of a row among the distinct ones, if it is found by its hash.
     fn find(&self, row: &Row, hash: u64) -> Option<usize>
-        ensures { IfSome result (λ place. (place < vec_len self.now.distinct.keys)
-            × (slice_index_or self.now.distinct.keys.items place [] ≡ row.now)) }
+        ensures { IfSome result (λ slot. (slot < vec_len self.now.distinct.keys)
+            × (slice_index_or self.now.distinct.keys.items slot [] ≡ row.now)) }
     {
-        let place = *self.distinct.found.get(&hash)?;
-        if place < self.distinct.keys.len() && self.distinct.keys[place] == *row {
-            return Some(place);
+        let slot = *self.distinct.found.get(&hash)?;
+        if slot < self.distinct.keys.len() && self.distinct.keys[slot] == *row {
+            return Some(slot);
         }
         None
     }
 
     /// Adds a row to the distinct ones.
     fn add(&mut self, row: &Row, hash: u64) -> Result<usize, AllocError>
-        ensures places { self.new.places ≡ self.old.places }
-        ensures place { IfOk result (λ place. place ≡ vec_len self.old.distinct.keys) }
+        ensures slots { self.new.slots ≡ self.old.slots }
+        ensures slot { IfOk result (λ slot. slot ≡ vec_len self.old.distinct.keys) }
         ensures rows { OnOk result
             (self.new.distinct.keys.items ≡ self.old.distinct.keys.items ++ row.now ∷ []) }
     {
-        let place = self.distinct.keys.len();
+        let slot = self.distinct.keys.len();
         self.distinct.keys.push(*row)?;
-        self.distinct.found.insert(hash, place)?;
-        Ok(place)
+        self.distinct.found.insert(hash, slot)?;
+        Ok(slot)
     }
 
     /// Returns the index of a row among the distinct ones, to which it is added if need be.
-    fn place_of(&mut self, row: &Row) -> Result<usize, AllocError>
-        ensures places { self.new.places ≡ self.old.places }
-        ensures place { IfOk result (λ place. (place < vec_len self.new.distinct.keys)
-            × (slice_index_or self.new.distinct.keys.items place [] ≡ row.now)) }
+    fn slot_of(&mut self, row: &Row) -> Result<usize, AllocError>
+        ensures slots { self.new.slots ≡ self.old.slots }
+        ensures slot { IfOk result (λ slot. (slot < vec_len self.new.distinct.keys)
+            × (slice_index_or self.new.distinct.keys.items slot [] ≡ row.now)) }
         ensures rows { OnOk result ((i : ℕ) → i < vec_len self.old.distinct.keys →
             slice_index_or self.new.distinct.keys.items i []
             ≡ slice_index_or self.old.distinct.keys.items i []) }
         ensures len { OnOk result (vec_len self.old.distinct.keys ≤ vec_len self.new.distinct.keys) }
     {
         let hash = row_hash(row);
-        if let Some(place) = self.find(row, hash) {
-            return Ok(place);
+        if let Some(slot) = self.find(row, hash) {
+            return Ok(slot);
         }
         self.add(row, hash)
     }
@@ -143,8 +143,8 @@ impl Rows {
     pub fn push(&mut self, row: &Row) -> Result<(), AllocError>
         ensures { OnOk result (rows_of self.new ≡ rows_of self.old ++ row.now ∷ []) }
     {
-        let place = self.place_of(row)?;
-        self.places.push(place)?;
+        let slot = self.slot_of(row)?;
+        self.slots.push(slot)?;
         Ok(())
     }
 }

@@ -38,8 +38,8 @@ fn common_leaves(alloc: Global, table: &Table) -> Result<Vec<Option<usize>>, All
         (length table.now.rows.distinct.keys.items) v.items) }
 {
     let mut leaves = Vec::new(alloc);
-    for place in 0..table.rows.count() {
-        leaves.push(common_leaf(table, table.rows.distinct(place)))?;
+    for slot in 0..table.rows.count() {
+        leaves.push(common_leaf(table, table.rows.distinct(slot)))?;
     }
     Ok(leaves)
 }
@@ -52,7 +52,7 @@ fn early_marks(alloc: Global, table: &Table) -> Result<Vec<Option<usize>>, Alloc
     let leaves = common_leaves(alloc, table)?;
     let mut early = Vec::new(alloc);
     for s in 0..table.len() {
-        early.push(leaves[table.rows.place(s)])?;
+        early.push(leaves[table.rows.slot(s)])?;
     }
     Ok(early)
 }

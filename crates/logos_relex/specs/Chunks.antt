@@ -15,9 +15,9 @@ item_at bytes (Token leaf span) = token leaf.0 span.from span.to (slice_range by
 item_at bytes (Error leaf span) = error (option_map (λ l. l.0) leaf) span.from span.to (slice_range bytes span.from span.to)
 
 -- What is stored of an item.
-abbrev pub place_of : TheItem → ItemAt
-place_of (found.Token leaf span slice) = Token leaf span
-place_of (found.Error leaf span slice) = Error leaf span
+abbrev pub offset_of : TheItem → ItemAt
+offset_of (found.Token leaf span slice) = Token leaf span
+offset_of (found.Error leaf span slice) = Error leaf span
 
 -- The same item, so many bytes later.
 abbrev pub moved : ℕ → ItemAt → ItemAt

@@ -1,7 +1,7 @@
 //! Chunks: the items of a few thousand bytes, which were found in the bytes of a window alone.
 
 ghost use Rattle.std.specs.Prelude.{◌≡◌, ◌<◌, ◌≤◌, length, map, take, IfOk, IfErr, IfSome};
-ghost use Rattle.logos_relex.specs.Views.{Runs, answers_of, place_of, item_at, IsChunk, IsInput, IsRefused, SettlesUpTo, TakesMatches};
+ghost use Rattle.logos_relex.specs.Views.{Runs, answers_of, offset_of, item_at, IsChunk, IsInput, IsRefused, SettlesUpTo, TakesMatches};
 
 use crate::lexed::RelexError;
 use logos_code::code::Code;
@@ -54,8 +54,8 @@ impl Chunk {
 }
 
 /// Returns an item without its bytes.
-fn place_of(item: Item<'_>) -> ItemAt
-    ensures { result ≡ place_of item.entry }
+fn offset_of(item: Item<'_>) -> ItemAt
+    ensures { result ≡ offset_of item.entry }
 {
     match item {
         Item::Token { leaf, span, .. } => ItemAt::Token { leaf, span },
@@ -81,7 +81,7 @@ fn settled<C: Fn(LeafId, &[u8]) -> Action + Drop>(
     let mut lexer = lexer;
     let mut items = Vec::new(alloc);
     while let Within::Item(item) = lexer.next_within(false) {
-        items.push(place_of(item))?;
+        items.push(offset_of(item))?;
     }
     Ok((items, lexer.span().to))
 }
@@ -182,7 +182,7 @@ pub(crate) fn last_items<C: Fn(LeafId, &[u8]) -> Action>(
 {
     let lexer = Lexer::new_bytes(code, bytes, callback)?;
     let found = lexer.items(alloc)?;
-    Ok(places(alloc, &found)?)
+    Ok(offsets(alloc, &found)?)
 }
 
 /// Returns items without their bytes.
@@ -190,12 +190,12 @@ pub(crate) fn last_items<C: Fn(LeafId, &[u8]) -> Action>(
 /// # Errors
 ///
 /// Returns `AllocError` if memory runs out.
-fn places(alloc: Global, found: &[Item<'_>]) -> Result<Vec<ItemAt>, AllocError>
-    ensures { IfOk result (λ items. items.items ≡ map place_of found.now) }
+fn offsets(alloc: Global, found: &[Item<'_>]) -> Result<Vec<ItemAt>, AllocError>
+    ensures { IfOk result (λ items. items.items ≡ map offset_of found.now) }
 {
     let mut items = Vec::with_capacity(alloc, found.len())?;
     for item in found {
-        items.push(place_of(*item))?;
+        items.push(offset_of(*item))?;
     }
     Ok(items)
 }

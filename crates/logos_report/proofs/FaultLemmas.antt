@@ -11,7 +11,7 @@ use Rattle.logos_page.specs.Pages.{PageValue, Shows}
 use Rattle.logos_report.specs.Sets.{NextValue, begins_error, errors_after, next_after}
 use Rattle.std.specs.Prelude.{cond, true, false}
 use mir.Val.{bool_byte}
-use Rattle.logos_report.specs.Places.{SourceValue}
+use Rattle.logos_report.specs.Locations.{SourceValue}
 use Rattle.logos_page.proofs.PageLemmas.{shows_nothing, shows_then}
 
 pub next_left : (faults : List SpannedError) (i : ℕ) (d : SpannedError) → i < length faults → drop i faults ≡ get_or faults i d ∷ drop (i + 1) faults

@@ -4,7 +4,7 @@ use Rattle.std.proofs.Math.Seq.{drop-cons}
 use Rattle.std.proofs.Math.ListN.{drop_of_length-le}
 use Rattle.logos_report.specs.declared.warnings.Warning.{Warning}
 use Rattle.logos_page.specs.Pages.{PageValue, Shows}
-use Rattle.logos_report.specs.Places.{SourceValue}
+use Rattle.logos_report.specs.Locations.{SourceValue}
 use Rattle.logos_report.specs.Warnings.{all_texts, warning_texts}
 use Rattle.logos_page.proofs.PageLemmas.{shows_nothing, shows_then}
 

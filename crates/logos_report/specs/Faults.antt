@@ -9,7 +9,7 @@ use Rattle.logos_report.specs.Sets.{NextValue, first_faults, follows, next_after
 use Rattle.logos_token.specs.declared.error.fault_code.FaultCode.{FaultCode}
 use Rattle.logos_page.specs.declared.page.Style.TheVariants.{Error, Frame, Strong}
 use Rattle.logos_page.specs.Pages.{painted}
-use Rattle.logos_report.specs.Places.{SourceValue, place_line}
+use Rattle.logos_report.specs.Locations.{SourceValue, location_line}
 use Rattle.logos_page.specs.Shown.{shown_text}
 
 -- A text up to its first LF.
@@ -29,7 +29,7 @@ head_line is_colored fault =
 
 -- The line of a fault, and the one that names its position in the file.
 abbrev pub fault_texts : Bool → SourceValue → ℕ → Fault → List (List ℕ)
-fault_texts is_colored source begin fault = head_line is_colored fault ∷ place_line is_colored source begin fault.span.from ∷ []
+fault_texts is_colored source begin fault = head_line is_colored fault ∷ location_line is_colored source begin fault.span.from ∷ []
 
 -- Whether a fault has the code of this name.
 abbrev pub has_name : List ℕ → Fault → Bool
@@ -50,7 +50,7 @@ rest_line is_colored code count = code_text is_colored code ++ (painted is_color
 -- The same of a fault that comes next: one that belongs to an earlier report is a position of that.
 abbrev pub listed_texts : Bool → SourceValue → ℕ → NextValue → Fault → List (List ℕ)
 listed_texts is_colored source begin next fault =
-    if follows next fault then place_line is_colored source begin fault.span.from ∷ [] else fault_texts is_colored source begin fault
+    if follows next fault then location_line is_colored source begin fault.span.from ∷ [] else fault_texts is_colored source begin fault
 
 -- How many of all faults are left out, or the largest number without those that are shown.
 abbrev pub left_out : FaultCode → List Fault → ℕ

@@ -3,10 +3,10 @@ use Rattle.std.specs.Prelude.{ℕ, Bool, List, [], ◌∷◌, ◌++◌, drop, ta
 use Rattle.std.specs.List.{flat_map}
 use Rattle.logos_token.specs.Faults.{Fault}
 use Rattle.logos_token.specs.FaultView.{faults_of}
-use Rattle.logos_report.specs.declared.refused.FaultListing.{FaultListing}
-use Rattle.logos_report.specs.declared.refused.Refused.{Refused}
+use Rattle.logos_report.specs.declared.file_report.FaultListing.{FaultListing}
+use Rattle.logos_report.specs.declared.file_report.Refused.{Refused}
 use Rattle.logos_report.specs.Faults.{texts_after}
-use Rattle.logos_report.specs.Places.{SourceValue}
+use Rattle.logos_report.specs.Locations.{SourceValue}
 use Rattle.logos_report.specs.Sets.{first_faults, sizes_of}
 
 -- All faults of these parts of a file, in order.

@@ -4,7 +4,7 @@ use Rattle.std.specs.List.{flat_map}
 use Rattle.logos_page.specs.declared.page.Style.TheVariants.{Strong, Warning}
 use Rattle.logos_report.specs.declared.warnings.Warning.{Warning as Shown}
 use Rattle.logos_page.specs.Pages.{painted}
-use Rattle.logos_report.specs.Places.{SourceValue, place_line}
+use Rattle.logos_report.specs.Locations.{SourceValue, location_line}
 use Rattle.logos_page.specs.Shown.{shown_text}
 
 -- The line of a warning: its message, as it is shown.
@@ -14,7 +14,7 @@ warning_head is_colored message = painted is_colored Warning (codes "warning") +
 -- The line of a warning, and the one that names its position in the file.
 abbrev pub warning_texts : Bool → SourceValue → ℕ → Shown → List (List ℕ)
 warning_texts is_colored source begin warning =
-    warning_head is_colored (string_bytes warning.message) ∷ place_line is_colored source begin warning.span.from ∷ []
+    warning_head is_colored (string_bytes warning.message) ∷ location_line is_colored source begin warning.span.from ∷ []
 
 -- The same for warnings of a part of a file, in order.
 abbrev pub all_texts : Bool → SourceValue → ℕ → List Shown → List (List ℕ)

@@ -1,14 +1,14 @@
 //! The faults of a file.
 
 ghost use Rattle.std.specs.Prelude.{◌≡◌, ◌≤◌, ◌++◌, ◌==◌, ◌∷◌, [], codes, if◌then◌else◌, length, take};
-ghost use Rattle.logos_report.specs.Views.{count_by, name_of, fault_of, faults_of, is_error, shown_text, code_text, count_text, counted_texts, fault_texts, faults_texts, texts_after, first_line, has_name, head_line, rest_line, rest_text, seen_of, summary_line, all_faults, listed_faults, begins_error, errors_after, first_faults, sizes_of, next_value, Gains, Shows, painted, place_line};
+ghost use Rattle.logos_report.specs.Views.{count_by, name_of, fault_of, faults_of, is_error, shown_text, code_text, count_text, counted_texts, fault_texts, faults_texts, texts_after, first_line, has_name, head_line, rest_line, rest_text, seen_of, summary_line, all_faults, listed_faults, begins_error, errors_after, first_faults, sizes_of, next_value, Gains, Shows, painted, location_line};
 
 use crate::clues::{Clues, NextFaults, first_faults};
 use crate::fault_set::{FaultSet, set_at};
+use crate::file_report::{FaultListing, count_in, seen_in};
 use crate::frame::{Marks, push_frame_with, push_offset};
 use crate::notes::{ShownFault, push_notes};
 use crate::pattern_caret::caret_span;
-use crate::refused::{FaultListing, count_in, seen_in};
 use crate::sets::push_listed;
 use crate::source::Part;
 use logos_page::{Page, Style};
@@ -237,7 +237,7 @@ pub fn push_fault(page: &mut Page, part: Part<'_, '_>, known: KnownFault<'_>)
 /// Appends where a fault begins, and its lines with carets, but no line of a source that is too
 /// long. Returns how wide the column of line numbers is.
 fn push_span(page: &mut Page, part: Part<'_, '_>, fault: &SpannedError) -> usize
-    ensures { Shows (place_line page.old.is_colored part.entry.source.now part.entry.offset
+    ensures { Shows (location_line page.old.is_colored part.entry.source.now part.entry.offset
         fault.now.span.from ∷ []) page.old page.new }
 {
     if matches!(fault.code, FaultCode::LimitSource) {
@@ -255,7 +255,7 @@ pub(crate) fn push_marked(
     fault: &SpannedError,
     label: &str,
 ) -> usize
-    ensures { Shows (place_line page.old.is_colored part.entry.source.now part.entry.offset
+    ensures { Shows (location_line page.old.is_colored part.entry.source.now part.entry.offset
         fault.now.span.from ∷ []) page.old page.new }
 {
     let marks = Marks {

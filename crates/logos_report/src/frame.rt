@@ -1,11 +1,11 @@
 //! A span of a file: its lines, and carets under it.
 
 ghost use Rattle.std.specs.Prelude.{◌∷◌, []};
-ghost use Rattle.logos_report.specs.Views.{shown_text, Gains, Shows, arrow_line, place_line, shown_place, shown_position};
+ghost use Rattle.logos_report.specs.Views.{shown_text, Gains, Shows, arrow_line, location_line, shown_location, shown_line_column};
 
 use crate::source::{Part, Source};
 use crate::window::{FileSpot, LineWindow, window_at};
-use logos_lines::Position;
+use logos_lines::Location;
 use logos_page::{Page, Style, digits};
 use logos_token::token::Span;
 
@@ -39,7 +39,7 @@ pub(crate) struct Marks<'l> {
 /// Appends where a span begins, the lines at which it begins and ends, and carets of this style
 /// under it. Long lines are cut around it. Returns how many digits the number of the last line has.
 pub fn push_frame(page: &mut Page, part: Part<'_, '_>, span: Span, style: Style) -> usize
-    ensures { Shows (place_line page.old.is_colored part.entry.source.now part.entry.offset span.from
+    ensures { Shows (location_line page.old.is_colored part.entry.source.now part.entry.offset span.from
         ∷ []) page.old page.new }
 {
     let marks = Marks {
@@ -58,7 +58,7 @@ pub(crate) fn push_frame_with(
     offset: usize,
     marks: Marks<'_>,
 ) -> usize
-    ensures { Shows (place_line page.old.is_colored part.entry.source.now part.entry.offset offset
+    ensures { Shows (location_line page.old.is_colored part.entry.source.now part.entry.offset offset
         ∷ []) page.old page.new }
 {
     let frame = frame_of(part, marks);
@@ -75,7 +75,7 @@ fn frame_of<'p, 't>(part: Part<'p, 't>, marks: Marks<'p>) -> Frame<'p, 't> {
         source: part.source,
         first,
         last,
-        width: digits(last.position.line),
+        width: digits(last.location.line),
         style: marks.style,
         label: marks.label,
     }
@@ -85,57 +85,57 @@ fn frame_of<'p, 't>(part: Part<'p, 't>, marks: Marks<'p>) -> Frame<'p, 't> {
 fn spot_in(part: Part<'_, '_>, offset: usize) -> FileSpot {
     FileSpot {
         offset: offset.saturating_add(part.offset),
-        position: part.position(offset),
+        location: part.location(offset),
     }
 }
 
 /// Returns where what is shown of a span ends: at the end of the line before, where it ends with a
 /// line.
 fn last_shown(source: &Source<'_>, first: FileSpot, end: FileSpot) -> FileSpot {
-    if (end.position.column > 1) | (lines_after(first, end) == 0) {
+    if (end.location.column > 1) | (lines_after(first, end) == 0) {
         return end;
     }
     let offset = end.offset.saturating_sub(1);
     FileSpot {
         offset,
-        position: source.position(offset),
+        location: source.location(offset),
     }
 }
 
 /// Appends the line that names an offset of a part of a file, after a margin.
 pub(crate) fn push_offset(page: &mut Page, part: Part<'_, '_>, offset: usize, width: usize)
-    ensures { Shows (place_line page.old.is_colored part.entry.source.now part.entry.offset offset
+    ensures { Shows (location_line page.old.is_colored part.entry.source.now part.entry.offset offset
         ∷ []) page.old page.new }
 {
     page.push_times(" ", width);
-    push_arrow(page, part.source, part.position(offset));
+    push_arrow(page, part.source, part.location(offset));
 }
 
 /// Appends an offset of a part of a file as `path:line:column`.
-pub fn push_place(page: &mut Page, part: Part<'_, '_>, offset: usize)
-    ensures { Gains (shown_place part.entry.source.now part.entry.offset offset) page.old page.new }
+pub fn push_location(page: &mut Page, part: Part<'_, '_>, offset: usize)
+    ensures { Gains (shown_location part.entry.source.now part.entry.offset offset) page.old page.new }
 {
-    push_position(page, part.source, part.position(offset));
+    push_line_column(page, part.source, part.location(offset));
 }
 
 /// Appends a position as `path:line:column`.
-fn push_position(page: &mut Page, source: &Source<'_>, place: Position)
-    ensures { Gains (shown_position source.now.path place) page.old page.new }
+fn push_line_column(page: &mut Page, source: &Source<'_>, location: Location)
+    ensures { Gains (shown_line_column source.now.path location) page.old page.new }
 {
     page.push_shown(source.path());
     page.push(":");
-    page.push_number(place.line);
+    page.push_number(location.line);
     page.push(":");
-    page.push_number(place.column);
+    page.push_number(location.column);
 }
 
 /// Appends the line that says where a span begins, without its blanks in front.
-fn push_arrow(page: &mut Page, source: &Source<'_>, place: Position)
-    ensures { Gains (arrow_line page.old.is_colored source.now.path place) page.old page.new }
+fn push_arrow(page: &mut Page, source: &Source<'_>, location: Location)
+    ensures { Gains (arrow_line page.old.is_colored source.now.path location) page.old page.new }
 {
     page.paint(Style::Frame, "-->");
     page.push(" ");
-    push_position(page, source, place);
+    push_line_column(page, source, location);
     page.push("\n");
 }
 
@@ -145,7 +145,7 @@ fn push_lines(page: &mut Page, frame: Frame<'_, '_>)
 {
     push_margin(page, frame.width);
     page.push("\n");
-    if frame.first.position.line == frame.last.position.line {
+    if frame.first.location.line == frame.last.location.line {
         push_only_line(page, frame);
     } else {
         push_first_line(page, frame);
@@ -158,17 +158,17 @@ fn push_lines(page: &mut Page, frame: Frame<'_, '_>)
 fn push_only_line(page: &mut Page, frame: Frame<'_, '_>)
     ensures { Shows [] page.old page.new }
 {
-    let Position { line, column } = frame.first.position;
+    let Location { line, column } = frame.first.location;
     let window = window_at(frame.source, frame.first);
     push_line(page, frame, line, window);
-    push_carets(page, frame, window, column, frame.last.position.column);
+    push_carets(page, frame, window, column, frame.last.location.column);
 }
 
 /// Appends the line at which a span begins that ends on a later one.
 fn push_first_line(page: &mut Page, frame: Frame<'_, '_>)
     ensures { Shows [] page.old page.new }
 {
-    let Position { line, column } = frame.first.position;
+    let Location { line, column } = frame.first.location;
     let window = window_at(frame.source, frame.first);
     push_line(page, frame, line, window);
     let frame = Frame { label: "", ..frame };
@@ -187,14 +187,14 @@ fn push_dots(page: &mut Page, frame: Frame<'_, '_>)
 
 /// Returns how many lines a spot is below another one.
 fn lines_after(first: FileSpot, last: FileSpot) -> usize {
-    last.position.line.saturating_sub(first.position.line)
+    last.location.line.saturating_sub(first.location.line)
 }
 
 /// Appends the line at which a span ends that began on an earlier one.
 fn push_last_line(page: &mut Page, frame: Frame<'_, '_>)
     ensures { Shows [] page.old page.new }
 {
-    let Position { line, column } = frame.last.position;
+    let Location { line, column } = frame.last.location;
     let window = window_at(frame.source, frame.last);
     push_line(page, frame, line, window);
     push_carets(page, frame, window, 1, column);

@@ -5,10 +5,10 @@
 mod clues;
 mod fault_set;
 mod faults;
+mod file_report;
 mod frame;
 mod notes;
 mod pattern_caret;
-mod refused;
 mod sets;
 mod source;
 mod warnings;
@@ -20,9 +20,9 @@ pub use faults::{
     KnownFault, MOST, begins_error, count_errors, first_line, is_error, push_fault, push_faults,
     push_rest, push_summary,
 };
-pub use frame::{push_frame, push_place};
+pub use file_report::{FaultListing, Refused, count_in, push_refused, seen_in};
+pub use frame::{push_frame, push_location};
 pub use notes::push_put_in;
 pub use pattern_caret::{PutIn, caret_span, put_in};
-pub use refused::{FaultListing, Refused, count_in, push_refused, seen_in};
 pub use source::{Part, Source};
 pub use warnings::{Warning, first_of, push_warning, push_warnings};

@@ -4,7 +4,7 @@ ghost use Rattle.std.specs.Prelude.{[]};
 ghost use Rattle.logos_page.specs.Pages.{Shows};
 
 use crate::faults::KnownFault;
-use crate::frame::push_place;
+use crate::frame::push_location;
 use crate::pattern_caret::{PutIn, put_in};
 use crate::source::Part;
 use logos_page::{Page, Style};
@@ -25,7 +25,7 @@ pub(crate) fn push_notes(page: &mut Page, shown: ShownFault<'_, '_, '_>)
 {
     push_other_lines(page, shown);
     push_put_in_note(page, shown);
-    push_other_place(page, shown);
+    push_other_location(page, shown);
     push_help(page, shown);
     page.push("\n");
 }
@@ -48,7 +48,7 @@ pub fn push_put_in(page: &mut Page, part: Part<'_, '_>, put: PutIn<'_>)
     page.push("the byte counts with `(?&");
     page.push_shown(put.name);
     page.push(")` put in, which is defined at ");
-    push_place(page, part, put.definition);
+    push_location(page, part, put.definition);
 }
 
 /// Appends the beginning of a line under a fault.
@@ -71,12 +71,12 @@ fn push_note_mark(page: &mut Page, width: usize)
 }
 
 /// Appends the position of the second span of a fault, if it has one.
-fn push_other_place(page: &mut Page, shown: ShownFault<'_, '_, '_>)
+fn push_other_location(page: &mut Page, shown: ShownFault<'_, '_, '_>)
     ensures { Shows [] page.old page.new }
 {
     if let Some(also) = shown.known.fault.also {
         push_note(page, shown.width, "note", "see also ");
-        push_place(page, shown.part, also.from);
+        push_location(page, shown.part, also.from);
         page.push("\n");
     }
 }
@@ -112,16 +112,16 @@ fn push_other_line(page: &mut Page, shown: ShownFault<'_, '_, '_>, line: &str, n
         return;
     }
     push_note(page, shown.width, "note", line.trim_start());
-    push_leaf_place(page, shown.part, shown.known.set.other(number));
+    push_leaf_location(page, shown.part, shown.known.set.other(number));
 }
 
 /// Appends the position of the fault of another leaf, if there is one, and ends the line.
-fn push_leaf_place(page: &mut Page, part: Part<'_, '_>, other: Option<&SpannedError>)
+fn push_leaf_location(page: &mut Page, part: Part<'_, '_>, other: Option<&SpannedError>)
     ensures { Shows [] page.old page.new }
 {
     if let Some(other) = other {
         page.push(" at ");
-        push_place(page, part, other.span.from);
+        push_location(page, part, other.span.from);
     }
     page.push("\n");
 }

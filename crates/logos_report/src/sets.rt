@@ -2,7 +2,7 @@
 //! at what stands before their first byte.
 
 ghost use Rattle.std.specs.Prelude.{◌∷◌, [], nat_lt, if◌then◌else◌};
-ghost use Rattle.logos_report.specs.Views.{fault_of, fault_texts, listed_texts, Shows, place_line, next_value};
+ghost use Rattle.logos_report.specs.Views.{fault_of, fault_texts, listed_texts, Shows, location_line, next_value};
 
 use crate::clues::{Meeting, Member, NextFaults, Start};
 use crate::faults::{KnownFault, push_fault, push_head, push_marked};
@@ -34,25 +34,25 @@ pub(crate) fn push_listed(
 /// Appends a fault of a set of ambiguous leaves, and what is known of the set after the last one.
 fn push_member(page: &mut Page, part: Part<'_, '_>, known: KnownFault<'_>, member: Member<'_>)
     ensures { Shows (if nat_lt 0 member.entry.number
-        then place_line page.old.is_colored part.entry.source.now part.entry.offset
+        then location_line page.old.is_colored part.entry.source.now part.entry.offset
         known.entry.fault.now.span.from ∷ []
         else fault_texts page.old.is_colored part.entry.source.now part.entry.offset
         (fault_of known.entry.fault.now)) page.old page.new }
 {
-    let width = push_place_of(page, part, known.fault, member);
+    let width = push_location_of(page, part, known.fault, member);
     push_end(page, ShownFault { part, known, width }, member);
 }
 
 /// Appends the position of a fault of a set of ambiguous leaves, and in front of the first one the
 /// line of the report. Returns how wide the column of line numbers is.
-fn push_place_of(
+fn push_location_of(
     page: &mut Page,
     part: Part<'_, '_>,
     fault: &SpannedError,
     member: Member<'_>,
 ) -> usize
     ensures { Shows (if nat_lt 0 member.entry.number
-        then place_line page.old.is_colored part.entry.source.now part.entry.offset
+        then location_line page.old.is_colored part.entry.source.now part.entry.offset
         fault.now.span.from ∷ []
         else fault_texts page.old.is_colored part.entry.source.now part.entry.offset
         (fault_of fault.now)) page.old page.new }

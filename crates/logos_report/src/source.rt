@@ -1,9 +1,9 @@
 //! Files whose positions are shown.
 
 ghost use Rattle.std.specs.Prelude.{◌≡◌, ◌≤◌, ◌⊎◌, IfOk, MatchOption, length};
-ghost use Rattle.logos_report.specs.Views.{IsLineOf, IsLongLine, IsNoLine, place_at, in_file};
+ghost use Rattle.logos_report.specs.Views.{IsLineOf, IsLongLine, IsNoLine, location_at, in_file};
 
-use logos_lines::{LineIndex, Position};
+use logos_lines::{LineIndex, Location};
 use logos_token::token::Span;
 use std::alloc::{AllocError, Global};
 use std::marker::Model;
@@ -19,11 +19,11 @@ pub struct Part<'p, 't> {
 
 impl Part<'_, '_> {
     /// Returns the line and the column in the file of an offset of the part.
-    pub fn position(self, offset: usize) -> Position
-        ensures { result ≡ place_at self.entry.source.now.text
+    pub fn location(self, offset: usize) -> Location
+        ensures { result ≡ location_at self.entry.source.now.text
             (in_file self.entry.offset offset) }
     {
-        self.source.position(offset.saturating_add(self.offset))
+        self.source.location(offset.saturating_add(self.offset))
     }
 }
 
@@ -52,7 +52,7 @@ pub struct Source<'t> {
 
 impl<'t> Model for Source<'t> {
     ghost use Rattle.std.specs.Prelude.{◌≡◌};
-    ghost use Rattle.logos_report.specs.Places.{SourceValue};
+    ghost use Rattle.logos_report.specs.Locations.{SourceValue};
 
     ghost Value = { SourceValue };
 
@@ -90,8 +90,8 @@ impl<'t> Source<'t> {
     }
 
     /// Returns the line and the column of an offset in bytes.
-    pub fn position(&self, offset: usize) -> Position
-        ensures { result ≡ place_at self.now.text offset }
+    pub fn location(&self, offset: usize) -> Location
+        ensures { result ≡ location_at self.now.text offset }
     {
         self.index.line_column(offset)
     }

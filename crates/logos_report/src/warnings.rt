@@ -1,9 +1,9 @@
 //! Warnings: probable mistakes that are not faults.
 
 ghost use Rattle.std.specs.Prelude.{◌≡◌, ◌++◌, ◌∷◌, [], codes, string_bytes};
-ghost use Rattle.logos_report.specs.Views.{shown_text, Gains, Shows, painted, place_line, all_texts, shown_of, warning_head, warning_texts, warnings_texts};
+ghost use Rattle.logos_report.specs.Views.{shown_text, Gains, Shows, painted, location_line, all_texts, shown_of, warning_head, warning_texts, warnings_texts};
 
-use crate::frame::{push_frame, push_place};
+use crate::frame::{push_frame, push_location};
 use crate::notes::push_note;
 use crate::source::Part;
 use logos_page::{Page, Style};
@@ -129,7 +129,7 @@ fn push_other(page: &mut Page, part: Part<'_, '_>, width: usize, also: Option<Sp
 {
     if let Some(span) = also {
         push_note(page, width, "note", "see also ");
-        push_place(page, part, span.from);
+        push_location(page, part, span.from);
         page.push("\n");
     }
 }

@@ -5,7 +5,7 @@ ghost use Rattle.std.specs.Prelude.{◌≡◌, []};
 ghost use Rattle.logos_page.specs.Pages.{Shows};
 
 use crate::source::Source;
-use logos_lines::Position;
+use logos_lines::Location;
 use logos_page::{Page, columns_of};
 
 /// How many columns of a line are shown.
@@ -23,7 +23,7 @@ const FAR: usize = 800;
 pub(crate) struct FileSpot {
     /// In bytes of the file.
     pub(crate) offset: usize,
-    pub(crate) position: Position,
+    pub(crate) location: Location,
 }
 
 /// What is near a spot in a line, and how much of it is left out.
@@ -50,7 +50,7 @@ pub(crate) fn window_at<'t>(source: &Source<'t>, spot: FileSpot) -> LineWindow<'
     let window = LineWindow {
         text: near,
         front: spot
-            .position
+            .location
             .column
             .saturating_sub(1)
             .saturating_sub(before),

@@ -4,7 +4,7 @@ use Rattle.std.proofs.lemmas.List.Elements.{All-nil, All-cons, All-append}
 use Rattle.logos_token.specs.Tokens.{TokenList, also, IsRestOf}
 use Rattle.logos_token.specs.Spelling.{Spells}
 use Rattle.logos_token.proofs.reading.SpanLemmas.{RunCut, append_front, append_back, span_cut, spelled_cut}
-use Rattle.logos_rust_file.specs.declared.finding.FoundEnum.{FoundEnum}
+use Rattle.logos_rust_file.specs.declared.finder.FoundEnum.{FoundEnum}
 use Rattle.logos_rust_file.specs.Files.{Finds}
 use Rattle.logos_rust_file.specs.Files.Finds.{done, finds, enters, passes}
 use Rattle.logos_rust_file.specs.Fronts.{is_module, is_other}

@@ -8,7 +8,7 @@ use Rattle.logos_lexeme.specs.declared.lexeme.Delimiter.{Delimiter}
 use Rattle.logos_lexeme.specs.declared.lexeme.Delimiter.TheVariants.{Parenthesis, Bracket, Brace}
 use Rattle.logos_token.specs.Tokens.{Token, TokenList, identifier, punctuation, literal, doc, group, none, also}
 use Rattle.logos_enum.specs.declared.error.ReadError.{ReadError}
-use Rattle.logos_enum.specs.Attributes.{attribute_mismatch, unless, after_attributes, after_hash, Attributes, stand, announced_in}
+use Rattle.logos_enum.specs.Attributes.{attribute_mismatch, unless, after_attributes, after_hash, Attributes, occur, announced_in}
 use Rattle.logos_enum.specs.Enum.{Reads, reads}
 use Rattle.logos_enum.specs.EnumValues.{EnumValue}
 use Rattle.logos_enum.specs.Marks.{hash, is_none, is_outer}
@@ -241,7 +241,7 @@ mutual
 
 -- the tokens of an enum
 pub derives-lost : (tokens : TokenList) (value : EnumValue) → Reads tokens (Ok value) → derives tokens ≡ loses_derive tokens
-derives-lost tokens value (reads {rest = rest} front item) = go front.stand front.announced
+derives-lost tokens value (reads {rest = rest} front item) = go front.occur front.announced
   where
     go : {attributes middle : TokenList} → Attributes tokens (Ok (attributes, middle)) → announced_in middle ≡ Some rest → derives tokens ≡ loses_derive tokens
-    go (stand {rest = middle} e is) word = attributes_same tokens middle e (word_comes middle rest word)
+    go (occur {rest = middle} e is) word = attributes_same tokens middle e (word_comes middle rest word)

@@ -2,7 +2,7 @@
 use Rattle.std.specs.Prelude.{◌≡◌, ℕ, List, [], ◌∷◌, ◌++◌}
 use Rattle.logos_token.specs.Tokens.{Token, TokenList, also, append, run_span}
 use Rattle.logos_token.specs.Spelling.{Spells}
-use Rattle.logos_rust_file.specs.declared.finding.FoundEnum.{FoundEnum}
+use Rattle.logos_rust_file.specs.declared.finder.FoundEnum.{FoundEnum}
 use Rattle.logos_rust_file.specs.Derives.{derives}
 use Rattle.logos_rust_file.specs.Fronts.{kind_of, ends, is_enum, is_module, is_other, name_of}
 

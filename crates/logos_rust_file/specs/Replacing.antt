@@ -1,8 +1,8 @@
 -- A text with parts of it replaced.
 use Rattle.std.specs.Prelude.{◌≤◌, ◌<◌, IsCharBoundary, ℕ, List, [], ◌∷◌, ◌++◌, length, slice_range, string_bytes}
 use Rattle.logos_lexeme.specs.declared.lexeme.Span.{Span}
-use Rattle.logos_rust_file.specs.declared.finding.FoundEnum.{FoundEnum}
-use Rattle.logos_rust_file.specs.declared.replacing.Replacement.{Replacement}
+use Rattle.logos_rust_file.specs.declared.finder.FoundEnum.{FoundEnum}
+use Rattle.logos_rust_file.specs.declared.replacement.Replacement.{Replacement}
 
 -- These spans are not empty and lie between two offsets, in order and without overlap.
 abbrev pub AreInOrder : ℕ → List Span → ℕ → Type 0

@@ -1,7 +1,7 @@
 //! Whether an enum derives `Logos`.
 
 ghost use Rattle.std.specs.Prelude.{◌≡◌, ◌<◌, ◌||◌, false, true, MatchOption};
-ghost use Rattle.logos_rust_file.specs.Words.{count_of, tokens_of, begins_list, derives, derives_after, derives_in, lists_macro};
+ghost use Rattle.logos_rust_file.specs.Imports.{count_of, tokens_of, begins_list, derives, derives_after, derives_in, lists_macro};
 
 use logos_strip::helpers::{is_comma, is_macro_entry};
 use logos_token::token::{Delimiter, TokenTree, Tokens};

@@ -2,7 +2,7 @@
 //! law.
 
 ghost use Rattle.std.specs.Prelude.{◌≡◌, Ok, Some};
-ghost use Rattle.logos_rust_file.specs.Words.{TokenList, Reads, EnumValue, loses_derive, derives};
+ghost use Rattle.logos_rust_file.specs.Imports.{TokenList, Reads, EnumValue, loses_derive, derives};
 ghost use Rattle.logos_rust_file.specs.Views.{name_of};
 
 /// An enum derives `Logos` exactly where stripping takes an entry of a `derive` away.

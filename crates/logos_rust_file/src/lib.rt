@@ -3,13 +3,13 @@
 #![tactic(auto)]
 
 mod derives;
-mod finding;
+mod finder;
 mod fronts;
 pub mod laws;
 mod names;
 mod paths;
-mod replacing;
+mod replacement;
 
-pub use finding::{FoundEnum, enums_in};
+pub use finder::{FoundEnum, enums_in};
 pub use paths::path_of;
-pub use replacing::{Replacement, replace};
+pub use replacement::{Replacement, replace};

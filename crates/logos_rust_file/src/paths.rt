@@ -1,6 +1,6 @@
 //! The paths of enums in a file. `logos_show` asks for them where an enum is given by its name.
 
-use crate::finding::FoundEnum;
+use crate::finder::FoundEnum;
 use logos_lexeme::lexeme::{LexemeKind, lexeme_at};
 use logos_token::error::Memory;
 use logos_token::token::Delimiter;

@@ -6,14 +6,14 @@ use Rattle.logos_code.specs.Items.{Callback, Item, token, error, MayAnswer, item
 use Rattle.logos_code.specs.Rows.{IsUse}
 use Rattle.logos_code.specs.declared.code.rows.MatchUse.TheVariants.{Emits}
 use Rattle.logos_machine.specs.inside.Looks.{Tried}
-use Rattle.logos_machine.specs.inside.Stands.{IsMatch, StaysWithin}
-use Rattle.logos_machine.specs.LexerValue.{LexerValue, HasSpan, Gives, Ends}
-use Rattle.logos_machine.proofs.LexerLemmas.{GoesOn, goes_past, goes_past_skip, gives_item, gives_token, gives_error, ends_run, moved}
-use Rattle.logos_scan.specs.Tries.{SkipsTo, skips_none, skips_then}
+use Rattle.logos_machine.specs.inside.IsAt.{IsMatch, StaysWithin}
+use Rattle.logos_machine.specs.LexerValue.{LexerValue, HasSpan, Yields, Ends}
+use Rattle.logos_machine.proofs.LexerLemmas.{GoesOn, goes_past, goes_past_skip, yields_item, yields_token, yields_error, ends_run, moved}
+use Rattle.logos_scan.specs.Attempts.{SkipsTo, skips_none, skips_then}
 use Rattle.logos_code.specs.Code.{CodeValue}
 use Rattle.logos_scan.specs.Runs.{IsRun, IsTaken, WithChunk}
-use Rattle.logos_scan.specs.declared.tries.Taken.{Taken}
-use Rattle.logos_scan.specs.declared.tries.Taken.TheVariants.{Emits as TakenEmits, Asks as TakenAsks, Fails as TakenFails, Ends as TakenEnds}
+use Rattle.logos_scan.specs.declared.attempts.Taken.{Taken}
+use Rattle.logos_scan.specs.declared.attempts.Taken.TheVariants.{Emits as TakenEmits, CallsBack as TakenCallsBack, Fails as TakenFails, Ends as TakenEnds}
 
 module _ {C : Type 0} (callback : Callback) (old : LexerValue C) where
   -- what goes on goes on after what is skipped
@@ -35,7 +35,7 @@ module _ {C : Type 0} (callback : Callback) (old : LexerValue C) where
   same_span from to n (token leaf a b slice) h = h
   same_span from to n (error leaf a b slice) h = h
 
-  uncounted : (from to n : ℕ) (item : Item) → Gives callback old (moved old from to n) item → Gives callback old (moved old from to 0) item
+  uncounted : (from to n : ℕ) (item : Item) → Yields callback old (moved old from to n) item → Yields callback old (moved old from to 0) item
   uncounted from to n item g = record {
     span = same_span from to n item g.span;
     after = g.after;
@@ -48,25 +48,25 @@ module _ {C : Type 0} (callback : Callback) (old : LexerValue C) where
   module _ (start from to n : ℕ) (on : GoesOn callback old start) (skips : SkipsTo old.code old.input start from) where
     -- the token of a match
     pub item_emits : (leaf : ℕ) (item : Item) → Tried old.code old.input from (matched leaf to) n → IsUse old.code leaf Emits → item ≡ token leaf from to (slice_range old.input from to) →
-        Gives callback old (moved old from to 0) item
+        Yields callback old (moved old from to 0) item
     item_emits leaf item t emits is =
-        uncounted from to n item (gives_token callback old from to n (moved old from to n) refl leaf item (goes_skips start from on skips) t emits is)
+        uncounted from to n item (yields_token callback old from to n (moved old from to n) refl leaf item (goes_skips start from on skips) t emits is)
 
     -- the item of a match that may be up to a callback
-    pub item_asks : (leaf : ℕ) (answer : Action) (item : Item) → Tried old.code old.input from (matched leaf to) n →
+    pub item_calls_back : (leaf : ℕ) (answer : Action) (item : Item) → Tried old.code old.input from (matched leaf to) n →
         MayAnswer old.code.leaves callback old.input leaf (slice_range old.input from to) answer → items_of old.code.leaves callback old.input answer leaf from to ≡ item ∷ [] →
-        Gives callback old (moved old from to 0) item
-    item_asks leaf answer item t may is =
-        uncounted from to n item (gives_item callback old from to n (moved old from to n) refl leaf answer item (goes_skips start from on skips) t may is)
+        Yields callback old (moved old from to 0) item
+    item_calls_back leaf answer item t may is =
+        uncounted from to n item (yields_item callback old from to n (moved old from to n) refl leaf answer item (goes_skips start from on skips) t may is)
 
     -- it gives none
-    pub goes_asks : (leaf : ℕ) (answer : Action) → Tried old.code old.input from (matched leaf to) n →
+    pub goes_calls_back : (leaf : ℕ) (answer : Action) → Tried old.code old.input from (matched leaf to) n →
         MayAnswer old.code.leaves callback old.input leaf (slice_range old.input from to) answer → items_of old.code.leaves callback old.input answer leaf from to ≡ [] → GoesOn callback old to
-    goes_asks leaf answer t may is = goes_past callback old from to leaf n answer (goes_skips start from on skips) t may is
+    goes_calls_back leaf answer t may is = goes_past callback old from to leaf n answer (goes_skips start from on skips) t may is
 
     -- an error
-    pub item_fails : (item : Item) → Tried old.code old.input from (failed to) n → item ≡ error None from to (slice_range old.input from to) → Gives callback old (moved old from to 0) item
-    item_fails item t is = uncounted from to n item (gives_error callback old from to n (moved old from to n) refl item (goes_skips start from on skips) t is)
+    pub item_fails : (item : Item) → Tried old.code old.input from (failed to) n → item ≡ error None from to (slice_range old.input from to) → Yields callback old (moved old from to 0) item
+    item_fails item t is = uncounted from to n item (yields_error callback old from to n (moved old from to n) refl item (goes_skips start from on skips) t is)
 
   -- the end of the input
   pub items_end : (start to n : ℕ) → GoesOn callback old start → SkipsTo old.code old.input start to → Tried old.code old.input to ended n → Ends callback old (moved old to to 0)
@@ -77,11 +77,11 @@ module _ {C : Type 0} (callback : Callback) (old : LexerValue C) where
 -- a run's try begins in the input
 pub start_within : (code : CodeValue) (rows input : List ℕ) (run : WithChunk) (start at : ℕ) → IsRun code rows input run start at → start ≤ length input
 start_within code rows input run start at r =
-    let s = r.stands in
+    let s = r.is_at in
     let past = s.past in
     let comes = s.comes in
-    let stands = comes.stands in
-    let begun = stands.begun in
+    let is_at = comes.is_at in
+    let begun = is_at.begun in
     let near = r.near in
     let c = r.in_chunk in
     let within = c.within in
@@ -109,7 +109,7 @@ taken_past code bytes from (TakenEmits leaf span) next h t =
     let fits : IsMatch code bytes span.from leaf.0 span.to = tried.within in
     let le = skips_le code bytes from span.from t.0 in
     (omega (arith, fits.2, t.3), λ l. omega (arith, fits.1, t.3, le))
-taken_past code bytes from (TakenAsks leaf span) next h t =
+taken_past code bytes from (TakenCallsBack leaf span) next h t =
     let tried = t.1.1 in
     let fits : IsMatch code bytes span.from leaf.0 span.to = tried.within in
     let le = skips_le code bytes from span.from t.0 in

@@ -1,7 +1,7 @@
 -- What contracts see of the items of a run.
 use Rattle.std.specs.Prelude.{ℕ}
 use Rattle.logos_code.specs.Items.{Callback, Item}
-use Rattle.logos_machine.specs.LexerValue.{LexerValue, Ends, Gives}
+use Rattle.logos_machine.specs.LexerValue.{LexerValue, Ends, Yields}
 use Rattle.logos_scan.specs.declared.run.Reading.{Reading}
 use Rattle.logos_scan.specs.declared.run.Run.{Run}
 use Rattle.logos_walk.specs.Cursors.{start_of}
@@ -18,9 +18,9 @@ lexer_at reading callback from to = record {
 }
 
 -- From where a run stood, a lexer gives this item, and the run stands after it.
-abbrev pub GivesItem : {C : Type 0} → Callback → Reading → C → Run → Run → Item → Type 0
-GivesItem answers reading callback old new item =
-    (from : ℕ) × Gives answers (lexer_at reading callback (start_of old.cursor) (start_of old.cursor)) (lexer_at reading callback from (start_of new.cursor)) item
+abbrev pub YieldsItem : {C : Type 0} → Callback → Reading → C → Run → Run → Item → Type 0
+YieldsItem answers reading callback old new item =
+    (from : ℕ) × Yields answers (lexer_at reading callback (start_of old.cursor) (start_of old.cursor)) (lexer_at reading callback from (start_of new.cursor)) item
 
 -- Or it is over, and the run stands at the end of the input.
 abbrev pub EndsItems : {C : Type 0} → Callback → Reading → C → Run → Run → Type 0

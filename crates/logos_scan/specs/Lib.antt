@@ -1,5 +1,5 @@
-pub mod Tries
+pub mod Attempts
 pub mod Runs
 pub mod Items
-pub mod Words
+pub mod Imports
 pub mod Views

@@ -29,7 +29,7 @@ const WORTH: usize = 8_192;
 #[derive(Clone, Copy, Drop)]
 struct SampleCounts {
     /// How many tries it makes.
-    tries: usize,
+    attempts: usize,
     /// How many of them end with an item.
     items: usize,
     /// How many items are errors.
@@ -40,7 +40,7 @@ struct SampleCounts {
 
 /// The counts of no bytes.
 const NOTHING: SampleCounts = SampleCounts {
-    tries: 0,
+    attempts: 0,
     items: 0,
     errors: 0,
     states: 0,
@@ -141,7 +141,7 @@ fn met(code: &Code, part: &[u8], from: usize) -> (SampleCounts, usize)
     match attempt(code, part, from) {
         Outcome::Skips(to) => (SampleCounts::of(0, 0, 2), to),
         Outcome::Emits(_, to, states) => (SampleCounts::of(1, 0, states), to),
-        Outcome::Asks(_, to, states) => (SampleCounts::of(1, 0, states), to),
+        Outcome::CallsBack(_, to, states) => (SampleCounts::of(1, 0, states), to),
         Outcome::Fails(to, states) => (SampleCounts::of(1, 1, states), to),
         Outcome::Ends(states) => (SampleCounts::of(0, 0, states), part.len()),
     }
@@ -151,7 +151,7 @@ impl SampleCounts {
     /// Returns the counts of one try.
     fn of(items: usize, errors: usize, states: usize) -> SampleCounts {
         SampleCounts {
-            tries: 1,
+            attempts: 1,
             items,
             errors,
             states,
@@ -161,7 +161,7 @@ impl SampleCounts {
     /// Returns the sums of these counts and of others.
     fn and(self, found: SampleCounts) -> SampleCounts {
         SampleCounts {
-            tries: self.tries.wrapping_add(found.tries),
+            attempts: self.attempts.wrapping_add(found.attempts),
             items: self.items.wrapping_add(found.items),
             errors: self.errors.wrapping_add(found.errors),
             states: self.states.wrapping_add(found.states),
@@ -178,6 +178,6 @@ impl SampleCounts {
         let entered = self.states.wrapping_mul(10) / 3;
         let long = self.items <= SAMPLED / 3;
         let few = self.errors.wrapping_mul(2 * SAMPLED) <= self.items.wrapping_mul(self.items);
-        long & few & (entered > self.tries.wrapping_add(SAMPLED))
+        long & few & (entered > self.attempts.wrapping_add(SAMPLED))
     }
 }

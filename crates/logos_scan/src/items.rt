@@ -1,7 +1,7 @@
 //! All items of an input at once.
 
 ghost use Rattle.std.specs.Prelude.{◌≡◌, map, IfOk};
-ghost use Rattle.logos_scan.specs.Words.{answers_of, item_of, Runs, TakesMatches};
+ghost use Rattle.logos_scan.specs.Imports.{answers_of, item_of, Runs, TakesMatches};
 
 use crate::choice::rows_for;
 use crate::run::{Reading, Run};

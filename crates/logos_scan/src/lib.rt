@@ -2,7 +2,7 @@
 
 #![tactic(auto)]
 
+pub mod attempts;
 pub mod choice;
 pub mod items;
 pub mod run;
-pub mod tries;

@@ -1,9 +1,9 @@
 //! Tries of an input, one after the other, by the entries of a chunk.
 
 ghost use Rattle.std.specs.Prelude.{◌≡◌, ◌+◌, ◌<◌, ◌≤◌, length, MatchOption};
-ghost use Rattle.logos_scan.specs.Views.{IsBytes, IsPlace, StandsIn, answers_of, item_of, EndsItems, GivesItem, IsChunk, IsFlagged, IsHeld, IsLoaded, IsMarked, IsOver, IsReading, IsReady, IsRun, IsTaken, TakesMatches, start_of, with_chunk};
+ghost use Rattle.logos_scan.specs.Views.{IsBytes, IsRowStart, ComesTo, answers_of, item_of, EndsItems, YieldsItem, IsChunk, IsFlagged, IsHeld, IsLoaded, IsMarked, IsOver, IsReading, IsReady, IsRun, IsTaken, TakesMatches, start_of, with_chunk};
 
-use crate::tries::{Taken, tried};
+use crate::attempts::{Taken, tried};
 use logos_code::action::Action;
 use logos_code::code::Code;
 use logos_fold::entries::CALLS;
@@ -44,7 +44,7 @@ impl<'r, 'c, 's, 'i> Reading<'r, 'c, 's, 'i> {
 #[derive(Clone, Copy, Drop)]
 pub struct Loaded {
     pub count: usize,
-    pub place: usize,
+    pub row_start: usize,
 }
 
 /// A run over an input: what is known of its chunk, and where the next try begins. Its chunk stands
@@ -55,7 +55,7 @@ pub struct Run {
     /// How many bytes the chunk has.
     pub count: usize,
     /// The row after them.
-    pub place: usize,
+    pub row_start: usize,
     /// The first entry of those that one walk wrote.
     pub low: usize,
 }
@@ -67,38 +67,38 @@ fn are_bytes(input: &[u8])
 {}
 
 /// Steps over the next bytes of the input, a chunk if there are as many, from a row on.
-fn step_over(reading: &Reading, base: usize, place: usize, entries: &mut [u32; 4608]) -> Loaded
+fn step_over(reading: &Reading, base: usize, row_start: usize, entries: &mut [u32; 4608]) -> Loaded
     requires reading { IsReading reading.now }
     requires base { base ≤ length reading.now.input.now }
-    requires place { IsPlace reading.now.rows.now place }
-    ensures { IsLoaded reading.now.rows.now reading.now.input.now base place entries.new result }
+    requires row_start { IsRowStart reading.now.rows.now row_start }
+    ensures { IsLoaded reading.now.rows.now reading.now.input.now base row_start entries.new result }
 {
     let rest = &reading.input[base..];
     if rest.len() >= 4608 {
-        let root = reading.code.root_place();
+        let root = reading.code.root_row_start();
         return Loaded {
             count: 4608,
-            place: walk_chunk(reading.rows, &rest[..4608], root, place, entries),
+            row_start: walk_chunk(reading.rows, &rest[..4608], root, row_start, entries),
         };
     }
     *entries = [0; 4608];
     Loaded {
         count: rest.len(),
-        place: walk(reading.rows, rest, place, entries),
+        row_start: walk(reading.rows, rest, row_start, entries),
     }
 }
 
 /// Steps over the next bytes of the input, and marks what there is to do.
 #[inline(never)]
-fn load(reading: &Reading, base: usize, place: usize, chunk: &mut ChunkEntries) -> Loaded
+fn load(reading: &Reading, base: usize, row_start: usize, chunk: &mut ChunkEntries) -> Loaded
     requires reading { IsReading reading.now }
     requires base { base ≤ length reading.now.input.now }
-    requires place { IsPlace reading.now.rows.now place }
-    ensures loaded { IsLoaded reading.now.rows.now reading.now.input.now base place
+    requires row_start { IsRowStart reading.now.rows.now row_start }
+    ensures loaded { IsLoaded reading.now.rows.now reading.now.input.now base row_start
         chunk.new.entries result }
     ensures marked { IsMarked chunk.new }
 {
-    let loaded = step_over(reading, base, place, &mut chunk.entries);
+    let loaded = step_over(reading, base, row_start, &mut chunk.entries);
     chunk.mark(0, 72);
     loaded
 }
@@ -130,7 +130,7 @@ fn restarted(reading: &Reading, run: Run, chunk: &mut ChunkEntries, to: usize) -
     if to > base && to - base > run.low && to - base < run.count {
         repaired_from(reading, run, chunk, to - base)
     } else {
-        filled(reading, chunk, to, to, reading.code.root_place())
+        filled(reading, chunk, to, to, reading.code.root_row_start())
     }
 }
 
@@ -151,9 +151,9 @@ fn repaired_from(reading: &Reading, run: Run, chunk: &mut ChunkEntries, from: us
         from,
         to: run.count,
         begin: (chunk.entries[from - 1] & PLACE) as usize,
-        end: run.place,
+        end: run.row_start,
     };
-    let root = reading.code.root_place();
+    let root = reading.code.root_row_start();
     let rest = &reading.input[base..];
     let repaired = repair(reading.rows, rest, root, &mut chunk.entries, stretch);
     chunk.mark(from / 64, (repaired.stop + 63) / 64);
@@ -161,7 +161,7 @@ fn repaired_from(reading: &Reading, run: Run, chunk: &mut ChunkEntries, from: us
     Run {
         cursor,
         count: run.count,
-        place: repaired.place,
+        row_start: repaired.row_start,
         low: from,
     }
 }
@@ -173,24 +173,24 @@ fn filled(
     chunk: &mut ChunkEntries,
     base: usize,
     start: usize,
-    place: usize,
+    row_start: usize,
 ) -> Run
     requires reading { IsReading reading.now }
     requires base { base ≤ length reading.now.input.now }
-    requires place { IsPlace reading.now.rows.now place }
-    requires stands { StandsIn reading.now.code.now reading.now.input.now start base place }
+    requires row_start { IsRowStart reading.now.rows.now row_start }
+    requires is_at { ComesTo reading.now.code.now reading.now.input.now start base row_start }
     ensures run { IsRun reading.now.code.now reading.now.rows.now reading.now.input.now
         (with_chunk chunk.new result) start 0 }
     ensures start { start_of result.cursor ≡ start }
     ensures base { result.cursor.base ≡ base }
     ensures from { result.cursor.from ≡ 0 }
 {
-    let loaded = load(reading, base, place, chunk);
+    let loaded = load(reading, base, row_start, chunk);
     let cursor = ChunkCursor::new(chunk, base, start, 0);
     Run {
         cursor,
         count: loaded.count,
-        place: loaded.place,
+        row_start: loaded.row_start,
         low: 0,
     }
 }
@@ -203,7 +203,7 @@ impl Run {
         ensures ready { IsReady reading.now (with_chunk chunk.new result) }
         ensures start { start_of result.cursor ≡ 0 }
     {
-        filled(reading, chunk, 0, 0, reading.code.root_place())
+        filled(reading, chunk, 0, 0, reading.code.root_row_start())
     }
 
     /// Goes on to the next entry at which there is something to do, and returns its index, or
@@ -226,7 +226,7 @@ impl Run {
             if base >= reading.input.len() {
                 return None;
             }
-            let run = filled(reading, chunk, base, self.cursor.word_start, self.place);
+            let run = filled(reading, chunk, base, self.cursor.word_start, self.row_start);
             *self = run;
         }
     }
@@ -259,7 +259,7 @@ impl Run {
             Taken::Emits(leaf, Span { from, to })
         } else {
             let from = self.cursor.start_before(at);
-            Taken::Asks(leaf, Span { from, to })
+            Taken::CallsBack(leaf, Span { from, to })
         }
     }
 
@@ -294,13 +294,13 @@ impl Run {
         ensures ready { IsReady reading.now (with_chunk chunk.new self.new) }
         ensures item { MatchOption result
             (EndsItems (answers_of C.Fn callback.now) reading.now callback.now self.old self.new)
-            (λ i. GivesItem (answers_of C.Fn callback.now) reading.now callback.now self.old self.new
+            (λ i. YieldsItem (answers_of C.Fn callback.now) reading.now callback.now self.old self.new
             (item_of i)) }
     {
         loop {
             match self.next(reading, chunk) {
                 Taken::Emits(leaf, span) => return Some(token(reading.input, leaf, span)),
-                Taken::Asks(leaf, span) => {
+                Taken::CallsBack(leaf, span) => {
                     let (code, input) = (reading.code, reading.input);
                     if let Some(item) = matched_item(code, input, callback, leaf, span) {
                         return Some(item);

@@ -5,7 +5,7 @@ use Rattle.std.proofs.lemmas.List.Elements.{All-nil, All-cons}
 use Rattle.std.proofs.lemmas.Option.{same_Some}
 use Rattle.simdutf8.proofs.Chars.{least_is, most_is}
 use Rattle.logos_search.specs.Rests.{more, begun, rest_after, rest_by, rest_over, leasts, completion}
-use Rattle.logos_search.specs.declared.rest.Rest.{Rest}
+use Rattle.logos_search.specs.declared.utf8.Rest.{Rest}
 use Rattle.logos_search.proofs.RestLemmas.{IsDone, lead, inside, ascii, stray, of_two, of_three, of_four, past, on_rest, bytes_are_done}
 
 pub over_append : (m : Bool) (xs ys : List ℕ) (r : Rest) → rest_over m r (xs ++ ys) ≡ option_and_then (λ q. rest_over m q ys) (rest_over m r xs)

@@ -10,7 +10,7 @@ use Rattle.logos_search.specs.inside.Covers.{IsExplored, IsWayBy, Adds, IsCover,
 use Rattle.logos_search.specs.inside.PendingPoints.{pending_at, pending_next, pending_goal}
 use Rattle.logos_search.specs.inside.Visits.{IsWayTo}
 use Rattle.logos_search.specs.declared.point.Point.{Point}
-use Rattle.logos_search.specs.declared.rest.Rest.{Rest}
+use Rattle.logos_search.specs.declared.utf8.Rest.{Rest}
 use Rattle.logos_search.specs.declared.steps.InputStep.{InputStep}
 use Rattle.logos_search.specs.declared.visits.PendingPoint.{PendingPoint}
 use Rattle.logos_search.specs.declared.visits.Visit.{Visit}
@@ -95,7 +95,7 @@ module _ (next : Point → ℕ → Option Point) (is_goal : Point → Bool) (utf
           go (Some to) e (Some r) f (inl s) d = subst (Contains steps) (sym s) ((covered i at there).bytes b byte (pending_at to r) (leads to r e f))
           go (Some to) e (Some r) f (inr t) d =
               let met = explored.closed i b at (slice_get_within ks i at there) there byte (pending_at to r) (leads to r e f) in
-              ih step met.number (pending_at to r) (All-tail (λ x. x < 256) b bytes are) met.stands_there (done.0, d, done.2) t wanted
+              ih step met.number (pending_at to r) (All-tail (λ x. x < 256) b bytes are) met.occurs_there (done.0, d, done.2) t wanted
 
       at_end : AllOn []
       at_end step i at are there done takes wanted =

@@ -3,23 +3,23 @@ use Rattle.std.proofs.Common.{◌≡◌, ℕ, ◌+◌, ◌-◌, ◌<◌, ◌≤�
 use Rattle.std.proofs.lemmas.Bool.{cases_lt}
 use Rattle.logos_search.specs.inside.Order.{IsByteAt}
 
-pub one_byte : (place b c : ℕ) → IsByteAt place b → IsByteAt place c → b ≡ c
-one_byte place b c h k =
-    elim (cases_lt place 26) [
+pub one_byte : (site b c : ℕ) → IsByteAt site b → IsByteAt site c → b ≡ c
+one_byte site b c h k =
+    elim (cases_lt site 26) [
       | inl l ↦ let p = h.small l in let q = k.small l in omega (arith, p, q)
-      | inr l ↦ elim (cases_lt place 52) [
+      | inr l ↦ elim (cases_lt site 52) [
         | inl m ↦ let p = h.capital l m in let q = k.capital l m in omega (arith, p, q)
-        | inr m ↦ elim (cases_lt place 62) [
+        | inr m ↦ elim (cases_lt site 62) [
           | inl n ↦ let p = h.digit m n in let q = k.digit m n in omega (arith, p, q)
-          | inr n ↦ elim (cases_lt place 78) [
+          | inr n ↦ elim (cases_lt site 78) [
             | inl o ↦ let p = h.blank n o in let q = k.blank n o in omega (arith, p, q)
-            | inr o ↦ elim (cases_lt place 85) [
+            | inr o ↦ elim (cases_lt site 85) [
               | inl r ↦ let p = h.colon o r in let q = k.colon o r in omega (arith, p, q)
-              | inr r ↦ elim (cases_lt place 91) [
+              | inr r ↦ elim (cases_lt site 91) [
                 | inl s ↦ let p = h.bracket r s in let q = k.bracket r s in omega (arith, p, q)
-                | inr s ↦ elim (cases_lt place 95) [
+                | inr s ↦ elim (cases_lt site 95) [
                   | inl t ↦ let p = h.brace s t in let q = k.brace s t in omega (arith, p, q)
-                  | inr t ↦ elim (cases_lt place 127) [
+                  | inr t ↦ elim (cases_lt site 127) [
                     | inl u ↦ let p = h.control t u in let q = k.control t u in omega (arith, p, q)
                     | inr u ↦ let p = h.others u in let q = k.others u in omega (arith, p, q)
                   ]
@@ -31,19 +31,19 @@ one_byte place b c h k =
       ]
     ]
 
-at_place : (place b : ℕ) → (place < 26 → b ≡ 97 + place) → (26 ≤ place → place < 52 → b ≡ 39 + place) → (52 ≤ place → place < 62 → b + 4 ≡ place) →
-    (62 ≤ place → place < 78 → b + 30 ≡ place) → (78 ≤ place → place < 85 → b + 20 ≡ place) → (85 ≤ place → place < 91 → b ≡ 6 + place) →
-    (91 ≤ place → place < 95 → b ≡ 32 + place) → (95 ≤ place → place < 127 → b + 95 ≡ place) → (127 ≤ place → b ≡ place) → IsByteAt place b
-at_place place b p q r s t u v w x = record { small = p; capital = q; digit = r; blank = s; colon = t; bracket = u; brace = v; control = w; others = x }
+at_site : (site b : ℕ) → (site < 26 → b ≡ 97 + site) → (26 ≤ site → site < 52 → b ≡ 39 + site) → (52 ≤ site → site < 62 → b + 4 ≡ site) →
+    (62 ≤ site → site < 78 → b + 30 ≡ site) → (78 ≤ site → site < 85 → b + 20 ≡ site) → (85 ≤ site → site < 91 → b ≡ 6 + site) →
+    (91 ≤ site → site < 95 → b ≡ 32 + site) → (95 ≤ site → site < 127 → b + 95 ≡ site) → (127 ≤ site → b ≡ site) → IsByteAt site b
+at_site site b p q r s t u v w x = record { small = p; capital = q; digit = r; blank = s; colon = t; bracket = u; brace = v; control = w; others = x }
 
-placed_at : (b place : ℕ) → ((97 ≤ b) × (b < 123) × (b ≡ 97 + place)) ⊎ (((65 ≤ b) × (b < 91) × (b ≡ 39 + place)) ⊎ (((48 ≤ b) × (b < 58) × (b + 4 ≡ place)) ⊎
-    (((32 ≤ b) × (b < 48) × (b + 30 ≡ place)) ⊎ (((58 ≤ b) × (b < 65) × (b + 20 ≡ place)) ⊎ (((91 ≤ b) × (b < 97) × (b ≡ 6 + place)) ⊎
-    (((123 ≤ b) × (b < 127) × (b ≡ 32 + place)) ⊎ (((b < 32) × (b + 95 ≡ place)) ⊎ ((127 ≤ b) × (b ≡ place))))))))) → IsByteAt place b
-placed_at b place h =
-    at_place place b (λ l. grind (arith, h, l)) (λ l m. grind (arith, h, l, m)) (λ l m. grind (arith, h, l, m)) (λ l m. grind (arith, h, l, m)) (λ l m. grind (arith, h, l, m))
+placed_at : (b site : ℕ) → ((97 ≤ b) × (b < 123) × (b ≡ 97 + site)) ⊎ (((65 ≤ b) × (b < 91) × (b ≡ 39 + site)) ⊎ (((48 ≤ b) × (b < 58) × (b + 4 ≡ site)) ⊎
+    (((32 ≤ b) × (b < 48) × (b + 30 ≡ site)) ⊎ (((58 ≤ b) × (b < 65) × (b + 20 ≡ site)) ⊎ (((91 ≤ b) × (b < 97) × (b ≡ 6 + site)) ⊎
+    (((123 ≤ b) × (b < 127) × (b ≡ 32 + site)) ⊎ (((b < 32) × (b + 95 ≡ site)) ⊎ ((127 ≤ b) × (b ≡ site))))))))) → IsByteAt site b
+placed_at b site h =
+    at_site site b (λ l. grind (arith, h, l)) (λ l m. grind (arith, h, l, m)) (λ l m. grind (arith, h, l, m)) (λ l m. grind (arith, h, l, m)) (λ l m. grind (arith, h, l, m))
     (λ l m. grind (arith, h, l, m)) (λ l m. grind (arith, h, l, m)) (λ l m. grind (arith, h, l, m)) (λ l. grind (arith, h, l))
 
-pub placed : (b : ℕ) → b < 256 → (place : ℕ) × (place < 256) × IsByteAt place b
+pub placed : (b : ℕ) → b < 256 → (site : ℕ) × (site < 256) × IsByteAt site b
 placed b l =
     elim (cases_lt b 32) [
       | inl m ↦ (b + 95, omega arith, placed_at b (b + 95) (inr (inr (inr (inr (inr (inr (inr (inl (m, omega arith))))))))))

@@ -7,7 +7,7 @@ use Rattle.logos_search.specs.Machines.{after, Leads}
 use Rattle.logos_search.specs.Rests.{more, rest_by, rest_over}
 use Rattle.logos_search.specs.inside.PendingPoints.{pending_at, pending_next, pending_goal}
 use Rattle.logos_search.specs.declared.point.Point.{Point}
-use Rattle.logos_search.specs.declared.rest.Rest.{Rest}
+use Rattle.logos_search.specs.declared.utf8.Rest.{Rest}
 use Rattle.logos_search.specs.declared.visits.PendingPoint.{PendingPoint}
 use Rattle.logos_search.proofs.RestLemmas.{utf8_is_done, done_is_utf8, bytes_are_done}
 
@@ -49,9 +49,9 @@ module _ (next : Point → ℕ → Option Point) (is_goal : Point → Bool) (utf
   rests false bytes h = (more 0, bytes_are_done (more 0) bytes, refl)
 
   -- an input leads to what is looked for where the pending points do
-  pub stands_lead : (bytes : List ℕ) → Leads next is_goal utf8 start bytes →
+  pub occurs_lead : (bytes : List ℕ) → Leads next is_goal utf8 start bytes →
       (s : PendingPoint) × (after (pending_next next utf8) (pending_at start (more 0)) bytes ≡ Some s) × (pending_goal is_goal s ≡ true)
-  stands_lead bytes leads =
+  occurs_lead bytes leads =
       let r = rests utf8 bytes (λ t. utf8_is_done bytes (leads.input.1 t)) in
       let at : joined (after next start bytes) (rest_over utf8 (more 0) bytes) ≡ Some (pending_at leads.end r.0) =
       ap (λ (o : Option Point). joined o (rest_over utf8 (more 0) bytes)) leads.way ∙ ap (λ (o : Option Rest). joined (Some leads.end) o) r.1 in

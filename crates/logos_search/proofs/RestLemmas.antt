@@ -7,7 +7,7 @@ use Rattle.std.specs.Str.{IsUtf8}
 use Rattle.simdutf8.specs.Steps.{IsContinuation, least_after, most_after, IsClosed, first, second, later, Step, StepsThen}
 use Rattle.simdutf8.proofs.Chars.{least_is, most_is, StepsThen-IsUtf8}
 use Rattle.logos_search.specs.Rests.{more, begun, rest_after, rest_over}
-use Rattle.logos_search.specs.declared.rest.Rest.{Rest}
+use Rattle.logos_search.specs.declared.utf8.Rest.{Rest}
 
 abbrev pub lead : ℕ → ℕ → Rest
 lead z n = record { low = least_after z; high = most_after z; count = n }

@@ -77,9 +77,9 @@ module _ (next : PendingPoint → ℕ → Option PendingPoint) (ks : List Pendin
       ((p : PendingPoint) → slice_get ks at ≡ Some p → after next p (reverse bytes) ≡ Some to) → after next from (reverse more) ≡ Some to
   way_more bytes more from to e there rest =
       let turned : reverse more ≡ (visit_at ws at).byte ∷ reverse bytes = ap reverse e ∙ reverse-append bytes ((visit_at ws at).byte ∷ []) in
-      let same : reached.from ≡ from = same_Some _ _ (sym reached.stands_before ∙ there) in
+      let same : reached.from ≡ from = same_Some _ _ (sym reached.occurs_before ∙ there) in
       let step : next from (visit_at ws at).byte ≡ Some reached.to = subst (λ (p : PendingPoint). next p (visit_at ws at).byte ≡ Some reached.to) same reached.step in
-      ap (after next from) turned ∙ ap (option_and_then (λ q. after next q (reverse bytes))) step ∙ rest reached.to reached.stands_there
+      ap (after next from) turned ∙ ap (option_and_then (λ q. after next q (reverse bytes))) step ∙ rest reached.to reached.occurs_there
 
 -- ---- All ways
 
@@ -120,7 +120,7 @@ module _ (next : PendingPoint → ℕ → Option PendingPoint) (is_goal : Pendin
       on ih m =
           let s = step_of p b bytes q way in
           let met = closed i b p m at (head_of bytes b are).0 s.0 s.1 in
-          let rest = ih met.number s.0 (head_of bytes b are).1 met.stands_there s.2 goal in
+          let rest = ih met.number s.0 (head_of bytes b are).1 met.occurs_there s.2 goal in
           let near = met.near in
           omega (arith, rest, near)
 
@@ -140,4 +140,4 @@ module _ (next : PendingPoint → ℕ → Option PendingPoint) (is_goal : Pendin
       let inside = slice_get_within ks i p at in
       let s = step_of p b bytes q way in
       let met = closed i b p (omega arith) at (head_of bytes b are).0 s.0 s.1 in
-      nowhere bytes met.number s.0 q l (head_of bytes b are).1 met.stands_there s.2 goal
+      nowhere bytes met.number s.0 q l (head_of bytes b are).1 met.occurs_there s.2 goal

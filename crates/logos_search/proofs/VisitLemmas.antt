@@ -21,9 +21,9 @@ grows_on ks ws ms vs ns us g h = record {
 
 pub met_on : (ks : List PendingPoint) (ws : List Visit) (ms : List PendingPoint) (vs : List Visit) (to : PendingPoint) (d : ℕ) → Grows ks ws ms vs → IsMet ks ws to d → IsMet ms vs to d
 met_on ks ws ms vs to d g m =
-    let l = slice_get_within ks m.number to m.stands_there in
+    let l = slice_get_within ks m.number to m.occurs_there in
     let e = g.depths m.number l in
-    record { number = m.number; stands_there = g.stays m.number to m.stands_there; near = omega (arith, e, m.near) }
+    record { number = m.number; occurs_there = g.stays m.number to m.occurs_there; near = omega (arith, e, m.near) }
 
 module _ (next : PendingPoint → ℕ → Option PendingPoint) (ks : List PendingPoint) (ws : List Visit) (to : PendingPoint) (w : Visit) (tree : IsTree next ks ws) where
   abbrev more_points : List PendingPoint
@@ -65,9 +65,9 @@ module _ (next : PendingPoint → ℕ → Option PendingPoint) (ks : List Pendin
           before = subst (λ (v : Visit). v.from < i) (sym e) r.before;
           is_byte = subst (λ (v : Visit). v.byte < 256) (sym e) r.is_byte;
           from = r.from;
-          stands_before = subst (λ (v : Visit). slice_get more_points v.from ≡ Some r.from) (sym e) (got_front ks (to ∷ []) _ r.from r.stands_before);
+          occurs_before = subst (λ (v : Visit). slice_get more_points v.from ≡ Some r.from) (sym e) (got_front ks (to ∷ []) _ r.from r.occurs_before);
           to = r.to;
-          stands_there = got_front ks (to ∷ []) i r.to r.stands_there;
+          occurs_there = got_front ks (to ∷ []) i r.to r.occurs_there;
           step = subst (λ (v : Visit). next r.from v.byte ≡ Some r.to) (sym e) r.step;
           depth = ap (λ (v : Visit). v.depth) e ∙ r.depth ∙ ap (λ (v : Visit). v.depth + 1) (sym f ∙ ap (λ (v : Visit). visit_at more_ways v.from) (sym e));
         }
@@ -79,9 +79,9 @@ module _ (next : PendingPoint → ℕ → Option PendingPoint) (ks : List Pendin
           before = subst (λ (v : Visit). v.from < i) (sym e) (omega (arith, from_in));
           is_byte = subst (λ (v : Visit). v.byte < 256) (sym e) is_byte;
           from = at;
-          stands_before = subst (λ (v : Visit). slice_get more_points v.from ≡ Some at) (sym e) (got_front ks (to ∷ []) _ at there);
+          occurs_before = subst (λ (v : Visit). slice_get more_points v.from ≡ Some at) (sym e) (got_front ks (to ∷ []) _ at there);
           to = to;
-          stands_there = subst (λ (n : ℕ). slice_get more_points n ≡ Some to) (sym l) (got_last ks to);
+          occurs_there = subst (λ (n : ℕ). slice_get more_points n ≡ Some to) (sym l) (got_last ks to);
           step = subst (λ (v : Visit). next at v.byte ≡ Some to) (sym e) step;
           depth = ap (λ (v : Visit). v.depth) e ∙ depth ∙ ap (λ (v : Visit). v.depth + 1) (sym (old w.from from_in) ∙ ap (λ (v : Visit). visit_at more_ways v.from) (sym e));
         }
@@ -122,7 +122,7 @@ module _ (next : PendingPoint → ℕ → Option PendingPoint) (ks : List Pendin
         go (inr m) = let e = depth_new i m in omega (arith, e)
 
     met_new : IsMet more_points more_ways to w.depth
-    met_new = record { number = length ks; stands_there = got_last ks to; near = let e = depth_new (length ks) refl in omega (arith, e) }
+    met_new = record { number = length ks; occurs_there = got_last ks to; near = let e = depth_new (length ks) refl in omega (arith, e) }
 
 -- what a step adds
 pub record Added (next : PendingPoint → ℕ → Option PendingPoint) (ks : List PendingPoint) (ws : List Visit) (to : PendingPoint) (depth : ℕ) (ms : List PendingPoint) (vs : List Visit) : Type 0 where
@@ -139,7 +139,7 @@ added next ks ws to w tree at there step is_byte depth within ms vs (known n k e
       tree = tree;
       within = within;
       grows = grows_self ks ws;
-      met = record { number = n; stands_there = k; near = within n (slice_get_within ks n to k) };
+      met = record { number = n; occurs_there = k; near = within n (slice_get_within ks n to k) };
     }))
 added next ks ws to w tree at there step is_byte depth within ms vs (fresh e f) =
     subst (λ (xs : List PendingPoint). Added next ks ws to w.depth xs vs) (sym e) (subst (λ (xs : List Visit). Added next ks ws to w.depth (ks ++ to ∷ []) xs) (sym f) (record {

@@ -1,7 +1,7 @@
 -- UTF-8 byte by byte: what has to follow the bytes that were read.
 use Rattle.std.specs.Prelude.{ℕ, zero, suc, ◌-◌, Bool, ◌&&◌, List, [], ◌∷◌, Option, Some, None, if◌then◌else◌, ◌==◌, nat_lt, nat_le, option_and_then}
 use Rattle.simdutf8.specs.Steps.{least_after, most_after}
-use Rattle.logos_search.specs.declared.rest.Rest.{Rest}
+use Rattle.logos_search.specs.declared.utf8.Rest.{Rest}
 
 -- So many bytes of a character are to come.
 abbrev pub more : ℕ → Rest

@@ -7,9 +7,9 @@ ghost use Rattle.logos_search.specs.inside.Visits as walks;
 
 use crate::order::byte_at;
 use crate::point::{Machine, Point};
-use crate::rest::{Rest, push_rest};
 use crate::search::is_goal;
 use crate::steps::{InputStep, add_step, add_steps};
+use crate::utf8::{Rest, push_rest};
 use crate::visits::{Visits, advance, first_pending, first_visits, meet_all, pending_of, way_to};
 use indexmap::IndexSet;
 use std::alloc::{AllocError, Global};
@@ -213,8 +213,8 @@ fn cover_pending<M: Machine>(
         covers.AreCoveredAt (M.leads machine.now) (M.goal machine.now) explored.now.utf8
         cover.new.steps.keys at) }
 {
-    for place in 0..256usize {
-        let byte = byte_at(place as u8);
+    for site in 0..256usize {
+        let byte = byte_at(site as u8);
         cover_byte(machine, explored, cover, PointByte { number, byte })?;
     }
     cover_end(machine, explored, cover, number)?;

@@ -6,9 +6,9 @@
 mod cover;
 mod order;
 mod point;
-mod rest;
 mod search;
 mod steps;
+mod utf8;
 mod visits;
 
 pub use cover::covering;

@@ -7,7 +7,7 @@ ghost use Rattle.logos_search.specs.inside.Visits as walks;
 
 use crate::order::byte_at;
 use crate::point::{Machine, Point};
-use crate::rest::{Rest, more, rest_by};
+use crate::utf8::{Rest, more, rest_by};
 use indexmap::IndexSet;
 use std::alloc::{AllocError, Global};
 
@@ -144,8 +144,8 @@ pub(crate) fn meet_all<M: Machine>(
 {
     let at = pending_of(visits, number);
     let depth = visits.ways[number].depth + 1;
-    for place in 0..256usize {
-        let byte = byte_at(place as u8);
+    for site in 0..256usize {
+        let byte = byte_at(site as u8);
         let way = Visit {
             from: number,
             byte,

@@ -2,7 +2,7 @@
 use Rattle.std.proofs.Common.{◌≡◌, ◌<◌, ◌≤◌, ◌+◌, ℕ, Bool, true, false, List, [], ◌∷◌, Contains, Option, Some, None, IfSome, if◌then◌else◌, length, get_or, drop, option_map, unwrap_or, inl, inr, sym, ap, ◌∙◌, refl, subst}
 use Rattle.std.proofs.lemmas.List.{at_drop_more, at_drop_all, get_or_default}
 use Rattle.std.specs.Borrow.{Bor}
-use Rattle.logos_rust_file.specs.declared.finding.FoundEnum.{FoundEnum}
+use Rattle.logos_rust_file.specs.declared.finder.FoundEnum.{FoundEnum}
 use Rattle.logos_rust_file.specs.Files.{AreEnumsOf}
 use Rattle.logos_show.specs.Choices.{IsLexerOf, IsSameOr, IsTaken, first_deriving, first_near, taken}
 

@@ -11,10 +11,10 @@ use Rattle.logos_answers.specs.declared.comparison.Compared.{Compared}
 use Rattle.logos_answers.specs.declared.comparison.Compared.TheVariants as compared
 use Rattle.logos_evidence.specs.Covering.{AreCoveringInputs}
 use Rattle.logos_evidence.specs.Matching.{AreMatches}
-use Rattle.logos_evidence.specs.declared.matching.Match.{Match}
+use Rattle.logos_evidence.specs.declared.matches.Match.{Match}
 use Rattle.logos_graph.specs.Graph.{GraphState}
 use Rattle.logos_graph.specs.View.{rules_of}
-use Rattle.logos_lines.specs.declared.place.Position.{Position}
+use Rattle.logos_lines.specs.declared.location.Location.{Location}
 use Rattle.logos_pattern.specs.declared.leaf.Leaf.{Leaf}
 use Rattle.logos_records.specs.Inputs.{AreInputRecords}
 use Rattle.logos_records.specs.Matches.{AreMatchRecords}
@@ -22,23 +22,23 @@ use Rattle.logos_show.specs.declared.replies.Agreement.{Agreement}
 use Rattle.logos_show.specs.declared.replies.Agreement.TheVariants.{Different, Same}
 
 -- The line that names a point.
-abbrev pub place_line : Position → List ℕ
-place_line place = codes "from " ++ (decimal place.line ++ (codes ":" ++ (decimal place.column ++ codes "\n")))
+abbrev pub location_line : Location → List ℕ
+location_line location = codes "from " ++ (decimal location.line ++ (codes ":" ++ (decimal location.column ++ codes "\n")))
 
 -- Standard output got the lines about all matches from a point of an input.
-pub record PrintsMatches (leaves : List Leaf) (input : List ℕ) (place : Position) (old new : Option (List ℕ)) : Type 0 where
+pub record PrintsMatches (leaves : List Leaf) (input : List ℕ) (location : Location) (old new : Option (List ℕ)) : Type 0 where
   pub from : ℕ
-  pub at : IsOffsetOf input place from
+  pub at : IsOffsetOf input location from
   pub matches : List Match
   pub all : AreMatches (rules_of leaves) input from matches
   pub text : List ℕ
   pub lines : AreLines leaves input from matches text
-  pub printed : Appends old new (place_line place ++ text)
+  pub printed : Appends old new (location_line location ++ text)
 
 -- Standard output got the lines of JSON about all matches from a point of an input.
-pub record PrintsMatchRecords (leaves : List Leaf) (input : List ℕ) (place : Position) (old new : Option (List ℕ)) : Type 0 where
+pub record PrintsMatchRecords (leaves : List Leaf) (input : List ℕ) (location : Location) (old new : Option (List ℕ)) : Type 0 where
   pub from : ℕ
-  pub at : IsOffsetOf input place from
+  pub at : IsOffsetOf input location from
   pub text : List ℕ
   pub lines : AreMatchRecords leaves input from text
   pub printed : Appends old new text

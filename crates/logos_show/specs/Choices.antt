@@ -3,15 +3,15 @@ use Rattle.std.specs.Prelude.{◌≡◌, ◌⊎◌, ℕ, Bool, true, List, [], �
 use Rattle.logos_options.specs.Arguments.{setting, settings_value}
 use Rattle.logos_options.specs.declared.arguments.Settings.{Settings}
 use Rattle.logos_options.specs.declared.options.OptionName.TheVariants as options
-use Rattle.logos_rust_file.specs.declared.finding.FoundEnum.{FoundEnum}
+use Rattle.logos_rust_file.specs.declared.finder.FoundEnum.{FoundEnum}
 use Rattle.logos_rust_file.specs.Files.{AreEnumsOf}
 use Rattle.logos_show.specs.declared.choice.Choice.{Choice}
 use Rattle.logos_show.specs.declared.choice.Chosen.{Chosen}
 use Rattle.logos_show.specs.declared.choice.Chosen.TheVariants.{Nothing, One, Several}
 
 -- The name of an enum that settings give.
-abbrev pub name_asked : Settings → Option (List ℕ)
-name_asked settings = setting options.Enum (settings_value settings)
+abbrev pub name_requested : Settings → Option (List ℕ)
+name_requested settings = setting options.Enum (settings_value settings)
 
 -- The first of these enums that derives `Logos`.
 abbrev pub first_deriving : List FoundEnum → Option FoundEnum

@@ -1,5 +1,5 @@
 pub mod Answers
 pub mod Choices
 pub mod Orders
-pub mod Words
+pub mod Imports
 pub mod Views

@@ -1,7 +1,7 @@
 //! Which enum of a file is meant by a name.
 
 ghost use Rattle.std.specs.Prelude.{◌≡◌, IfErr, IfOk, IfSome, option_map};
-ghost use Rattle.logos_show.specs.Views.{IsLexerOf, IsNextChoice, IsNoMisuse, IsTaken, chosen_first, first_near, name_asked, taken};
+ghost use Rattle.logos_show.specs.Views.{IsLexerOf, IsNextChoice, IsNoMisuse, IsTaken, chosen_first, first_near, name_requested, taken};
 
 use crate::program::Task;
 use crate::refusals::{refusal_of, refused, write_note};
@@ -46,7 +46,7 @@ pub(crate) fn lexer_in<'w, E: Write>(
 ) -> Result<FoundEnum, Failure<'w>>
     ensures failed { IfErr result IsNoMisuse }
     ensures chosen { IfOk result (IsLexerOf source.now.text
-        (name_asked task.entry.order.settings)) }
+        (name_requested task.entry.order.settings)) }
 {
     match found_in(alloc, task, source)? {
         Chosen::One(one) => Ok(one),
@@ -105,7 +105,7 @@ pub(crate) fn found_in<'w>(
 ) -> Result<Chosen, Failure<'w>>
     ensures failed { IfErr result IsNoMisuse }
     ensures chosen { IfOk result (λ chosen. IfSome (chosen_first chosen)
-        (IsLexerOf source.now.text (name_asked task.entry.order.settings))) }
+        (IsLexerOf source.now.text (name_requested task.entry.order.settings))) }
 {
     let found = match enums_in(alloc, source.text()) {
         Ok(found) => found,

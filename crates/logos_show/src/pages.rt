@@ -332,6 +332,6 @@ fn push_title(page: &mut Page, part: Part<'_, '_>, made: &Generated<'_>) {
     page.push(" (");
     page.push_shown(part.source.path());
     page.push(":");
-    page.push_number(part.position(made.name.span.from).line);
+    page.push_number(part.location(made.name.span.from).line);
     page.push(")\n\n");
 }

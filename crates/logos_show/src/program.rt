@@ -1,7 +1,7 @@
 //! The program, from its arguments to an exit status. `run_logos_show` calls it.
 
 ghost use Rattle.std.specs.Prelude.{◌≡◌, ◌≤◌, ◌↔◌, ◌⊎◌, None, IfErr, IfOk, map, string_bytes};
-ghost use Rattle.logos_show.specs.Words.{status_of, IsNoMisuse, asked};
+ghost use Rattle.logos_show.specs.Imports.{status_of, IsNoMisuse, requested};
 
 use crate::choice::{found_in, lexer_in};
 use crate::comparison::compare;
@@ -17,7 +17,7 @@ use logos_codegen::{Generated, generate};
 use logos_file_warnings::Showing;
 use logos_host::{ComparableFiles, Failure, Files, print_bytes, read_bytes, read_text, report};
 use logos_items::{ItemOrder, write_item_records, write_items};
-use logos_lines::Position;
+use logos_lines::Location;
 use logos_options::{
     HelpText, OptionName, Program, STANDARD_INPUT, path_by_word, print_help, print_version,
     with_nearest,
@@ -80,7 +80,7 @@ pub(crate) fn run_with<
 ) -> u8
     requires { IfErr arguments (λ failure. (status_of failure ≡ 2) ⊎ (status_of failure ≡ 3)) }
     ensures usage { IfOk arguments.entry (λ passed.
-        (result ≡ 2) ↔ (asked (map string_bytes passed.items) ≡ None)) }
+        (result ≡ 2) ↔ (requested (map string_bytes passed.items) ≡ None)) }
     ensures unread { IfErr arguments.entry (λ failure. result ≡ status_of failure) }
     ensures known { result ≤ 3 }
 {
@@ -95,14 +95,14 @@ pub(crate) fn run_with<
 /// memory fails. The messages of failures go to standard error, and so do warnings.
 pub(crate) fn run<F: ComparableFiles, C: Clock + StandardInput, O: Write, E: Write + IsTerminal>(
     alloc: Global,
-    words: &[String],
+    arguments: &[String],
     host: &mut Host<'_, F, C, E>,
     out: &mut O,
 ) -> u8
-    ensures usage { (result ≡ 2) ↔ (asked (map string_bytes words.now) ≡ None) }
+    ensures usage { (result ≡ 2) ↔ (requested (map string_bytes arguments.now) ≡ None) }
     ensures known { result ≤ 3 }
 {
-    let request = match request_of(words) {
+    let request = match request_of(arguments) {
         Ok(request) => request,
         Err(failure) => return failed(&with_nearest(failure, Program::Show), host.err),
     };
@@ -214,7 +214,7 @@ fn answer_about<'w, F: Files, C: Clock + StandardInput, O: Write, E: Write + IsT
 {
     let done = match task.order.question {
         Question::Leaves | Question::Examples => show(task, source, host.err, out),
-        Question::Inputs(_) => give_inputs(task, source, host.err, out),
+        Question::Inputs(_) => yield_inputs(task, source, host.err, out),
         Question::Items(STANDARD_INPUT) if !is_json(task.order) => lex_stream(
             task, source, host, out,
         ),
@@ -268,7 +268,7 @@ fn form_of(order: ShowOrder<'_>) -> Form {
 }
 
 /// Writes inputs that together pass all edges of the graph of a lexer, at most so many.
-fn give_inputs<'w, O: Write, E: Write>(
+fn yield_inputs<'w, O: Write, E: Write>(
     task: Task<'w>,
     source: &Source<'_>,
     err: &mut E,
@@ -333,22 +333,22 @@ fn lex<'w, F: Files, C: Clock, O: Write, E: Write + IsTerminal>(
 ) -> Result<(), Failure<'w>>
     ensures { IfErr result IsNoMisuse }
 {
-    let (path, place) = input_of(task.order.question);
+    let (path, location) = input_of(task.order.question);
     let bytes = read_bytes(path, host.files)?;
     let input = Input {
         path,
         bytes: bytes.as_slice(),
-        place,
+        location,
         settings: task.order.settings,
     };
     lex_by_file(task, source, input, host, out)
 }
 
 /// Returns the path of the input of a question, and the line and column in it that are asked for.
-fn input_of<'w>(question: Question<'w>) -> (&'w str, Option<Position>) {
+fn input_of<'w>(question: Question<'w>) -> (&'w str, Option<Location>) {
     match question {
         Question::Items(input) => (input, None),
-        Question::Matches(input, place) => (input, Some(place)),
+        Question::Matches(input, location) => (input, Some(location)),
         _ => ("", None),
     }
 }
@@ -391,11 +391,11 @@ fn lex_by_lexer<'w, F: Files, C: Clock, O: Write, E: Write + IsTerminal>(
 ) -> Result<(), Failure<'w>>
     ensures { IfErr result IsNoMisuse }
 {
-    if let Some(place) = input.place {
+    if let Some(location) = input.location {
         let point = InputPoint {
             path: input.path,
             bytes: input.bytes,
-            place,
+            location,
         };
         return match_by_lexer(
             alloc,

@@ -1,7 +1,7 @@
 //! The texts of enums, and the refusals of files.
 
 ghost use Rattle.std.specs.Prelude.{IfErr};
-ghost use Rattle.logos_show.specs.Words.{IsNoMisuse};
+ghost use Rattle.logos_show.specs.Imports.{IsNoMisuse};
 
 use logos_causes::{Explained, explain};
 use logos_codegen::Refusal;

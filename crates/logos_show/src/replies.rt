@@ -1,7 +1,7 @@
 //! Answers to what is asked of lexers.
 
 ghost use Rattle.std.specs.Prelude.{◌≡◌, [], IfErr, IfOk, OnOk};
-ghost use Rattle.logos_show.specs.Views.{AllStart, Gains, IsBytes, IsGraphOf, rules_of, IsNoMisuse, GraphValue, IsCompared, IsJudged, PrintsInputRecords, PrintsInputs, PrintsMatchRecords, PrintsMatches, place_line};
+ghost use Rattle.logos_show.specs.Views.{AllStart, Gains, IsBytes, IsGraphOf, rules_of, IsNoMisuse, GraphValue, IsCompared, IsJudged, PrintsInputRecords, PrintsInputs, PrintsMatchRecords, PrintsMatches, location_line};
 
 use crate::refusals::refusal_of;
 use logos_answers::{
@@ -10,7 +10,7 @@ use logos_answers::{
 };
 use logos_codegen::graph::Graph;
 use logos_host::{Failure, print_bytes};
-use logos_lines::Position;
+use logos_lines::Location;
 use logos_options::Settings;
 use logos_page::Page;
 use logos_records::{
@@ -32,7 +32,7 @@ pub(crate) enum Agreement {
 pub(crate) struct Input<'w, 'i> {
     pub(crate) path: &'w str,
     pub(crate) bytes: &'i [u8],
-    pub(crate) place: Option<Position>,
+    pub(crate) location: Option<Location>,
     /// The settings that are given.
     pub(crate) settings: Settings<'w>,
 }
@@ -42,7 +42,7 @@ pub(crate) struct Input<'w, 'i> {
 pub(crate) struct InputPoint<'w, 'i> {
     pub(crate) path: &'w str,
     pub(crate) bytes: &'i [u8],
-    pub(crate) place: Position,
+    pub(crate) location: Location,
 }
 
 /// Writes what matches from a point of an input, as lines of text.
@@ -60,14 +60,14 @@ pub(crate) fn write_matches<O: Write>(
     ensures failed { IfErr result IsNoMisuse }
     ensures printed { OnOk result (IsGraphOf graph.now.leaves graph.now.utf8 graph.now →
         AllStart (rules_of graph.now.leaves) → IsBytes point.entry.bytes.now →
-        PrintsMatches graph.now.leaves point.entry.bytes.now point.entry.place
+        PrintsMatches graph.now.leaves point.entry.bytes.now point.entry.location
         (O.contents out.old) (O.contents out.new)) }
 {
-    let Some(from) = offset_of(point.bytes, point.place) else {
-        return Err(no_place(alloc, point.path, point.place));
+    let Some(from) = offset_of(point.bytes, point.location) else {
+        return Err(no_location(alloc, point.path, point.location));
     };
     let mut page = Page::new(alloc, false);
-    push_place(&mut page, point.place);
+    push_location(&mut page, point.location);
     push_matches(alloc, &mut page, graph, point.bytes, from)?;
     let text = page.finish()?;
     print_bytes(text.as_str().as_bytes(), out)
@@ -88,38 +88,38 @@ pub(crate) fn write_match_records<O: Write>(
     ensures failed { IfErr result IsNoMisuse }
     ensures printed { OnOk result (IsGraphOf graph.now.leaves graph.now.utf8 graph.now →
         AllStart (rules_of graph.now.leaves) → IsBytes point.entry.bytes.now →
-        PrintsMatchRecords graph.now.leaves point.entry.bytes.now point.entry.place
+        PrintsMatchRecords graph.now.leaves point.entry.bytes.now point.entry.location
         (O.contents out.old) (O.contents out.new)) }
 {
-    let Some(from) = offset_of(point.bytes, point.place) else {
-        return Err(no_place(alloc, point.path, point.place));
+    let Some(from) = offset_of(point.bytes, point.location) else {
+        return Err(no_location(alloc, point.path, point.location));
     };
     let bytes = match_records(alloc, graph, point.bytes, from)?;
     print_bytes(&bytes, out)
 }
 
 /// Appends the line that names a point.
-fn push_place(page: &mut Page, place: Position)
-    ensures { Gains (place_line place) page.old page.new }
+fn push_location(page: &mut Page, location: Location)
+    ensures { Gains (location_line location) page.old page.new }
 {
     page.push("from ");
-    page.push_number(place.line);
+    page.push_number(location.line);
     page.push(":");
-    page.push_number(place.column);
+    page.push_number(location.column);
     page.push("\n");
 }
 
 /// Returns the refusal of an input that does not have a point.
-fn no_place(alloc: Global, path: &str, place: Position) -> Failure<'static>
+fn no_location(alloc: Global, path: &str, location: Location) -> Failure<'static>
     ensures { IsNoMisuse result }
 {
     let mut page = Page::new(alloc, false);
     page.push("error: ");
     page.push_shown(path);
     page.push(" has no column ");
-    page.push_number(place.column);
+    page.push_number(location.column);
     page.push(" in line ");
-    page.push_number(place.line);
+    page.push_number(location.line);
     page.push("\n");
     refusal_of(page.finish())
 }

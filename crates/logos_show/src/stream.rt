@@ -1,7 +1,7 @@
 //! The items of standard input, a line each, written as they are found.
 
 ghost use Rattle.std.specs.Prelude.{IfErr};
-ghost use Rattle.logos_show.specs.Words.{IsNoMisuse};
+ghost use Rattle.logos_show.specs.Imports.{IsNoMisuse};
 
 use crate::choice::lexer_in;
 use crate::pages::SHAPE;

@@ -6,7 +6,7 @@ use Rattle.logos_lexeme.specs.declared.lexeme.Delimiter.TheVariants.{Parenthesis
 use Rattle.logos_token.specs.Tokens.{TokenList, identifier, punctuation, literal, doc, group, none, also}
 use Rattle.logos_enum.specs.Attributes.{after_parenthesis, after_visibility, after_keyword, announced_in}
 use Rattle.logos_enum.specs.Enum.{from_brace, where_in}
-use Rattle.logos_spans.proofs.RuleParts.{Anything, Gives, Rests, part_if, gives_if}
+use Rattle.logos_spans.proofs.RuleParts.{Anything, Yields, Rests, part_if, yields_if}
 
 after_parenthesis_part : (In : TokenList → Type 0) (rests : Rests In) (run : TokenList) → In run → In (after_parenthesis run)
 after_parenthesis_part In rests none r = r
@@ -57,11 +57,11 @@ from_brace_part In rests (also (group Parenthesis span inside) rest) r = from_br
 from_brace_part In rests (also (group Bracket span inside) rest) r = from_brace_part In rests rest (rests _ rest r)
 from_brace_part In rests (also (group Brace span inside) rest) r = r
 
-pub where_gives : (In : TokenList → Type 0) (rests : Rests In) (run : TokenList) → In run → Gives In Anything (where_in run)
-where_gives In rests none r = (tt, r)
-where_gives In rests (also (identifier text span) rest) r =
-    gives_if In Anything (bytes_eq text (codes "where")) (Ok (tt, from_brace rest)) (Ok (tt, also (identifier text span) rest)) (tt, from_brace_part In rests rest (rests _ rest r)) (tt, r)
-where_gives In rests (also (punctuation character spacing span) rest) r = (tt, r)
-where_gives In rests (also (literal text span) rest) r = (tt, r)
-where_gives In rests (also (doc text span) rest) r = (tt, r)
-where_gives In rests (also (group delimiter span inside) rest) r = (tt, r)
+pub where_yields : (In : TokenList → Type 0) (rests : Rests In) (run : TokenList) → In run → Yields In Anything (where_in run)
+where_yields In rests none r = (tt, r)
+where_yields In rests (also (identifier text span) rest) r =
+    yields_if In Anything (bytes_eq text (codes "where")) (Ok (tt, from_brace rest)) (Ok (tt, also (identifier text span) rest)) (tt, from_brace_part In rests rest (rests _ rest r)) (tt, r)
+where_yields In rests (also (punctuation character spacing span) rest) r = (tt, r)
+where_yields In rests (also (literal text span) rest) r = (tt, r)
+where_yields In rests (also (doc text span) rest) r = (tt, r)
+where_yields In rests (also (group delimiter span inside) rest) r = (tt, r)

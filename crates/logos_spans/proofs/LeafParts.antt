@@ -30,8 +30,8 @@ use Rattle.logos_subpattern.specs.PatternFaults.{Reading, spelled, broken, too_d
 use Rattle.logos_subpattern.specs.Substitution.{Stored}
 use Rattle.logos_leaf.specs.Leaves.{LeafView, bytes_of, folded_report, token_report, token_leaf, IsTokenLeaf, fitted_report, regex_priority, reading_report, text_report, whole_report, IsRegexLeaf}
 use Rattle.logos_leaf.specs.Sources.{ReadsParameters, no_parameter, one_parameter, ReadsAttributes, no_attribute, one_attribute, ReadsSource, IsSourceRead}
-use Rattle.logos_leaf.specs.Variants.{TokenGives, no_token, a_token, RegexGives, no_regex, a_regex, AttributeGives, on_error, on_token, on_regex, on_other, AttributesAdd, no_attribute as no_more, one_attribute as one_first, VariantsAdd, no_variant, one_variant, SkipsAdd, no_skip, one_skip}
-use Rattle.logos_spans.specs.LeafSpans.{IsRunSpan, StandsIn, HasSpansOf}
+use Rattle.logos_leaf.specs.Variants.{TokenYields, no_token, a_token, RegexYields, no_regex, a_regex, AttributeYields, on_error, on_token, on_regex, on_other, AttributesAdd, no_attribute as no_more, one_attribute as one_first, VariantsAdd, no_variant, one_variant, SkipsAdd, no_skip, one_skip}
+use Rattle.logos_spans.specs.LeafSpans.{IsRunSpan, OccursIn, HasSpansOf}
 use Rattle.logos_spans.proofs.TokenParts.{Part}
 use Rattle.logos_spans.proofs.EnumParts.{VariantParts, EnumParts, enum_parts, split_part}
 use Rattle.logos_spans.proofs.HeadParts.{IfRun}
@@ -40,7 +40,7 @@ use Rattle.logos_spans.proofs.DefinitionParts.{DefinitionParts, IfDefinition, at
 -- the leaf, if there is one, stands in these tokens
 abbrev IfLeaf : TokenList → Option LeafView → Type 0
 IfLeaf tokens None = Unit {0}
-IfLeaf tokens (Some leaf) = StandsIn tokens leaf
+IfLeaf tokens (Some leaf) = OccursIn tokens leaf
 
 leaf_if : (tokens : TokenList) (b : Bool) (one other : Report (Option LeafView)) → IfLeaf tokens one.value → IfLeaf tokens other.value → IfLeaf tokens (if b then one else other).value
 leaf_if tokens true one other p q = p
@@ -76,7 +76,7 @@ module _ (tokens : TokenList) (d : DefinitionView) (p : DefinitionParts tokens d
 
 -- ---- The leaves of variants and skips.
 
-each_added : (tokens : TokenList) (leaves : List LeafView) (leaf : Option LeafView) → Each (StandsIn tokens) leaves → IfLeaf tokens leaf → Each (StandsIn tokens) (leaves ++ option_to_list leaf)
+each_added : (tokens : TokenList) (leaves : List LeafView) (leaf : Option LeafView) → Each (OccursIn tokens) leaves → IfLeaf tokens leaf → Each (OccursIn tokens) (leaves ++ option_to_list leaf)
 each_added tokens [] None e l = tt
 each_added tokens [] (Some leaf) e l = (l, tt)
 each_added tokens (first ∷ rest) leaf e l = (e.0, each_added tokens rest leaf e.1 l)
@@ -85,35 +85,35 @@ each_added tokens (first ∷ rest) leaf e l = (e.0, each_added tokens rest leaf 
 definition_read : (tokens : TokenList) (attribute : AttributeValue) (definition : DefinitionView) → IfRun (Part tokens) attribute.inside → Some definition ≡ (meta_report (meta_of attribute)).value → DefinitionParts tokens definition
 definition_read tokens attribute definition r e = subst (IfDefinition tokens) (sym e) (attribute_definition tokens attribute r)
 
-token_gives : (tokens : TokenList) {kind : KindValue} {attribute : AttributeValue} {old new : List Fault} {leaf : Option LeafView} → TokenGives kind attribute old new leaf → IfRun (Part tokens) attribute.inside → IfLeaf tokens leaf
-token_gives tokens (no_token t f) r = tt
-token_gives tokens {kind} {attribute} (a_token {definition = definition} t l) r = token_leaf_parts tokens definition (definition_read tokens attribute definition r t.0) kind l
+token_yields : (tokens : TokenList) {kind : KindValue} {attribute : AttributeValue} {old new : List Fault} {leaf : Option LeafView} → TokenYields kind attribute old new leaf → IfRun (Part tokens) attribute.inside → IfLeaf tokens leaf
+token_yields tokens (no_token t f) r = tt
+token_yields tokens {kind} {attribute} (a_token {definition = definition} t l) r = token_leaf_parts tokens definition (definition_read tokens attribute definition r t.0) kind l
 
-regex_gives : (tokens : TokenList) {names : List Stored} {kind : KindValue} {attribute : AttributeValue} {old new : List Fault} {leaf : Option LeafView} →
-    RegexGives names kind attribute old new leaf → IfRun (Part tokens) attribute.inside → IfLeaf tokens leaf
-regex_gives tokens (no_regex t f) r = tt
-regex_gives tokens {kind = kind} {attribute = attribute} (a_regex {definition = definition} t l) r = regex_leaf_parts tokens definition (definition_read tokens attribute definition r t.0) kind l
+regex_yields : (tokens : TokenList) {names : List Stored} {kind : KindValue} {attribute : AttributeValue} {old new : List Fault} {leaf : Option LeafView} →
+    RegexYields names kind attribute old new leaf → IfRun (Part tokens) attribute.inside → IfLeaf tokens leaf
+regex_yields tokens (no_regex t f) r = tt
+regex_yields tokens {kind = kind} {attribute = attribute} (a_regex {definition = definition} t l) r = regex_leaf_parts tokens definition (definition_read tokens attribute definition r t.0) kind l
 
-attribute_gives : (tokens : TokenList) {names : List Stored} {kind : KindValue} {attribute : AttributeValue} {old new : List Fault} {leaf : Option LeafView} →
-    AttributeGives names kind attribute old new leaf → IfRun (Part tokens) attribute.inside → IfLeaf tokens leaf
-attribute_gives tokens (on_error n f) r = tt
-attribute_gives tokens (on_token n g) r = token_gives tokens g r
-attribute_gives tokens (on_regex n g) r = regex_gives tokens g r
-attribute_gives tokens (on_other n m k e) r = tt
+attribute_yields : (tokens : TokenList) {names : List Stored} {kind : KindValue} {attribute : AttributeValue} {old new : List Fault} {leaf : Option LeafView} →
+    AttributeYields names kind attribute old new leaf → IfRun (Part tokens) attribute.inside → IfLeaf tokens leaf
+attribute_yields tokens (on_error n f) r = tt
+attribute_yields tokens (on_token n g) r = token_yields tokens g r
+attribute_yields tokens (on_regex n g) r = regex_yields tokens g r
+attribute_yields tokens (on_other n m k e) r = tt
 
 attributes_add : (tokens : TokenList) {names : List Stored} {kind : KindValue} {run : TokenList} {before after : List LeafView} {old new : List Fault} →
-    AttributesAdd names kind run before after old new → IsRunOf run tokens → Each (StandsIn tokens) before → Each (StandsIn tokens) after
+    AttributesAdd names kind run before after old new → IsRunOf run tokens → Each (OccursIn tokens) before → Each (OccursIn tokens) after
 attributes_add tokens (no_more e) r b = b
 attributes_add tokens {run = run} (one_first {split = split} {leaf = leaf} {before = before} e g rest) r b =
-    let s = split_part tokens run split r e in attributes_add tokens rest s.1 (each_added tokens before leaf b (attribute_gives tokens g s.0))
+    let s = split_part tokens run split r e in attributes_add tokens rest s.1 (each_added tokens before leaf b (attribute_yields tokens g s.0))
 
 variants_add : (tokens : TokenList) {params : Params} {names : List Stored} {list : List VariantValue} {before after : List LeafView} {old new : List Fault} →
-    VariantsAdd params names list before after old new → Each (VariantParts tokens) list → Each (StandsIn tokens) before → Each (StandsIn tokens) after
+    VariantsAdd params names list before after old new → Each (VariantParts tokens) list → Each (OccursIn tokens) before → Each (OccursIn tokens) after
 variants_add tokens no_variant v b = b
 variants_add tokens (one_variant a rest) v b = variants_add tokens rest v.1 (attributes_add tokens a.add v.0 b)
 
 skips_add : (tokens : TokenList) {names : List Stored} {list : List DefinitionView} {before after : List LeafView} {old new : List Fault} →
-    SkipsAdd names list before after old new → Each (DefinitionParts tokens) list → Each (StandsIn tokens) before → Each (StandsIn tokens) after
+    SkipsAdd names list before after old new → Each (DefinitionParts tokens) list → Each (OccursIn tokens) before → Each (OccursIn tokens) after
 skips_add tokens no_skip d b = b
 skips_add tokens (one_skip {definition = definition} {leaf = leaf} {before = before} l rest) d b =
     skips_add tokens rest d.1 (each_added tokens before leaf b (regex_leaf_parts tokens definition d.0 skipped l))
@@ -134,7 +134,7 @@ attributes_parts tokens (no_attribute e) r p = p
 attributes_parts tokens {run = run} (one_attribute {split = split} e s rest) r p =
     let q = split_part tokens run split r e in attributes_parts tokens rest q.1 (reads_attribute tokens split.attribute s q.0 p)
 
-source_parts : (tokens : TokenList) (enum : EnumValue) (o : OptionsView) (leaves : List LeafView) (faults : List Fault) → ReadsSource enum o leaves faults → EnumParts tokens enum → Each (StandsIn tokens) leaves
+source_parts : (tokens : TokenList) (enum : EnumValue) (o : OptionsView) (leaves : List LeafView) (faults : List Fault) → ReadsSource enum o leaves faults → EnumParts tokens enum → Each (OccursIn tokens) leaves
 source_parts tokens enum o leaves faults s p =
     let skips = attributes_parts tokens s.attributes p.0 (parameters_parts tokens s.parameters tt) in
     variants_add tokens s.leaves_say.variants_add p.1 (skips_add tokens s.leaves_say.skips_add skips tt)
@@ -144,11 +144,11 @@ all_each P [] e = All-nil P
 all_each P (first ∷ rest) e = All-cons P first rest e.0 (all_each P rest e.1)
 
 module _ (tokens : TokenList) (enum : EnumValue) (leaves : List LeafView) (others : OptionsView) (faults : List Fault) (reads : Reads tokens (Ok enum)) (read : IsSourceRead enum leaves others faults) where
-  each_stands : Each (StandsIn tokens) leaves
-  each_stands = source_parts tokens enum read.options leaves faults read.says (enum_parts tokens enum reads)
+  each_occurs : Each (OccursIn tokens) leaves
+  each_occurs = source_parts tokens enum read.options leaves faults read.says (enum_parts tokens enum reads)
 
-  pub leaves_stand : All (StandsIn tokens) leaves
-  leaves_stand = all_each (StandsIn tokens) leaves each_stands
+  pub leaves_occur : All (OccursIn tokens) leaves
+  leaves_occur = all_each (OccursIn tokens) leaves each_occurs
 
   module _ (source : List ℕ) (utf8 : IsUtf8 source) (spells : Spells source tokens) where
     span_of_run : (span : Span) → IsRunSpan tokens span → IsSpanOf source span
@@ -158,12 +158,12 @@ module _ (tokens : TokenList) (enum : EnumValue) (leaves : List LeafView) (other
     callback_spans None s = s
     callback_spans (Some callback) s = span_of_run (view_span callback) s
 
-    each_spans : (list : List LeafView) → Each (StandsIn tokens) list → Each (HasSpansOf source) list
+    each_spans : (list : List LeafView) → Each (OccursIn tokens) list → Each (HasSpansOf source) list
     each_spans [] e = tt
     each_spans (leaf ∷ rest) e =
         let run = also (literal leaf.source leaf.span) none in
-        let stands = fits_of source run tokens e.0.token (spelled_fits source tokens utf8 spells) in
-        (record { span = span_fits source run utf8 stands; text = stands.stands.0.2; callback = callback_spans leaf.callback e.0.callback }, each_spans rest e.1)
+        let occurs = fits_of source run tokens e.0.token (spelled_fits source tokens utf8 spells) in
+        (record { span = span_fits source run utf8 occurs; text = occurs.occurs.0.2; callback = callback_spans leaf.callback e.0.callback }, each_spans rest e.1)
 
     pub leaves_have_spans : All (HasSpansOf source) leaves
-    leaves_have_spans = all_each (HasSpansOf source) leaves (each_spans leaves each_stands)
+    leaves_have_spans = all_each (HasSpansOf source) leaves (each_spans leaves each_occurs)

@@ -16,7 +16,7 @@ pub record IsRunSpan (tokens : TokenList) (span : Span) : Type 0 where
 
 -- The literal of a leaf is one of these tokens, at any depth, and its callback, if it has one,
 -- stands in them.
-pub record StandsIn (tokens : TokenList) (leaf : LeafView) : Type 0 where
+pub record OccursIn (tokens : TokenList) (leaf : LeafView) : Type 0 where
   pub token : IsRunOf (also (literal leaf.source leaf.span) none) tokens
   pub callback : IfSome leaf.callback (λ callback. IsRunSpan tokens (view_span callback))
 

@@ -1,2 +1,2 @@
 pub mod LeafSpans
-pub mod Words
+pub mod Imports

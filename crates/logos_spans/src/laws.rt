@@ -1,7 +1,7 @@
 //! Laws of reading sources. No code calls these functions: the contract of each is a proved law.
 
 ghost use Rattle.std.specs.Prelude.{List, ℕ, Ok, All, IsUtf8};
-ghost use Rattle.logos_spans.specs.Words.{EnumValue, Fault, LeafView, OptionsView, Reads, Spells, TokenList, IsSourceRead, HasSpansOf, StandsIn};
+ghost use Rattle.logos_spans.specs.Imports.{EnumValue, Fault, LeafView, OptionsView, Reads, Spells, TokenList, IsSourceRead, HasSpansOf, OccursIn};
 
 /// The literal of each leaf of an enum is one of its tokens, and its callback, if it has one,
 /// stands in them. Both have spans of each source that spells these tokens, and the literal is the
@@ -9,7 +9,7 @@ ghost use Rattle.logos_spans.specs.Words.{EnumValue, Fault, LeafView, OptionsVie
 pub fn leaves_have_spans()
     ensures tokens { (tokens : TokenList) (enum : EnumValue) → Reads tokens (Ok enum) →
         (leaves : List LeafView) (options : OptionsView) (faults : List Fault) →
-        IsSourceRead enum leaves options faults → All (StandsIn tokens) leaves }
+        IsSourceRead enum leaves options faults → All (OccursIn tokens) leaves }
     ensures spans { (source : List ℕ) → IsUtf8 source → (tokens : TokenList) →
         Spells source tokens → (enum : EnumValue) → Reads tokens (Ok enum) →
         (leaves : List LeafView) (options : OptionsView) (faults : List Fault) →

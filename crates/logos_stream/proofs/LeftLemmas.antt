@@ -9,7 +9,7 @@ use Rattle.logos_code.specs.Items.{Callback, Item}
 use Rattle.logos_code.specs.Runs.{Runs}
 use Rattle.logos_stream.specs.Fronts.{end_of, item_with}
 use Rattle.logos_stream.specs.Lefts.{AllAreOfTheWhole, AreLeft, GoesOn, MayRead, Steps, placed}
-use Rattle.logos_stream.specs.Nexts.{GivesNext, WaitsNext}
+use Rattle.logos_stream.specs.Nexts.{YieldsNext, WaitsNext}
 use Rattle.logos_stream.specs.Wholes.{AreFound, HasGiven}
 use Rattle.logos_stream.specs.WindowValue.{GoesPast, WindowValue}
 use Rattle.logos_stream.specs.declared.item.StreamItem.{StreamItem}
@@ -99,9 +99,9 @@ module _ {R : Type 0} (remaining : R → Option (List ℕ)) (code : CodeValue) (
       given = h;
     }
 
-  pub on_item : (old new : WindowValue R) (item : StreamItem) → GivesNext code callback old new item → On old new (item_with item new.slice ∷ [])
+  pub on_item : (old new : WindowValue R) (item : StreamItem) → YieldsNext code callback old new item → On old new (item_with item new.slice ∷ [])
   on_item old new item g = on_past old new (end_of g.found) g.shows.past (item_with item new.slice ∷ [])
-      (λ sound before items h. (streams_are_of_the_whole remaining callback).gives code before old new items item sound h g)
+      (λ sound before items h. (streams_are_of_the_whole remaining callback).yields code before old new items item sound h g)
 
   pub on_wait : (old new : WindowValue R) → WaitsNext code callback old new → On old new []
   on_wait old new w = on_past old new w.passed w.waits.past []
@@ -138,7 +138,7 @@ module _ {R : Type 0} (remaining : R → Option (List ℕ)) (code : CodeValue) (
 
   -- ---- steps
 
-  pub step_item : (old new : WindowValue R) (item : StreamItem) (former items : List StreamItem) → GivesNext code callback old new item → items ≡ former ++ item ∷ [] →
+  pub step_item : (old new : WindowValue R) (item : StreamItem) (former items : List StreamItem) → YieldsNext code callback old new item → items ≡ former ++ item ∷ [] →
       Steps remaining code callback old new former items false
   step_item old new item former items g e =
       (item_with item new.slice ∷ [], on_item old new item g, e ∙ ap (λ i. former ++ i ∷ []) (sym (placed_with item new.slice)))

@@ -4,7 +4,7 @@ use Rattle.logos_code.specs.Code.{CodeValue}
 use Rattle.logos_code.specs.Items.{Callback}
 use Rattle.logos_machine.specs.Streams.{MayFollow, RunsOver, passes_none}
 use Rattle.logos_stream.specs.Fronts.{IsFirst, IsOver, IsWaiting, end_of, item_in}
-use Rattle.logos_stream.specs.Moves.{Finishes, Gives, Waits, WaitsAt}
+use Rattle.logos_stream.specs.Moves.{Finishes, Yields, Waits, WaitsAt}
 use Rattle.logos_stream.specs.Nexts.{DoesNext, IsUndecided, WaitsNext}
 use Rattle.logos_stream.specs.WindowValue.{WindowValue, unread_length}
 use Rattle.logos_stream.specs.declared.item.StreamItem.{StreamItem}
@@ -12,12 +12,12 @@ use Rattle.logos_stream.specs.declared.item.Streamed.{Streamed}
 use Rattle.logos_stream.specs.declared.item.Streamed.TheVariants.{Item as Given, More, TooLong, NotUtf8, End}
 
 module _ {R : Type 0} (code : CodeValue) (callback : Callback) (old new : WindowValue R) where
-  pub gives_next : (found : StreamItem) (r : Streamed) → IsFirst code callback old.lexed old.is_last found → Gives old new found r → DoesNext code callback old new r
-  gives_next found (Given item) f g = record { found = found; first = f; shows = g }
-  gives_next found NotUtf8 f g = inr (record { to = end_of found; why = inl (item_in found old.lexed, f.finds); stuck = g })
-  gives_next found More f g = absurd g
-  gives_next found TooLong f g = absurd g
-  gives_next found End f g = absurd g
+  pub yields_next : (found : StreamItem) (r : Streamed) → IsFirst code callback old.lexed old.is_last found → Yields old new found r → DoesNext code callback old new r
+  yields_next found (Given item) f g = record { found = found; first = f; shows = g }
+  yields_next found NotUtf8 f g = inr (record { to = end_of found; why = inl (item_in found old.lexed, f.finds); stuck = g })
+  yields_next found More f g = absurd g
+  yields_next found TooLong f g = absurd g
+  yields_next found End f g = absurd g
 
   module _ (to : ℕ) (waiting : old.is_last ≡ false) (over : (more : List ℕ) → MayFollow code more → RunsOver code callback (old.lexed ++ more) 0 to)
       (why : IsUndecided code old.lexed to ⊎ (unread_length old < old.wanted)) where

@@ -10,7 +10,7 @@ use Rattle.logos_machine.specs.Streams.{AreBegun, MayFollow, RunsOver, item_late
 use Rattle.logos_machine.proofs.LaterLemmas.{runs_go_later}
 use Rattle.logos_machine.proofs.PartLemmas.{next_first, parts_are_of_the_whole}
 use Rattle.logos_stream.specs.Fronts.{FindsUpTo, end_of, item_in, item_with}
-use Rattle.logos_stream.specs.Nexts.{FinishesNext, GivesNext, WaitsNext}
+use Rattle.logos_stream.specs.Nexts.{FinishesNext, YieldsNext, WaitsNext}
 use Rattle.logos_stream.specs.Wholes.{AreFound, HasGiven, StreamsAreOfTheWhole}
 use Rattle.logos_stream.specs.WindowValue.{GoesPast, ReadsOn, WindowValue}
 use Rattle.logos_stream.specs.declared.item.StreamItem.{StreamItem}
@@ -86,9 +86,9 @@ module _ (code : CodeValue) (callback : Callback) where
     nearer small = omega (arith, far, small)
 
   module _ {R : Type 0} (passed : List ℕ) (old new : WindowValue R) (items : List Item) (h : HasGiven code callback passed old items) where
-    gives_one : (item : StreamItem) → IsSound code → GivesNext code callback old new item →
+    yields_one : (item : StreamItem) → IsSound code → YieldsNext code callback old new item →
         HasGiven code callback (passed ++ (new.skipped ++ new.slice)) new (items ++ item_with item new.slice ∷ [])
-    gives_one item sound g =
+    yields_one item sound g =
         let past = g.shows.past in
         let to = end_of g.found in
         goes_further passed old new to past items (items ++ item_with item new.slice ∷ []) h
@@ -132,7 +132,7 @@ streams_are_of_the_whole remaining callback = record {
     found = λ small. (parts_are_of_the_whole callback).none code [];
   };
   reads = λ code passed old new items h r. reads_more code callback passed old new items h remaining r;
-  gives = λ code passed old new items item sound h g. gives_one code callback passed old new items h item sound g;
+  yields = λ code passed old new items item sound h g. yields_one code callback passed old new items h item sound g;
   waits = λ code passed old new items sound h w. waits_on code callback passed old new items h sound w;
   ends = λ code passed old new items sound small h f. ends_all code callback passed old new items h sound small f;
 }

@@ -4,7 +4,7 @@ use Rattle.logos_automaton.specs.Munch.{Found}
 use Rattle.logos_code.specs.Code.{CodeValue}
 use Rattle.logos_code.specs.Items.{Callback, Item, token, error}
 use Rattle.logos_code.specs.Runs.{Runs, RunsOn}
-use Rattle.logos_machine.specs.Streams.{first_stand, LooksPast, MayFollow, RunsOver, TriesWithin}
+use Rattle.logos_machine.specs.Streams.{first_status, LooksPast, MayFollow, RunsOver, AttemptsWithin}
 use Rattle.logos_stream.specs.declared.item.StreamItem.{StreamItem}
 use Rattle.logos_stream.specs.declared.item.StreamItem.TheVariants.{Token, Error}
 use Rattle.logos_stream.specs.declared.front.Front.{Front}
@@ -55,8 +55,8 @@ module _ (code : CodeValue) (callback : Callback) (bytes : List ℕ) where
     pub unsettled : is_last ≡ false
     pub within : to ≤ length bytes
     pub passed : (more : List ℕ) → MayFollow code more → RunsOver code callback (bytes ++ more) 0 to
-    pub looks : LooksPast code bytes to (first_stand code to)
-    pub undecided : (found : Found) (n : ℕ) → TriesWithin code bytes to (length bytes) found n → ⊥
+    pub looks : LooksPast code bytes to (first_status code to)
+    pub undecided : (found : Found) (n : ℕ) → AttemptsWithin code bytes to (length bytes) found n → ⊥
 
   -- No item comes, and nothing follows.
   pub record IsOver (is_last : Bool) : Type 0 where

@@ -1,4 +1,4 @@
-pub mod Words
+pub mod Imports
 pub mod Fronts
 pub mod Tails
 pub mod WindowValue

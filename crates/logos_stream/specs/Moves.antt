@@ -43,10 +43,10 @@ module _ {R : Type 0} (old new : WindowValue R) where
   IsStuck to = IsInside old.utf8 old.lexed to × GoesPast 0 old new
 
   -- What follows an item that was found.
-  abbrev pub Gives : StreamItem → Streamed → Type 0
-  Gives found (Given item) = Shows old new found item
-  Gives found NotUtf8 = IsStuck (end_of found)
-  Gives found other = ⊥
+  abbrev pub Yields : StreamItem → Streamed → Type 0
+  Yields found (Given item) = Shows old new found item
+  Yields found NotUtf8 = IsStuck (end_of found)
+  Yields found other = ⊥
 
   -- What follows if nothing is found up to here.
   abbrev pub Waits : ℕ → Streamed → Type 0

@@ -4,7 +4,7 @@ use Rattle.logos_automaton.specs.Munch.{Found}
 use Rattle.logos_code.specs.Code.{CodeValue}
 use Rattle.logos_code.specs.Items.{Callback, Item}
 use Rattle.logos_code.specs.Runs.{Runs}
-use Rattle.logos_machine.specs.Streams.{first_stand, LooksPast, MayFollow, RunsOver, TriesWithin}
+use Rattle.logos_machine.specs.Streams.{first_status, LooksPast, MayFollow, RunsOver, AttemptsWithin}
 use Rattle.logos_stream.specs.Fronts.{FindsUpTo, IsFirst}
 use Rattle.logos_stream.specs.Moves.{IsStuck, IsTorn, Shows, WaitsAt}
 use Rattle.logos_stream.specs.WindowValue.{WindowValue, GoesPast, unread_length}
@@ -15,13 +15,13 @@ use Rattle.logos_stream.specs.declared.item.Streamed.TheVariants.{Item as Given,
 -- What a match attempt finds from the offset on is open at the end of the bytes: it depends on more
 -- than these.
 pub record IsUndecided (code : CodeValue) (bytes : List ℕ) (offset : ℕ) : Type 0 where
-  pub looks : LooksPast code bytes offset (first_stand code offset)
-  pub undecided : (found : Found) (n : ℕ) → TriesWithin code bytes offset (length bytes) found n → ⊥
+  pub looks : LooksPast code bytes offset (first_status code offset)
+  pub undecided : (found : Found) (n : ℕ) → AttemptsWithin code bytes offset (length bytes) found n → ⊥
 
 module _ {R : Type 0} (code : CodeValue) (callback : Callback) (old new : WindowValue R) where
   -- The next item was given, with its span in the stream: the next one whatever follows the bytes
   -- that can be lexed, unless they are the last ones.
-  pub record GivesNext (item : StreamItem) : Type 0 where
+  pub record YieldsNext (item : StreamItem) : Type 0 where
     -- The item with its span in these bytes.
     pub found : StreamItem
     pub first : IsFirst code callback old.lexed old.is_last found
@@ -53,7 +53,7 @@ module _ {R : Type 0} (code : CodeValue) (callback : Callback) (old new : Window
 
   -- What a call of `next` does.
   abbrev pub DoesNext : Streamed → Type 0
-  DoesNext (Given item) = GivesNext item
+  DoesNext (Given item) = YieldsNext item
   DoesNext More = WaitsNext × (unread_length new < new.bound)
   DoesNext TooLong = WaitsNext × (new.bound ≤ unread_length new)
   DoesNext NotUtf8 = (FinishesNext × IsTorn new) ⊎ Splits

@@ -6,7 +6,7 @@ use Rattle.logos_code.specs.Items.{Callback, Item}
 use Rattle.logos_code.specs.Runs.{Runs}
 use Rattle.logos_machine.specs.Streams.{AreBegun}
 use Rattle.logos_stream.specs.Fronts.{item_with}
-use Rattle.logos_stream.specs.Nexts.{FinishesNext, GivesNext, WaitsNext}
+use Rattle.logos_stream.specs.Nexts.{FinishesNext, YieldsNext, WaitsNext}
 use Rattle.logos_stream.specs.WindowValue.{ReadsOn, WindowValue, nothing_read}
 use Rattle.logos_stream.specs.declared.item.StreamItem.{StreamItem}
 
@@ -30,8 +30,8 @@ pub record StreamsAreOfTheWhole {R : Type 0} (remaining : R → Option (List ℕ
   pub begins : (code : CodeValue) (reader : R) (bound : ℕ) → HasGiven code callback [] (nothing_read code.utf8 reader bound) []
   pub reads : (code : CodeValue) (passed : List ℕ) (old new : WindowValue R) (items : List Item) →
       HasGiven code callback passed old items → ReadsOn remaining old new → HasGiven code callback passed new items
-  pub gives : (code : CodeValue) (passed : List ℕ) (old new : WindowValue R) (items : List Item) (item : StreamItem) → IsSound code →
-      HasGiven code callback passed old items → GivesNext code callback old new item →
+  pub yields : (code : CodeValue) (passed : List ℕ) (old new : WindowValue R) (items : List Item) (item : StreamItem) → IsSound code →
+      HasGiven code callback passed old items → YieldsNext code callback old new item →
       HasGiven code callback (passed ++ (new.skipped ++ new.slice)) new (items ++ item_with item new.slice ∷ [])
   pub waits : (code : CodeValue) (passed : List ℕ) (old new : WindowValue R) (items : List Item) → IsSound code →
       HasGiven code callback passed old items → WaitsNext code callback old new →

@@ -87,7 +87,7 @@ impl<'c, 's, R: Read + Drop, C: Fn(LeafId, &[u8]) -> Action + Copy> Stream<'c, '
         }
         let is_last = self.window.is_last();
         match front_of(self.code, self.window.lexed(), self.callback, is_last) {
-            Front::Item(item) => self.window.give(item),
+            Front::Item(item) => self.window.emit(item),
             Front::Waits(to) => self.window.wait(to),
             Front::Ends => self.window.finish(),
         }

@@ -1,7 +1,7 @@
 //! The bytes of a stream that are in memory, and where its lexer stands in them.
 
 ghost use Rattle.std.specs.Prelude.{◌≡◌, ◌*◌, ◌<◌, ◌≤◌, [], drop, length, false, slice_range, true, IfOk, OnErr, MatchBool, IsTrue, IsUtf8, IsCharBoundary};
-ghost use Rattle.logos_stream.specs.Views.{end_of, nothing_read, start_of, unread_length, Finishes, Gives, GoesPast, IsPutOff, IsTorn, ReadsOn, StaysUnread, Waits};
+ghost use Rattle.logos_stream.specs.Views.{end_of, nothing_read, start_of, unread_length, Finishes, Yields, GoesPast, IsPutOff, IsTorn, ReadsOn, StaysUnread, Waits};
 
 use crate::item::{StreamItem, Streamed, later};
 use crate::tail::{is_cut, tail_of};
@@ -173,10 +173,10 @@ impl<R: Read + Drop> Window<R> {
 
     /// Passes an item that was found in the bytes that can be lexed, and returns it with its span
     /// in the stream.
-    pub(crate) fn give(&mut self, item: StreamItem) -> Streamed
+    pub(crate) fn emit(&mut self, item: StreamItem) -> Streamed
         requires order { start_of item < end_of item }
         requires within { end_of item ≤ length self.old.lexed }
-        ensures { Gives self.old self.new item result }
+        ensures { Yields self.old self.new item result }
     {
         let span = item.span();
         if !is_cut(self.is_utf8, self.lexed(), span.to) {

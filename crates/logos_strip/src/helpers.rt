@@ -2,7 +2,7 @@
 //! `derive` that name it.
 
 ghost use Rattle.std.specs.Prelude.{◌≡◌};
-ghost use Rattle.logos_strip.specs.Words.{tokens_of, tree_of, is_comma, is_helper_name, is_helper_path, holds_helper, begins_helper, ends_entry, is_macro_name, is_macro_segment, is_macro_path, is_global_path, is_macro_entry};
+ghost use Rattle.logos_strip.specs.Imports.{tokens_of, tree_of, is_comma, is_helper_name, is_helper_path, holds_helper, begins_helper, ends_entry, is_macro_name, is_macro_segment, is_macro_path, is_global_path, is_macro_entry};
 
 use logos_token::token::{Delimiter, TokenTree, Tokens};
 use logos_token::util::{after_path_mark, after_word, begins_with};

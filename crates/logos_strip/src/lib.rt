@@ -3,9 +3,9 @@
 
 #![tactic(auto)]
 
+mod groups;
 pub mod helpers;
 pub mod laws;
 pub mod spots;
-pub mod stripping;
-mod walk;
+pub mod stripper;
 pub mod writer;

@@ -21,7 +21,7 @@ use Rattle.logos_subpattern.specs.Substitution.{Stored, stored_at}
 use Rattle.logos_subpattern.specs.StoredViews.{stored_of}
 use Rattle.logos_subpattern.specs.Subpatterns.{put_stored, twice_faults, subpattern_twice, subpattern_report, IsAdded, AreAdded, ended, further}
 use Rattle.logos_subpattern.specs.inside.Errors.{ReportsError}
-use Rattle.logos_subpattern.specs.inside.Places.{FindPlaces, place_in}
+use Rattle.logos_subpattern.specs.inside.Slots.{FindSlots, slot_in}
 
 -- ---- subpatterns by their indices
 
@@ -38,13 +38,13 @@ within-one n i false (Some j) h e =
     let l = h j refl in
     omega (arith, z, l)
 
-within : (names : List Stored) (name : List ℕ) (i : ℕ) → place_in names name ≡ Some i → i < length names
+within : (names : List Stored) (name : List ℕ) (i : ℕ) → slot_in names name ≡ Some i → i < length names
 within [] name i e = cc
-within (x ∷ rest) name i e = within-one (length rest) i (bytes_eq name x.name) (place_in rest name) (within rest name) e
+within (x ∷ rest) name i e = within-one (length rest) i (bytes_eq name x.name) (slot_in rest name) (within rest name) e
 
 -- the index of a name is one of the list
-pub place_within : (subpatterns : List Subpattern) (name : List ℕ) (i : ℕ) → place_in (map stored_of subpatterns) name ≡ Some i → i < length subpatterns
-place_within subpatterns name i e =
+pub slot_within : (subpatterns : List Subpattern) (name : List ℕ) (i : ℕ) → slot_in (map stored_of subpatterns) name ≡ Some i → i < length subpatterns
+slot_within subpatterns name i e =
     let l = within (map stored_of subpatterns) name i e in
     let m = length-map subpatterns stored_of in
     omega (arith, l, m)
@@ -55,9 +55,9 @@ nowhere-one x at false None h e = h refl
 nowhere-one x at false (Some j) h e = cc
 
 -- a name without an index has no subpattern
-pub stored_nowhere : (names : List Stored) (name : List ℕ) → place_in names name ≡ None → stored_at names name ≡ None
+pub stored_nowhere : (names : List Stored) (name : List ℕ) → slot_in names name ≡ None → stored_at names name ≡ None
 stored_nowhere [] name e = refl
-stored_nowhere (x ∷ rest) name e = nowhere-one x (stored_at rest name) (bytes_eq name x.name) (place_in rest name) (stored_nowhere rest name) e
+stored_nowhere (x ∷ rest) name e = nowhere-one x (stored_at rest name) (bytes_eq name x.name) (slot_in rest name) (stored_nowhere rest name) e
 
 there-one : (x d : Stored) (rest : List Stored) (at : Option Stored) (i : ℕ) (b : Bool) (r : Option ℕ) → ((j : ℕ) → r ≡ Some j → at ≡ Some (get_or rest j d)) →
     (if b then Some 0 else option_map suc r) ≡ Some i → (if b then Some x else at) ≡ Some (get_or (x ∷ rest) i d)
@@ -65,15 +65,15 @@ there-one x d rest at i true r h e = let z : i ≡ 0 = cc in rw z refl
 there-one x d rest at i false None h e = cc
 there-one x d rest at i false (Some j) h e = let z : i ≡ suc j = cc in rw z (h j refl)
 
-there : (names : List Stored) (name : List ℕ) (i : ℕ) (d : Stored) → place_in names name ≡ Some i → stored_at names name ≡ Some (get_or names i d)
+there : (names : List Stored) (name : List ℕ) (i : ℕ) (d : Stored) → slot_in names name ≡ Some i → stored_at names name ≡ Some (get_or names i d)
 there [] name i d e = cc
-there (x ∷ rest) name i d e = there-one x d rest (stored_at rest name) i (bytes_eq name x.name) (place_in rest name) (λ j. there rest name j d) e
+there (x ∷ rest) name i d e = there-one x d rest (stored_at rest name) i (bytes_eq name x.name) (slot_in rest name) (λ j. there rest name j d) e
 
 -- the subpattern of a name is the one at its index
-pub stored_there : (subpatterns : List Subpattern) (name : List ℕ) (i : ℕ) (d : Subpattern) → place_in (map stored_of subpatterns) name ≡ Some i →
+pub stored_there : (subpatterns : List Subpattern) (name : List ℕ) (i : ℕ) (d : Subpattern) → slot_in (map stored_of subpatterns) name ≡ Some i →
     stored_at (map stored_of subpatterns) name ≡ Some (stored_of (get_or subpatterns i d))
 stored_there subpatterns name i d e =
-    there (map stored_of subpatterns) name i (stored_of d) e ∙ ap (λ (s : Stored). Some s) (get_or-map stored_of subpatterns i d (stored_of d) (place_within subpatterns name i e))
+    there (map stored_of subpatterns) name i (stored_of d) e ∙ ap (λ (s : Stored). Some s) (get_or-map stored_of subpatterns i d (stored_of d) (slot_within subpatterns name i e))
 
 -- ---- a subpattern that is put among others
 
@@ -84,9 +84,9 @@ end-one s x rest after false None h e = ap (λ (xs : List Stored). x ∷ xs) (h 
 end-one s x rest after false (Some j) h e = cc
 
 -- one with a new name comes after all others
-pub put_at_end : (s : Stored) (names : List Stored) → place_in names s.name ≡ None → put_stored s names ≡ names ++ s ∷ []
+pub put_at_end : (s : Stored) (names : List Stored) → slot_in names s.name ≡ None → put_stored s names ≡ names ++ s ∷ []
 put_at_end s [] e = refl
-put_at_end s (x ∷ rest) e = end-one s x rest (put_stored s rest) (bytes_eq s.name x.name) (place_in rest s.name) (put_at_end s rest) e
+put_at_end s (x ∷ rest) e = end-one s x rest (put_stored s rest) (bytes_eq s.name x.name) (slot_in rest s.name) (put_at_end s rest) e
 
 put-one : (s x : Stored) (rest after : List Stored) (i : ℕ) (b : Bool) (r : Option ℕ) → ((j : ℕ) → r ≡ Some j → after ≡ set rest j s) → (if b then Some 0 else option_map suc r) ≡ Some i →
     (if b then s ∷ rest else x ∷ after) ≡ set (x ∷ rest) i s
@@ -94,31 +94,31 @@ put-one s x rest after i true r h e = let z : i ≡ 0 = cc in rw z refl
 put-one s x rest after i false None h e = cc
 put-one s x rest after i false (Some j) h e = let z : i ≡ suc j = cc in rw z (ap (λ (xs : List Stored). x ∷ xs) (h j refl))
 
-put : (s : Stored) (names : List Stored) (i : ℕ) → place_in names s.name ≡ Some i → put_stored s names ≡ set names i s
+put : (s : Stored) (names : List Stored) (i : ℕ) → slot_in names s.name ≡ Some i → put_stored s names ≡ set names i s
 put s [] i e = cc
-put s (x ∷ rest) i e = put-one s x rest (put_stored s rest) i (bytes_eq s.name x.name) (place_in rest s.name) (put s rest) e
+put s (x ∷ rest) i e = put-one s x rest (put_stored s rest) i (bytes_eq s.name x.name) (slot_in rest s.name) (put s rest) e
 
 -- one with a name that is there replaces the subpattern at its index
-pub put_there : (s : Subpattern) (subpatterns : List Subpattern) (i : ℕ) → place_in (map stored_of subpatterns) s.name.text.now ≡ Some i →
+pub put_there : (s : Subpattern) (subpatterns : List Subpattern) (i : ℕ) → slot_in (map stored_of subpatterns) s.name.text.now ≡ Some i →
     map stored_of (set subpatterns i s) ≡ put_stored (stored_of s) (map stored_of subpatterns)
 put_there s subpatterns i e = map-set stored_of subpatterns i s ∙ sym (put (stored_of s) (map stored_of subpatterns) i e)
 
 kept-one : (s x : Stored) (rest : List Stored) (i : ℕ) (q : List ℕ) (b : Bool) (r : Option ℕ) → (b ≡ true → s.name ≡ x.name) →
-    ((j : ℕ) → r ≡ Some j → place_in (set rest j s) q ≡ place_in rest q) → (if b then Some 0 else option_map suc r) ≡ Some i →
-    place_in (set (x ∷ rest) i s) q ≡ place_in (x ∷ rest) q
+    ((j : ℕ) → r ≡ Some j → slot_in (set rest j s) q ≡ slot_in rest q) → (if b then Some 0 else option_map suc r) ≡ Some i →
+    slot_in (set (x ∷ rest) i s) q ≡ slot_in (x ∷ rest) q
 kept-one s x rest i q true r same h e =
     let z : i ≡ 0 = cc in
-    rw z (ap (λ (n : List ℕ). if bytes_eq q n then Some 0 else option_map suc (place_in rest q)) (same refl))
+    rw z (ap (λ (n : List ℕ). if bytes_eq q n then Some 0 else option_map suc (slot_in rest q)) (same refl))
 kept-one s x rest i q false None same h e = cc
 kept-one s x rest i q false (Some j) same h e =
     let z : i ≡ suc j = cc in
     rw z (ap (λ (o : Option ℕ). if bytes_eq q x.name then Some 0 else option_map suc o) (h j refl))
 
 -- every name keeps its index then
-pub places_kept : (s : Stored) (names : List Stored) (i : ℕ) → place_in names s.name ≡ Some i → (q : List ℕ) → place_in (set names i s) q ≡ place_in names q
-places_kept s [] i e q = cc
-places_kept s (x ∷ rest) i e q =
-    kept-one s x rest i q (bytes_eq s.name x.name) (place_in rest s.name) (bytes_eq-Decides s.name x.name).0 (λ j f. places_kept s rest j f q) e
+pub slots_kept : (s : Stored) (names : List Stored) (i : ℕ) → slot_in names s.name ≡ Some i → (q : List ℕ) → slot_in (set names i s) q ≡ slot_in names q
+slots_kept s [] i e q = cc
+slots_kept s (x ∷ rest) i e q =
+    kept-one s x rest i q (bytes_eq s.name x.name) (slot_in rest s.name) (bytes_eq-Decides s.name x.name).0 (λ j f. slots_kept s rest j f q) e
 
 more-one : (n : ℕ) (b c : Bool) (r after : Option ℕ) → (c ≡ true → b ≡ false) → after ≡ cond c (Some n) r →
     (if b then Some 0 else option_map suc after) ≡ cond c (Some (suc n)) (if b then Some 0 else option_map suc r)
@@ -133,28 +133,28 @@ alone-one false true h g = let f : false ≡ true = g refl in cc
 alone-one false false h g = refl
 
 -- after one is added at the end, its name has the last index, and every other name keeps its own
-pub places_more : (s : Stored) (names : List Stored) → place_in names s.name ≡ None → (q : List ℕ) → place_in (names ++ s ∷ []) q ≡ cond (bytes_eq s.name q) (Some (length names)) (place_in names q)
-places_more s [] e q = alone-one (bytes_eq q s.name) (bytes_eq s.name q)
+pub slots_more : (s : Stored) (names : List Stored) → slot_in names s.name ≡ None → (q : List ℕ) → slot_in (names ++ s ∷ []) q ≡ cond (bytes_eq s.name q) (Some (length names)) (slot_in names q)
+slots_more s [] e q = alone-one (bytes_eq q s.name) (bytes_eq s.name q)
     (λ t. (bytes_eq-Decides s.name q).1 (sym ((bytes_eq-Decides q s.name).0 t))) (λ t. (bytes_eq-Decides q s.name).1 (sym ((bytes_eq-Decides s.name q).0 t)))
-places_more s (x ∷ rest) e q =
-    let fresh = fresh-one (bytes_eq s.name x.name) (place_in rest s.name) e in
-    more-one (length rest) (bytes_eq q x.name) (bytes_eq s.name q) (place_in rest q) (place_in (rest ++ s ∷ []) q)
-    (λ t. subst (λ (n : List ℕ). bytes_eq n x.name ≡ false) ((bytes_eq-Decides s.name q).0 t) fresh.0) (places_more s rest fresh.1 q)
+slots_more s (x ∷ rest) e q =
+    let fresh = fresh-one (bytes_eq s.name x.name) (slot_in rest s.name) e in
+    more-one (length rest) (bytes_eq q x.name) (bytes_eq s.name q) (slot_in rest q) (slot_in (rest ++ s ∷ []) q)
+    (λ t. subst (λ (n : List ℕ). bytes_eq n x.name ≡ false) ((bytes_eq-Decides s.name q).0 t) fresh.0) (slots_more s rest fresh.1 q)
 
 -- the indices are right after one is added at the end
-pub found_more : (s : Subpattern) (subpatterns more : List Subpattern) (entries : List (Bor (List ℕ) × ℕ)) (last : ℕ) → last ≡ length subpatterns → FindPlaces (map stored_of subpatterns) entries →
-    place_in (map stored_of subpatterns) s.name.text.now ≡ None → more ≡ subpatterns ++ s ∷ [] → (q : List ℕ) →
-    cond (bytes_eq s.name.text.now q) (Some last) (lookup (λ (k : Bor (List ℕ)). bytes_eq q k.now) entries) ≡ place_in (map stored_of more) q
+pub found_more : (s : Subpattern) (subpatterns more : List Subpattern) (entries : List (Bor (List ℕ) × ℕ)) (last : ℕ) → last ≡ length subpatterns → FindSlots (map stored_of subpatterns) entries →
+    slot_in (map stored_of subpatterns) s.name.text.now ≡ None → more ≡ subpatterns ++ s ∷ [] → (q : List ℕ) →
+    cond (bytes_eq s.name.text.now q) (Some last) (lookup (λ (k : Bor (List ℕ)). bytes_eq q k.now) entries) ≡ slot_in (map stored_of more) q
 found_more s subpatterns more entries last l found e m q =
     let there : last ≡ length (map stored_of subpatterns) = l ∙ sym (length-map subpatterns stored_of) in
     ap (λ (n : ℕ). cond (bytes_eq s.name.text.now q) (Some n) (lookup (λ (k : Bor (List ℕ)). bytes_eq q k.now) entries)) there
-    ∙ ap (λ (o : Option ℕ). cond (bytes_eq s.name.text.now q) (Some (length (map stored_of subpatterns))) o) (found q) ∙ sym (places_more (stored_of s) (map stored_of subpatterns) e q)
-    ∙ sym (ap (λ (names : List Stored). place_in names q) (ap (map stored_of) m ∙ map_push stored_of subpatterns s))
+    ∙ ap (λ (o : Option ℕ). cond (bytes_eq s.name.text.now q) (Some (length (map stored_of subpatterns))) o) (found q) ∙ sym (slots_more (stored_of s) (map stored_of subpatterns) e q)
+    ∙ sym (ap (λ (names : List Stored). slot_in names q) (ap (map stored_of) m ∙ map_push stored_of subpatterns s))
 
 -- the indices are right after one replaces the subpattern of its name
-pub found_there : (s : Subpattern) (subpatterns : List Subpattern) (i : ℕ) → place_in (map stored_of subpatterns) s.name.text.now ≡ Some i → (q : List ℕ) →
-    place_in (map stored_of subpatterns) q ≡ place_in (map stored_of (set subpatterns i s)) q
-found_there s subpatterns i e q = sym (ap (λ (names : List Stored). place_in names q) (map-set stored_of subpatterns i s) ∙ places_kept (stored_of s) (map stored_of subpatterns) i e q)
+pub found_there : (s : Subpattern) (subpatterns : List Subpattern) (i : ℕ) → slot_in (map stored_of subpatterns) s.name.text.now ≡ Some i → (q : List ℕ) →
+    slot_in (map stored_of subpatterns) q ≡ slot_in (map stored_of (set subpatterns i s)) q
+found_there s subpatterns i e q = sym (ap (λ (names : List Stored). slot_in names q) (map-set stored_of subpatterns i s) ∙ slots_kept (stored_of s) (map stored_of subpatterns) i e q)
 
 -- a list after a call that cannot fail, as the choice by its result tells it
 pub if_ok_is : {X E : Type 0} {Y : Type 0} (result : Result X E) (now more old : Y) → IsOk result → now ≡ (if is_ok result then more else old) → now ≡ more

@@ -4,5 +4,5 @@ pub mod SubpatternViews
 pub mod Subpatterns
 pub mod Substitution
 pub mod inside
-pub mod Words
+pub mod Imports
 pub mod Views

@@ -1,4 +1,4 @@
 pub mod Errors
 pub mod Parts
-pub mod Places
+pub mod Slots
 pub mod Tests

@@ -2,17 +2,17 @@
 //! of the enum are read.
 
 ghost use Rattle.std.specs.Prelude.{◌≡◌, ◌++◌, ◌∷◌, [], ◌<◌, IfOk, IfSome, OnOk, string_bytes, ℕ, List, map, option_map, OnErr, chars, vec_len, None};
-ghost use Rattle.logos_subpattern.specs.Words.{list_all, previous, ident_slice, literal_view, named_literal_view, AddsFault, is_word, is_name, flags_of, pattern_text, wrapped, subpattern_name, subpattern_twice, utf8_subpattern, utf8_text, Bor, IsReport, text_of, subst_report, stored_report, tested_report, IsAdded, AreAdded, IsTested, put_stored, stored_at, place_in, FindPlaces};
+ghost use Rattle.logos_subpattern.specs.Imports.{list_all, previous, ident_slice, literal_view, named_literal_view, AddsFault, is_word, is_name, flags_of, pattern_text, wrapped, subpattern_name, subpattern_twice, utf8_subpattern, utf8_text, Bor, IsReport, text_of, subst_report, stored_report, tested_report, IsAdded, AreAdded, IsTested, put_stored, stored_at, slot_in, FindSlots};
 ghost use Rattle.logos_subpattern.specs.StoredViews.{stored_of};
 
 use crate::fault::{ReadingMode, read_pattern};
 use crate::origin::{Making, WrittenPattern};
 use crate::substitution::substituted;
-use logos_attribute::reporting::report_named;
+use logos_attribute::reports::report_named;
 use logos_pattern::pattern::Literal;
 use logos_token::error::{Errors, FaultCode, Memory};
 use logos_token::token::{Ident, Span};
-use logos_type_params::reporting::report_previous;
+use logos_type_params::reports::report_previous;
 use std::alloc::Global;
 use std::collections::HashMap;
 use std::mem;
@@ -32,8 +32,8 @@ pub struct Subpatterns<'s> {
     /// The subpatterns, in the order in which their names came first.
     list: Vec<Subpattern<'s>>,
     /// For each name its index in the list.
-    places: HashMap<&'s str, usize>,
-    ghost found: { FindPlaces (map stored_of list.items) places.entries },
+    slots: HashMap<&'s str, usize>,
+    ghost found: { FindSlots (map stored_of list.items) slots.entries },
 }
 
 /// The flags by which the text of a subpattern is tested. The text sets its own.
@@ -173,12 +173,12 @@ impl<'s> Subpatterns<'s> {
     ghost use Rattle.logos_subpattern.specs.SubpatternViews.{names_of};
 
     /// Returns the index of the subpattern with this name, if there is one.
-    fn place(&self, name: &str) -> Option<usize>
-        ensures place { result ≡ place_in (names_of self.now) name.now }
-        ensures within { IfSome result (λ place. place < vec_len self.now.list) }
+    fn slot(&self, name: &str) -> Option<usize>
+        ensures slot { result ≡ slot_in (names_of self.now) name.now }
+        ensures within { IfSome result (λ slot. slot < vec_len self.now.list) }
     {
-        let place = self.places.get(name)?;
-        Some(*place)
+        let slot = self.slots.get(name)?;
+        Some(*slot)
     }
 
     /// Returns the text of the subpattern with this name, if there is one.
@@ -186,27 +186,27 @@ impl<'s> Subpatterns<'s> {
         ensures { option_map (λ (text : Bor (List ℕ)). text.now) result
             ≡ text_of (names_of self.now) name.now }
     {
-        let place = self.place(name)?;
-        Some(self.list[place].pattern.as_str())
+        let slot = self.slot(name)?;
+        Some(self.list[slot].pattern.as_str())
     }
 
     /// Returns the length of the text of the subpattern with this name, and the span of the name at
     /// its definition, if there is one.
     pub(crate) fn stored(&self, name: &str) -> Option<(usize, Span)> {
-        let place = self.place(name)?;
-        let subpattern = &self.list[place];
+        let slot = self.slot(name)?;
+        let subpattern = &self.list[slot];
         Some((subpattern.pattern.len(), subpattern.name.span))
     }
 
     /// Adds a subpattern with a new name at the end. After an error the subpatterns are unchanged.
     fn push(&mut self, subpattern: Subpattern<'s>) -> Result<(), Memory>
-        requires { place_in (names_of self.old) subpattern.name.text.now ≡ None }
+        requires { slot_in (names_of self.old) subpattern.name.text.now ≡ None }
         ensures ok { OnOk result
             (names_of self.new ≡ names_of self.old ++ stored_of subpattern.entry ∷ []) }
         ensures err { OnErr result (names_of self.new ≡ names_of self.old) }
     {
         self.list.reserve(1)?;
-        self.places.insert(subpattern.name.text, self.list.len())?;
+        self.slots.insert(subpattern.name.text, self.list.len())?;
         self.list.push(subpattern)?;
         Ok(())
     }
@@ -220,11 +220,11 @@ impl<'s> Subpatterns<'s> {
             (names_of self.new ≡ put_stored (stored_of subpattern.entry) (names_of self.old)) }
         ensures err { OnErr result (names_of self.new ≡ names_of self.old) }
     {
-        let Some(place) = self.place(subpattern.name.text) else {
+        let Some(slot) = self.slot(subpattern.name.text) else {
             self.push(subpattern)?;
             return Ok(None);
         };
-        Ok(Some(mem::replace(&mut self.list[place], subpattern)))
+        Ok(Some(mem::replace(&mut self.list[slot], subpattern)))
     }
 
     /// Stores a subpattern in place of the one that has its name, and reports that one.
@@ -317,7 +317,7 @@ impl<'s> Subpatterns<'s> {
     {
         let mut subpatterns = Subpatterns {
             list: Vec::new(errors.alloc()),
-            places: HashMap::new(errors.alloc()),
+            slots: HashMap::new(errors.alloc()),
         };
         for named in list {
             subpatterns.add(utf8_mode, named, errors)?;

@@ -5,7 +5,7 @@ ghost use Rattle.std.specs.Prelude.{◌≡◌, ℕ, List, ◌+◌, ◌<◌, ◌+
 ghost use Rattle.logos_subpattern.specs.Views.{IsReport, AddsFault, is_word, word_front, word_rest, closed, reference, parts, encoded, subpattern_missing, subst_report, part_report, name_report, text_of, names_of, part_of, text_view};
 
 use crate::subpattern::Subpatterns;
-use logos_attribute::reporting::report_named;
+use logos_attribute::reports::report_named;
 use logos_token::error::{Errors, FaultCode, Memory};
 use logos_token::token::{Ident, Span};
 use std::alloc::{AllocError, Global};

@@ -2,4 +2,4 @@
 
 pub(crate) mod parser;
 pub(crate) mod stack;
-pub(crate) mod translate;
+pub(crate) mod translation;

@@ -2,12 +2,12 @@
 //! pushes each token's part on it.
 
 ghost use Rattle.std.specs.Prelude.{◌≤◌, ◌≡◌, ◌+◌, ◌<◌, length, map, IfOk, OnOk, Some, unwrap_or, vec_len};
-ghost use Rattle.logos_syntax.specs.Words.{pattern_nesting, tree_of, simplest_tree, flags_after, opening_view, token_view, closes, opens, repeats, sets, bracketed, atom as token_atom, Bracket, set_of, bracket_set, bracket_depth, inner_flags, captures, group_tree, is_greedy};
+ghost use Rattle.logos_syntax.specs.Imports.{pattern_nesting, tree_of, simplest_tree, flags_after, opening_view, token_view, closes, opens, repeats, sets, bracketed, atom as token_atom, Bracket, set_of, bracket_set, bracket_depth, inner_flags, captures, group_tree, is_greedy};
 
 use crate::bracket::stack::{BracketValue, MAX_NESTING};
-use crate::translate::{atom_fits, atom_tree, one_of};
+use crate::translation::{atom_fits, atom_tree, one_of};
 use logos_hir::hir::Hir;
-use logos_hir::simplify;
+use logos_hir::simplifier;
 use logos_pattern_tokens::error::{Kind, Stop};
 use logos_pattern_tokens::token::{Atom, Change, Flags, GroupOpening, Operator, Token};
 use std::alloc::{AllocError, Global};
@@ -102,7 +102,7 @@ fn group_tree(alloc: Global, captured: bool, tree: Hir) -> Result<Hir, AllocErro
     ensures { IfOk result (λ hir. simplest_tree hir ≡ group_tree captured (simplest_tree tree)) }
 {
     if captured {
-        return simplify::captured(alloc, tree);
+        return simplifier::captured(alloc, tree);
     }
     Ok(tree)
 }
@@ -163,7 +163,7 @@ impl OpenedGroup {
         self.settle()?;
         let empty = Vec::new(*self.parts.allocator());
         let parts = mem::replace(&mut self.parts, empty);
-        self.branches.push(simplify::row(parts))?;
+        self.branches.push(simplifier::row(parts))?;
         Ok(())
     }
 
@@ -173,7 +173,7 @@ impl OpenedGroup {
     {
         self.next_branch()?;
         let captured = self.captured;
-        group_tree(alloc, captured, simplify::either(self.branches))
+        group_tree(alloc, captured, simplifier::either(self.branches))
     }
 
     /// Repeats the last part. `left` is the number of characters from the operator to the end of
@@ -198,7 +198,7 @@ impl OpenedGroup {
         let depth = part.depth + 1;
         let left = part.left;
         let greedy = is_greedy(self.flags, op);
-        let tree = simplify::repeated(alloc, op.least, op.most, greedy, part.tree)?;
+        let tree = simplifier::repeated(alloc, op.least, op.most, greedy, part.tree)?;
         self.inner = self.inner.max(depth);
         self.last = Some(GroupPart { tree, depth, left });
         Ok(())
@@ -385,7 +385,7 @@ impl Groups {
             });
         }
         let tree = self.top.finish(alloc)?;
-        Ok(simplify::simplify(alloc, tree)?)
+        Ok(simplifier::simplify(alloc, tree)?)
     }
 }
 

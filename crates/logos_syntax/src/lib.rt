@@ -6,4 +6,4 @@ mod bracket;
 mod groups;
 mod names;
 pub mod parser;
-mod translate;
+mod translation;

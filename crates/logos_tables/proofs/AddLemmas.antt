@@ -36,10 +36,10 @@ numbers_added {t0} {t1} {t2} {t3} {t4} {states} {runs} {states'} {runs'} entries
     first = a ∙ ap (λ n. t0 ++ unpacked_text n runs') e ∙ ap (λ n. t0 ++ unpacked_text states n) f
 
 -- what is made of a code holds what it does
-held : (code : CodeValue) (numbers symbols places : List ℕ) (distinct : List (List ℕ)) (class_runs runs : List (ℕ × ℕ)) →
-    AreMade code numbers symbols places distinct class_runs runs →
-    Hold code (record { classes = numbers; class_runs = class_runs; rows = map (by_classes symbols) distinct; runs = runs; places = places; width = length symbols })
-held code numbers symbols places distinct class_runs runs made = record {
+held : (code : CodeValue) (numbers symbols slots : List ℕ) (distinct : List (List ℕ)) (class_runs runs : List (ℕ × ℕ)) →
+    AreMade code numbers symbols slots distinct class_runs runs →
+    Hold code (record { classes = numbers; class_runs = class_runs; rows = map (by_classes symbols) distinct; runs = runs; slots = slots; width = length symbols })
+held code numbers symbols slots distinct class_runs runs made = record {
   symbols = made.classes.many;
   states = many;
   inside = λ symbol l. (made.classes.are symbol l).0;
@@ -52,20 +52,20 @@ held code numbers symbols places distinct class_runs runs made = record {
 }
   where
     tables : Tables
-    tables = record { classes = numbers; class_runs = class_runs; rows = map (by_classes symbols) distinct; runs = runs; places = places; width = length symbols }
+    tables = record { classes = numbers; class_runs = class_runs; rows = map (by_classes symbols) distinct; runs = runs; slots = slots; width = length symbols }
 
-    many : length places ≡ length code.states
-    many = sym (length-map places (λ place. slice_index_or distinct place [])) ∙ made.rows.count
+    many : length slots ≡ length code.states
+    many = sym (length-map slots (λ slot. slice_index_or distinct slot [])) ∙ made.rows.count
 
 -- all tables of a code, one after another
-pub tables_added : (code : CodeValue) (numbers symbols places : List ℕ) (distinct : List (List ℕ)) (class_runs runs : List (ℕ × ℕ)) (root width : ℕ) (t0 t1 t2 t3 t4 t5 : List ℕ) →
-    AreMade code numbers symbols places distinct class_runs runs → root ≡ code.root → width ≡ length symbols →
-    t1 ≡ t0 ++ data_text root width → Appends (step_texts class_runs runs places) t1 t2 → Appends (marks_text code ∷ []) t2 t3 → Appends (skips_text code ∷ []) t3 t4 →
-    AppendsNumbers (length places) (length runs) t4 t5 → AppendsMade code t0 t5
-tables_added code numbers symbols places distinct class_runs runs root width t0 t1 t2 t3 t4 t5 made e f begins steps marks skips sizes = record {
-  tables = record { classes = numbers; class_runs = class_runs; rows = map (by_classes symbols) distinct; runs = runs; places = places; width = length symbols };
+pub tables_added : (code : CodeValue) (numbers symbols slots : List ℕ) (distinct : List (List ℕ)) (class_runs runs : List (ℕ × ℕ)) (root width : ℕ) (t0 t1 t2 t3 t4 t5 : List ℕ) →
+    AreMade code numbers symbols slots distinct class_runs runs → root ≡ code.root → width ≡ length symbols →
+    t1 ≡ t0 ++ data_text root width → Appends (step_texts class_runs runs slots) t1 t2 → Appends (marks_text code ∷ []) t2 t3 → Appends (skips_text code ∷ []) t3 t4 →
+    AppendsNumbers (length slots) (length runs) t4 t5 → AppendsMade code t0 t5
+tables_added code numbers symbols slots distinct class_runs runs root width t0 t1 t2 t3 t4 t5 made e f begins steps marks skips sizes = record {
+  tables = record { classes = numbers; class_runs = class_runs; rows = map (by_classes symbols) distinct; runs = runs; slots = slots; width = length symbols };
   sizes = sizes.sizes;
-  hold = held code numbers symbols places distinct class_runs runs made;
+  hold = held code numbers symbols slots distinct class_runs runs made;
   appends = appends_both (appends_text (data_text code.root (length symbols)) first) (appends_both steps (appends_both (appends_both marks skips) sizes.appends));
 }
   where

@@ -25,13 +25,13 @@ pub record Tables : Type 0 where
   -- The rows one after another, as runs: how many equal steps, and which.
   pub runs : List (ℕ × ℕ)
   -- The number of the row of each state.
-  pub places : List ℕ
+  pub slots : List ℕ
   -- How many classes there are.
   pub width : ℕ
 
 -- The row of a state, by the tables, if there is one.
 abbrev pub row_in : Tables → ℕ → Option (List ℕ)
-row_in tables state = option_and_then (slice_get tables.rows) (slice_get tables.places state)
+row_in tables state = option_and_then (slice_get tables.rows) (slice_get tables.slots state)
 
 -- The step of a symbol in a state, by the tables: that of the symbol's class in the state's row, if
 -- there is one.
@@ -44,9 +44,9 @@ step_in tables state symbol =
 -- that of a row.
 pub record Hold (code : CodeValue) (tables : Tables) : Type 0 where
   pub symbols : length tables.classes ≡ 257
-  pub states : length tables.places ≡ length code.states
+  pub states : length tables.slots ≡ length code.states
   pub inside : (symbol : ℕ) → symbol < 257 → slice_index tables.classes symbol < tables.width
-  pub there : (state : ℕ) → state < length code.states → slice_index tables.places state < length tables.rows
+  pub there : (state : ℕ) → state < length code.states → slice_index tables.slots state < length tables.rows
   pub steps : (state symbol : ℕ) → state < length code.states → symbol < 257 →
       step_in tables state symbol ≡ Some (step_number code (state_at code state) symbol)
   pub wide : (i : ℕ) → i < length tables.rows → length (slice_index_or tables.rows i []) ≡ tables.width

@@ -9,7 +9,7 @@ use Rattle.logos_tables.specs.Texts.{HoldsTables}
 use Rattle.logos_tables.specs.declared.shape.Shape.{Shape}
 use Rattle.logos_tables.specs.declared.shape.Shape.TheVariants.{Code, Tables}
 use Rattle.logos_text.specs.Fronts.{AroundValue, BeginsWith, opening_text, short_core}
-use Rattle.logos_text.specs.Standing.{StandInOrder}
+use Rattle.logos_text.specs.Occurrence.{OccurInOrder}
 use Rattle.logos_text.specs.Texts.{texts_of}
 use Rattle.logos_type.specs.Printed.{printed_type}
 use Rattle.logos_type.specs.TypeTrees.{type_tree}
@@ -23,7 +23,7 @@ config_of Tables = record { use_state_machine_codegen = true }
 -- of an implementation for the type of the enum, and the texts of all bit tables and those of all
 -- conditions are in it.
 pub record IsCodeText (around : AroundValue) (code : CodeValue) (shown : List ℕ) : Type 0 where
-  pub stand : StandInOrder (texts_of code) shown
+  pub occur : OccurInOrder (texts_of code) shown
   pub begins : BeginsWith (opening_text short_core around (printed_type (type_tree code.header.this))) shown
 
 -- A code is shown in a shape, with these texts around its function: as code, or as the front of an
@@ -40,4 +40,4 @@ pub record IsLexerText (shape : Shape) (source shown : List ℕ) : Type 0 where
   pub export : Option (List ℕ)
   pub given : IsGiven source (config_of shape) graph code name export
   pub around : AroundValue
-  pub stand : IsShown shape around code shown
+  pub occur : IsShown shape around code shown

@@ -33,4 +33,4 @@ leaf_limit = 9223372036854775807
 
 -- 1 for a leaf whose matches are left out without a callback, and else 0.
 abbrev pub skip_number : Use → ℕ
-skip_number use_of = if use_of.skips && not use_of.asks then 1 else 0
+skip_number use_of = if use_of.skips && not use_of.calls_back then 1 else 0

@@ -46,9 +46,9 @@ runs_texts lengths numbers runs = field_text lengths (map (λ run. run.0) runs) 
 -- The texts of the tables of steps: the classes of symbols, the rows by classes, and the row of
 -- each state.
 abbrev pub step_texts : List (ℕ × ℕ) → List (ℕ × ℕ) → List ℕ → List (List ℕ)
-step_texts class_runs runs places =
+step_texts class_runs runs slots =
     runs_texts (codes "class_lengths") (codes "classes") class_runs
-    ++ (runs_texts (codes "lengths") (codes "steps") runs ++ (field_text (codes "rows") places ∷ []))
+    ++ (runs_texts (codes "lengths") (codes "steps") runs ++ (field_text (codes "rows") slots ∷ []))
 
 -- The mark of each state, and which leaves are skipped.
 abbrev pub marks_text : CodeValue → List ℕ
@@ -113,9 +113,9 @@ numbers_texts states runs sizes =
 abbrev pub made_texts : CodeValue → Tables → Sizes → List (List ℕ)
 made_texts code tables sizes =
     (data_text code.root tables.width ∷ [])
-    ++ (step_texts tables.class_runs tables.runs tables.places
+    ++ (step_texts tables.class_runs tables.runs tables.slots
     ++ ((marks_text code ∷ skips_text code ∷ [])
-    ++ numbers_texts (length tables.places) (length tables.runs) sizes))
+    ++ numbers_texts (length tables.slots) (length tables.runs) sizes))
 
 -- Texts, one right after another.
 abbrev pub joined : List (List ℕ) → List ℕ

@@ -1,7 +1,7 @@
 //! Prints numbers as the bytes of a byte string. `fields` calls it.
 
 ghost use Rattle.std.specs.Prelude.{◌≡◌, ◌++◌, OnOk, string_bytes};
-ghost use Rattle.logos_tables.specs.Words.{flat_map, are_at_most, byte_text, entries_text, entry_text, size_number};
+ghost use Rattle.logos_tables.specs.Imports.{flat_map, are_at_most, byte_text, entries_text, entry_text, size_number};
 
 use logos_byte_class::text::{is_printable, letter_of, lower_digit};
 use logos_token::error::Memory;

@@ -2,7 +2,7 @@
 //! rows, and `runs` reads rows by them.
 
 ghost use Rattle.std.specs.Prelude.{◌≡◌, ◌+◌, ◌<◌, IfOk, IfSome, OnOk, IsTrue, slice_index};
-ghost use Rattle.logos_tables.specs.Words.{AreClasses, Classify, IsClassOf, HaveSameSteps};
+ghost use Rattle.logos_tables.specs.Imports.{AreClasses, Classify, IsClassOf, HaveSameSteps};
 
 use crate::steps::Steps;
 use std::alloc::{AllocError, Global};

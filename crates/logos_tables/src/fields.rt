@@ -1,7 +1,7 @@
 //! Prints lists of numbers as fields of the tables. `lexer` and `parts` call it.
 
 ghost use Rattle.std.specs.Prelude.{◌≡◌, ◌++◌, ◌∷◌, [], OnOk, map, string_bytes};
-ghost use Rattle.logos_tables.specs.Words.{Appends, field_head, field_text, runs_texts};
+ghost use Rattle.logos_tables.specs.Imports.{Appends, field_head, field_text, runs_texts};
 
 use crate::bytes::{push_entries, size_of};
 use crate::runs::{Run, lengths_of, steps_in};

@@ -60,11 +60,11 @@ fn push_code(alloc: Global, text: &mut String, code: &Code<'_>) -> Result<(), Me
 /// Appends the tables of steps.
 fn push_steps(alloc: Global, text: &mut String, made: &PrintedTables) -> Result<(), Memory>
     ensures { OnOk result (Appends (step_texts made.now.class_runs.items made.now.runs.items
-        made.now.rows.places.items) (string_bytes text.old) (string_bytes text.new)) }
+        made.now.rows.slots.items) (string_bytes text.old) (string_bytes text.new)) }
 {
     push_runs(alloc, text, "class_lengths", "classes", &made.class_runs)?;
     push_runs(alloc, text, "lengths", "steps", &made.runs)?;
-    push_field(text, "rows", &made.rows.places)?;
+    push_field(text, "rows", &made.rows.slots)?;
     Ok(())
 }
 
@@ -88,10 +88,10 @@ fn push_skips(alloc: Global, text: &mut String, code: &Code<'_>) -> Result<(), M
 
 /// Appends the constants that are made of the tables.
 fn push_numbers(text: &mut String, made: &PrintedTables, leaves: usize) -> Result<(), Memory>
-    ensures { OnOk result (AppendsNumbers (length made.now.rows.places.items)
+    ensures { OnOk result (AppendsNumbers (length made.now.rows.slots.items)
         (length made.now.runs.items) (string_bytes text.old) (string_bytes text.new)) }
 {
-    push_unpacked(text, made.rows.places.len(), made.runs.len())?;
+    push_unpacked(text, made.rows.slots.len(), made.runs.len())?;
     push_entries_size(text, entry_count(made))?;
     push_masks(text, mask_count(made))?;
     push_folded(text, folded_count(made, leaves))?;

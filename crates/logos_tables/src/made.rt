@@ -1,7 +1,7 @@
 //! What the tables of a code are printed from. `lexer` makes it first.
 
 ghost use Rattle.std.specs.Prelude.{◌≡◌, IfOk};
-ghost use Rattle.logos_tables.specs.Words.{AreMade};
+ghost use Rattle.logos_tables.specs.Imports.{AreMade};
 
 use crate::classes::{SymbolClasses, classes_of};
 use crate::rows::{StepRows, rows_of};
@@ -29,7 +29,7 @@ pub(crate) struct PrintedTables {
 /// Returns an error if memory runs out.
 pub(crate) fn tables_of(alloc: Global, code: &Code<'_>) -> Result<PrintedTables, AllocError>
     ensures { IfOk result (λ made. AreMade code.now made.classes.numbers.items
-        made.classes.symbols.items made.rows.places.items made.rows.distinct.keys
+        made.classes.symbols.items made.rows.slots.items made.rows.distinct.keys
         made.class_runs.items made.runs.items) }
 {
     let rows = rows_of(alloc, code)?;

@@ -2,7 +2,7 @@
 //! steps.
 
 ghost use Rattle.std.specs.Prelude.{◌≡◌, ◌<◌, IfOk, IfSome, map, option_map};
-ghost use Rattle.logos_tables.specs.Words.{All, leaf_limit, mark_of, use_of, mark_number, skip_number};
+ghost use Rattle.logos_tables.specs.Imports.{All, leaf_limit, mark_of, use_of, mark_number, skip_number};
 
 use logos_code::code::{CodeLeaf, CodeState, Mark};
 use logos_pattern::leaf::VariantKind;

@@ -20,7 +20,7 @@ const BESIDE: usize = 1024;
 
 /// Returns the number of columns of a row, where a row by classes has `more` beside the classes.
 fn columns(tables: &PrintedTables, more: usize) -> usize {
-    if tables.rows.places.len() <= FEW {
+    if tables.rows.slots.len() <= FEW {
         BYTES
     } else {
         tables.classes.symbols.len().saturating_add(more)
@@ -31,7 +31,7 @@ fn columns(tables: &PrintedTables, more: usize) -> usize {
 fn row_entries(tables: &PrintedTables, more: usize) -> usize {
     tables
         .rows
-        .places
+        .slots
         .len()
         .saturating_mul(columns(tables, more))
 }

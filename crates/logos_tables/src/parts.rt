@@ -1,7 +1,7 @@
 //! Prints the parts of the implementation of `Tables`. `lexer` calls it for each part in turn.
 
 ghost use Rattle.std.specs.Prelude.{◌≡◌, ◌++◌, ◌∷◌, [], OnOk, string_bytes};
-ghost use Rattle.logos_tables.specs.Words.{Appends, data_text, end_text, entries_size_text, folded_text, head_text, masks_text, unpacked_text};
+ghost use Rattle.logos_tables.specs.Imports.{Appends, data_text, end_text, entries_size_text, folded_text, head_text, masks_text, unpacked_text};
 
 use crate::fields::push_str;
 use logos_token::error::Memory;

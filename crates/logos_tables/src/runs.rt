@@ -2,7 +2,7 @@
 //! and `fields` prints them.
 
 ghost use Rattle.std.specs.Prelude.{◌≡◌, ◌<◌, ◌++◌, ◌∷◌, [], IfOk, OnOk, IsTrue, map};
-ghost use Rattle.logos_tables.specs.Words.{flat_map, by_classes, spread};
+ghost use Rattle.logos_tables.specs.Imports.{flat_map, by_classes, spread};
 
 use crate::classes::step_at;
 use crate::steps::Steps;

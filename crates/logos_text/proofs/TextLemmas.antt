@@ -4,7 +4,7 @@ use Rattle.std.proofs.Math.ListN.{drop_of_length-le}
 use Rattle.std.specs.List.{flat_map}
 use Rattle.logos_text.specs.Texts.{table_text, table_texts}
 use Rattle.logos_text.specs.Fronts.{BeginsWith, IsFront, last_arm_text, opening_text, tables_use_text, whole_core, AroundValue}
-use Rattle.logos_text.specs.Standing.{StandInOrder, Adds, AddsLast, Grows}
+use Rattle.logos_text.specs.Occurrence.{OccurInOrder, Adds, AddsLast, Grows}
 
 -- the part of an element is added
 part_added : (whole old new part rest : List ℕ) → new ≡ old ++ part → old ++ (part ++ rest) ≡ whole → new ++ rest ≡ whole
@@ -24,22 +24,22 @@ items_added g xs i whole text l all = sym (append-nil text) ∙ ap (λ rest. tex
 pub parts : (a : List ℕ) {b c : List ℕ} (u v : List ℕ) → b ≡ a ++ u → c ≡ b ++ v → c ≡ a ++ (u ++ v)
 parts a u v e f = f ∙ ap (λ w. w ++ v) e ∙ append_assoc a u v
 
-stand_after : (ys : List (List ℕ)) (u v : List ℕ) → StandInOrder ys v → StandInOrder ys (u ++ v)
-stand_after [] u v k = tt
-stand_after (y ∷ ys) u v k =
+occur_after : (ys : List (List ℕ)) (u v : List ℕ) → OccurInOrder ys v → OccurInOrder ys (u ++ v)
+occur_after [] u v k = tt
+occur_after (y ∷ ys) u v k =
     (u ++ k.0, k.1, ap (λ w. u ++ w) k.2 ∙ sym (append_assoc u k.0 (y ++ k.1)), k.3)
 
-stand_together : (xs ys : List (List ℕ)) (u v : List ℕ) → StandInOrder xs u → StandInOrder ys v → StandInOrder (xs ++ ys) (u ++ v)
-stand_together [] ys u v h k = stand_after ys u v k
-stand_together (x ∷ xs) ys u v h k =
-    (h.0, h.1 ++ v, ap (λ w. w ++ v) h.2 ∙ append_assoc h.0 (x ++ h.1) v ∙ ap (λ w. h.0 ++ w) (append_assoc x h.1 v), stand_together xs ys h.1 v h.3 k)
+occur_together : (xs ys : List (List ℕ)) (u v : List ℕ) → OccurInOrder xs u → OccurInOrder ys v → OccurInOrder (xs ++ ys) (u ++ v)
+occur_together [] ys u v h k = occur_after ys u v k
+occur_together (x ∷ xs) ys u v h k =
+    (h.0, h.1 ++ v, ap (λ w. w ++ v) h.2 ∙ append_assoc h.0 (x ++ h.1) v ∙ ap (λ w. h.0 ++ w) (append_assoc x h.1 v), occur_together xs ys h.1 v h.3 k)
 
 -- one step of printing after another
 pub adds_both : {xs ys : List (List ℕ)} {a b c : List ℕ} → Adds xs a b → Adds ys b c → Adds (xs ++ ys) a c
 adds_both {xs} {ys} {a} {b} {c} p q = record {
   added = p.added ++ q.added;
   is = q.is ∙ ap (λ w. w ++ q.added) p.is ∙ append_assoc a p.added q.added;
-  stand = stand_together xs ys p.added q.added p.stand q.stand;
+  occur = occur_together xs ys p.added q.added p.occur q.occur;
 }
 
 -- something is printed behind
@@ -48,21 +48,21 @@ grows_after {xs} {a} {b} {c} p q = subst (λ texts. Adds texts a c) (append-nil 
 
 -- a text is printed
 pub adds_text : {a b : List ℕ} (text : List ℕ) → b ≡ a ++ text → Adds (text ∷ []) a b
-adds_text text e = record { added = text; is = e; stand = ([], [], sym (append-nil text), tt) }
+adds_text text e = record { added = text; is = e; occur = ([], [], sym (append-nil text), tt) }
 
 pub adds_nothing : (a : List ℕ) → Grows a a
-adds_nothing a = record { added = []; is = sym (append-nil a); stand = tt }
+adds_nothing a = record { added = []; is = sym (append-nil a); occur = tt }
 
 -- an exact text is printed, and nothing is promised of it
 pub grows_text : {a b : List ℕ} (text : List ℕ) → b ≡ a ++ text → Grows a b
-grows_text text e = record { added = text; is = e; stand = tt }
+grows_text text e = record { added = text; is = e; occur = tt }
 
 -- a last text is printed
 pub last_added : {a b c : List ℕ} (last : List ℕ) → Grows a b → c ≡ b ++ last → AddsLast last a c
 last_added {a} {b} {c} last p e = record { added = p.added; is = e ∙ ap (λ w. w ++ last) p.is ∙ append_assoc a p.added last }
 
 pub last_grows : {last a b : List ℕ} → AddsLast last a b → Grows a b
-last_grows {last} {a} {b} p = record { added = p.added ++ last; is = p.is; stand = tt }
+last_grows {last} {a} {b} p = record { added = p.added ++ last; is = p.is; occur = tt }
 
 -- what was printed first begins the whole
 pub begins_whole : {xs : List (List ℕ)} {front a b c d : List ℕ} → a ≡ [] → b ≡ a ++ front → Adds xs b c → Grows c d → BeginsWith front d
@@ -81,8 +81,8 @@ is_front {a} {b} {c} {d} around this none e f p = record {
 }
 
 -- what is added to nothing is the whole
-pub stand_whole : {texts : List (List ℕ)} {old whole : List ℕ} → old ≡ [] → Adds texts old whole → StandInOrder texts whole
-stand_whole {texts} {old} {whole} none p = subst (λ w. StandInOrder texts w) (sym (p.is ∙ ap (λ w. w ++ p.added) none)) p.stand
+pub occur_whole : {texts : List (List ℕ)} {old whole : List ℕ} → old ≡ [] → Adds texts old whole → OccurInOrder texts whole
+occur_whole {texts} {old} {whole} none p = subst (λ w. OccurInOrder texts w) (sym (p.is ∙ ap (λ w. w ++ p.added) none)) p.occur
 
 -- what completes the rest of a loop's texts completes all of them
 more_added : (all rest texts left : List (List ℕ)) (start old new : List ℕ) → rest ≡ texts ++ left → Adds texts old new →

@@ -1,7 +1,7 @@
 pub mod Arounds
 pub mod Fronts
 pub mod Gaps
-pub mod Standing
+pub mod Occurrence
 pub mod Texts
-pub mod Words
+pub mod Imports
 pub mod Views

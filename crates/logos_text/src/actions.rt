@@ -1,7 +1,7 @@
 //! Prints what matches of a lexer by tables give, with leaves as numbers. `code` calls it once.
 
 ghost use Rattle.std.specs.Prelude.{◌≡◌, ◌++◌, OnOk, string_bytes};
-ghost use Rattle.logos_text.specs.Words.{AddsLast, Grows, last_arm_text, tables_use_text};
+ghost use Rattle.logos_text.specs.Imports.{AddsLast, Grows, last_arm_text, tables_use_text};
 
 use crate::errors::push_make_error;
 use crate::leaves::push_leaf;

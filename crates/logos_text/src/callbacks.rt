@@ -1,7 +1,7 @@
 //! Prints callbacks. `leaves` and `errors` call it.
 
 ghost use Rattle.std.specs.Prelude.{◌≡◌, OnOk, [], string_bytes};
-ghost use Rattle.logos_text.specs.Words.{tokens_of, tree_of, gap_after, gap_of, Grows};
+ghost use Rattle.logos_text.specs.Imports.{tokens_of, tree_of, gap_after, gap_of, Grows};
 
 use crate::pieces::push;
 use logos_pattern::leaf::Callback;

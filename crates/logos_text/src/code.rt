@@ -1,7 +1,7 @@
 //! Prints a whole code. `logos_codegen` calls it.
 
 ghost use Rattle.std.specs.Prelude.{IfOk, OnOk, string_bytes};
-ghost use Rattle.logos_text.specs.Views.{printed_type, type_tree, code_of, BeginsWith, IsFront, opening_text, short_core, Adds, Grows, StandInOrder, texts_in, texts_of, around_value};
+ghost use Rattle.logos_text.specs.Views.{printed_type, type_tree, code_of, BeginsWith, IsFront, opening_text, short_core, Adds, Grows, OccurInOrder, texts_in, texts_of, around_value};
 
 use crate::actions::{push_table_actions, push_tables_use};
 use crate::errors::push_make_error;
@@ -31,7 +31,7 @@ const WHOLE_CORE: &str = ":: core ";
 ///
 /// Returns `Memory` if memory runs out.
 pub fn text(alloc: Global, code: &Code<'_>) -> Result<String, Memory>
-    ensures { IfOk result (λ text. StandInOrder (texts_of code.now) (string_bytes text)) }
+    ensures { IfOk result (λ text. OccurInOrder (texts_of code.now) (string_bytes text)) }
 {
     let parts = code.parts();
     let this = print_type(alloc, &parts.header.this)?;
@@ -46,7 +46,7 @@ pub fn text(alloc: Global, code: &Code<'_>) -> Result<String, Memory>
 ///
 /// Returns `Memory` if memory runs out.
 pub fn text_in(alloc: Global, code: &Code<'_>, around: Around<'_>) -> Result<String, Memory>
-    ensures stand { IfOk result (λ text. StandInOrder (texts_of code.now) (string_bytes text)) }
+    ensures occur { IfOk result (λ text. OccurInOrder (texts_of code.now) (string_bytes text)) }
     ensures begins { IfOk result (λ text. BeginsWith (opening_text short_core (around_value around.entry)
         (printed_type (type_tree code.now.header.this))) (string_bytes text)) }
 {

@@ -1,7 +1,7 @@
 //! Prints the function that makes errors. `code` calls it once.
 
 ghost use Rattle.std.specs.Prelude.{OnOk, string_bytes};
-ghost use Rattle.logos_text.specs.Words.{Grows};
+ghost use Rattle.logos_text.specs.Imports.{Grows};
 
 use crate::callbacks::push_tokens;
 use crate::names::Names;

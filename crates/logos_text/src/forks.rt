@@ -1,7 +1,7 @@
 //! Prints forks. `states` calls it for each state.
 
 ghost use Rattle.std.specs.Prelude.{◌∷◌, [], OnOk, map, string_bytes};
-ghost use Rattle.logos_text.specs.Words.{branch_of, fork_of, Adds, Grows, branch_text, fork_texts};
+ghost use Rattle.logos_text.specs.Imports.{branch_of, fork_of, Adds, Grows, branch_text, fork_texts};
 
 use crate::conditions::{push_condition, push_transition};
 use crate::pieces::{comma_before, push};

@@ -2,7 +2,7 @@
 //! leaves.
 
 ghost use Rattle.std.specs.Prelude.{OnOk, string_bytes};
-ghost use Rattle.logos_text.specs.Words.{Grows};
+ghost use Rattle.logos_text.specs.Imports.{Grows};
 
 use crate::callbacks::push_call;
 use crate::names::Names;

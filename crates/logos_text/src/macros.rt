@@ -1,7 +1,7 @@
 //! Prints the macros of a lexer. `code` calls it before the states.
 
 ghost use Rattle.std.specs.Prelude.{OnOk, string_bytes};
-ghost use Rattle.logos_text.specs.Words.{Grows};
+ghost use Rattle.logos_text.specs.Imports.{Grows};
 
 use crate::names::Names;
 use crate::pieces::push;

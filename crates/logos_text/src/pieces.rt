@@ -1,7 +1,7 @@
 //! Appends to a text. All printers call it.
 
 ghost use Rattle.std.specs.Prelude.{◌≡◌, ◌==◌, ◌++◌, OnOk, codes, if◌then◌else◌, string_bytes};
-ghost use Rattle.logos_text.specs.Words.{Grows};
+ghost use Rattle.logos_text.specs.Imports.{Grows};
 
 use logos_token::error::Memory;
 

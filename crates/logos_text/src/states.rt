@@ -1,7 +1,7 @@
 //! Prints states. `code` calls it, for a loop over a state variable or a function for each state.
 
 ghost use Rattle.std.specs.Prelude.{OnOk, map, string_bytes};
-ghost use Rattle.logos_text.specs.Words.{flat_map, state_of, Adds, Grows, state_texts};
+ghost use Rattle.logos_text.specs.Imports.{flat_map, state_of, Adds, Grows, state_texts};
 
 use crate::conditions::{push_bit, push_transition};
 use crate::forks::push_ways;

@@ -20,5 +20,5 @@ pub mod FaultView
 pub mod EscapedTexts
 pub mod Rendering
 pub mod inside
-pub mod Words
-pub mod ViewWords
+pub mod Imports
+pub mod ViewImports

@@ -66,17 +66,17 @@ pub record Spells (bytes : List ℕ) (tokens : TokenList) : Type 0 where
 abbrev mutual
   -- A token stands at or after this byte offset. It is not empty, its text is the source at its
   -- span, and the tokens inside a group stand between its delimiters.
-  pub TokenStands : List ℕ → ℕ → Token → Type 0
-  TokenStands bytes from (identifier text span) = (from ≤ span.from) × (span.from < span.to) × (text ≡ slice_range bytes span.from span.to)
-  TokenStands bytes from (punctuation character spacing span) = (from ≤ span.from) × (span.from < span.to) × (character ≡ slice_index bytes span.from)
-  TokenStands bytes from (literal text span) = (from ≤ span.from) × (span.from < span.to) × (text ≡ slice_range bytes span.from span.to)
-  TokenStands bytes from (doc text span) = (from ≤ span.from) × (span.from < span.to) × (text ≡ slice_range bytes span.from span.to)
-  TokenStands bytes from (group delimiter span inside) = (from ≤ span.from) × (span.from < span.to) × RunStands bytes (span.from + 1) inside (span.to - 1)
+  pub TokenOccurs : List ℕ → ℕ → Token → Type 0
+  TokenOccurs bytes from (identifier text span) = (from ≤ span.from) × (span.from < span.to) × (text ≡ slice_range bytes span.from span.to)
+  TokenOccurs bytes from (punctuation character spacing span) = (from ≤ span.from) × (span.from < span.to) × (character ≡ slice_index bytes span.from)
+  TokenOccurs bytes from (literal text span) = (from ≤ span.from) × (span.from < span.to) × (text ≡ slice_range bytes span.from span.to)
+  TokenOccurs bytes from (doc text span) = (from ≤ span.from) × (span.from < span.to) × (text ≡ slice_range bytes span.from span.to)
+  TokenOccurs bytes from (group delimiter span inside) = (from ≤ span.from) × (span.from < span.to) × RunOccurs bytes (span.from + 1) inside (span.to - 1)
 
   -- The tokens of a run stand in order between these byte offsets.
-  pub RunStands : List ℕ → ℕ → TokenList → ℕ → Type 0
-  RunStands bytes from none to = from ≤ to
-  RunStands bytes from (also token rest) to = TokenStands bytes from token × RunStands bytes (span_of token).to rest to
+  pub RunOccurs : List ℕ → ℕ → TokenList → ℕ → Type 0
+  RunOccurs bytes from none to = from ≤ to
+  RunOccurs bytes from (also token rest) to = TokenOccurs bytes from token × RunOccurs bytes (span_of token).to rest to
 
 -- Whether the second delimiter closes the first.
 abbrev pub is_partner : Delimiter → Delimiter → Bool

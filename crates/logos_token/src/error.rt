@@ -58,18 +58,18 @@ pub struct Errors {
 
 impl Model for Errors {
     ghost use Rattle.std.specs.Prelude.{List};
-    ghost use Rattle.logos_token.specs.ViewWords.{Fault};
+    ghost use Rattle.logos_token.specs.ViewImports.{Fault};
 
     ghost Value = { List Fault };
 
-    ghost use Rattle.logos_token.specs.ViewWords.{faults_of};
+    ghost use Rattle.logos_token.specs.ViewImports.{faults_of};
 
     ghost view = { λ errors. faults_of errors.collected.items };
 }
 
 impl Errors {
     ghost use Rattle.std.specs.Prelude.{◌≡◌, ◌++◌, ◌∷◌, [], OnOk, OnErr, Some, None};
-    ghost use Rattle.logos_token.specs.ViewWords.{faults_of};
+    ghost use Rattle.logos_token.specs.ViewImports.{faults_of};
 
     /// Returns an empty list, which takes its memory from `alloc`.
     pub fn new(alloc: Global) -> Errors

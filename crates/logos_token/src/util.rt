@@ -1,7 +1,7 @@
 //! Small helpers for tokens. The readers of enums and attributes use them.
 
 ghost use Rattle.std.specs.Prelude.{◌≡◌, IfOk, string_bytes};
-ghost use Rattle.logos_token.specs.ViewWords.{tree_of, is_alone, unless_alone, maybe_printed};
+ghost use Rattle.logos_token.specs.ViewImports.{tree_of, is_alone, unless_alone, maybe_printed};
 
 mod escaping;
 mod first;

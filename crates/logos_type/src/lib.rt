@@ -5,10 +5,10 @@
 
 mod equality;
 mod laws;
-mod print;
+mod printer;
 mod type_expr;
 
 pub use equality::is_same_type;
 pub use laws::exceeds_is_deeper;
-pub use print::print_type;
+pub use printer::print_type;
 pub use type_expr::{TypeExpr, TypePart, TypeToken, exceeds};

@@ -9,7 +9,7 @@ use Rattle.logos_type_params.specs.Substitution.{nothing, given_type, given_firs
 use Rattle.logos_type_params.specs.SelfReference.{texts}
 use Rattle.logos_type_params.specs.TypeParams.{given_of, former, given_more, Given as Typed}
 use Rattle.logos_type_params.specs.Generics.{type_of}
-use Rattle.logos_type_params.specs.inside.Places.{put_in}
+use Rattle.logos_type_params.specs.inside.Slots.{put_in}
 use Rattle.logos_type_params.proofs.ChainLemmas.{Text, Entries, eq_sym}
 
 pub among_keys : (t : Text) (keys : List (Bor Text)) → list_any (λ (k : Bor Text). bytes_eq t k.now) keys ≡ is_among (texts keys) t

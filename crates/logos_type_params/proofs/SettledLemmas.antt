@@ -13,7 +13,7 @@ use Rattle.logos_type_params.specs.Generics.{type_of, and_type, and_fault, concr
 use Rattle.logos_type_params.specs.WrittenTypes.{is_held, is_free}
 use Rattle.logos_type_params.specs.inside.Chains.{AreMarked}
 use Rattle.logos_type_params.specs.inside.Fronts.{AreInFront}
-use Rattle.logos_type_params.specs.inside.Checks.{ChecksName, AsksName, CopiesName}
+use Rattle.logos_type_params.specs.inside.Checks.{ChecksName, NeedsName, CopiesName}
 use Rattle.logos_type_params.proofs.ChainLemmas.{Text, any_texts, any_has, any_from_has, any_put, PutsText, eq_text, same_text}
 
 -- a text among those to which one was added
@@ -92,15 +92,15 @@ module _ (t : Bor Text) (named : Named) (is : named.text ≡ t.now) (keys keys' 
 
   -- a name to which no chain leads back
   pub checked_free : (leads : Bool) → leads ≡ false → (AreMarked params marks → IsTrue leads ↔ Leads params t.now t.now) → after ≡ before → ChecksName params marks keys named before keys' after
-  checked_free leads l asked none = record {
-    checked = λ are_marked front are. leads_on (λ back. true≢false (sym ((asked are_marked).1 (rw is at back)) ∙ l)) none;
+  checked_free leads l needed none = record {
+    checked = λ are_marked front are. leads_on (λ back. true≢false (sym ((needed are_marked).1 (rw is at back)) ∙ l)) none;
     fronts = λ front are. fronts_on t named keys keys' front is put are;
   }
 
   -- a name to which a chain leads back
   pub checked_held : list_any (bytes_eq t.now) (texts keys) ≡ false → (leads : Bool) → leads ≡ true → (AreMarked params marks → IsTrue leads ↔ Leads params t.now t.now) → after ≡ before ++ type_holds_itself named ∷ [] → ChecksName params marks keys named before keys' after
-  checked_held e leads l asked listed = record {
-    checked = λ are_marked front are. leads_back (declared_as front are false e) (rw is ((asked are_marked).0 l)) listed;
+  checked_held e leads l needed listed = record {
+    checked = λ are_marked front are. leads_back (declared_as front are false e) (rw is ((needed are_marked).0 l)) listed;
     fronts = λ front are. fronts_on t named keys keys' front is put are;
   }
 
@@ -162,13 +162,13 @@ on_ok_one (Ok x) f p = f p
 on_ok_one (Err e) f p = tt
 
 -- a name that is asked is held or not
-pub asks_held : (params : List ParamValue) (marks : List Bool) (t : Bor Text) (leads : Bool) (keys keys' : List (Bor Text)) → leads ≡ true → (AreMarked params marks → IsTrue leads ↔ Leads params t.now t.now) → PutsText t keys keys' →
-    AsksName params marks t.now (texts keys) (texts keys')
-asks_held params marks t leads keys keys' l asked put are =
-    is_held ((asked are).0 l) (λ other h. has_key t keys keys' other put h) (λ other h. key_has t keys keys' other put h) (key_put t keys keys' put)
+pub needs_held : (params : List ParamValue) (marks : List Bool) (t : Bor Text) (leads : Bool) (keys keys' : List (Bor Text)) → leads ≡ true → (AreMarked params marks → IsTrue leads ↔ Leads params t.now t.now) → PutsText t keys keys' →
+    NeedsName params marks t.now (texts keys) (texts keys')
+needs_held params marks t leads keys keys' l needed put are =
+    is_held ((needed are).0 l) (λ other h. has_key t keys keys' other put h) (λ other h. key_has t keys keys' other put h) (key_put t keys keys' put)
 
-pub asks_free : (params : List ParamValue) (marks : List Bool) (t : Text) (leads : Bool) (held : List Text) → leads ≡ false → (AreMarked params marks → IsTrue leads ↔ Leads params t t) → AsksName params marks t held held
-asks_free params marks t leads held l asked are = is_free (λ back. true≢false (sym ((asked are).1 back) ∙ l)) refl
+pub needs_free : (params : List ParamValue) (marks : List Bool) (t : Text) (leads : Bool) (held : List Text) → leads ≡ false → (AreMarked params marks → IsTrue leads ↔ Leads params t t) → NeedsName params marks t held held
+needs_free params marks t leads held l needed are = is_free (λ back. true≢false (sym ((needed are).1 back) ∙ l)) refl
 
 -- names are checked one by one, where what completes the rest completes the whole
 pub record Checking (params : List ParamValue) (Whole : List Fault → Type 0) (rest : List Named) (keys : List (Bor (List ℕ))) (now : List Fault) : Type 0 where

@@ -3,8 +3,8 @@ use Rattle.std.specs.Prelude.{Result, Ok, Err, IfOk, IfErr, true, false}
 use Rattle.std.proofs.Common.{subst, ◌≡◌, ℕ, ◌<◌, List, [], ◌∷◌, ◌++◌, ◌+◌, length, get_or, drop, map, refl, sym, ap, ◌∙◌}
 use Rattle.std.proofs.lemmas.List.{map_push, at_drop_more}
 use Rattle.logos_type.specs.declared.type_expr.TypePart.{TypePart}
-use Rattle.logos_type_reader.specs.declared.reading.TypeFault.{TypeFault}
-use Rattle.logos_type_reader.specs.declared.reading.TypeFault.TheVariants as faults
+use Rattle.logos_type_reader.specs.declared.reader.TypeFault.{TypeFault}
+use Rattle.logos_type_reader.specs.declared.reader.TypeFault.TheVariants as faults
 use Rattle.logos_type.specs.Parts.{Tree, Trees, none, also, still, trees, tree_of}
 use Rattle.logos_type.specs.Depth.{exceeds}
 use Rattle.logos_type_params.specs.Substitution.{Params, After, AllAfter, none_after, also_after, Passes, SomePasses, first_passes, later_passes, stays_still, still_here}

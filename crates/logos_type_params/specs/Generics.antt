@@ -6,7 +6,7 @@ use Rattle.logos_token.specs.declared.error.fault_code.FaultCode.TheVariants.{No
 use Rattle.logos_token.specs.Faults.{Fault}
 use Rattle.logos_type.specs.Parts.{Tree, sign, name, whole, still}
 use Rattle.logos_type.specs.TypeTrees.{type_tree}
-use Rattle.logos_type_params.specs.declared.type_params.concrete.Generics.{Generics}
+use Rattle.logos_type_params.specs.declared.type_params.concrete_types.Generics.{Generics}
 use Rattle.logos_type_params.specs.TypeParams.{Named, Given, Value, about, is_declared}
 
 -- The type given to a name.

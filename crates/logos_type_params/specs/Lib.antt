@@ -7,5 +7,5 @@ pub mod TypeParams
 pub mod inside
 pub mod Generics
 pub mod WrittenTypes
-pub mod Words
+pub mod Imports
 pub mod Views

@@ -1,6 +1,6 @@
 -- The contracts of the functions that replace parameters.
-use Rattle.logos_type_reader.specs.declared.reading.TypeFault.{TypeFault}
-use Rattle.logos_type_reader.specs.declared.reading.TypeFault.TheVariants as faults
+use Rattle.logos_type_reader.specs.declared.reader.TypeFault.{TypeFault}
+use Rattle.logos_type_reader.specs.declared.reader.TypeFault.TheVariants as faults
 
 -- This holds if the limit on nesting was passed; else there was not enough memory.
 abbrev pub IfDeep : Type 0 → TypeFault → Type 0

@@ -22,10 +22,10 @@ abbrev pub given_names : List ParamValue → List (List ℕ)
 given_names = map (λ (p : ParamValue). p.name)
 
 -- A name is added if a chain of types leads from it back to it.
-pub data IsAsked (params : List ParamValue) (text : List ℕ) (held held' : List (List ℕ)) : Type 0 where
+pub data IsNeeded (params : List ParamValue) (text : List ℕ) (held held' : List (List ℕ)) : Type 0 where
   is_held : Leads params text text → ((other : List ℕ) → Has held' other → Has held other ⊎ (text ≡ other)) → ((other : List ℕ) → Has held other → Has held' other) → Has held' text →
-      IsAsked params text held held'
-  is_free : (Leads params text text → ⊥) → held' ≡ held → IsAsked params text held held'
+      IsNeeded params text held held'
+  is_free : (Leads params text text → ⊥) → held' ≡ held → IsNeeded params text held held'
 
 -- Exactly the names that have a type and whose chain leads back to them.
 pub record AreHeld (params : List ParamValue) (held : List (List ℕ)) : Type 0 where

@@ -3,7 +3,7 @@
 ghost use Rattle.std.specs.Prelude.{◌≡◌, ◌++◌, ◌∷◌, [], ◌<◌, None, Some, length, option_copied, IfSome, OnOk, OnErr};
 ghost use Rattle.std.specs.Map.{lookup};
 ghost use Rattle.std.specs.Str.{bytes_eq};
-ghost use Rattle.logos_type_params.specs.inside.Places.{ArePlaced, place_in, put_in};
+ghost use Rattle.logos_type_params.specs.inside.Slots.{ArePlaced, slot_in, put_in};
 
 use crate::substitution::TypeParam;
 use logos_token::error::Memory;
@@ -17,8 +17,8 @@ pub struct GivenTypes<'s> {
     /// one.
     pub(crate) entries: Vec<(&'s str, TypeParam<'s>)>,
     /// For each name the index of its type.
-    places: HashMap<&'s str, usize>,
-    ghost placed: { ArePlaced entries.items places.entries },
+    slots: HashMap<&'s str, usize>,
+    ghost placed: { ArePlaced entries.items slots.entries },
 }
 
 impl<'s> GivenTypes<'s> {
@@ -28,16 +28,16 @@ impl<'s> GivenTypes<'s> {
     {
         GivenTypes {
             entries: Vec::new(alloc),
-            places: HashMap::new(alloc),
+            slots: HashMap::new(alloc),
         }
     }
 
     /// Returns the index of the type given to a name, or `None` if none is.
-    pub(crate) fn place_of(&self, text: &str) -> Option<usize>
-        ensures place { result ≡ place_in self.now.entries.items text.now }
+    pub(crate) fn slot_of(&self, text: &str) -> Option<usize>
+        ensures slot { result ≡ slot_in self.now.entries.items text.now }
         ensures within { IfSome result (λ at. at < length self.now.entries.items) }
     {
-        self.places.get(text).copied()
+        self.slots.get(text).copied()
     }
 
     /// Returns the type given to a name, or `None` if none is.
@@ -45,7 +45,7 @@ impl<'s> GivenTypes<'s> {
         ensures { option_copied result ≡
             lookup (λ k. bytes_eq text.now k.now) self.now.entries.items }
     {
-        match self.place_of(text) {
+        match self.slot_of(text) {
             Some(at) => Some(&self.entries[at].1),
             None => None,
         }
@@ -71,7 +71,7 @@ impl<'s> GivenTypes<'s> {
         ensures absent { OnErr result
             (lookup (λ k. bytes_eq text.now k.now) self.old.entries.items ≡ None) }
     {
-        match self.place_of(text) {
+        match self.slot_of(text) {
             Some(at) => {
                 self.entries[at] = (text, param);
                 Ok(())
@@ -82,15 +82,15 @@ impl<'s> GivenTypes<'s> {
 
     /// Adds a name that has no type, and its type. After an error the types are unchanged.
     fn add(&mut self, text: &'s str, param: TypeParam<'s>) -> Result<(), Memory>
-        requires { place_in self.old.entries.items text.now ≡ None }
+        requires { slot_in self.old.entries.items text.now ≡ None }
         ensures ok { OnOk result
             (self.new.entries.items ≡ self.old.entries.items ++ (text.entry, param.entry) ∷ []) }
         ensures err { OnErr result (self.new.entries.items ≡ self.old.entries.items) }
     {
         let at = self.entries.len();
-        self.places.reserve(1)?;
+        self.slots.reserve(1)?;
         self.entries.push((text, param))?;
-        self.places.insert(text, at)?;
+        self.slots.insert(text, at)?;
         Ok(())
     }
 }

@@ -6,7 +6,7 @@
 mod given_types;
 mod lifetimes;
 mod names;
-pub mod reporting;
+pub mod reports;
 mod self_reference;
 mod substitution;
 mod type_params;

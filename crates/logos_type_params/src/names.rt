@@ -1,7 +1,7 @@
 //! Holds names in the order in which they are declared.
 
 ghost use Rattle.std.specs.Prelude.{map, ◌≡◌, ◌++◌, ◌∷◌, [], OnOk, OnErr};
-ghost use Rattle.logos_type_params.specs.Words.{is_declared};
+ghost use Rattle.logos_type_params.specs.Imports.{is_declared};
 ghost use Rattle.logos_type_params.specs.NameLists.{named_of};
 ghost use Rattle.logos_type_params.specs.inside.Fronts.{AreInFront};
 

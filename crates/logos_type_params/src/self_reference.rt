@@ -29,7 +29,7 @@ fn reach_name<'s>(
     ensures { OnOk result (Reaches (map param_value types.now.entries.items)
         (names (name text.now)) reached.old.items reached.new.items) }
 {
-    let Some(at) = types.place_of(text) else {
+    let Some(at) = types.slot_of(text) else {
         return Ok(());
     };
     reached.push(at)?;
@@ -96,7 +96,7 @@ impl<'p, 's> Chains<'p, 's> {
             IsTrue result ↔
             Leads (map param_value self.now.types.now.entries.items) text.now text.now }
     {
-        let Some(at) = self.types.place_of(text) else {
+        let Some(at) = self.types.slot_of(text) else {
             return false;
         };
         self.held[at]

@@ -3,16 +3,16 @@
 ghost use Rattle.std.specs.Prelude.{◌≡◌, ◌++◌, ◌∷◌, [], Some, None, map, IfOk, OnOk, OnErr, if◌then◌else◌, option_map, true, false};
 ghost use Rattle.logos_type_params.specs.Views.{tokens_of, run_span, tree_of, IfFault, type_tree, IsTypeExpr, NoTypeExpr, param_value, ChecksName, named_of, given_of, type_syntax, many_lifetimes, former, given_more, given_faults, ReadsValue, AreChecked, Value, value_of, IsSet, types_of};
 
-mod concrete;
-mod written;
+mod concrete_types;
+mod written_types;
 
 use crate::given_types::GivenTypes;
 use crate::lifetimes::set_lifetimes;
 use crate::names::DeclaredNames;
-use crate::reporting::{report_about, report_depth, report_previous};
+use crate::reports::{report_about, report_depth, report_previous};
 use crate::self_reference::Chains;
 use crate::substitution::TypeParam;
-pub use concrete::Generics;
+pub use concrete_types::Generics;
 use logos_token::error::{Errors, FaultCode, Memory};
 use logos_token::token::{Ident, Span, Tokens};
 use logos_type::TypeExpr;
@@ -163,7 +163,7 @@ fn report_given(name: Ident<'_>, former: Option<Span>, errors: &mut Errors) -> R
 
 /// Gives a type to a declared name, in place of a former one, which is reported. After an error
 /// everything is unchanged.
-fn give<'s>(
+fn emit<'s>(
     types: &mut GivenTypes<'s>,
     name: Ident<'s>,
     param: TypeParam<'s>,
@@ -295,7 +295,7 @@ impl<'s> TypeParams<'s> {
             );
         }
         let part = set_lifetimes(self.alloc, &written.part)?;
-        give(
+        emit(
             &mut self.types,
             name,
             TypeParam {

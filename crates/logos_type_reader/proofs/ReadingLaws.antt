@@ -1,10 +1,10 @@
 -- A run begins with one type at most, what refuses it excludes one, and it has a type or a fault.
 use Rattle.std.proofs.Common.{◌≡◌, ℕ, ◌-◌, ◌+◌, ◌<◌, ◌||◌, List, [], ◌∷◌, ◌++◌, Bool, true, false, Option, Some, None, refl, sym, ap, ◌∙◌, subst, arith}
 use Rattle.logos_token.specs.Tokens.{TokenList, none as no_token_left, also as and_token, append, count_of, rest_of, run_span}
-use Rattle.logos_type_reader.specs.declared.table.place.Place.{Place}
+use Rattle.logos_type_reader.specs.declared.table.stage.Stage.{Stage}
 use Rattle.logos_type.specs.Parts.{Tree, Sign, sign, name, whole, still, trees, none, also}
 use Rattle.logos_type_reader.specs.StillRuns.{still_run}
-use Rattle.logos_type_reader.specs.Table.{Spot, outer, Move, First, ends, takes, bars, asks, keeps_type, keeps, nests, stops, starts, refused, Fault, too_deep, unsupported, begin, name_of}
+use Rattle.logos_type_reader.specs.Table.{Spot, outer, Move, First, ends, takes, bars, needs, keeps_type, keeps, nests, stops, starts, refused, Fault, too_deep, unsupported, begin, name_of}
 use Rattle.logos_type_reader.specs.Reading.{IsType, just_name, formed, IsMove, a_token, a_bar, a_type, a_still_type, still_tokens, a_nest, AreParts, ended, further, NoType, deep_name, deep, unbegun, unended, left_out, NoMove, no_token, no_type, no_still_type, no_nest, NoParts, here, later, next_of, after_type}
 
 -- two readings of the same run agree
@@ -16,10 +16,10 @@ abbrev MoveOf : ℕ → Bool → Spot → List Tree → Spot → Move → Type 0
 MoveOf n b spot ps outside ends = ⊥
 MoveOf n b spot ps outside (takes s next) = (b ≡ false) × (ps ≡ sign s ∷ []) × (outside ≡ next)
 MoveOf n b spot ps outside (bars s next) = (b ≡ true) × (ps ≡ sign s ∷ []) × (outside ≡ next)
-MoveOf n b spot ps outside (asks plus place) = (t : Tree) × (rest : TokenList) × (b ≡ false) × (ps ≡ t ∷ []) × (outside ≡ after_type spot place rest) × IsType n plus spot.run t rest
-MoveOf n b spot ps outside (keeps_type place) = (t : Tree) × (rest : TokenList) × (b ≡ false) × (ps ≡ still (also t none) ∷ []) × (outside ≡ after_type spot place rest) × IsType n true spot.run t rest
+MoveOf n b spot ps outside (needs plus stage) = (t : Tree) × (rest : TokenList) × (b ≡ false) × (ps ≡ t ∷ []) × (outside ≡ after_type spot stage rest) × IsType n plus spot.run t rest
+MoveOf n b spot ps outside (keeps_type stage) = (t : Tree) × (rest : TokenList) × (b ≡ false) × (ps ≡ still (also t none) ∷ []) × (outside ≡ after_type spot stage rest) × IsType n true spot.run t rest
 MoveOf n b spot ps outside (keeps run next) = (b ≡ false) × (ps ≡ still (trees (still_run run)) ∷ []) × (outside ≡ next)
-MoveOf n b spot ps outside (nests s inner place) = (qs : List Tree) × (rest : TokenList) × (ps ≡ sign s ∷ qs) × (outside ≡ after_type spot place rest) × AreParts n b inner qs rest
+MoveOf n b spot ps outside (nests s inner stage) = (qs : List Tree) × (rest : TokenList) × (ps ≡ sign s ∷ qs) × (outside ≡ after_type spot stage rest) × AreParts n b inner qs rest
 MoveOf n b spot ps outside (stops fault) = ⊥
 
 move_of : {n : ℕ} {b : Bool} {spot outside : Spot} {ps : List Tree} → IsMove n b spot ps outside → MoveOf n b spot ps outside (next_of spot)
@@ -97,20 +97,20 @@ formed_same {m} {other = other} {spot = spot} e g same (of_form s' spot' qs f g'
     let q = same (m - 1) false qs other (subst (λ (x : Spot). AreParts (m - 1) false x qs other) (sym k.2) h) in
     (whole_same k.1 q.1 ∙ sym t, q.2)
 
-asked_same : (m : ℕ) (c : Bool) (spot other : Spot) {plus : Bool} {place : Place} {t : Tree} {rest : TokenList} {qs : List Tree} → SameType plus spot.run t rest →
-    MoveOf m c spot qs other (asks plus place) → (false ≡ c) × (t ∷ [] ≡ qs) × (after_type spot place rest ≡ other)
-asked_same m c spot other {place = place} same (u, r, b, q, o, h) =
-    let k = same m u r h in (sym b, ap (λ (x : Tree). x ∷ []) k.0 ∙ sym q, ap (λ (x : TokenList). after_type spot place x) k.1 ∙ sym o)
+needed_same : (m : ℕ) (c : Bool) (spot other : Spot) {plus : Bool} {stage : Stage} {t : Tree} {rest : TokenList} {qs : List Tree} → SameType plus spot.run t rest →
+    MoveOf m c spot qs other (needs plus stage) → (false ≡ c) × (t ∷ [] ≡ qs) × (after_type spot stage rest ≡ other)
+needed_same m c spot other {stage = stage} same (u, r, b, q, o, h) =
+    let k = same m u r h in (sym b, ap (λ (x : Tree). x ∷ []) k.0 ∙ sym q, ap (λ (x : TokenList). after_type spot stage x) k.1 ∙ sym o)
 
-still_asked_same : (m : ℕ) (c : Bool) (spot other : Spot) {place : Place} {t : Tree} {rest : TokenList} {qs : List Tree} → SameType true spot.run t rest →
-    MoveOf m c spot qs other (keeps_type place) → (false ≡ c) × (still (also t none) ∷ [] ≡ qs) × (after_type spot place rest ≡ other)
-still_asked_same m c spot other {place = place} same (u, r, b, q, o, h) =
-    let k = same m u r h in (sym b, still_same k.0 ∙ sym q, ap (λ (x : TokenList). after_type spot place x) k.1 ∙ sym o)
+still_needed_same : (m : ℕ) (c : Bool) (spot other : Spot) {stage : Stage} {t : Tree} {rest : TokenList} {qs : List Tree} → SameType true spot.run t rest →
+    MoveOf m c spot qs other (keeps_type stage) → (false ≡ c) × (still (also t none) ∷ [] ≡ qs) × (after_type spot stage rest ≡ other)
+still_needed_same m c spot other {stage = stage} same (u, r, b, q, o, h) =
+    let k = same m u r h in (sym b, still_same k.0 ∙ sym q, ap (λ (x : TokenList). after_type spot stage x) k.1 ∙ sym o)
 
-nested_same : (m : ℕ) (c : Bool) (spot other : Spot) {b : Bool} {inner : Spot} {place : Place} {s : Sign} {ps : List Tree} {rest : TokenList} {qs : List Tree} → SameParts b inner ps rest →
-    MoveOf m c spot qs other (nests s inner place) → (b ≡ c) × (sign s ∷ ps ≡ qs) × (after_type spot place rest ≡ other)
-nested_same m c spot other {place = place} {s = s} same (us, r, q, o, h) =
-    let k = same m c us r h in (k.0, ap (λ (x : List Tree). sign s ∷ x) k.1 ∙ sym q, ap (λ (x : TokenList). after_type spot place x) k.2 ∙ sym o)
+nested_same : (m : ℕ) (c : Bool) (spot other : Spot) {b : Bool} {inner : Spot} {stage : Stage} {s : Sign} {ps : List Tree} {rest : TokenList} {qs : List Tree} → SameParts b inner ps rest →
+    MoveOf m c spot qs other (nests s inner stage) → (b ≡ c) × (sign s ∷ ps ≡ qs) × (after_type spot stage rest ≡ other)
+nested_same m c spot other {stage = stage} {s = s} same (us, r, q, o, h) =
+    let k = same m c us r h in (k.0, ap (λ (x : List Tree). sign s ∷ x) k.1 ∙ sym q, ap (λ (x : TokenList). after_type spot stage x) k.2 ∙ sym o)
 
 further_same : {n m : ℕ} {b c now onward : Bool} {spot outside : Spot} {front more qs : List Tree} {rest other : TokenList} → b ≡ (now || onward) → IsMove n now spot front outside → SameMove now spot front outside →
     SameParts onward outside more rest → PartsOf m c spot qs other → (b ≡ c) × (front ++ more ≡ qs) × (rest ≡ other)
@@ -132,8 +132,8 @@ mutual
   pub one_move : {n m : ℕ} {b c : Bool} {spot outside other : Spot} {ps qs : List Tree} → IsMove n b spot ps outside → IsMove m c spot qs other → (b ≡ c) × (ps ≡ qs) × (outside ≡ other)
   one_move (a_token e) g = let k = move_as g e in (sym k.0, sym k.1, sym k.2)
   one_move (a_bar e) g = let k = move_as g e in (sym k.0, sym k.1, sym k.2)
-  one_move {m = m} {c = c} {spot = spot} {other = other} (a_type e h) g = asked_same m c spot other (λ m u other x. one_type h x) (move_as g e)
-  one_move {m = m} {c = c} {spot = spot} {other = other} (a_still_type e h) g = still_asked_same m c spot other (λ m u other x. one_type h x) (move_as g e)
+  one_move {m = m} {c = c} {spot = spot} {other = other} (a_type e h) g = needed_same m c spot other (λ m u other x. one_type h x) (move_as g e)
+  one_move {m = m} {c = c} {spot = spot} {other = other} (a_still_type e h) g = still_needed_same m c spot other (λ m u other x. one_type h x) (move_as g e)
   one_move (still_tokens e) g = let k = move_as g e in (sym k.0, sym k.1, sym k.2)
   one_move {m = m} {c = c} {spot = spot} {other = other} (a_nest e h) g = nested_same m c spot other (λ m c qs other x. one_parts h x) (move_as g e)
 
@@ -298,9 +298,9 @@ bar_fault {n} {c = c} {rest = rest} {ps = ps} front a e k p i (of_bar b d s spot
 
 -- what moves are refused there, by what comes next
 abbrev NoMoveOf : ℕ → Spot → Fault → Move → Type 0
-NoMoveOf n spot fault (asks plus place) = NoType n plus spot.run fault
-NoMoveOf n spot fault (keeps_type place) = NoType n true spot.run fault
-NoMoveOf n spot fault (nests s inner place) = NoParts n inner fault
+NoMoveOf n spot fault (needs plus stage) = NoType n plus spot.run fault
+NoMoveOf n spot fault (keeps_type stage) = NoType n true spot.run fault
+NoMoveOf n spot fault (nests s inner stage) = NoParts n inner fault
 NoMoveOf n spot fault (stops other) = fault ≡ other
 NoMoveOf n spot fault m = ⊥
 

@@ -3,13 +3,13 @@ use Rattle.std.proofs.Common.{◌≡◌, Err, ℕ, ◌-◌, ◌<◌, ◌≤◌, 
 use Rattle.std.proofs.lemmas.List.{append-nil}
 use Rattle.logos_token.specs.Tokens.{TokenList, append, also as and_token, none as no_token, IsRestOf, count_of}
 use Rattle.logos_type.specs.Parts.{Tree, Sign, sign, whole, trees}
-use Rattle.logos_type_reader.specs.declared.table.place.Place.{Place}
-use Rattle.logos_type_reader.specs.Table.{Spot, outer, Move, Fault, nests, asks, keeps_type, ends, starts, begin, name_of}
+use Rattle.logos_type_reader.specs.declared.table.stage.Stage.{Stage}
+use Rattle.logos_type_reader.specs.Table.{Spot, outer, Move, Fault, nests, needs, keeps_type, ends, starts, begin, name_of}
 use Rattle.logos_type_reader.specs.Reading.{IsType, just_name, formed, IsMove, a_token, a_bar, a_type, a_still_type, still_tokens, a_nest, AreParts, ended, further, NoType, unbegun, NoMove, no_token, no_type, no_still_type, no_nest, NoParts, later, next_of, after_type}
-use Rattle.logos_type_reader.specs.declared.table.place.StepFault.{StepFault}
-use Rattle.logos_type_reader.specs.declared.table.place.StepFault.TheVariants.{Unsupported, Mismatch}
-use Rattle.logos_type_reader.specs.declared.reading.TypeFault.{TypeFault}
-use Rattle.logos_type_reader.specs.declared.reading.TypeFault.TheVariants as faults
+use Rattle.logos_type_reader.specs.declared.table.stage.StepFault.{StepFault}
+use Rattle.logos_type_reader.specs.declared.table.stage.StepFault.TheVariants.{Unsupported, Mismatch}
+use Rattle.logos_type_reader.specs.declared.reader.TypeFault.{TypeFault}
+use Rattle.logos_type_reader.specs.declared.reader.TypeFault.TheVariants as faults
 use Rattle.logos_type_reader.specs.ReadingViews.{left, spot_left, IsStep, IsFirst, IfFault, fault_of}
 use Rattle.logos_type_reader.proofs.TableSteps.{Moves, Onward, Inward, steps, Begins, first_steps}
 
@@ -43,15 +43,15 @@ onward : {spot behind : Spot} → Onward spot.run spot.outside behind → Later 
 onward o = record { rest = o.rest; less = o.less }
 
 moved : (spot : Spot) {m : Move} → next_of spot ≡ m → Moves spot.run spot.outside m
-moved spot e = subst (Moves spot.run spot.outside) e (steps spot.place spot.run spot.outside)
+moved spot e = subst (Moves spot.run spot.outside) e (steps spot.stage spot.run spot.outside)
 
 -- behind a type or a path
 after_rest : (run rest : TokenList) (behind : Option TokenList) → Rest run rest → IsRestOf (outer run behind) (outer rest behind) × (left rest behind < left run behind)
 after_rest run rest None r = (r.is, let h = r.less in omega arith)
 after_rest run rest (Some after) r = (rest_self after, let h = r.less in omega arith)
 
-later_rest : (spot : Spot) (place : Place) (rest : TokenList) → Rest spot.run rest → Later spot (after_type spot place rest)
-later_rest spot place rest r = let x = after_rest spot.run rest spot.outside r in record { rest = x.0; less = x.1 }
+later_rest : (spot : Spot) (stage : Stage) (rest : TokenList) → Rest spot.run rest → Later spot (after_type spot stage rest)
+later_rest spot stage rest r = let x = after_rest spot.run rest spot.outside r in record { rest = x.0; less = x.1 }
 
 left_self : (run : TokenList) (behind : Option TokenList) → IsRestOf (outer run behind) (outer run behind) × (2 * count_of (outer run behind) ≤ left run behind)
 left_self run None = (rest_self run, omega arith)
@@ -80,10 +80,10 @@ mutual
   pub move_rest : {levels : ℕ} {barred : Bool} {spot : Spot} {parts : List Tree} {behind : Spot} → IsMove levels barred spot parts behind → Later spot behind
   move_rest {spot = spot} (a_token e) = onward (moved spot e)
   move_rest {spot = spot} (a_bar e) = onward (moved spot e)
-  move_rest {spot = spot} (a_type {place = place} {rest = rest} e h) = later_rest spot place rest (type_rest h)
-  move_rest {spot = spot} (a_still_type {place = place} {rest = rest} e h) = later_rest spot place rest (type_rest h)
+  move_rest {spot = spot} (a_type {stage = stage} {rest = rest} e h) = later_rest spot stage rest (type_rest h)
+  move_rest {spot = spot} (a_still_type {stage = stage} {rest = rest} e h) = later_rest spot stage rest (type_rest h)
   move_rest {spot = spot} (still_tokens e) = onward (moved spot e)
-  move_rest {spot = spot} (a_nest {inner = inner} {place = place} {rest = rest} e h) = later_rest spot place rest (inner_rest spot.run inner rest (moved spot e) (parts_rest h))
+  move_rest {spot = spot} (a_nest {inner = inner} {stage = stage} {rest = rest} e h) = later_rest spot stage rest (inner_rest spot.run inner rest (moved spot e) (parts_rest h))
 
   pub parts_rest : {levels : ℕ} {barred : Bool} {spot : Spot} {parts : List Tree} {rest : TokenList} → AreParts levels barred spot parts rest → Left spot rest
   parts_rest {spot = spot} (ended e) = let l = left_self spot.run spot.outside in record { rest = l.0; less = l.1 }
@@ -141,14 +141,14 @@ if_fault-map P Q f faults.LimitNesting h = f _ h
 if_fault-map P Q f faults.Memory h = tt
 
 -- a fault inside a part is one of the move
-pub asked_fault : (levels : ℕ) (spot : Spot) (plus : Bool) (place : Place) (fault : TypeFault) → next_of spot ≡ asks plus place → IfFault (NoType levels plus spot.run) fault → IfFault (NoMove levels spot) fault
-asked_fault levels spot plus place fault e h = if_fault-map (NoType levels plus spot.run) (NoMove levels spot) (λ f n. no_type e n) fault h
+pub needed_fault : (levels : ℕ) (spot : Spot) (plus : Bool) (stage : Stage) (fault : TypeFault) → next_of spot ≡ needs plus stage → IfFault (NoType levels plus spot.run) fault → IfFault (NoMove levels spot) fault
+needed_fault levels spot plus stage fault e h = if_fault-map (NoType levels plus spot.run) (NoMove levels spot) (λ f n. no_type e n) fault h
 
-pub still_fault : (levels : ℕ) (spot : Spot) (place : Place) (fault : TypeFault) → next_of spot ≡ keeps_type place → IfFault (NoType levels true spot.run) fault → IfFault (NoMove levels spot) fault
-still_fault levels spot place fault e h = if_fault-map (NoType levels true spot.run) (NoMove levels spot) (λ f n. no_still_type e n) fault h
+pub still_fault : (levels : ℕ) (spot : Spot) (stage : Stage) (fault : TypeFault) → next_of spot ≡ keeps_type stage → IfFault (NoType levels true spot.run) fault → IfFault (NoMove levels spot) fault
+still_fault levels spot stage fault e h = if_fault-map (NoType levels true spot.run) (NoMove levels spot) (λ f n. no_still_type e n) fault h
 
-pub nest_fault : (levels : ℕ) (spot : Spot) (s : Sign) (inner : Spot) (place : Place) (fault : TypeFault) → next_of spot ≡ nests s inner place → IfFault (NoParts levels inner) fault → IfFault (NoMove levels spot) fault
-nest_fault levels spot s inner place fault e h = if_fault-map (NoParts levels inner) (NoMove levels spot) (λ f n. no_nest e n) fault h
+pub nest_fault : (levels : ℕ) (spot : Spot) (s : Sign) (inner : Spot) (stage : Stage) (fault : TypeFault) → next_of spot ≡ nests s inner stage → IfFault (NoParts levels inner) fault → IfFault (NoMove levels spot) fault
+nest_fault levels spot s inner stage fault e h = if_fault-map (NoParts levels inner) (NoMove levels spot) (λ f n. no_nest e n) fault h
 
 -- less is left behind the first token
 pub begun_falls : (plus : Bool) (run : TokenList) (barred : Bool) (s : Sign) (spot : Spot) → begin plus run ≡ starts barred s spot → spot_left spot < 2 * count_of run
@@ -175,5 +175,5 @@ inner_less_than run within None None h n = omega (arith, h)
 inner_less_than run within (Some after) None h n = omega (arith, h)
 inner_less_than run within behind (Some after) h n = absurd (let z = n in cc)
 
-pub inner_left : (spot : Spot) (s : Sign) (inner : Spot) (place : Place) → next_of spot ≡ nests s inner place → spot_left inner < spot_left spot
-inner_left spot s inner place e = let i : Inward spot.run inner = moved spot e in inner_less_than spot.run inner.run spot.outside inner.outside i.less i.alone
+pub inner_left : (spot : Spot) (s : Sign) (inner : Spot) (stage : Stage) → next_of spot ≡ nests s inner stage → spot_left inner < spot_left spot
+inner_left spot s inner stage e = let i : Inward spot.run inner = moved spot e in inner_less_than spot.run inner.run spot.outside inner.outside i.less i.alone

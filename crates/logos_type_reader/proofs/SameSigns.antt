@@ -7,7 +7,7 @@ use Rattle.logos_lexeme.specs.declared.lexeme.Delimiter.{Delimiter}
 use Rattle.logos_lexeme.specs.declared.lexeme.Delimiter.TheVariants.{Parenthesis, Bracket, Brace}
 use Rattle.logos_token.specs.Tokens.{Token, TokenList, identifier, punctuation, literal, doc, group, none, also, append, count_of}
 use Rattle.logos_type_reader.specs.Table.{begins_colons, begins_mark, begins_arrow, begins_dots, begins_parenthesis, typing, goes_on}
-use Rattle.logos_type_reader.specs.FaultPlaces.{Front, start, past, within, IsAt, at_start, past_token, in_group, SameSign, no_sign, same_name, same_mark, same_joint, same_literal, same_doc, same_group, front_of, EndsWith}
+use Rattle.logos_type_reader.specs.FaultStages.{Front, start, past, within, IsAt, at_start, past_token, in_group, SameSign, no_sign, same_name, same_mark, same_joint, same_literal, same_doc, same_group, front_of, EndsWith}
 use Rattle.logos_type_reader.proofs.TableSteps.{one_token}
 
 -- of each run that begins with the same sign

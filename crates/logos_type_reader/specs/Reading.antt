@@ -4,16 +4,16 @@ use Rattle.std.specs.Prelude.{◌≡◌, ℕ, ◌-◌, ◌<◌, ◌||◌, List, 
 use Rattle.logos_token.specs.Tokens.{TokenList, rest_of, append, run_span}
 use Rattle.logos_type.specs.Parts.{Sign, Tree, sign, name, whole, still, trees, none, also}
 use Rattle.logos_type_reader.specs.StillRuns.{still_run}
-use Rattle.logos_type_reader.specs.declared.table.place.Place.{Place}
-use Rattle.logos_type_reader.specs.Table.{Spot, outer, Move, ends, takes, bars, asks, keeps_type, keeps, nests, stops, starts, refused, Fault, unsupported, too_deep, next_at, begin, name_of}
+use Rattle.logos_type_reader.specs.declared.table.stage.Stage.{Stage}
+use Rattle.logos_type_reader.specs.Table.{Spot, outer, Move, ends, takes, bars, needs, keeps_type, keeps, nests, stops, starts, refused, Fault, unsupported, too_deep, next_at, begin, name_of}
 
 -- The next step at a spot.
 abbrev pub next_of : Spot → Move
-next_of spot = next_at spot.place spot.run spot.outside
+next_of spot = next_at spot.stage spot.run spot.outside
 
 -- The spot after a type or a path that was read.
-abbrev pub after_type : Spot → Place → TokenList → Spot
-after_type spot place run = record { place = place; run = run; outside = spot.outside }
+abbrev pub after_type : Spot → Stage → TokenList → Spot
+after_type spot stage run = record { stage = stage; run = run; outside = spot.outside }
 
 mutual
   -- The run begins with this type, and the rest follows: a name, or a first token and the parts
@@ -31,13 +31,13 @@ mutual
   pub data IsMove : ℕ → Bool → Spot → List Tree → Spot → Type 0 where
     a_token : {levels : ℕ} {spot : Spot} {s : Sign} {next : Spot} → next_of spot ≡ takes s next → IsMove levels false spot (sign s ∷ []) next
     a_bar : {levels : ℕ} {spot : Spot} {s : Sign} {next : Spot} → next_of spot ≡ bars s next → IsMove levels true spot (sign s ∷ []) next
-    a_type : {levels : ℕ} {spot : Spot} {plus : Bool} {place : Place} {part : Tree} {rest : TokenList} →
-        next_of spot ≡ asks plus place → IsType levels plus spot.run part rest → IsMove levels false spot (part ∷ []) (after_type spot place rest)
-    a_still_type : {levels : ℕ} {spot : Spot} {place : Place} {part : Tree} {rest : TokenList} → next_of spot ≡ keeps_type place →
-        IsType levels true spot.run part rest → IsMove levels false spot (still (also part none) ∷ []) (after_type spot place rest)
+    a_type : {levels : ℕ} {spot : Spot} {plus : Bool} {stage : Stage} {part : Tree} {rest : TokenList} →
+        next_of spot ≡ needs plus stage → IsType levels plus spot.run part rest → IsMove levels false spot (part ∷ []) (after_type spot stage rest)
+    a_still_type : {levels : ℕ} {spot : Spot} {stage : Stage} {part : Tree} {rest : TokenList} → next_of spot ≡ keeps_type stage →
+        IsType levels true spot.run part rest → IsMove levels false spot (still (also part none) ∷ []) (after_type spot stage rest)
     still_tokens : {levels : ℕ} {spot : Spot} {run : TokenList} {next : Spot} → next_of spot ≡ keeps run next → IsMove levels false spot (still (trees (still_run run)) ∷ []) next
-    a_nest : {levels : ℕ} {barred : Bool} {spot : Spot} {s : Sign} {inner : Spot} {place : Place} {parts : List Tree} {rest : TokenList} →
-        next_of spot ≡ nests s inner place → AreParts levels barred inner parts rest → IsMove levels barred spot (sign s ∷ parts) (after_type spot place rest)
+    a_nest : {levels : ℕ} {barred : Bool} {spot : Spot} {s : Sign} {inner : Spot} {stage : Stage} {parts : List Tree} {rest : TokenList} →
+        next_of spot ≡ nests s inner stage → AreParts levels barred inner parts rest → IsMove levels barred spot (sign s ∷ parts) (after_type spot stage rest)
 
   -- The parts from a spot to the end of what was begun there, whether one of them makes the type
   -- one that is not supported, and the rest.
@@ -64,11 +64,11 @@ mutual
   -- Nothing fits at the spot.
   pub data NoMove : ℕ → Spot → Fault → Type 0 where
     no_token : {levels : ℕ} {spot : Spot} {fault : Fault} → next_of spot ≡ stops fault → NoMove levels spot fault
-    no_type : {levels : ℕ} {spot : Spot} {plus : Bool} {place : Place} {fault : Fault} →
-        next_of spot ≡ asks plus place → NoType levels plus spot.run fault → NoMove levels spot fault
-    no_still_type : {levels : ℕ} {spot : Spot} {place : Place} {fault : Fault} → next_of spot ≡ keeps_type place → NoType levels true spot.run fault → NoMove levels spot fault
-    no_nest : {levels : ℕ} {spot : Spot} {s : Sign} {inner : Spot} {place : Place} {fault : Fault} →
-        next_of spot ≡ nests s inner place → NoParts levels inner fault → NoMove levels spot fault
+    no_type : {levels : ℕ} {spot : Spot} {plus : Bool} {stage : Stage} {fault : Fault} →
+        next_of spot ≡ needs plus stage → NoType levels plus spot.run fault → NoMove levels spot fault
+    no_still_type : {levels : ℕ} {spot : Spot} {stage : Stage} {fault : Fault} → next_of spot ≡ keeps_type stage → NoType levels true spot.run fault → NoMove levels spot fault
+    no_nest : {levels : ℕ} {spot : Spot} {s : Sign} {inner : Spot} {stage : Stage} {fault : Fault} →
+        next_of spot ≡ nests s inner stage → NoParts levels inner fault → NoMove levels spot fault
 
   -- After some parts nothing fits.
   pub data NoParts : ℕ → Spot → Fault → Type 0 where

@@ -6,8 +6,8 @@ use Rattle.logos_lexeme.specs.declared.lexeme.Spacing.{Spacing}
 use Rattle.logos_lexeme.specs.declared.lexeme.Spacing.TheVariants.{Joint}
 use Rattle.logos_lexeme.specs.declared.lexeme.Delimiter.TheVariants.{Parenthesis, Bracket, Brace}
 use Rattle.logos_token.specs.Tokens.{Token, TokenList, identifier, punctuation, literal, group, none, also}
-use Rattle.logos_type_reader.specs.declared.table.place.PathKind.{PathKind}
-use Rattle.logos_type_reader.specs.declared.table.place.PathKind.TheVariants.{Plain, OfType, OfBound}
+use Rattle.logos_type_reader.specs.declared.table.stage.PathKind.{PathKind}
+use Rattle.logos_type_reader.specs.declared.table.stage.PathKind.TheVariants.{Plain, OfType, OfBound}
 use Rattle.logos_type.specs.Parts.{Tree, sign, name, whole, still, trees, none as no_part, also as and_part, word, mark, colons, arrow, value, opening, closing, reference, other_lifetime}
 use Rattle.logos_type_reader.specs.StillRuns.{still_run}
 use Rattle.logos_type_reader.specs.Table.{is_reserved, goes_on, begins_colons, begins_arrow, begins_mark, begins_bound, typing, argued, argument_lifetime}
@@ -284,7 +284,7 @@ mutual
   pub data Taking : ℕ → TokenList → List Tree → TokenList → Ending → Type 0 where
     takes_only : {levels : ℕ} {s : Span} {inside rest : TokenList} {parts : List Tree} → Parameters levels inside parts →
         Taking levels (also (group Parenthesis s inside) rest) (sign (opening Parenthesis) ∷ (parts ++ (sign (closing Parenthesis) ∷ []))) rest taking
-    takes_and_gives : {levels : ℕ} {s t u : Span} {p : Spacing} {inside run rest : TokenList} {parts : List Tree} {result : Tree} {e : Ending} →
+    takes_and_yields : {levels : ℕ} {s t u : Span} {p : Spacing} {inside run rest : TokenList} {parts : List Tree} {result : Tree} {e : Ending} →
         Parameters levels inside parts → Written levels false run result rest e →
         Taking levels (also (group Parenthesis s inside) (also (punctuation 45 Joint t) (also (punctuation 62 p u) run)))
         (sign (opening Parenthesis) ∷ (parts ++ (sign (closing Parenthesis) ∷ sign arrow ∷ result ∷ []))) rest e

@@ -2,7 +2,7 @@
 //! proved law.
 
 ghost use Rattle.std.specs.Prelude.{◌≡◌, ◌<◌, ◌≤◌, ◌⊎◌, ℕ, Bool, true};
-ghost use Rattle.logos_type_reader.specs.Views.{TokenList, IsRestOf, count_of, Tree, depth, Fault, too_deep, IsType, NoType, Ending, Written, may_follow, FaultPlace, IsAt, SameSign, IsTypeExpr, NoTypeExpr};
+ghost use Rattle.logos_type_reader.specs.Views.{TokenList, IsRestOf, count_of, Tree, depth, Fault, too_deep, IsType, NoType, Ending, Written, may_follow, FaultStage, IsAt, SameSign, IsTypeExpr, NoTypeExpr};
 
 /// A run begins with at most one type, which leaves one rest. It has at most one fault, and none if
 /// it begins with a type.
@@ -70,11 +70,11 @@ pub fn read_is_written()
 /// A fault has a spot in its run, unless types nest too deep. Each run with the same tokens in
 /// front of this spot and the same sign at it has the fault, too, so none of them begins with a
 /// written type.
-pub fn fault_place()
-    ensures place { (levels : ℕ) (plus : Bool) (run : TokenList) (fault : Fault) →
-        NoType levels plus run fault → (fault ≡ too_deep) ⊎ FaultPlace levels plus run fault }
+pub fn fault_stage()
+    ensures stage { (levels : ℕ) (plus : Bool) (run : TokenList) (fault : Fault) →
+        NoType levels plus run fault → (fault ≡ too_deep) ⊎ FaultStage levels plus run fault }
     ensures no_type { (levels : ℕ) (plus : Bool) (run : TokenList) (fault : Fault)
-        (place : FaultPlace levels plus run fault) (other left rest : TokenList) (tree : Tree)
-        (ending : Ending) → IsAt place.front other left → SameSign place.left left →
+        (stage : FaultStage levels plus run fault) (other left rest : TokenList) (tree : Tree)
+        (ending : Ending) → IsAt stage.front other left → SameSign stage.left left →
         Written levels plus other tree rest ending → may_follow ending rest ≡ true → ⊥ }
 {}

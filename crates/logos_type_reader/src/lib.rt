@@ -3,11 +3,11 @@
 #![tactic(auto)]
 
 mod laws;
-mod reading;
+mod reader;
 mod table;
 
 pub use laws::{
-    fault_place, levels_only_limit, limit_is_depth, one_outcome, read_is_written, reads_written,
+    fault_stage, levels_only_limit, limit_is_depth, one_outcome, read_is_written, reads_written,
     some_outcome, type_is_front,
 };
-pub use reading::{TYPE_NESTING, TypeFault, read_type};
+pub use reader::{TYPE_NESTING, TypeFault, read_type};

@@ -9,7 +9,7 @@ use Rattle.std.specs.Int.Count.{count_leading_zeros}
 use Rattle.logos_walk.specs.Masks.{MarksFrom}
 use Rattle.logos_walk.specs.declared.cursor.ChunkCursor.{ChunkCursor}
 use Rattle.std.proofs.lemmas.Nat.{and_le_r}
-use Rattle.logos_walk.specs.Cursors.{Passes, Stands, start_at, start_of}
+use Rattle.logos_walk.specs.Cursors.{Passes, IsAt, start_at, start_of}
 use Rattle.logos_walk.specs.Cursor.{token_bit, end_bit, NoToken, IsNext, IsLastEnd, StartsAt, IsLeft, IsUnder, start_by}
 
 pub ways : (a b : ℕ) → (a < b) ⊎ (b ≤ a)
@@ -211,21 +211,21 @@ low_fits bits k small =
     omega (arith, and_le_r bits (2 ^ k - 1), most)
 
 -- where the try of a cursor begins, at each entry of its word
-pub starts_at : (trace : List ℕ) (cursor : ChunkCursor) → (s : Stands trace cursor) → (at : ℕ) → 64 * cursor.word ≤ at → at ≤ 64 * cursor.word + 64
+pub starts_at : (trace : List ℕ) (cursor : ChunkCursor) → (s : IsAt trace cursor) → (at : ℕ) → 64 * cursor.word ≤ at → at ≤ 64 * cursor.word + 64
     → StartsAt cursor.base trace s.first cursor.word_start at (start_at cursor at)
 starts_at trace cursor s at low far =
     starts_by cursor.base trace cursor.word s.first cursor.word_start at _ (low_fits cursor.ends (at - 64 * cursor.word) (omega (arith, far)))
     (under_at trace cursor.word cursor.ends s.first at s.near low far s.ends_left)
 
 -- and from its own entry on
-pub starts_later : (trace : List ℕ) (cursor : ChunkCursor) → (s : Stands trace cursor) → (at now : ℕ) → cursor.from ≤ at → StartsAt cursor.base trace s.first cursor.word_start at now
+pub starts_later : (trace : List ℕ) (cursor : ChunkCursor) → (s : IsAt trace cursor) → (at now : ℕ) → cursor.from ≤ at → StartsAt cursor.base trace s.first cursor.word_start at now
     → StartsAt cursor.base trace cursor.from (start_of cursor) at now
 starts_later trace cursor s at now le there =
     starts_on cursor.base trace s.first cursor.word_start cursor.from (start_of cursor) at now s.order le
     (starts_at trace cursor s cursor.from (omega (arith, s.near, s.order)) s.far) there
 
 -- at the end of its word
-pub starts_whole : (trace : List ℕ) (cursor : ChunkCursor) → Stands trace cursor → cursor.ends < 2 ^ 64
+pub starts_whole : (trace : List ℕ) (cursor : ChunkCursor) → IsAt trace cursor → cursor.ends < 2 ^ 64
     → StartsAt cursor.base trace cursor.from (start_of cursor) (64 * cursor.word + 64) (start_by (cursor.base + 64 * cursor.word) cursor.word_start cursor.ends)
 starts_whole trace cursor s fits =
     starts_later trace cursor s (64 * cursor.word + 64) _ s.far
@@ -328,14 +328,14 @@ pub starts_from : (base other : ℕ) (trace : List ℕ) (from start at now : ℕ
 starts_from base other trace from start at now e s = subst (λ b. StartsAt b trace from start at now) e s
 
 -- so a cursor before its first end
-pub start_first : (trace : List ℕ) (cursor : ChunkCursor) → (s : Stands trace cursor) → cursor.from ≡ s.first → start_of cursor ≡ cursor.word_start
+pub start_first : (trace : List ℕ) (cursor : ChunkCursor) → (s : IsAt trace cursor) → cursor.from ≡ s.first → start_of cursor ≡ cursor.word_start
 start_first trace cursor s e =
     let near : 64 * cursor.word ≤ cursor.from = omega (arith, s.near, e) in
     by_first trace cursor.word cursor.from _ (cursor.base + 64 * cursor.word) cursor.word_start (low_fits cursor.ends (cursor.from - 64 * cursor.word) (omega (arith, s.far)))
     (under_at trace cursor.word cursor.ends cursor.from cursor.from near near s.far (subst (λ (k : ℕ). IsLeft 31 trace cursor.word cursor.ends k) (sym e) s.ends_left))
 
 -- after a match that ends at the entry that it has passed, the try begins there
-pub start_ended : (trace : List ℕ) (cursor : ChunkCursor) → (s : Stands trace cursor) → (at : ℕ) → s.first ≤ at → 64 * cursor.word ≤ at → cursor.from ≡ at + 1 → end_bit trace at ≡ 1
+pub start_ended : (trace : List ℕ) (cursor : ChunkCursor) → (s : IsAt trace cursor) → (at : ℕ) → s.first ≤ at → 64 * cursor.word ≤ at → cursor.from ≡ at + 1 → end_bit trace at ≡ 1
     → start_of cursor ≡ cursor.base + at
 start_ended trace cursor s at le low e ended =
     starts_same cursor.base trace s.first cursor.word_start cursor.from (start_of cursor) (cursor.base + at)
@@ -353,8 +353,8 @@ after_lowest cursor = record {
   ends = cursor.ends;
 }
 
-abbrev pub stands_after : (trace : List ℕ) (cursor : ChunkCursor) → 0 < cursor.tokens → cursor.tokens < 2 ^ 64 → Stands trace cursor → Stands trace (after_lowest cursor)
-stands_after trace cursor pos fits s =
+abbrev pub is_at_after : (trace : List ℕ) (cursor : ChunkCursor) → 0 < cursor.tokens → cursor.tokens < 2 ^ 64 → IsAt trace cursor → IsAt trace (after_lowest cursor)
+is_at_after trace cursor pos fits s =
     let z = bit_at-trailing_zeros w64 cursor.tokens pos fits in
     let bit = trailing_zeros w64 cursor.tokens in
     let next = next_lowest trace cursor.word cursor.tokens cursor.from s.within pos fits (omega (arith, s.near, s.order)) s.tokens_left in
@@ -387,7 +387,7 @@ passes_on trace old mid new a b = record {
 }
 
 -- a cursor that moves on to the next word passes the rest of this one
-pub passes_word : (trace : List ℕ) (old new : ChunkCursor) → Stands trace old → (t : Stands trace new) → old.ends < 2 ^ 64 → old.tokens ≡ 0 → new.base ≡ old.base → new.from ≡ t.first →
+pub passes_word : (trace : List ℕ) (old new : ChunkCursor) → IsAt trace old → (t : IsAt trace new) → old.ends < 2 ^ 64 → old.tokens ≡ 0 → new.base ≡ old.base → new.from ≡ t.first →
     new.from ≡ 64 * old.word + 64 → new.word_start ≡ start_by (old.base + 64 * old.word) old.word_start old.ends → Passes trace old new
 passes_word trace old new s t fits none eb ef en es =
     let far : 64 * old.word + 64 ≡ new.from = sym en in

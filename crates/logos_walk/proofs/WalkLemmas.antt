@@ -1,6 +1,6 @@
 -- Walks: none, one byte more, beside other writes, two in a row, without the first byte.
 use Rattle.std.proofs.Common.{◌≡◌, ℕ, ◌+◌, ◌<◌, ◌≤◌, ◌⊎◌, inl, inr, List, length, slice_index, set, get_or-set_same, get_or-set_other, refl, sym, ◌∙◌, ap, subst, arith}
-use Rattle.logos_walk.specs.Walk.{IsSameBeside, Walked, entry_at, place_of}
+use Rattle.logos_walk.specs.Walk.{IsSameBeside, Walked, entry_at, row_start_of}
 
 split_at : (a b : ℕ) → a ≤ b → (a < b) ⊎ (a ≡ b)
 split_at a b h = grind arith
@@ -24,9 +24,9 @@ walked_beside rows text p old new from to q same w = record {
   first = λ h. same from (omega arith) h ∙ w.first h;
   later = λ j h k.
       same (j + 1) (omega (arith, h)) k ∙ w.later j h k
-      ∙ ap (λ x. entry_at rows text (j + 1) (place_of x)) (sym (same j h (omega (arith, k))));
+      ∙ ap (λ x. entry_at rows text (j + 1) (row_start_of x)) (sym (same j h (omega (arith, k))));
   none = w.none;
-  last = λ j h e. w.last j h e ∙ ap place_of (sym (same j h (omega (arith, e))));
+  last = λ j h e. w.last j h e ∙ ap row_start_of (sym (same j h (omega (arith, e))));
 }
 
 -- two walks in a row are one
@@ -40,7 +40,7 @@ walked_join rows text p trace from mid to q r le le' a b = record {
   ];
   later = λ j h k. elim (three_ways (j + 1) mid) [
     | inl l ↦ a.later j h l
-    | inr (inl e) ↦ subst (λ m. slice_index trace m ≡ entry_at rows text m (place_of (slice_index trace j))) (sym e)
+    | inr (inl e) ↦ subst (λ m. slice_index trace m ≡ entry_at rows text m (row_start_of (slice_index trace j))) (sym e)
         (b.first (omega (arith, e, k)) ∙ ap (λ x. entry_at rows text mid x) (a.last j h e))
     | inr (inr g) ↦ b.later j (omega (arith, g)) k
   ];
@@ -54,7 +54,7 @@ walked_join rows text p trace from mid to q r le le' a b = record {
 -- a walk without its first byte begins in the place that its entry names
 pub walked_rest : (rows text : List ℕ) (p : ℕ) (trace : List ℕ) (from to q : ℕ) → from < to
     → Walked rows text p trace from to q
-    → Walked rows text (place_of (slice_index trace from)) trace (from + 1) to q
+    → Walked rows text (row_start_of (slice_index trace from)) trace (from + 1) to q
 walked_rest rows text p trace from to q lt w = record {
   first = λ h. w.later from (omega arith) h;
   later = λ j h k. w.later j (omega (arith, h)) k;
@@ -65,18 +65,18 @@ walked_rest rows text p trace from to q lt w = record {
 -- a write after the walk, of the entry of the next byte
 pub walked_more : (rows text : List ℕ) (p : ℕ) (trace : List ℕ) (from at q : ℕ) → from ≤ at → at < length trace
     → Walked rows text p trace from at q
-    → Walked rows text p (set trace at (entry_at rows text at q)) from (at + 1) (place_of (entry_at rows text at q))
+    → Walked rows text p (set trace at (entry_at rows text at q)) from (at + 1) (row_start_of (entry_at rows text at q))
 walked_more rows text p trace from at q le lt w =
     let e = entry_at rows text at q in
     let new = set trace at e in
     let written : slice_index new at ≡ e = get_or-set_same trace at e 0 lt in
-    walked_join rows text p new from at (at + 1) q (place_of e) le (omega arith)
+    walked_join rows text p new from at (at + 1) q (row_start_of e) le (omega arith)
     (walked_beside rows text p trace new from at q (λ j h k. get_or-set_other trace at j e 0 (omega (arith, k))) w)
     (record {
       first = λ _. written;
       later = λ j h k. absurd (omega (arith, h, k));
       none = λ n. absurd (omega (arith, n));
-      last = λ j h n. ap place_of (sym written) ∙ ap (λ k. place_of (slice_index new k)) (omega (arith, h, n));
+      last = λ j h n. ap row_start_of (sym written) ∙ ap (λ k. row_start_of (slice_index new k)) (omega (arith, h, n));
     })
 
 -- a write beside the walk
@@ -88,7 +88,7 @@ walked_set rows text p trace from to q at entry out w =
 
 -- the same, by equations, as a step leaves them
 pub walked_step : (rows text : List ℕ) (p : ℕ) (trace new : List ℕ) (from at next q r : ℕ) → from ≤ at → at < length trace → next ≡ at + 1
-    → new ≡ set trace at (entry_at rows text at q) → r ≡ place_of (entry_at rows text at q)
+    → new ≡ set trace at (entry_at rows text at q) → r ≡ row_start_of (entry_at rows text at q)
     → Walked rows text p trace from at q → Walked rows text p new from next r
 walked_step rows text p trace new from at next q r le lt n e f w =
     subst (λ k. Walked rows text p new from k r) (sym n)
@@ -107,8 +107,8 @@ walked_at rows text p trace from to e = subst (λ k. Walked rows text p trace fr
 
 -- what another walk left stands behind a step that comes to the place that it names
 pub walked_again : (rows text : List ℕ) (p guess : ℕ) (trace new : List ℕ) (from at to q r end : ℕ) → from ≤ at → at < to → at < length trace
-    → new ≡ set trace at (entry_at rows text at q) → r ≡ place_of (entry_at rows text at q)
-    → place_of (slice_index trace at) ≡ r
+    → new ≡ set trace at (entry_at rows text at q) → r ≡ row_start_of (entry_at rows text at q)
+    → row_start_of (slice_index trace at) ≡ r
     → Walked rows text p trace from at q → Walked rows text guess trace at to end → Walked rows text p new from to end
 walked_again rows text p guess trace new from at to q r end le lt within e f same done rest =
     walked_join rows text p new from (at + 1) to r end (omega arith) (omega arith)

@@ -1,10 +1,10 @@
 -- Walks of the six blocks of a chunk.
 use Rattle.std.specs.Prelude.{ℕ, ◌+◌, ◌*◌, ◌<◌, List, slice_index}
-use Rattle.logos_walk.specs.Walk.{IsPlace, Walked}
+use Rattle.logos_walk.specs.Walk.{IsRowStart, Walked}
 
 -- A whole row begins at the offset of each block.
-abbrev pub ArePlaces : List ℕ → List ℕ → Type 0
-ArePlaces rows places = (b : ℕ) → b < 6 → IsPlace rows (slice_index places b)
+abbrev pub AreRowStarts : List ℕ → List ℕ → Type 0
+AreRowStarts rows row_starts = (b : ℕ) → b < 6 → IsRowStart rows (slice_index row_starts b)
 
 -- The trace holds a walk over the first `count` bytes of the block, from its row among the one to
 -- that among the others.

@@ -16,8 +16,8 @@ pub record IsMarkedBeside (from to : ℕ) (chunk : ChunkEntries) : Type 0 where
   pub tokens : (w : ℕ) → w < 72 → (w < from) ⊎ (to ≤ w) → MarksFrom 30 chunk.entries (64 * w) (slice_index chunk.tokens w)
 
 -- The cursor has the flags that are left.
-abbrev pub Stands : List ℕ → ChunkCursor → Type 0
-Stands trace cursor = Awaits trace cursor.word cursor.tokens cursor.ends cursor.from
+abbrev pub IsAt : List ℕ → ChunkCursor → Type 0
+IsAt trace cursor = Awaits trace cursor.word cursor.tokens cursor.ends cursor.from
 
 -- Where the try begins that stands before an entry of the cursor's word, or before the next word.
 abbrev pub start_at : ChunkCursor → ℕ → ℕ

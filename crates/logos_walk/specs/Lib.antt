@@ -4,5 +4,5 @@ pub mod Masks
 pub mod Cursor
 pub mod Cursors
 pub mod Repairs
-pub mod Words
+pub mod Imports
 pub mod Views

@@ -1,7 +1,7 @@
 //! What there is to do in a chunk, taken from the flags of its entries.
 
 ghost use Rattle.std.specs.Prelude.{◌≡◌, ◌<◌, ◌+◌, ◌*◌, MatchOption};
-ghost use Rattle.logos_walk.specs.Views.{HasRoom, Finds, Finishes, IsInWord, IsMarked, Passes, Stands, start_at, start_by, start_of};
+ghost use Rattle.logos_walk.specs.Views.{HasRoom, Finds, Finishes, IsInWord, IsMarked, Passes, IsAt, start_at, start_by, start_of};
 
 use crate::blocks::CHUNK;
 use crate::masks::ChunkEntries;
@@ -29,7 +29,7 @@ impl ChunkCursor {
     pub fn new(chunk: &ChunkEntries, base: usize, start: usize, from: usize) -> ChunkCursor
         requires marked { IsMarked chunk.now }
         requires from { from < CHUNK }
-        ensures stands { Stands chunk.now.entries result }
+        ensures is_at { IsAt chunk.now.entries result }
         ensures base { result.base ≡ base }
         ensures start { start_of result ≡ start }
         ensures from { result.from ≡ from }
@@ -76,10 +76,10 @@ impl ChunkCursor {
     fn moved(self, chunk: &ChunkEntries) -> ChunkCursor
         requires marked { IsMarked chunk.now }
         requires room { HasRoom self.base }
-        requires stands { Stands chunk.now.entries self }
+        requires is_at { IsAt chunk.now.entries self }
         requires none { self.tokens ≡ 0 }
         requires last { self.word < 71 }
-        ensures stands { Stands chunk.now.entries result }
+        ensures is_at { IsAt chunk.now.entries result }
         ensures passes { Passes chunk.now.entries self result }
         ensures word { result.word ≡ self.word + 1 }
     {
@@ -99,8 +99,8 @@ impl ChunkCursor {
     fn filled(self, chunk: &ChunkEntries) -> ChunkCursor
         requires marked { IsMarked chunk.now }
         requires room { HasRoom self.base }
-        requires stands { Stands chunk.now.entries self }
-        ensures stands { Stands chunk.now.entries result }
+        requires is_at { IsAt chunk.now.entries self }
+        ensures is_at { IsAt chunk.now.entries result }
         ensures passes { Passes chunk.now.entries self result }
         ensures filled { result.tokens ≡ 0 → result.word ≡ 71 }
     {
@@ -120,9 +120,9 @@ impl ChunkCursor {
     pub fn next(&mut self, chunk: &ChunkEntries) -> Option<usize>
         requires marked { IsMarked chunk.now }
         requires room { HasRoom self.old.base }
-        requires stands { Stands chunk.now.entries self.old }
+        requires is_at { IsAt chunk.now.entries self.old }
         ensures base { self.new.base ≡ self.old.base }
-        ensures stands { Stands chunk.now.entries self.new }
+        ensures is_at { IsAt chunk.now.entries self.new }
         ensures next { MatchOption result
             (Finishes chunk.now.entries self.old self.new)
             (λ at. Finds chunk.now.entries self.old self.new at) }

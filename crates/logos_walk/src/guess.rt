@@ -1,7 +1,7 @@
 //! Guesses at the rows in which blocks begin.
 
 ghost use Rattle.std.specs.Prelude.{◌≡◌, ◌<◌, length};
-ghost use Rattle.logos_walk.specs.Views.{IsClosed, IsPlace, ArePlaces};
+ghost use Rattle.logos_walk.specs.Views.{IsClosed, IsRowStart, AreRowStarts};
 
 use crate::blocks::{BLOCK, BLOCKS, CHUNK};
 use crate::walk::{PLACE, entry_of};
@@ -11,29 +11,29 @@ const WINDOW: usize = 48;
 
 /// Returns the row after a byte: the root after a line end.
 #[inline(always)]
-fn after(rows: &[u32], byte: u8, place: usize, root: usize) -> usize
+fn after(rows: &[u32], byte: u8, row_start: usize, root: usize) -> usize
     requires closed { IsClosed rows.now }
-    requires place { IsPlace rows.now place }
-    requires root { IsPlace rows.now root }
-    ensures { IsPlace rows.now result }
+    requires row_start { IsRowStart rows.now row_start }
+    requires root { IsRowStart rows.now root }
+    ensures { IsRowStart rows.now result }
 {
-    let next = (entry_of(rows, byte, place) & PLACE) as usize;
+    let next = (entry_of(rows, byte, row_start) & PLACE) as usize;
     if byte == b'\n' { root } else { next }
 }
 
 /// Steps over one byte before each block but the first: that at `at` of those that are looked at.
 #[inline(always)]
-fn step_before(rows: &[u32], text: &[u8], root: usize, places: &mut [usize; 6], at: usize)
+fn step_before(rows: &[u32], text: &[u8], root: usize, row_starts: &mut [usize; 6], at: usize)
     requires closed { IsClosed rows.now }
-    requires root { IsPlace rows.now root }
+    requires root { IsRowStart rows.now root }
     requires text { length text.now ≡ CHUNK }
-    requires places { ArePlaces rows.now places.old }
+    requires row_starts { AreRowStarts rows.now row_starts.old }
     requires at { at < WINDOW }
-    ensures places { ArePlaces rows.now places.new }
+    ensures row_starts { AreRowStarts rows.now row_starts.new }
 {
     for block in 1..BLOCKS {
         let byte = text[BLOCK * block - WINDOW + at];
-        places[block] = after(rows, byte, places[block], root);
+        row_starts[block] = after(rows, byte, row_starts[block], root);
     }
 }
 
@@ -41,15 +41,15 @@ fn step_before(rows: &[u32], text: &[u8], root: usize, places: &mut [usize; 6], 
 /// end lead from the root, of few bytes before each block. Any row is right, a good guess is fast.
 /// All are made at once, as blocks are walked.
 #[inline(always)]
-pub fn guess_places(rows: &[u32], text: &[u8], root: usize) -> [usize; 6]
+pub fn guess_row_starts(rows: &[u32], text: &[u8], root: usize) -> [usize; 6]
     requires closed { IsClosed rows.now }
-    requires root { IsPlace rows.now root }
+    requires root { IsRowStart rows.now root }
     requires text { length text.now ≡ CHUNK }
-    ensures { ArePlaces rows.now result }
+    ensures { AreRowStarts rows.now result }
 {
-    let mut places = [root; 6];
+    let mut row_starts = [root; 6];
     for at in 0..WINDOW {
-        step_before(rows, text, root, &mut places, at);
+        step_before(rows, text, root, &mut row_starts, at);
     }
-    places
+    row_starts
 }

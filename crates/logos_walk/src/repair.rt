@@ -1,7 +1,7 @@
 //! Steps again over bytes where a walk began in another row.
 
 ghost use Rattle.std.specs.Prelude.{◌≡◌, ◌<◌, ◌≤◌, length};
-ghost use Rattle.logos_walk.specs.Views.{IsClosed, IsPlace, IsSameBeside, Walked, HoldsStretch, IsRepaired};
+ghost use Rattle.logos_walk.specs.Views.{IsClosed, IsRowStart, IsSameBeside, Walked, HoldsStretch, IsRepaired};
 
 use crate::walk::{PLACE, step};
 
@@ -19,7 +19,7 @@ pub struct Stretch {
 #[derive(Clone, Copy, Drop)]
 pub struct Repaired {
     /// The row after the last byte of the stretch.
-    pub place: usize,
+    pub row_start: usize,
     /// The first byte whose entry need not be written again.
     pub stop: usize,
 }
@@ -29,28 +29,28 @@ pub struct Repaired {
 pub fn repair(
     rows: &[u32],
     text: &[u8],
-    place: usize,
+    row_start: usize,
     trace: &mut [u32],
     stretch: Stretch,
 ) -> Repaired
     requires closed { IsClosed rows.now }
-    requires place { IsPlace rows.now place }
+    requires row_start { IsRowStart rows.now row_start }
     requires holds { HoldsStretch rows.now text.now trace.old stretch }
-    ensures { IsRepaired rows.now text.now place stretch trace.old trace.new result }
+    ensures { IsRepaired rows.now text.now row_start stretch trace.old trace.new result }
 {
-    let mut now = place;
+    let mut now = row_start;
     for at in stretch.from..stretch.to {
         let before = (trace[at] & PLACE) as usize;
         now = step(rows, text, now, trace, at);
         if before == now {
             return Repaired {
-                place: stretch.end,
+                row_start: stretch.end,
                 stop: at + 1,
             };
         }
     }
     Repaired {
-        place: now,
+        row_start: now,
         stop: stretch.to,
     }
 }

@@ -6,7 +6,7 @@
 //! something to do there.
 
 ghost use Rattle.std.specs.Prelude.{◌≡◌, ◌+◌, ◌<◌, ◌≤◌, length, slice_index, slice_set};
-ghost use Rattle.logos_walk.specs.Words.{IsClosed, IsPlace, IsSameBeside, Walked, entry_at, place_of};
+ghost use Rattle.logos_walk.specs.Imports.{IsClosed, IsRowStart, IsSameBeside, Walked, entry_at, row_start_of};
 
 /// The bits of an entry that name the next row, by its offset.
 pub const PLACE: u32 = 0xF_FFFF;
@@ -20,40 +20,40 @@ pub const TOKEN: u32 = 1 << 30;
 /// Returns the entry of a byte in a row. The byte is added first: the offset of the row, which
 /// comes from the entry before, is known last.
 #[inline(always)]
-pub(crate) fn entry_of(rows: &[u32], byte: u8, place: usize) -> u32
-    requires { IsPlace rows.now place }
-    ensures { result ≡ slice_index rows.now (byte + place) }
+pub(crate) fn entry_of(rows: &[u32], byte: u8, row_start: usize) -> u32
+    requires { IsRowStart rows.now row_start }
+    ensures { result ≡ slice_index rows.now (byte + row_start) }
 {
     let column = &rows[byte as usize..];
-    column[place]
+    column[row_start]
 }
 
 /// Steps over the byte at `at`: writes its entry, and returns the row that it names.
 #[inline(always)]
-pub fn step(rows: &[u32], text: &[u8], place: usize, trace: &mut [u32], at: usize) -> usize
+pub fn step(rows: &[u32], text: &[u8], row_start: usize, trace: &mut [u32], at: usize) -> usize
     requires closed { IsClosed rows.now }
-    requires place { IsPlace rows.now place }
+    requires row_start { IsRowStart rows.now row_start }
     requires text { at < length text.now }
     requires trace { at < length trace.old }
-    ensures trace { trace.new ≡ slice_set trace.old at (entry_at rows.now text.now at place) }
-    ensures result { result ≡ place_of (entry_at rows.now text.now at place) }
-    ensures stays { IsPlace rows.now result }
+    ensures trace { trace.new ≡ slice_set trace.old at (entry_at rows.now text.now at row_start) }
+    ensures result { result ≡ row_start_of (entry_at rows.now text.now at row_start) }
+    ensures stays { IsRowStart rows.now result }
 {
-    let entry = entry_of(rows, text[at], place);
+    let entry = entry_of(rows, text[at], row_start);
     trace[at] = entry;
     (entry & PLACE) as usize
 }
 
 /// Steps over all bytes of the text, from the row on, and returns the row after them.
-pub fn walk(rows: &[u32], text: &[u8], place: usize, trace: &mut [u32]) -> usize
+pub fn walk(rows: &[u32], text: &[u8], row_start: usize, trace: &mut [u32]) -> usize
     requires closed { IsClosed rows.now }
-    requires place { IsPlace rows.now place }
+    requires row_start { IsRowStart rows.now row_start }
     requires trace { length text.now ≤ length trace.old }
-    ensures walked { Walked rows.now text.now place trace.new 0 (length text.now) result }
-    ensures stays { IsPlace rows.now result }
+    ensures walked { Walked rows.now text.now row_start trace.new 0 (length text.now) result }
+    ensures stays { IsRowStart rows.now result }
     ensures beside { IsSameBeside 0 (length text.now) trace.old trace.new }
 {
-    let mut now = place;
+    let mut now = row_start;
     for at in 0..text.len() {
         now = step(rows, text, now, trace, at);
     }

@@ -5,8 +5,8 @@ ghost use Rattle.logos_warnings.specs.Views.{mistake_value, span_of};
 
 use crate::mistakes::{Mistake, mistakes_of};
 use crate::origin::{Origin, is_warning};
-use crate::others::add_others;
-use crate::plain::{fixed_warning, plain_warning};
+use crate::other_attributes::add_others;
+use crate::warning_list::{fixed_warning, plain_warning};
 use logos_enum::{ItemEnum, ReadError, read_enum};
 use logos_report::Warning;
 use logos_token::error::Memory;

@@ -4,12 +4,12 @@ use Rattle.std.proofs.lemmas.Bool.Decides.{nat_tests}
 use Rattle.std.proofs.Math.Nat.{mul-le-mul_left}
 use Rattle.logos_automaton.specs.Rules.{AreFree}
 use Rattle.logos_automaton.specs.inside.Alike.{MayPass, MayLeave, OpensAlike, GoesAlike, IsCopyAlike, SetsFlags}
-use Rattle.logos_places.specs.Core.{Core, void, empty, byte_in, character, look, cat, alt, plus, width, IsFree}
-use Rattle.logos_places.specs.Repeat.{in_front, up_to, repeated, spelled, count_of, IsOrdered}
-use Rattle.logos_places.specs.Table.{reader_of}
-use Rattle.logos_places.specs.Node.{core_of}
-use Rattle.logos_places.specs.declared.node.Node.{Node}
-use Rattle.logos_places.specs.declared.characters.reader.CharacterTable.{CharacterTable}
+use Rattle.logos_positions.specs.Core.{Core, void, empty, byte_in, character, look, cat, alt, plus, width, IsFree}
+use Rattle.logos_positions.specs.Repeat.{in_front, up_to, repeated, spelled, count_of, IsOrdered}
+use Rattle.logos_positions.specs.Table.{reader_of}
+use Rattle.logos_positions.specs.Node.{core_of}
+use Rattle.logos_positions.specs.declared.node.Node.{Node}
+use Rattle.logos_positions.specs.declared.characters.reader.CharacterTable.{CharacterTable}
 
 -- fewer marks
 pub leave_map : (t : Core) (M N : ℕ → Type 0) → ((q : ℕ) → q < width t → M q → N q) → MayLeave t M → MayLeave t N

@@ -4,7 +4,7 @@ use Rattle.std.proofs.Common.{◌≡◌, ◌↔◌, ℕ, zero, suc, ◌+◌, ◌
 use Rattle.std.proofs.lemmas.List.{drop-append-le, take-append-le, length-drop}
 use Rattle.std.proofs.lemmas.Bool.Decides.{nat_tests}
 use Rattle.std.proofs.Math.Seq.{drop-append-add}
-use Rattle.logos_hir.specs.Text.{StandsAt, byte_before, byte_after}
+use Rattle.logos_hir.specs.Text.{OccursAt, byte_before, byte_after}
 use Rattle.logos_hir.specs.Tree.{Tree, empty, literal, byte_class, char_class, look, repetition, capture, concat, alternation, Trees, none, also}
 use Rattle.logos_hir.specs.Looks.{holds_between}
 use Rattle.logos_hir.specs.Matches.{Matches, MatchesInOrder, SomeMatches, Pieces}
@@ -65,7 +65,7 @@ shift_pieces R Q d e k size leading within fits each (suc n) i j l m f (cut, fir
     go c q lo hi ih = (e + c, each i c lo (omega arith) f (subst (λ x. R (d + i) x) q first), ih c j hi m (later c lo f) (subst (λ x. Pieces R n x (d + j)) q rest))
 
 module _ (a b : List ℕ) (d e k : ℕ) (h : AreAlike a b d e k) where
-  shift_text : (text : List ℕ) (i j : ℕ) → i ≤ j → j ≤ k → StandsAt text a (d + i) (d + j) → StandsAt text b (e + i) (e + j)
+  shift_text : (text : List ℕ) (i j : ℕ) → i ≤ j → j ≤ k → OccursAt text a (d + i) (d + j) → OccursAt text b (e + i) (e + j)
   shift_text text i j l m s = let q : d + j ≡ d + i + length text = s.end in record { end = omega arith; here = sym (h.spans i j l m) ∙ s.here }
 
   same_before : (i : ℕ) → 0 < i → i ≤ k → byte_before a (d + i) ≡ byte_before b (e + i)

@@ -4,15 +4,15 @@ use Rattle.std.specs.List.Sorted.{IsStrictlyIncreasing}
 use Rattle.std.proofs.lemmas.List.{get_or_default}
 use Rattle.std.proofs.lemmas.Option.{same_Some, slice_get-get_or, slice_get-map}
 use Rattle.logos_hir.specs.Text.{IsBytes, byte_after}
-use Rattle.logos_places.specs.Core.{Core}
+use Rattle.logos_positions.specs.Core.{Core}
 use Rattle.logos_automaton.specs.Keys.{State, state_of, start_state, IsAt, IsNext, IsLast, IsBuilt, automaton_of}
-use Rattle.logos_places.specs.Marks.{Has, IsRising}
+use Rattle.logos_positions.specs.Marks.{Has, IsRising}
 use Rattle.logos_automaton.specs.Munch.{Rule, RuleMatches}
 use Rattle.logos_automaton.specs.Rules.{AreRuleCores, AreFree}
 use Rattle.logos_automaton.specs.Automaton.{Automaton, dfa_next, dfa_after, dfa_at_end, Lists, ReadsOneByteLate}
 use Rattle.logos_automaton.specs.declared.key.Key.{Key}
 use Rattle.logos_automaton.proofs.runs.RunLemmas.{IsAfter, after_nothing, next_after, lists_by_byte, lists_at_end}
-use Rattle.logos_places.proofs.classes.TextLemmas.{at_drop}
+use Rattle.logos_positions.proofs.classes.TextLemmas.{at_drop}
 
 pub rising_increases : (xs : List ℕ) → IsRising xs → IsStrictlyIncreasing xs
 rising_increases xs r k lt = r.rise k (k + 1) (omega arith) lt

@@ -3,16 +3,16 @@ use Rattle.std.proofs.Common.{◌≡◌, ℕ, zero, suc, ◌+◌, ◌*◌, ◌^�
 use Rattle.std.proofs.lemmas.List.{map-append}
 use Rattle.std.proofs.lemmas.List.Sums.{sum_by-cons}
 use Rattle.logos_automaton.specs.declared.rule.RuleView.{RuleView}
-use Rattle.logos_places.specs.Core.{Core}
-use Rattle.logos_places.specs.IsCore.{IsCoreOf}
+use Rattle.logos_positions.specs.Core.{Core}
+use Rattle.logos_positions.specs.IsCore.{IsCoreOf}
 use Rattle.logos_automaton.specs.Munch.{Rule}
-use Rattle.logos_places.specs.Node.{core_of}
+use Rattle.logos_positions.specs.Node.{core_of}
 use Rattle.logos_automaton.specs.Rules.{AreRuleCores, AreFree, some_look}
-use Rattle.logos_places.specs.Run.{width_of}
-use Rattle.logos_places.specs.Size.{size}
+use Rattle.logos_positions.specs.Run.{width_of}
+use Rattle.logos_positions.specs.Size.{size}
 use Rattle.logos_automaton.specs.Measures.{size_of}
 use Rattle.logos_automaton.specs.View.{rule_of, rules_of}
-use Rattle.logos_places.specs.declared.node.Node.{Node}
+use Rattle.logos_positions.specs.declared.node.Node.{Node}
 
 -- one more tree is made ready
 pub cores_more : (views : List RuleView) (i : ℕ) (d : RuleView) (nodes : List Node) (node : Node) → i < length views →

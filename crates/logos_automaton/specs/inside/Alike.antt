@@ -1,11 +1,11 @@
 -- Bytes that a pattern does not distinguish.
 use Rattle.std.specs.Prelude.{◌≡◌, ℕ, ◌+◌, ◌<◌, ◌≤◌, ◌↔◌, ◌⊎◌, Bool, false, IsTrue, List, slice_index, slice_index_or}
-use Rattle.logos_places.specs.Core.{Core, void, empty, byte_in, character, look, cat, alt, plus, width}
-use Rattle.logos_places.specs.Kinds.{kind_of_byte}
-use Rattle.logos_places.specs.Marks.{Has}
-use Rattle.logos_places.specs.Node.{core_of}
-use Rattle.logos_places.specs.Run.{StepsIn}
-use Rattle.logos_places.specs.declared.node.Node.{Node}
+use Rattle.logos_positions.specs.Core.{Core, void, empty, byte_in, character, look, cat, alt, plus, width}
+use Rattle.logos_positions.specs.Kinds.{kind_of_byte}
+use Rattle.logos_positions.specs.Marks.{Has}
+use Rattle.logos_positions.specs.Node.{core_of}
+use Rattle.logos_positions.specs.Run.{StepsIn}
+use Rattle.logos_positions.specs.declared.node.Node.{Node}
 use Rattle.logos_hir.specs.declared.hir.Look.{Look}
 
 -- Entered, the pattern can be passed without a byte, if looks allow it.
@@ -82,5 +82,5 @@ AreChangesOf by_byte changes = (x : ℕ) → x + 1 < 256 → (Has changes (x + 1
 -- Each byte whose flag is not set is read by the tree, from these places, and by looks, as the byte
 -- before.
 abbrev pub AreFirstOf : List Node → Bool → ℕ → List ℕ → ℕ → List Bool → Type 0
-AreFirstOf nodes looks i places base first = (node : Node) → node ≡ slice_index_or nodes i node → (byte : ℕ) → byte + 1 < 256 → slice_index_or first (byte + 1) false ≡ false →
-    GoesAlike (core_of node) (λ q. Has places (base + q)) byte (byte + 1) × (IsTrue looks → kind_of_byte byte ≡ kind_of_byte (byte + 1))
+AreFirstOf nodes looks i positions base first = (node : Node) → node ≡ slice_index_or nodes i node → (byte : ℕ) → byte + 1 < 256 → slice_index_or first (byte + 1) false ≡ false →
+    GoesAlike (core_of node) (λ q. Has positions (base + q)) byte (byte + 1) × (IsTrue looks → kind_of_byte byte ≡ kind_of_byte (byte + 1))

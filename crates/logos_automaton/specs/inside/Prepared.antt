@@ -5,10 +5,10 @@ use Rattle.logos_automaton.specs.inside.Alike.{AreKindBytes}
 use Rattle.logos_automaton.specs.inside.Steps.{AreCached}
 use Rattle.logos_automaton.specs.declared.cache.StepCache.{StepCache}
 use Rattle.logos_automaton.specs.declared.trees.Trees.{Trees}
-use Rattle.logos_places.specs.Core.{Core}
-use Rattle.logos_places.specs.Node.{core_of, AreMeasured}
-use Rattle.logos_places.specs.Run.{width_of}
-use Rattle.logos_places.specs.Several.{AreStarts}
+use Rattle.logos_positions.specs.Core.{Core}
+use Rattle.logos_positions.specs.Node.{core_of, AreMeasured}
+use Rattle.logos_positions.specs.Run.{width_of}
+use Rattle.logos_positions.specs.Several.{AreStarts}
 
 -- The patterns that the trees stand for.
 abbrev pub cores_of : Trees → List Core

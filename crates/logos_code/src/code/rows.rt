@@ -87,7 +87,7 @@ pub enum MatchUse {
     /// They are skipped, without a callback.
     Skips,
     /// A callback may decide.
-    Asks,
+    CallsBack,
 }
 
 /// What a byte does in a state.
@@ -134,7 +134,7 @@ fn first_halting(used: MatchUse) -> u32
     match used {
         MatchUse::Emits => HALTS,
         MatchUse::Skips => LEAVES,
-        MatchUse::Asks => ASKS,
+        MatchUse::CallsBack => ASKS,
     }
 }
 
@@ -145,7 +145,7 @@ fn first_closing(used: MatchUse) -> u32
     match used {
         MatchUse::Emits => CLOSES,
         MatchUse::Skips => SHUTS,
-        MatchUse::Asks => ASKS_AFTER,
+        MatchUse::CallsBack => ASKS_AFTER,
     }
 }
 
@@ -313,7 +313,7 @@ impl CodeParts<'_> {
     {
         match self.leaves.get(leaf.0) {
             Some(leaf) if leaf.callback.is_none() => plain_use(leaf),
-            _ => MatchUse::Asks,
+            _ => MatchUse::CallsBack,
         }
     }
 

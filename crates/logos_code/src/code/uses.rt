@@ -15,7 +15,7 @@ pub(crate) struct LeafUse {
     /// The matches are skipped.
     pub skips: bool,
     /// A callback is called for each match.
-    pub asks: bool,
+    pub calls_back: bool,
 }
 
 /// Returns the uses of all leaves, in the order of their numbers.
@@ -39,6 +39,6 @@ fn leaf_use(leaf: &CodeLeaf) -> LeafUse
 {
     LeafUse {
         skips: matches!(leaf.kind, VariantKind::Skip),
-        asks: leaf.callback.is_some(),
+        calls_back: leaf.callback.is_some(),
     }
 }

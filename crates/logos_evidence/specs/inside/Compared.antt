@@ -2,8 +2,8 @@
 use Rattle.std.specs.Prelude.{Bool, ℕ, List}
 use Rattle.logos_automaton.specs.Munch.{Rule}
 use Rattle.logos_evidence.specs.Comparing.{FindTheSame, IsShortestDifference}
-use Rattle.logos_evidence.specs.declared.comparing.Comparison.{Comparison}
-use Rattle.logos_evidence.specs.declared.comparing.Comparison.TheVariants.{Same, Differ}
+use Rattle.logos_evidence.specs.declared.comparison.Comparison.{Comparison}
+use Rattle.logos_evidence.specs.declared.comparison.Comparison.TheVariants.{Same, Differ}
 
 -- The answer of a comparison is right.
 abbrev pub IsAnswer : List Rule → List ℕ → List Rule → List ℕ → Bool → Comparison → Type 0

@@ -1,7 +1,7 @@
 -- The matches that an automaton lists on its way over an input.
 use Rattle.std.specs.Prelude.{ℕ, ◌+◌, List, [], ◌∷◌, ◌++◌, map, Option, None, Some, slice_get, option_and_then}
 use Rattle.logos_automaton.specs.Automaton.{Automaton, dfa_next}
-use Rattle.logos_evidence.specs.declared.matching.Match.{Match}
+use Rattle.logos_evidence.specs.declared.matches.Match.{Match}
 
 abbrev pub match_to : (ℕ → ℕ) → ℕ → ℕ → Match
 match_to priority end leaf = record { leaf = leaf; end = end; priority = priority leaf }

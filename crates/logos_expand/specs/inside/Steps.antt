@@ -2,17 +2,17 @@
 use Rattle.std.specs.Prelude.{◌≡◌, ℕ, Bool, List, [], ◌∷◌, ◌++◌}
 use Rattle.logos_code.specs.Code.{CodeValue}
 use Rattle.logos_tables.specs.declared.shape.Shape.{Shape}
-use Rattle.logos_expand.specs.declared.expanding.Gathered.{Gathered}
+use Rattle.logos_expand.specs.declared.expansion.Gathered.{Gathered}
 use Rattle.logos_report.specs.declared.clues.Clues.{Clues}
-use Rattle.logos_report.specs.declared.refused.Refused.{Refused}
+use Rattle.logos_report.specs.declared.file_report.Refused.{Refused}
 use Rattle.logos_report.specs.Sets.{sizes_of}
 use Rattle.logos_expand.specs.Expanding.{IsGuarded, under}
 use Rattle.logos_tables.specs.Shapes.{IsShown}
 use Rattle.logos_text.specs.Fronts.{AroundValue}
 use Rattle.logos_expand.specs.Gathering.{Gathers}
 use Rattle.logos_layout.specs.Layout.{IsLaidOut}
-use Rattle.logos_rust_file.specs.declared.finding.FoundEnum.{FoundEnum}
-use Rattle.logos_rust_file.specs.declared.replacing.Replacement.{Replacement}
+use Rattle.logos_rust_file.specs.declared.finder.FoundEnum.{FoundEnum}
+use Rattle.logos_rust_file.specs.declared.replacement.Replacement.{Replacement}
 use Rattle.logos_rust_file.specs.Handed.{Refusal}
 use Rattle.logos_rust_file.specs.Handed as refusals
 use Rattle.logos_rust_file.specs.Handed.{IsStripped}
@@ -47,7 +47,7 @@ pub record IsPrintedWith (shape : Shape) (code : CodeValue) (left : TokenList) (
   pub lexer : List ℕ
   pub laid : List ℕ
   pub around : AroundValue
-  pub stand : IsShown shape around code lexer
+  pub occur : IsShown shape around code lexer
   pub by_name : Bool
   pub is_written : IsGuarded left written
   pub is_laid_out : IsLaidOut (under by_name left lexer) laid

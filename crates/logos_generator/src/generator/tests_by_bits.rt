@@ -2,7 +2,7 @@
 //! once all tests are known.
 
 ghost use Rattle.std.specs.Prelude.{◌≡◌, ◌+◌, ◌*◌, ◌<◌, ◌≤◌, ◌/◌, ◌∷◌, [], ℕ, Some, IfOk, OnOk, OnErr, length, slice_get, if◌then◌else◌};
-ghost use Rattle.logos_generator.specs.Words.{beq, pointwise, insert_key, ranges_of, passes_test, Extends, IsTest, tests_byte, numbered, bits_from, bit_table, bit_tables_of};
+ghost use Rattle.logos_generator.specs.Imports.{beq, pointwise, insert_key, ranges_of, passes_test, Extends, IsTest, tests_byte, numbered, bits_from, bit_table, bit_tables_of};
 
 use indexmap::IndexSet;
 use logos_byte_class::byte_class::ByteClass;

@@ -8,7 +8,7 @@ use Rattle.logos_graph.specs.Graph.{GraphState}
 use Rattle.logos_graph.specs.GraphView.{state_number}
 use Rattle.logos_graph.specs.declared.graph.StateData.{StateData}
 use Rattle.logos_hir.specs.ByteRanges.{is_in}
-use Rattle.logos_places.specs.Marks.{IsRising}
+use Rattle.logos_positions.specs.Marks.{IsRising}
 use Rattle.logos_reduce.specs.Table.{to, mark, type_of}
 use Rattle.logos_reduce.specs.declared.table.Table.{Table}
 

@@ -1,7 +1,7 @@
 //! Distinguishes two states of a graph by bytes. Callers ask for it, of graphs that are made.
 
 ghost use Rattle.std.specs.Prelude.{◌≡◌, ◌≢◌, ◌<◌, ◌↔◌, [], IsTrue, IfOk, length};
-ghost use Rattle.logos_graph.specs.Words.{Distinguishes, IsEvidence};
+ghost use Rattle.logos_graph.specs.Imports.{Distinguishes, IsEvidence};
 
 use super::{Graph, State};
 use logos_token::error::Memory;

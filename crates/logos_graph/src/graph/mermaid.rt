@@ -248,7 +248,7 @@ fn push_state(
 }
 
 /// Returns the chart of a graph with these states.
-pub(super) fn chart(alloc: Global, states: &[StateData]) -> Result<String, AllocError>
+pub(super) fn diagram(alloc: Global, states: &[StateData]) -> Result<String, AllocError>
     ensures { IfOk result (λ text. string_bytes text ≡ mermaid_of (map graph_state_of states.now)) }
 {
     let mut text = String::from_str(alloc, "flowchart TB\n")?;

@@ -16,7 +16,7 @@ use std::ops::RangeInclusive;
 type Edge = (ByteClass, State);
 
 /// Returns the index of the first edge whose target is `target` or greater.
-fn place_of(edges: &[Edge], target: usize) -> usize
+fn slot_of(edges: &[Edge], target: usize) -> usize
     requires { IsRising (targets (map edge_of edges.now)) }
     ensures { IsFirstFrom (targets (map edge_of edges.now)) target result }
 {
@@ -34,16 +34,16 @@ fn place_of(edges: &[Edge], target: usize) -> usize
 }
 
 /// Returns whether the edge to a state is at an index.
-fn is_at(edges: &[Edge], place: usize, target: usize) -> bool
-    ensures hit { IsTrue result → (place < length edges.now)
-        × (slice_index (targets (map edge_of edges.now)) place ≡ target) }
-    ensures miss { IsFalse result → place < length edges.now →
-        slice_index (targets (map edge_of edges.now)) place ≢ target }
+fn is_at(edges: &[Edge], slot: usize, target: usize) -> bool
+    ensures hit { IsTrue result → (slot < length edges.now)
+        × (slice_index (targets (map edge_of edges.now)) slot ≡ target) }
+    ensures miss { IsFalse result → slot < length edges.now →
+        slice_index (targets (map edge_of edges.now)) slot ≢ target }
 {
-    if place >= edges.len() {
+    if slot >= edges.len() {
         return false;
     }
-    edges[place].1.0 == target
+    edges[slot].1.0 == target
 }
 
 /// Appends bytes to an edge.
@@ -75,12 +75,12 @@ fn add_range(
     ensures { OnOk result (map edge_of edges.new.items
         ≡ with_range (map edge_of edges.old.items) (bounds range) target) }
 {
-    let place = place_of(edges, target);
-    if is_at(edges, place, target) {
-        push_range(&mut edges[place], range)?;
+    let slot = slot_of(edges, target);
+    if is_at(edges, slot, target) {
+        push_range(&mut edges[slot], range)?;
         return Ok(());
     }
-    edges.insert(place, new_edge(alloc, range, target)?)?;
+    edges.insert(slot, new_edge(alloc, range, target)?)?;
     Ok(())
 }
 

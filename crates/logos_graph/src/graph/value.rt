@@ -1,10 +1,10 @@
 //! Graphs, and the calls on them.
 
 ghost use Rattle.std.specs.Prelude.{◌≡◌, ◌≢◌, ℕ, ◌-◌, ◌<◌, ◌↔◌, [], IsTrue, IfOk, Some, length, map, slice_get, string_bytes};
-ghost use Rattle.logos_graph.specs.Views.{range_with_len, dfa_of, fault_of, IsFit, IsFinished, mermaid_of, Shows, GivesEvidence, YieldsFirstBy, item_count, AreBackward, graph_state_of, state_number, states_left};
+ghost use Rattle.logos_graph.specs.Views.{range_with_len, dfa_of, fault_of, IsFit, IsFinished, mermaid_of, Shows, YieldsEvidence, YieldsFirstBy, item_count, AreBackward, graph_state_of, state_number, states_left};
 
-use super::mermaid::chart;
-use super::printing::Listing;
+use super::display::Listing;
+use super::mermaid::diagram;
 use super::states::states_of;
 use super::{Config, GraphError, State, StateData};
 use logos_automaton::dfa::Dfa;
@@ -35,7 +35,7 @@ pub struct States {
 
 impl<'s> Model for Graph<'s> {
     ghost use Rattle.std.specs.Prelude.{[]};
-    ghost use Rattle.logos_graph.specs.Words.{codes, named, GraphValue};
+    ghost use Rattle.logos_graph.specs.Imports.{codes, named, GraphValue};
     ghost use Rattle.logos_hir.specs.contracts.hir.Hir as e;
     ghost use Rattle.logos_type.specs.contracts.type_expr.TypePart as p;
 
@@ -91,7 +91,7 @@ impl<'s> Graph<'s> {
         reduced: Reduction,
     ) -> Result<Graph<'s>, AllocError>
         requires fit { IsFit reduced.table (length leaves.items) }
-        requires evidence { GivesEvidence reduced }
+        requires evidence { YieldsEvidence reduced }
         ensures leaves { IfOk result (λ graph. graph.leaves ≡ leaves.entry.items) }
         ensures utf8 { IfOk result (λ graph. graph.utf8 ≡ config.utf8_mode) }
         ensures faults { IfOk result (λ graph. graph.faults ≡ []) }
@@ -165,7 +165,7 @@ impl Graph<'_> {
     pub(crate) fn reduced(&self) -> &Reduction
         requires { 0 < length self.now.states }
         ensures shows { Shows result.now.table self.now.states }
-        ensures evidence { GivesEvidence result.now }
+        ensures evidence { YieldsEvidence result.now }
     {
         match &self.reduced {
             Some(reduced) => reduced,
@@ -192,7 +192,7 @@ impl Graph<'_> {
     pub fn get_mermaid(&self, alloc: Global) -> Result<String, Memory>
         ensures { IfOk result (λ text. string_bytes text ≡ mermaid_of self.now.states) }
     {
-        Ok(chart(alloc, &self.states)?)
+        Ok(diagram(alloc, &self.states)?)
     }
 
     /// Returns whether inputs are UTF-8, so that an error ends between characters.

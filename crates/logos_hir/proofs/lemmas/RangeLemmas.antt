@@ -13,7 +13,7 @@ use Rattle.logos_hir.specs.declared.hir.Range.{Range}
 use Rattle.logos_hir.specs.Hir.{pairs}
 use Rattle.logos_hir.specs.Text.{InRanges}
 use Rattle.logos_hir.specs.Sets.{Set, only_chars, members, union, intersection, difference, symmetric_difference, complement, in_range, in_ranges, next, is_range, rises_from, AreCanonical}
-use Rattle.logos_hir.specs.inside.SetSteps.{IsPlace, AreRanges, free_from, in_gap}
+use Rattle.logos_hir.specs.inside.SetSteps.{IsLimit, AreRanges, free_from, in_gap}
 
 pub or_assoc : (a b c : Bool) → ((a || b) || c) ≡ (a || (b || c))
 or_assoc true b c = refl
@@ -35,8 +35,8 @@ next_le a c ha hc =
 pub next_above : (a : ℕ) → a < next a
 next_above a = grind (arith, nat_tests)
 
-pub next_place : (a : ℕ) → scalar a ≡ true → IsPlace (next a)
-next_place a h = let p = scalar_cases a h in grind (arith, nat_tests)
+pub next_limit : (a : ℕ) → scalar a ≡ true → IsLimit (next a)
+next_limit a h = let p = scalar_cases a h in grind (arith, nat_tests)
 
 pub char_bound : (c : ℕ) → scalar c ≡ true → c ≤ 0x10_FFFF
 char_bound c h = let p = scalar_cases c h in omega arith
@@ -126,17 +126,17 @@ next_min a b ha hb = go (cases_lt b a)
         rw e (omega (arith, leb-true _ _ le, next_above a))
     go (inr le) = let e : min a b ≡ a = omega arith in rw e (omega arith)
 
-place_char : (c : ℕ) → IsPlace c → c ≤ 0x10_FFFF → scalar c ≡ true
-place_char c h le = grind (arith, nat_tests)
+limit_char : (c : ℕ) → IsLimit c → c ≤ 0x10_FFFF → scalar c ≡ true
+limit_char c h le = grind (arith, nat_tests)
 
 -- a gap that is pushed
 pub gap_pushed : (old new : List (ℕ × ℕ)) (first end last to : ℕ) → new ≡ old ++ (first, min to last) ∷ [] →
-    AreCanonical old → free_from 0 old ≤ first → IsPlace first → scalar to ≡ true → scalar last ≡ true → next to ≡ end → first ≤ min to last →
+    AreCanonical old → free_from 0 old ≤ first → IsLimit first → scalar to ≡ true → scalar last ≡ true → next to ≡ end → first ≤ min to last →
     AreCanonical new × ((n : ℕ) → first ≤ n → end < n → free_from 0 new ≤ n)
     × ((c : ℕ) → scalar c ≡ true → in_ranges new c ≡ (in_ranges old c || in_gap first end last c))
-gap_pushed old new first end last to e canonical free place ht hl is_end le =
+gap_pushed old new first end last to e canonical free limit ht hl is_end le =
     let ends = min_char to last ht hl in
-    let starts = place_char first place (omega (arith, char_bound to ht)) in (
+    let starts = limit_char first limit (omega (arith, char_bound to ht)) in (
       ap (rises_from 0) e ∙ rises_from-push 0 old (first, min to last) canonical free (is_range_from (first, min to last) starts ends le),
       λ n a b. omega (arith, ap (free_from 0) e ∙ free_from-push 0 old (first, min to last), next_min to last ht hl),
       λ c hc. ap (λ xs. in_ranges xs c) e ∙ in_ranges-push old (first, min to last) c ∙ ap (λ b. in_ranges old c || b) (gap_range first end last to c is_end ht hc),
@@ -191,13 +191,13 @@ gaps_step out out2 xs i first m last c d ranges sorted lt hc em e h =
     ∙ ap (λ b. in_ranges out c || (nat_le first c && (nat_le c last && not b))) (sym (at_drop_more (λ ys. in_ranges (pairs ys) c) xs i d lt))
     ∙ h
 
-pub char_place : (c : ℕ) → scalar c ≡ true → IsPlace c
-char_place c h = ap (λ b. b || (c == 0x11_0000)) h
+pub char_limit : (c : ℕ) → scalar c ≡ true → IsLimit c
+char_limit c h = ap (λ b. b || (c == 0x11_0000)) h
 
-pub max_place : (a b : ℕ) → IsPlace a → IsPlace b → IsPlace (max a b)
-max_place a b ha hb = go (cases_lt a b)
+pub max_limit : (a b : ℕ) → IsLimit a → IsLimit b → IsLimit (max a b)
+max_limit a b ha hb = go (cases_lt a b)
   where
-    go : (a < b) ⊎ (b ≤ a) → IsPlace (max a b)
+    go : (a < b) ⊎ (b ≤ a) → IsLimit (max a b)
     go (inl lt) = let e : max a b ≡ b = omega arith in rw e hb
     go (inr le) = let e : max a b ≡ a = omega arith in rw e ha
 

@@ -6,7 +6,7 @@ use Rattle.std.proofs.lemmas.Option.{slice_get-get_or, slice_get_past}
 use Rattle.std.proofs.lemmas.Str.{length-encode, len_utf8_bounds}
 use Rattle.std.proofs.Math.ListN.{get_or-append}
 use Rattle.std.proofs.Math.Seq.{get_or-append_seam}
-use Rattle.logos_hir.specs.Text.{StandsAt, byte_before, byte_after}
+use Rattle.logos_hir.specs.Text.{OccursAt, byte_before, byte_after}
 use Rattle.logos_hir.proofs.tree.Bounds.{Within, pieces_within, matches_within, parts_within}
 use Rattle.logos_hir.specs.Tree.{Tree, empty, literal, byte_class, char_class, look, repetition, capture, concat, alternation, Trees, none, also}
 use Rattle.logos_hir.specs.declared.hir.Look.{Look}
@@ -59,7 +59,7 @@ held_at_end l bytes rest b w lf cr h =
     (holds_at_end l (byte_before bytes (length bytes)) b w lf cr there)
 
 -- no byte stands on an empty span
-pub no_text : (text bytes : List ℕ) (at : ℕ) → 0 < length text → StandsAt text bytes at at → ⊥
+pub no_text : (text bytes : List ℕ) (at : ℕ) → 0 < length text → OccursAt text bytes at at → ⊥
 no_text text bytes at some s = let e : at ≡ at + length text = s.end in omega (arith, e, some)
 
 pub is_zero : (n : ℕ) → n ≡ 0 → IsTrue (n == 0)

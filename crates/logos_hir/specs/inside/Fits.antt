@@ -1,7 +1,7 @@
 -- What branches of an alternation can become.
 use Rattle.std.specs.Prelude.{ℕ, Bool, is_some, List, Option}
 use Rattle.std.specs.List.{list_all}
-use Rattle.logos_hir.specs.declared.build.branches.Fits.{Fits}
+use Rattle.logos_hir.specs.declared.builder.branches.Fits.{Fits}
 use Rattle.logos_hir.specs.Tree.{Tree}
 use Rattle.logos_hir.specs.Build.{char_ranges_of, byte_ranges_of}
 

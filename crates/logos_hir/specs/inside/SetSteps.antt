@@ -5,8 +5,8 @@ use lib.Utf8.{scalar}
 use Rattle.logos_hir.specs.Sets.{Set, next, is_range, in_ranges}
 
 -- A character, or the number after the last one.
-abbrev pub IsPlace : ℕ → Type 0
-IsPlace c = (scalar c || (c == 0x11_0000)) ≡ true
+abbrev pub IsLimit : ℕ → Type 0
+IsLimit c = (scalar c || (c == 0x11_0000)) ≡ true
 
 -- Each is a range of characters, in any order.
 abbrev pub AreRanges : List (ℕ × ℕ) → Type 0

@@ -157,22 +157,22 @@ pub number_no_suffix : (based : Bool) (bytes : List ℕ) (at to : ℕ) → IsLas
 number_no_suffix based bytes at to last r = no_suffix_by based bytes at to (name_at bytes at) last (names bytes at) r
 
 module _ (a b : List ℕ) (p q k : ℕ) (w : Window a b p q k) where
-  abbrev Places : ℕ → ℕ → Type 0
-  Places x y = (x + q ≡ y + p) × (p ≤ x)
+  abbrev Spots : ℕ → ℕ → Type 0
+  Spots x y = (x + q ≡ y + p) × (p ≤ x)
 
   -- the last step of a number is over a letter
-  last_step : (based : Bool) (x y : ℕ) → Places x y → IsLast (GoesOn based a) (p + k) → IsCharBoundary a x → GoesOn based a x (p + k) → GoesOn based b y (q + k)
+  last_step : (based : Bool) (x y : ℕ) → Spots x y → IsLast (GoesOn based a) (p + k) → IsCharBoundary a x → GoesOn based a x (p + k) → GoesOn based b y (q + k)
   last_step based x y e last bound (letter r) = letter (passes_same a b p q k w is_continuing x y (p + k) (q + k) e (omega arith, omega arith) (omega arith) bound r)
   last_step based x y e last bound (point t d g m) = absurd (last (past a (p + k)) (digit_goes_on based a (p + k) (rw m g)))
   last_step based x y e last bound (sign t c d g m) = absurd (last (past a (p + k)) (digit_goes_on based a (p + k) (rw m g)))
 
-  number_steps : (based : Bool) → IsLast (GoesOn based a) (p + k) → {x z : ℕ} → Steps (GoesOn based a) x z → (y v : ℕ) → Places x y → Places z v → z ≡ p + k → p < x → IsCharBoundary a x → Steps (GoesOn based b) y v
+  number_steps : (based : Bool) → IsLast (GoesOn based a) (p + k) → {x z : ℕ} → Steps (GoesOn based a) x z → (y v : ℕ) → Spots x y → Spots z v → z ≡ p + k → p < x → IsCharBoundary a x → Steps (GoesOn based b) y v
   number_steps based last {x} here y v e f is low bound = let same : y ≡ v = omega (arith, e.0, f.0) in subst (λ m. Steps (GoesOn based b) y m) same here
   number_steps based last {x} {z} (step {mid = m} s r) y v e f is low bound =
       let n = m + q - p in
       let ahead = GoesOn-moves based a x m s in
       let le = Steps-le (GoesOn based a) (GoesOn-moves based a) r in
-      let at : Places m n = (omega (arith, e.1, e.0), omega (arith, e.1)) in
+      let at : Spots m n = (omega (arith, e.1, e.0), omega (arith, e.1)) in
       let one : GoesOn based b y n = elim (cases_lt m (p + k)) [
         | inl l ↦ goes_on_same a b p q k w based x y m n e at l low bound s
         | inr l ↦
@@ -188,7 +188,7 @@ module _ (a b : List ℕ) (p q k : ℕ) (w : Window a b p q k) where
   blank_stops based next (sign t c (inl d) g m) = false≢true (sym (blank_fails a b p q k w (λ c. c == 43) refl refl refl (q + k) refl) ∙ ap (λ c. c == 43) d)
   blank_stops based next (sign t c (inr d) g m) = false≢true (sym (blank_fails a b p q k w (λ c. c == 45) refl refl refl (q + k) refl) ∙ ap (λ c. c == 45) d)
 
-  pub number_same : (based : Bool) (x y : ℕ) → Places x y → p < x → IsCharBoundary a x → Run (GoesOn based a) x (p + k) → Run (GoesOn based b) y (q + k)
+  pub number_same : (based : Bool) (x y : ℕ) → Spots x y → p < x → IsCharBoundary a x → Run (GoesOn based a) x (p + k) → Run (GoesOn based b) y (q + k)
   number_same based x y e low bound r = record {
     steps = number_steps based r.stop r.steps y (q + k) e (omega arith, omega arith) refl low bound;
     stop = blank_stops based;

@@ -37,37 +37,37 @@ pub data IsLiteral (bytes : List ℕ) (at : ℕ) : Opening → Type 0 where
   apostrophes : (content : Content) → IsLiteral bytes at (Apostrophes content)
   character_between : get_or bytes at 0 ≡ 39 → IsLiteral bytes at Character
 
-abbrev Gives : List ℕ → ℕ → Option Opening → Type 0
-Gives bytes at o = MatchOption o (Unit {0}) (IsLiteral bytes at)
+abbrev Yields : List ℕ → ℕ → Option Opening → Type 0
+Yields bytes at o = MatchOption o (Unit {0}) (IsLiteral bytes at)
 
 module _ (bytes : List ℕ) (at : ℕ) where
-  raw-gives : (content : Content) (i : ℕ) → Gives bytes at (raw_opening content bytes i)
+  raw-yields : (content : Content) (i : ℕ) → Yields bytes at (raw_opening content bytes i)
   unfolding raw_opening
-  raw-gives content i = cond_both (nat_le (hashes bytes i) 255 && (get_or bytes (i + hashes bytes i) 0 == 34)) (Some (Raw content (hashes bytes i))) None (Gives bytes at) (λ _. raw_quotes content (hashes bytes i)) (λ _. tt)
+  raw-yields content i = cond_both (nat_le (hashes bytes i) 255 && (get_or bytes (i + hashes bytes i) 0 == 34)) (Some (Raw content (hashes bytes i))) None (Yields bytes at) (λ _. raw_quotes content (hashes bytes i)) (λ _. tt)
 
-  string-gives : (content : Content) (i : ℕ) → Gives bytes at (string_opening content bytes i)
+  string-yields : (content : Content) (i : ℕ) → Yields bytes at (string_opening content bytes i)
   unfolding string_opening
-  string-gives content i = cond_both (get_or bytes i 0 == 34) _ _ (Gives bytes at) (λ _. quotes content) (λ _. cond_both (get_or bytes i 0 == 114) _ _ (Gives bytes at) (λ _. raw-gives content (i + 1)) (λ _. tt))
+  string-yields content i = cond_both (get_or bytes i 0 == 34) _ _ (Yields bytes at) (λ _. quotes content) (λ _. cond_both (get_or bytes i 0 == 114) _ _ (Yields bytes at) (λ _. raw-yields content (i + 1)) (λ _. tt))
 
-  character-gives : get_or bytes at 0 ≡ 39 → (i : ℕ) → Gives bytes at (character_opening bytes i)
+  character-yields : get_or bytes at 0 ≡ 39 → (i : ℕ) → Yields bytes at (character_opening bytes i)
   unfolding character_opening
-  character-gives e i = cond_both (get_or bytes i 0 == 92) _ _ (Gives bytes at) (λ _. apostrophes Text) (λ _. cond_both (get_or bytes (past bytes i) 0 == 39) _ _ (Gives bytes at) (λ _. character_between e) (λ _. tt))
+  character-yields e i = cond_both (get_or bytes i 0 == 92) _ _ (Yields bytes at) (λ _. apostrophes Text) (λ _. cond_both (get_or bytes (past bytes i) 0 == 39) _ _ (Yields bytes at) (λ _. character_between e) (λ _. tt))
 
-  bytes-gives : (i : ℕ) → Gives bytes at (bytes_opening bytes i)
+  bytes-yields : (i : ℕ) → Yields bytes at (bytes_opening bytes i)
   unfolding bytes_opening
-  bytes-gives i = cond_both (get_or bytes i 0 == 39) _ _ (Gives bytes at) (λ _. apostrophes Bytes) (λ _. string-gives Bytes i)
+  bytes-yields i = cond_both (get_or bytes i 0 == 39) _ _ (Yields bytes at) (λ _. apostrophes Bytes) (λ _. string-yields Bytes i)
 
-  literal-gives : Gives bytes at (literal_opening bytes at)
+  literal-yields : Yields bytes at (literal_opening bytes at)
   unfolding literal_opening
-  literal-gives =
-      cond_both (is_ascii_digit (get_or bytes at 0)) _ _ (Gives bytes at) (λ e. number e) (λ _.
-      cond_both (get_or bytes at 0 == 39) _ _ (Gives bytes at) (λ e. character-gives (eqb-true (get_or bytes at 0) 39 e) (at + 1)) (λ _.
-      cond_both (get_or bytes at 0 == 98) _ _ (Gives bytes at) (λ _. bytes-gives (at + 1)) (λ _.
-      cond_both (get_or bytes at 0 == 99) _ _ (Gives bytes at) (λ _. string-gives C (at + 1)) (λ _.
-      string-gives Text at))))
+  literal-yields =
+      cond_both (is_ascii_digit (get_or bytes at 0)) _ _ (Yields bytes at) (λ e. number e) (λ _.
+      cond_both (get_or bytes at 0 == 39) _ _ (Yields bytes at) (λ e. character-yields (eqb-true (get_or bytes at 0) 39 e) (at + 1)) (λ _.
+      cond_both (get_or bytes at 0 == 98) _ _ (Yields bytes at) (λ _. bytes-yields (at + 1)) (λ _.
+      cond_both (get_or bytes at 0 == 99) _ _ (Yields bytes at) (λ _. string-yields C (at + 1)) (λ _.
+      string-yields Text at))))
 
   pub is_literal : (o : Opening) → literal_at bytes at ≡ Some o → IsLiteral bytes at o
-  is_literal o e = subst (Gives bytes at) (literal_at-some bytes at o e).1 literal-gives
+  is_literal o e = subst (Yields bytes at) (literal_at-some bytes at o e).1 literal-yields
 
   -- where one ends
 
@@ -203,9 +203,9 @@ module _ (a b : List ℕ) (p q k : ℕ) (w : Window a b p q k) (bound : IsCharBo
       let close = ends.after in
       let moves = past-moves a (p + 1) in
       let n = end + q - p in
-      let places = same_past a b p q k w (p + 1) (q + 1) (omega arith) (omega arith) (omega arith) (ascii_next d) in
+      let spots = same_past a b p q k w (p + 1) (q + 1) (omega arith) (omega arith) (omega arith) (ascii_next d) in
       made b q Literal Character n (q + k) (opens_literal b q Character (literal_there before Character end e ends le))
-      (record { quote = w.same (past a (p + 1)) (past b (q + 1)) places (omega arith) (omega arith) ∙ ends.quote; after = omega arith })
+      (record { quote = w.same (past a (p + 1)) (past b (q + 1)) spots (omega arith) (omega arith) ∙ ends.quote; after = omega arith })
       (λ f. sound (sym (w.same (p + 1) (q + 1) (omega arith) (omega arith) (omega arith)) ∙ f))
       refl (suffix_same a b p q k w end n (omega arith) (omega arith) (Ends-boundary a w.utf8 p inside_a bound Character end ends) suffix) w.holds
 
@@ -346,7 +346,7 @@ module _ (a b : List ℕ) (p q k : ℕ) (w : Window a b p q k) (bound : IsCharBo
       let c = character a p in
       let d = character b q in
       let same : d ≡ c = same_character a b p q k w p q (omega arith) (omega arith) (omega (arith, w.filled)) bound in
-      let places = same_past a b p q k w p q (omega arith) (omega arith) (omega (arith, w.filled)) bound in
+      let spots = same_past a b p q k w p q (omega arith) (omega arith) (omega (arith, w.filled)) bound in
       let next = past-boundary a p w.utf8 bound inside_a in
       let ahead = past-moves a p in
       let l' = (d == 39) && is_start (character b (past b q)) in
@@ -360,7 +360,7 @@ module _ (a b : List ℕ) (p q k : ℕ) (w : Window a b p q k) (bound : IsCharBo
         | inr r ↦ elim r [
           | inl (m, l, is) ↦
               let parts = and_parts (c == 39) (is_start (character a (past a p))) l in
-              let start : is_start (character b (past b q)) ≡ true = ap is_start (same_character a b p q k w (past a p) (past b q) places (omega arith) (placed.0 is) next) ∙ parts.1 in
+              let start : is_start (character b (past b q)) ≡ true = ap is_start (same_character a b p q k w (past a p) (past b q) spots (omega arith) (placed.0 is) next) ∙ parts.1 in
               let quote : (d == 39) ≡ true = ap (λ x. x == 39) same ∙ parts.0 in
               cond-false (is_mark d) (Some (Punctuation s')) after_l (ap is_mark same ∙ m)
               ∙ cond-true l' (Some (Punctuation Joint)) (cond f' (Some Gap) (delimiter_kind d)) (and_from (d == 39) (is_start (character b (past b q))) quote start) ∙ ap (λ (x : LexemeKind). Some x) (sym is)
@@ -432,14 +432,14 @@ module _ (a b : List ℕ) (p q k : ℕ) (w : Window a b p q k) (bound : IsCharBo
   single_next : (kind : LexemeKind) → literal_at a p ≡ None → comment_opening a p ≡ None → is_space (character a p) ≡ false → is_start (character a p) ≡ false → single_kind a p ≡ Some kind → kind ≢ Gap → IsPlaced kind → IsNext b q kind (past b q)
   single_next kind none other space start e no_gap placed =
       let same = same_character a b p q k w p q (omega arith) (omega arith) (omega (arith, w.filled)) bound in
-      let places = same_past a b p q k w p q (omega arith) (omega arith) (omega (arith, w.filled)) bound in
+      let spots = same_past a b p q k w p q (omega arith) (omega arith) (omega (arith, w.filled)) bound in
       let within = past_within a b p q k w p (omega arith) (omega (arith, w.filled)) bound in
       let no_literal_kind : kind ≢ Literal = λ f. single_no_literal (e ∙ ap (λ (x : LexemeKind). Some x) f) in
       let quote : get_or a p 0 ≡ 39 → p + 1 < p + k = λ f. let one = past-ascii a p (omega arith) in let l = placed.0 (quote_joint kind no_gap e f) in omega arith in
       made b q kind (Single kind) (past b q) (past b q)
       (opens_other b q (Single kind) (no_literal start quote none) (no_comment a b p q k w p q (omega arith) (omega arith) (omega (arith, w.filled)) other)
       (single_other kind (ap is_space same ∙ space) (no_name a b p q k w bound start) (single_there kind no_gap placed e)))
-      refl tt refl (no_suffix b kind (past b q) no_literal_kind) (omega (arith, w.holds, places))
+      refl tt refl (no_suffix b kind (past b q) no_literal_kind) (omega (arith, w.holds, spots))
 
   -- what is no literal and no comment
   pub data Others : Opening → Type 0 where
@@ -476,7 +476,7 @@ module _ (a b : List ℕ) (p q k : ℕ) (w : Window a b p q k) (bound : IsCharBo
       here Identifier to is (word_next other s (subst (IsName a p) (sym suffixed ∙ is) ends))
   other_result o (single_opens kind s t e) none other end to ends no_gap suffixed at =
       let is : to ≡ past a p = unsuffixed kind end to (λ f. single_no_literal (e ∙ ap (λ (x : LexemeKind). Some x) f)) suffixed ∙ ends in
-      let places = same_past a b p q k w p q (omega arith) (omega arith) (omega (arith, w.filled)) bound in
+      let spots = same_past a b p q k w p q (omega arith) (omega arith) (omega (arith, w.filled)) bound in
       let n : to + q - p ≡ past b q = omega arith in
       rw n (single_next kind none other s t e no_gap (λ f. omega (arith, at.0 f), λ f. omega (arith, at.1 f)))
   other_result o nothing_opens none other end to ends no_gap suffixed at = absurd ends

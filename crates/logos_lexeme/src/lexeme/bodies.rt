@@ -2,7 +2,7 @@
 //! here once they are found, and `logos_token` reads the values of literals with it.
 
 ghost use Rattle.std.specs.Prelude.{◌≡◌, ℕ, ◌+◌, ◌^◌, ◌<◌, ◌≤◌, ◌↔◌, ◌==◌, ◌||◌, Bool, true, List, IsTrue, IsFalse, length, slice_index, slice_range, MatchOption};
-ghost use Rattle.logos_lexeme.specs.Views.{digit_value, IsFirst, Steps, Ends, is_simple, simple_value, is_hex, hex_value, greatest_of, digits_between, is_blank, BreaksLine, IsEscape, IsHexEscape, IsUnicodeEscape, IsAllowed, StandsFor, IsPiece, IsCharacterPiece, IsSound, bytes_of, ReadsByte, IsPlain};
+ghost use Rattle.logos_lexeme.specs.Views.{digit_value, IsFirst, Steps, Ends, is_simple, simple_value, is_hex, hex_value, greatest_of, digits_between, is_blank, BreaksLine, IsEscape, IsHexEscape, IsUnicodeEscape, IsAllowed, Represents, IsPiece, IsCharacterPiece, IsSound, bytes_of, ReadsByte, IsPlain};
 
 use crate::lexeme::characters::byte_at;
 use crate::lexeme::ends::prefix_of;
@@ -280,8 +280,8 @@ fn plain_at(source: &str, content: Content, at: usize) -> Option<(Piece, usize)>
 pub fn piece_at(source: &str, escapes: bool, content: Content, at: usize) -> Option<(Piece, usize)>
     requires { at ≤ length source.now }
     ensures { MatchOption result
-        ((next : ℕ) (held : List ℕ) → StandsFor escapes content source.now at next held → ⊥)
-        (λ found. StandsFor escapes content source.now at found.1 (bytes_of found.0)) }
+        ((next : ℕ) (held : List ℕ) → Represents escapes content source.now at next held → ⊥)
+        (λ found. Represents escapes content source.now at found.1 (bytes_of found.0)) }
 {
     if !escapes {
         return plain_at(source, content, at);

@@ -5,14 +5,14 @@ use Rattle.logos_automaton.specs.Munch.{Found, ended, matched, failed}
 use Rattle.logos_code.specs.Bytes.{passes_test}
 use Rattle.logos_code.specs.Code.{CodeValue}
 use Rattle.logos_code.specs.LastMarks.{Stood}
-use Rattle.logos_code.specs.Rows.{IsStepOf, IsUse, LeadsToPlace}
-use Rattle.logos_code.specs.Runs.{enters, acts, Does, Goes, Tries}
-use Rattle.logos_machine.specs.inside.Stands.{IsStand, StaysWithin}
+use Rattle.logos_code.specs.Rows.{IsStepOf, IsUse, LeadsToRowStart}
+use Rattle.logos_code.specs.Runs.{enters, acts, Does, Goes, Attempts}
+use Rattle.logos_machine.specs.inside.IsAt.{IsStatus, StaysWithin}
 use Rattle.logos_code.specs.declared.code.rows.MatchUse.TheVariants.{Emits, Skips}
 use Rattle.logos_code.specs.declared.code.rows.Step.{Step}
 use Rattle.logos_code.specs.declared.code.rows.Step.TheVariants.{Leads, Stays, Halts, Looks, Closes, Stuck, Unsaid}
 use Rattle.logos_machine.specs.declared.machine.walk.Outcome.{Outcome}
-use Rattle.logos_machine.specs.declared.machine.walk.Outcome.TheVariants.{Skips as SkipsTo, Emits as EmitsTo, Asks as AsksTo, Fails, Ends}
+use Rattle.logos_machine.specs.declared.machine.walk.Outcome.TheVariants.{Skips as SkipsTo, Emits as EmitsTo, CallsBack as CallsBackTo, Fails, Ends}
 
 -- Where the bytes end that pass a test.
 abbrev pub StopsAt : CodeValue → ℕ → List ℕ → ℕ → ℕ → Type 0
@@ -53,10 +53,10 @@ module _ (code : CodeValue) (bytes : List ℕ) (start : ℕ) where
   -- The try enters the state after so many others, and what goes on from there is the whole try.
   pub record Comes (state offset before : ℕ) : Type 0 where
     pub context : Option (ℕ × ℕ)
-    pub stands : IsStand code bytes start (record { state = state; offset = offset; context = context })
+    pub is_at : IsStatus code bytes start (record { state = state; offset = offset; context = context })
     pub stood : Stood code bytes start (record { state = state; offset = offset; context = context })
     pub few : before + start ≤ offset
-    pub goes_on : (found : Found) (n : ℕ) → Goes code bytes start (record { state = state; offset = offset; context = context }) found n → Tries code bytes start found (before + n)
+    pub goes_on : (found : Found) (n : ℕ) → Goes code bytes start (record { state = state; offset = offset; context = context }) found n → Attempts code bytes start found (before + n)
 
   -- The try comes to the state after so many others, its fast loop ends at the stop, and the entry
   -- says what the state does there.
@@ -66,11 +66,11 @@ module _ (code : CodeValue) (bytes : List ℕ) (start : ℕ) where
     pub past : offset ≤ stop
     pub within : stop ≤ length bytes
     pub sees : (step : Step) → IsStepOf entry step → Sees state offset stop step
-    pub place : LeadsToPlace entry
+    pub row_start : LeadsToRowStart entry
 
   -- A try finds this in so many states.
   pub record Tried (found : Found) (steps : ℕ) : Type 0 where
-    pub tries : Tries code bytes start found steps
+    pub attempts : Attempts code bytes start found steps
     pub within : StaysWithin code bytes start found
     pub few : steps ≤ (length bytes - start) + 2
 
@@ -78,7 +78,7 @@ module _ (code : CodeValue) (bytes : List ℕ) (start : ℕ) where
   abbrev pub IsOutcome : Outcome → Type 0
   IsOutcome (SkipsTo to) = (leaf : ℕ) × (steps : ℕ) × Tried (matched leaf to) steps × IsUse code leaf Skips
   IsOutcome (EmitsTo leaf to steps) = Tried (matched leaf.0 to) steps × IsUse code leaf.0 Emits
-  IsOutcome (AsksTo leaf to steps) = Tried (matched leaf.0 to) steps
+  IsOutcome (CallsBackTo leaf to steps) = Tried (matched leaf.0 to) steps
   IsOutcome (Fails to steps) = Tried (failed to) steps
   IsOutcome (Ends steps) = Tried ended steps
 
@@ -92,4 +92,4 @@ pub record LooksAhead (code : CodeValue) (bytes : List ℕ) (state offset entry 
   pub within : stop ≤ length bytes
   pub moves : GoesOnOrEnds bytes entry stop
   pub sees : (start : ℕ) → start ≤ offset → (step : Step) → IsStepOf entry step → Sees code bytes start state offset stop step
-  pub place : LeadsToPlace entry
+  pub row_start : LeadsToRowStart entry

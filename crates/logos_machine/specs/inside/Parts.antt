@@ -2,10 +2,10 @@
 use Rattle.std.specs.Prelude.{ℕ, ◌+◌, ◌-◌, ◌≤◌, List, length}
 use Rattle.logos_automaton.specs.Munch.{Found, matched, failed}
 use Rattle.logos_code.specs.Code.{CodeValue}
-use Rattle.logos_code.specs.Runs.{Stand, enters, acts, Does}
-use Rattle.logos_machine.specs.Streams.{first_stand, StopsWithin, TriesWithin, LooksPast}
-use Rattle.logos_machine.specs.inside.Attempts.{context_of, stand_of}
-use Rattle.logos_machine.specs.inside.Stands.{StaysWithin}
+use Rattle.logos_code.specs.Runs.{Status, enters, acts, Does}
+use Rattle.logos_machine.specs.Streams.{first_status, StopsWithin, AttemptsWithin, LooksPast}
+use Rattle.logos_machine.specs.inside.Attempts.{context_of, status_of}
+use Rattle.logos_machine.specs.inside.IsAt.{StaysWithin}
 use Rattle.logos_machine.specs.declared.machine.part.Move.{Move}
 use Rattle.logos_machine.specs.declared.machine.part.Move.TheVariants.{Enters, Acts, Waits}
 use Rattle.logos_machine.specs.declared.machine.part.Settled.{Settled}
@@ -13,14 +13,14 @@ use Rattle.logos_machine.specs.declared.machine.part.Settled.TheVariants.{Matche
 
 module _ (code : CodeValue) (part : List ℕ) (start : ℕ) where
   -- What the entered state does, if no byte after the part can change it.
-  abbrev pub Moves : Stand → Move → Type 0
-  Moves at (Enters next) = StopsWithin code part start (length part) at × Does code part start at (enters (stand_of next))
+  abbrev pub Moves : Status → Move → Type 0
+  Moves at (Enters next) = StopsWithin code part start (length part) at × Does code part start at (enters (status_of next))
   Moves at (Acts context offset) = StopsWithin code part start (length part) at × Does code part start at (acts (context_of context) offset)
   Moves at Waits = LooksPast code part start at
 
   -- A match attempt finds this in that many states, and depends on the part alone.
   pub record TriedWithin (found : Found) (steps : ℕ) : Type 0 where
-    pub tries : TriesWithin code part start (length part) found steps
+    pub attempts : AttemptsWithin code part start (length part) found steps
     pub within : StaysWithin code part start found
     pub few : steps ≤ (length part - start) + 2
 
@@ -28,4 +28,4 @@ module _ (code : CodeValue) (part : List ℕ) (start : ℕ) where
   abbrev pub IsSettled : Settled → Type 0
   IsSettled (Matched leaf to steps) = TriedWithin (matched leaf.0 to) steps
   IsSettled (Failed to steps) = TriedWithin (failed to) steps
-  IsSettled Open = LooksPast code part start (first_stand code start)
+  IsSettled Open = LooksPast code part start (first_status code start)

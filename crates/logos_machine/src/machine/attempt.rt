@@ -3,7 +3,7 @@
 //! known.
 
 ghost use Rattle.std.specs.Prelude.{◌≡◌, ◌+◌, ◌-◌, ◌<◌, ◌≤◌, ℕ, max, length, slice_get, drop, option_map, IfSome, IsTrue, IsCharBoundary, ◌^◌, ◌↔◌};
-ghost use Rattle.logos_machine.specs.Views.{state_at, mark_by, Does, Tries, EndsError, target, looped, marked, IsStand, StaysWithin, context_of, stand_of, turn_of, found_of};
+ghost use Rattle.logos_machine.specs.Views.{state_at, mark_by, Does, Attempts, EndsError, target, looped, marked, IsStatus, StaysWithin, context_of, status_of, turn_of, found_of};
 
 use super::fast_loop::stop;
 use logos_code::code::Code;
@@ -17,7 +17,7 @@ const LEADS: u8 = 192;
 
 /// Where a try stands as it enters a state.
 #[derive(Clone, Copy)]
-pub(super) struct Stand {
+pub(super) struct Status {
     pub state: usize,
     pub offset: usize,
     /// The last mark passed: its leaf, and where the match ends.
@@ -27,7 +27,7 @@ pub(super) struct Stand {
 /// What a state does.
 #[derive(Clone, Copy)]
 pub(super) enum Turn {
-    Enters(Stand),
+    Enters(Status),
     /// The try is over at this offset, with this last mark.
     Acts(Option<(LeafId, usize)>, usize),
     /// The input is over, and nothing was read in this try.
@@ -54,9 +54,9 @@ pub(super) struct LoopEnd {
 
 /// Does what the entered state does.
 #[inline]
-fn run_state(code: &Code, input: &[u8], start: usize, at: Stand) -> Turn
-    requires { IsStand code.now input.now start (stand_of at) }
-    ensures { Does code.now input.now start (stand_of at) (turn_of result) }
+fn run_state(code: &Code, input: &[u8], start: usize, at: Status) -> Turn
+    requires { IsStatus code.now input.now start (status_of at) }
+    ensures { Does code.now input.now start (status_of at) (turn_of result) }
 {
     let stop = stop_of(code, input, at.state, at.offset);
     let target = match stop.target {
@@ -66,7 +66,7 @@ fn run_state(code: &Code, input: &[u8], start: usize, at: Stand) -> Turn
     };
     let context = marked(code.sign(at.state), stop.offset, at.context);
     match target {
-        Some(state) => Turn::Enters(Stand {
+        Some(state) => Turn::Enters(Status {
             state,
             offset: stop.offset + 1,
             context,
@@ -181,11 +181,11 @@ fn is_continuation(byte: u8) -> bool
 #[inline(never)]
 pub(super) fn attempt_with_marks(code: &Code, input: &[u8], start: usize) -> (Found, usize)
     requires { start ≤ length input.now }
-    ensures tries { Tries code.now input.now start (found_of result.0) result.1 }
+    ensures attempts { Attempts code.now input.now start (found_of result.0) result.1 }
     ensures within { StaysWithin code.now input.now start (found_of result.0) }
     ensures few { result.1 ≤ (length input.now - start) + 2 }
 {
-    let mut at = Stand {
+    let mut at = Status {
         state: code.root(),
         offset: start,
         context: None,

@@ -2,9 +2,9 @@
 //! and `logos_relex` for the items of a chunk.
 
 ghost use Rattle.std.specs.Prelude.{◌≡◌, ◌<◌, ◌≤◌, ◌+◌, drop, length, false, List, ℕ, MatchBool};
-ghost use Rattle.logos_machine.specs.Views.{IsStand, answers_of, fork_of, looped, stand_of, state_at, DoesWithin, HasBranches, IsClosed, IsOpen, IsSettled, KeepsGiven, Moves, NoBranches, TakesMatches};
+ghost use Rattle.logos_machine.specs.Views.{IsStatus, answers_of, fork_of, looped, status_of, state_at, DoesWithin, HasBranches, IsClosed, IsOpen, IsSettled, KeepsGiven, Moves, NoBranches, TakesMatches};
 
-use super::attempt::{Stand, error_end, marked, stop_of};
+use super::attempt::{Status, error_end, marked, stop_of};
 use super::{Action, Item, Lexer, error, matched_item};
 use logos_code::code::{Code, Fork};
 use logos_hir::leaf::LeafId;
@@ -61,17 +61,17 @@ impl<'c, 's, 'i, C: Fn(LeafId, &[u8]) -> Action> Lexer<'c, 's, 'i, C> {
                 Settled::Matched(leaf, to, steps) => {
                     let span = Span { from, to };
                     if let Some(item) = matched_item(code, part, &self.callback, leaf, span) {
-                        self.stand_after(from, to, steps);
+                        self.status_after(from, to, steps);
                         return Within::Item(item);
                     }
                     from = to;
                 }
                 Settled::Failed(to, steps) => {
-                    self.stand_after(from, to, steps);
+                    self.status_after(from, to, steps);
                     return Within::Item(error(part, Span { from, to }));
                 }
                 Settled::Open => {
-                    self.stand_after(from, from, steps);
+                    self.status_after(from, from, steps);
                     return Within::More;
                 }
             }
@@ -82,7 +82,7 @@ impl<'c, 's, 'i, C: Fn(LeafId, &[u8]) -> Action> Lexer<'c, 's, 'i, C> {
 /// What a state does in a part.
 #[derive(Clone, Copy)]
 enum Move {
-    Enters(Stand),
+    Enters(Status),
     /// The try is over at this offset, with this last mark.
     Acts(Option<(LeafId, usize)>, usize),
     /// The match attempt comes to the end of the part, and can go on from there.
@@ -101,9 +101,9 @@ enum Settled {
 }
 
 /// Does what the entered state does, if no byte after the part can change it.
-fn move_in_part(code: &Code, part: &[u8], start: usize, at: Stand) -> Move
-    requires { IsStand code.now part.now start (stand_of at) }
-    ensures { Moves code.now part.now start (stand_of at) result }
+fn move_in_part(code: &Code, part: &[u8], start: usize, at: Status) -> Move
+    requires { IsStatus code.now part.now start (status_of at) }
+    ensures { Moves code.now part.now start (status_of at) result }
 {
     let stop = stop_of(code, part, at.state, at.offset);
     let Some(target) = stop.target else {
@@ -111,7 +111,7 @@ fn move_in_part(code: &Code, part: &[u8], start: usize, at: Stand) -> Move
     };
     let context = marked(code.sign(at.state), stop.offset, at.context);
     match target {
-        Some(state) => Move::Enters(Stand {
+        Some(state) => Move::Enters(Status {
             state,
             offset: stop.offset + 1,
             context,
@@ -122,11 +122,11 @@ fn move_in_part(code: &Code, part: &[u8], start: usize, at: Stand) -> Move
 
 /// Does what a state does whose fast loop comes to the end of the part. A state that nothing leads
 /// on from acts at once: so the match of `;` needs no byte after it.
-fn move_at_end(code: &Code, part: &[u8], start: usize, at: Stand) -> Move
-    requires stand { IsStand code.now part.now start (stand_of at) }
+fn move_at_end(code: &Code, part: &[u8], start: usize, at: Status) -> Move
+    requires status { IsStatus code.now part.now start (status_of at) }
     requires past { length part.now
         ≤ at.offset + looped code.now (state_at code.now at.state).fast_loop (drop at.offset part.now) }
-    ensures { Moves code.now part.now start (stand_of at) result }
+    ensures { Moves code.now part.now start (status_of at) result }
 {
     if at.offset <= start {
         return Move::Waits;
@@ -173,7 +173,7 @@ fn attempt_in_part(code: &Code, part: &[u8], start: usize) -> Settled
     requires { start ≤ length part.now }
     ensures { IsSettled code.now part.now start result }
 {
-    let mut at = Stand {
+    let mut at = Status {
         state: code.root(),
         offset: start,
         context: None,

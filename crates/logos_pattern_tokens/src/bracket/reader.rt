@@ -2,7 +2,7 @@
 //! token between `[` and `]`.
 
 ghost use Rattle.std.specs.Prelude.{◌≡◌, ◌+◌, ◌≤◌, Option, Some, MatchOption, option_map};
-ghost use Rattle.logos_pattern_tokens.specs.Views.{Gives, code_of, begins_operator, begins_range, symbol_of, last_at, range_token, range_at, lone_at, escape_item, item_at, dashes_from, lead_at, open_at, class_end, name_end, colon_at, class_at, inner_at, operator_of, bracket_token_at};
+ghost use Rattle.logos_pattern_tokens.specs.Views.{Yields, code_of, begins_operator, begins_range, symbol_of, last_at, range_token, range_at, lone_at, escape_item, item_at, dashes_from, lead_at, open_at, class_end, name_end, colon_at, class_at, inner_at, operator_of, bracket_token_at};
 
 use crate::bracket::token::{BracketItem, BracketToken, Lead, Symbol};
 use crate::counts::cut_at;
@@ -70,7 +70,7 @@ fn no_symbol(atom: Atom) -> Kind {
 /// another escape does that is not a character; else those of `escape_at`.
 #[tactic(auto, unfolding(crate::specs::bracket::Reader::last_at))]
 fn last_at(alloc: Global, text: &[char]) -> Result<(Symbol, &[char]), Fault>
-    ensures { Gives (λ x. (x.0, x.1.now)) result (last_at text.now) }
+    ensures { Yields (λ x. (x.0, x.1.now)) result (last_at text.now) }
 {
     match text {
         [] => Err(Fault::Syntax(Kind::Unclosed)),
@@ -96,7 +96,7 @@ fn range_token<'t>(
     last: Symbol,
     rest: &'t [char],
 ) -> Result<(BracketToken, &'t [char]), Fault>
-    ensures { Gives (λ x. (x.0, x.1.now)) result (range_token first (last, rest.now)) }
+    ensures { Yields (λ x. (x.0, x.1.now)) result (range_token first (last, rest.now)) }
 {
     if code_of(first) > code_of(last) {
         return Err(Fault::Syntax(Kind::ClassRange));
@@ -112,7 +112,7 @@ fn range_token<'t>(
 /// Those of `last_at` and `range_token`.
 #[tactic(auto, unfolding(crate::specs::bracket::Reader::range_at))]
 fn range_at(alloc: Global, first: Symbol, rest: &[char]) -> Result<(BracketToken, &[char]), Fault>
-    ensures { Gives (λ x. (x.0, x.1.now)) result (range_at first rest.now) }
+    ensures { Yields (λ x. (x.0, x.1.now)) result (range_at first rest.now) }
 {
     if !begins_range(rest) {
         return Ok((BracketToken::Item(BracketItem::One(first)), rest));
@@ -128,7 +128,7 @@ fn range_at(alloc: Global, first: Symbol, rest: &[char]) -> Result<(BracketToken
 /// Returns `ClassRange` if a range goes on here, since a class cannot be the start of one.
 #[tactic(auto, unfolding(crate::specs::bracket::Reader::lone_at))]
 fn lone_at(item: BracketItem, rest: &[char]) -> Result<(BracketToken, &[char]), Fault>
-    ensures { Gives (λ x. (x.0, x.1.now)) result (lone_at item rest.now) }
+    ensures { Yields (λ x. (x.0, x.1.now)) result (lone_at item rest.now) }
 {
     if begins_range(rest) {
         return Err(Fault::Syntax(Kind::ClassRange));
@@ -144,7 +144,7 @@ fn lone_at(item: BracketItem, rest: &[char]) -> Result<(BracketToken, &[char]), 
 /// `range_at` or `lone_at`.
 #[tactic(auto, unfolding(crate::specs::bracket::Reader::escape_item))]
 fn escape_item(alloc: Global, atom: Atom, rest: &[char]) -> Result<(BracketToken, &[char]), Fault>
-    ensures { Gives (λ x. (x.0, x.1.now)) result (escape_item atom rest.now) }
+    ensures { Yields (λ x. (x.0, x.1.now)) result (escape_item atom rest.now) }
 {
     match atom {
         Atom::Character(c) => range_at(alloc, Symbol::Character(c), rest),
@@ -162,7 +162,7 @@ fn escape_item(alloc: Global, atom: Atom, rest: &[char]) -> Result<(BracketToken
 /// Returns `Unclosed` if the text is empty; else the fault of the element, and `Memory`.
 #[tactic(auto, unfolding(crate::specs::bracket::Reader::item_at))]
 fn item_at(alloc: Global, text: &[char]) -> Result<(BracketToken, &[char]), Fault>
-    ensures { Gives (λ x. (x.0, x.1.now)) result (item_at text.now) }
+    ensures { Yields (λ x. (x.0, x.1.now)) result (item_at text.now) }
 {
     match text {
         [] => Err(Fault::Syntax(Kind::Unclosed)),
@@ -312,7 +312,7 @@ fn operator_of(c: char) -> SetOperator
 /// Returns `Unclosed` if the text is empty; else the fault of the token, and `Memory`.
 #[tactic(auto, unfolding(crate::specs::bracket::Reader::bracket_token_at))]
 pub fn bracket_token_at(alloc: Global, text: &[char]) -> Result<(BracketToken, &[char]), Fault>
-    ensures { Gives (λ x. (x.0, x.1.now)) result (bracket_token_at text.now) }
+    ensures { Yields (λ x. (x.0, x.1.now)) result (bracket_token_at text.now) }
 {
     let [c, rest @ ..] = text else {
         return Err(Fault::Syntax(Kind::Unclosed));

@@ -60,7 +60,7 @@ module _ (raw : Table) (root : ℕ) (reduction : Reduction) (made : IsReductionO
   of_use : (s : ℕ) → 0 < s → s < size final → IsOfUse final s
   of_use s p l =
       let f = first_edge pruned final made.block made.leader root reduction.blocks.items made.numbered s p l in
-      let r = made.numbered.in_turn.place s in
+      let r = made.numbered.in_turn.slot s in
       let k = made.numbered.in_turn.symbol s in
       let x = end.final_target raw root reduction made r k s f.1.edge in
       let u = (end.mid_edge raw root reduction made (end.leader_of raw root reduction made r) k x.0 x.1).1 in

@@ -7,7 +7,7 @@ use Rattle.std.proofs.lemmas.List.{length-append}
 use Rattle.std.proofs.lemmas.List.Elements.{All-nil, All-push}
 use Rattle.logos_reduce.specs.Merge.{target_block, ArePartedBy, split_at}
 use Rattle.logos_reduce.specs.Table.{size, to, mark}
-use Rattle.logos_reduce.specs.History.{HistoryOf, GivesEvidence}
+use Rattle.logos_reduce.specs.History.{HistoryOf, YieldsEvidence}
 use Rattle.logos_reduce.specs.Evidence.{mark_with_end, mark_after, IsEvidence}
 use Rattle.logos_reduce.specs.SymbolWords.{state_after, WordDistinguishes}
 use Rattle.logos_reduce.specs.inside.Count.{count_blocks}
@@ -59,10 +59,10 @@ pub record IsStage (r : Reduction) (h : HistoryOf r) (s t : ℕ) (bytes : List �
   pub short : length bytes + count_blocks (size r.table) (h.at time) ≤ size r.table
 
 -- the same with another history
-abbrev pub with_history : (r : Reduction) → GivesEvidence r → HistoryOf r → GivesEvidence r
+abbrev pub with_history : (r : Reduction) → YieldsEvidence r → HistoryOf r → YieldsEvidence r
 with_history r x h = record { history = h; some = x.some; states = x.states; different = x.different; ends = x.ends }
 
-module _ (r : Reduction) (evidence : GivesEvidence r) where
+module _ (r : Reduction) (evidence : YieldsEvidence r) where
   abbrev h : HistoryOf r
   h = evidence.history
 
@@ -366,7 +366,7 @@ renamed a b x y p q e f (inl h) = inl (h.0 ∙ e, h.1 ∙ f)
 renamed a b x y p q e f (inr h) = inr (h.0 ∙ f, h.1 ∙ e)
 
 -- the climb begins at the last blocks
-pub placed_last : (r : Reduction) (evidence : GivesEvidence r) (s t low high : ℕ) → s < size r.table → t < size r.table → low < high →
+pub placed_last : (r : Reduction) (evidence : YieldsEvidence r) (s t low high : ℕ) → s < size r.table → t < size r.table → low < high →
     ((low ≡ slice_index r.blocks.items s) × (high ≡ slice_index r.blocks.items t)) ⊎ ((low ≡ slice_index r.blocks.items t) × (high ≡ slice_index r.blocks.items s)) →
     (h : HistoryOf r) → ArePlaced r h s t low high
 placed_last r evidence s t low high hs ht o same h =

@@ -7,7 +7,7 @@ use Rattle.logos_reduce.specs.declared.table.Table.{Table}
 
 -- The index of the row of a state, and its mark, as a key.
 abbrev pub class_key : Table → ℕ → List ℕ
-class_key table s = slice_index table.rows.places.items s ∷ key_of (mark table s)
+class_key table s = slice_index table.rows.slots.items s ∷ key_of (mark table s)
 
 -- The classes of the first n states are the numbers of their keys.
 pub record AreKeyed (table : Table) (n : ℕ) (of : List ℕ) (keys : List (List ℕ)) : Type 0 where

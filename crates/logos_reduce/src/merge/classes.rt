@@ -31,7 +31,7 @@ fn class_key(table: &Table, s: usize) -> [usize; 5]
     let mark = table.mark(s);
     let (accepts, accept) = tagged(mark.accept);
     let (is_early, early) = tagged(mark.early);
-    [table.rows.place(s), accepts, accept, is_early, early]
+    [table.rows.slot(s), accepts, accept, is_early, early]
 }
 
 /// Returns the classes of the states of a table.

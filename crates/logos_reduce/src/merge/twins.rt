@@ -2,7 +2,7 @@
 //! block and symbol that it looks at.
 
 ghost use Rattle.std.specs.Prelude.{true, ◌≡◌, ◌≢◌, ℕ, ◌+◌, ◌-◌, ◌*◌, ◌<◌, ◌≤◌, OnOk, IfOk, length, vec_len, slice_index};
-ghost use Rattle.logos_reduce.specs.Words.{has_in, AreFiled, landing, HaveMoved};
+ghost use Rattle.logos_reduce.specs.Imports.{has_in, AreFiled, landing, HaveMoved};
 ghost use Rattle.logos_reduce.specs.inside.Merge.{AreTwins, Continues};
 
 use crate::lists::file;

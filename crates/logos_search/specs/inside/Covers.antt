@@ -9,7 +9,7 @@ use Rattle.logos_search.specs.inside.Visits.{IsTree, IsClosed, IsWayTo}
 use Rattle.logos_search.specs.declared.cover.Cover.{Cover}
 use Rattle.logos_search.specs.declared.cover.Explored.{Explored}
 use Rattle.logos_search.specs.declared.point.Point.{Point}
-use Rattle.logos_search.specs.declared.rest.Rest.{Rest}
+use Rattle.logos_search.specs.declared.utf8.Rest.{Rest}
 use Rattle.logos_search.specs.declared.steps.InputStep.{InputStep}
 use Rattle.logos_search.specs.declared.visits.PendingPoint.{PendingPoint}
 use Rattle.logos_search.specs.declared.visits.Visit.{Visit}

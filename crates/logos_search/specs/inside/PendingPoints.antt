@@ -2,7 +2,7 @@
 use Rattle.std.specs.Prelude.{ℕ, Bool, ◌&&◌, Option, ◌==◌, option_map, option_and_then}
 use Rattle.logos_search.specs.Rests.{rest_by}
 use Rattle.logos_search.specs.declared.point.Point.{Point}
-use Rattle.logos_search.specs.declared.rest.Rest.{Rest}
+use Rattle.logos_search.specs.declared.utf8.Rest.{Rest}
 use Rattle.logos_search.specs.declared.visits.PendingPoint.{PendingPoint}
 
 abbrev pub pending_at : Point → Rest → PendingPoint

@@ -17,7 +17,7 @@ depth_at ways i = (visit_at ways i).depth
 -- A pending point was met, after at most so many bytes.
 pub record IsMet (points : List PendingPoint) (ways : List Visit) (pending : PendingPoint) (depth : ℕ) : Type 0 where
   pub number : ℕ
-  pub stands_there : slice_get points number ≡ Some pending
+  pub occurs_there : slice_get points number ≡ Some pending
   pub near : depth_at ways number ≤ depth
 
 -- A pending point is added with the way to it, if it was not met before.
@@ -41,9 +41,9 @@ module _ (next : PendingPoint → ℕ → Option PendingPoint) where
     pub before : (visit_at ways number).from < number
     pub is_byte : (visit_at ways number).byte < 256
     pub from : PendingPoint
-    pub stands_before : slice_get points (visit_at ways number).from ≡ Some from
+    pub occurs_before : slice_get points (visit_at ways number).from ≡ Some from
     pub to : PendingPoint
-    pub stands_there : slice_get points number ≡ Some to
+    pub occurs_there : slice_get points number ≡ Some to
     pub step : next from (visit_at ways number).byte ≡ Some to
     pub depth : depth_at ways number ≡ depth_at ways (visit_at ways number).from + 1
 

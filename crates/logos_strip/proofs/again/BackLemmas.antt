@@ -83,14 +83,14 @@ module _ (a : List ℕ) (utf8 : IsUtf8 a) (text : HasText a) where
     first : stays ≡ true → Follows pieces → Continues from sites
 
   -- a piece, and those after it
-  record Stands (from : ℕ) (piece : Piece) (rest : List Piece) : Type 0 where
+  record Occurs (from : ℕ) (piece : Piece) (rest : List Piece) : Type 0 where
     at : piece.span.from ≡ from
     bound : IsCharBoundary a from
     next : IsNext a from piece.kind piece.span.to
     no_gap : piece.kind ≢ Gap
     follows : piece.kind ≡ Punctuation Joint → Follows rest
 
-  seat_keep : (from : ℕ) (piece : Piece) (rest : List Piece) (l : Lexeme) (ms : List Lexeme) → Stands from piece rest → lexeme_of a piece.kind piece.span ≡ l ∷ [] → (stays : Bool) → (is_joint l ≡ true → stays ≡ true) →
+  seat_keep : (from : ℕ) (piece : Piece) (rest : List Piece) (l : Lexeme) (ms : List Lexeme) → Occurs from piece rest → lexeme_of a piece.kind piece.span ≡ l ∷ [] → (stays : Bool) → (is_joint l ≡ true → stays ≡ true) →
       Seated piece.span.to stays rest ms → Seated from true (piece ∷ rest) (l ∷ ms)
   seat_keep from piece rest l ms s one stays joint r =
       let to = piece.span.to in
@@ -103,7 +103,7 @@ module _ (a : List ℕ) (utf8 : IsUtf8 a) (text : HasText a) where
         first = λ e f. refl;
       }
 
-  seat_loose : (from : ℕ) (piece : Piece) (rest : List Piece) (spacing : Spacing) (span : Span) (ms : List Lexeme) → Stands from piece rest → lexeme_of a piece.kind piece.span ≡ leaf (punctuation comma spacing span) ∷ [] → (stays : Bool) →
+  seat_loose : (from : ℕ) (piece : Piece) (rest : List Piece) (spacing : Spacing) (span : Span) (ms : List Lexeme) → Occurs from piece rest → lexeme_of a piece.kind piece.span ≡ leaf (punctuation comma spacing span) ∷ [] → (stays : Bool) →
       Seated piece.span.to stays rest ms → Seated from true (piece ∷ rest) (leaf (punctuation comma Alone span) ∷ ms)
   seat_loose from piece rest spacing span ms s one stays r =
       let to = piece.span.to in
@@ -119,7 +119,7 @@ module _ (a : List ℕ) (utf8 : IsUtf8 a) (text : HasText a) where
         first = λ e f. refl;
       }
 
-  seat_piece : (from : ℕ) (piece : Piece) (rest : List Piece) (l : Lexeme) → Stands from piece rest → lexeme_of a piece.kind piece.span ≡ l ∷ [] →
+  seat_piece : (from : ℕ) (piece : Piece) (rest : List Piece) (l : Lexeme) → Occurs from piece rest → lexeme_of a piece.kind piece.span ≡ l ∷ [] →
       ((stays : Bool) (ls ms : List Lexeme) → Thins stays ls ms → ls ≡ seen a rest → Seated piece.span.to stays rest ms) → {stays : Bool} {ls ms : List Lexeme} → Thins stays ls ms → ls ≡ l ∷ seen a rest → Seated from stays (piece ∷ rest) ms
   seat_piece from piece rest l s one ih ended e = absurd (cc)
   seat_piece from piece rest l s one ih (drops stays lexeme t) e =
@@ -141,8 +141,8 @@ module _ (a : List ℕ) (utf8 : IsUtf8 a) (text : HasText a) where
         record { sites = r.sites; linked = r.linked; lexemes_are = r.lexemes_are; first = λ f h. absurd (h g) }
     | inr g ↦
         let l = lexeme_there piece.kind piece.span g in
-        let stands : Stands from piece rest = record { at = filled.0; bound = bound; next = filled.1; no_gap = g; follows = joined.0 } in
-        seat_piece from piece rest l.0 stands l.1
+        let occurs : Occurs from piece rest = record { at = filled.0; bound = bound; next = filled.1; no_gap = g; follows = joined.0 } in
+        seat_piece from piece rest l.0 occurs l.1
         (λ stays ls ms t e. seat rest piece.span.to end filled.2 joined.1 (piece-boundary a from piece.kind piece.span.to utf8 bound filled.1) stays ls ms t e)
         t (e ∙ ap (λ x. x ++ seen a rest) l.1)
   ]

@@ -17,7 +17,7 @@ use Rattle.logos_syntax.specs.inside.BracketView.{IsStopOf, IfDeepBracket}
 use Rattle.logos_syntax.specs.inside.GroupsView.{Steps, Ends}
 use Rattle.logos_syntax.specs.inside.GroupNames.{Admits}
 use Rattle.logos_syntax.specs.inside.Reading.{IsDeepAt, token_deep, bracket_deep, IfDeepToken, IfDeepText, names_after, HasRead}
-use Rattle.logos_syntax.proofs.patterns.Levels.{Stack, bottom, over, Place, level_inside, state_of, below_of, size, length-below_of, flags_inside, depth_inside}
+use Rattle.logos_syntax.proofs.patterns.Levels.{Stack, bottom, over, Slot, level_inside, state_of, below_of, size, length-below_of, flags_inside, depth_inside}
 use Rattle.logos_syntax.proofs.patterns.Levels as levels
 use Rattle.logos_syntax.proofs.patterns.Reading.{stack_tokens, tokens_of, StackFits, IsRead, is_read}
 use Rattle.logos_syntax.proofs.patterns.Texts.{reads_on, taken_here}
@@ -54,7 +54,7 @@ depth_around flags (over k l opening) =
     omega arith
 
 -- what is read, as a beginning of the text
-abbrev front_of : (flags : Flags) (text rest : Text) (ts : List Token) (p : Place) → tokens_of p ≡ ts → StackFits flags p.stack → BranchesFit (levels.front_flags flags p.stack) (level_inside p.level) →
+abbrev front_of : (flags : Flags) (text rest : Text) (ts : List Token) (p : Slot) → tokens_of p ≡ ts → StackFits flags p.stack → BranchesFit (levels.front_flags flags p.stack) (level_inside p.level) →
     Cuts text ts rest → NamesDiffer [] ts → Front flags text rest
 front_of flags text rest ts p is stack_fits fits cut differ =
     let e : around_tokens (around_of p.stack) ++ branches_tokens (level_inside p.level) ≡ ts = ap (λ (x : List Token). x ++ branches_tokens (level_inside p.level)) (tokens_around p.stack) ∙ is in
@@ -72,28 +72,28 @@ module _ (flags : Flags) (text rest : Text) (s : State) (names : GroupNames) (r 
   read = is_read flags r.tokens s r.run
 
   abbrev front : Front flags text rest
-  front = front_of flags text rest r.tokens read.place read.tokens read.fits.0 read.fits.1 r.cut r.differ
+  front = front_of flags text rest r.tokens read.slot read.tokens read.fits.0 read.fits.1 r.cut r.differ
 
   -- it is as deep as the parser is
   pub deep_groups : 250 < deepest s → IsTooDeep flags text
   deep_groups deep =
-      let e : deepest s ≡ deepest (state_of flags read.place) = ap deepest read.state in
-      let b = depth_around flags read.place.stack in
-      let n = count_around read.place.stack in
-      let d = depth_inside read.place.level.before read.place.level.items in
-      let k = read.place.stack in
-      let l = read.place.level in
+      let e : deepest s ≡ deepest (state_of flags read.slot) = ap deepest read.state in
+      let b = depth_around flags read.slot.stack in
+      let n = count_around read.slot.stack in
+      let d = depth_inside read.slot.level.before read.slot.level.items in
+      let k = read.slot.stack in
+      let l = read.slot.level in
       let goal : 250 < max (groups_open (around_of k) + branches_depth (level_inside l)) (around_depth (around_of k)) = omega arith in
       by_groups rest front goal
 
   open_groups : groups_open front.around ≡ length s.below
-  open_groups = count_around read.place.stack ∙ sym (ap (λ (x : State). length x.below) read.state ∙ length-below_of flags read.place.stack)
+  open_groups = count_around read.slot.stack ∙ sym (ap (λ (x : State). length x.below) read.state ∙ length-below_of flags read.slot.stack)
 
   flags_here : s.top.flags ≡ front_flags front
   flags_here =
       ap (λ (x : State). x.top.flags) read.state
-      ∙ flags_inside (levels.front_flags flags read.place.stack) read.place.level.before read.place.level.items
-      ∙ ap (λ (f : Flags). branches_flags f (level_inside read.place.level)) (sym (flags_around flags read.place.stack))
+      ∙ flags_inside (levels.front_flags flags read.slot.stack) read.slot.level.before read.slot.level.items
+      ∙ ap (λ (f : Flags). branches_flags f (level_inside read.slot.level)) (sym (flags_around flags read.slot.stack))
 
 -- a bracket in it opens too deep
 pub deep_brackets : (flags : Flags) (text following : Text) (s : State) (names : GroupNames) → (r : HasRead flags text (91 ∷ following) s names) → (count : ℕ) → BracketFront s.top.flags following count →

@@ -15,7 +15,7 @@ use Rattle.logos_pattern_tokens.specs.declared.error.PatternError.{PatternError}
 use Rattle.logos_pattern_tokens.specs.declared.error.PatternError.TheVariants as errors
 use Rattle.logos_pattern_tokens.specs.declared.error.Fault.{Fault}
 use Rattle.logos_pattern_tokens.specs.declared.error.Fault.TheVariants as faults
-use Rattle.logos_pattern_tokens.specs.Token.{Gives, Text, Token, bracketed}
+use Rattle.logos_pattern_tokens.specs.Token.{Yields, Text, Token, bracketed}
 use Rattle.logos_pattern_tokens.specs.Reader.{token_at}
 use Rattle.logos_pattern_tokens.specs.Spelling.{Takes}
 use Rattle.logos_pattern_tokens.specs.bracket.Form.{Bracket}
@@ -227,7 +227,7 @@ bracket_goes s u seen names text rest flags base f set is has b h = record {
 
 -- ---- what reading another token says
 
-pub faulted : {X : Type 0} (view : X → Taken) (s : State) (seen : List Text) (text : Text) (fault : Fault) (stop : Stop) → Gives view (Err fault) (token_at text) → IsStopOf fault stop → (t : Token) (rest : Text) → Takes t text rest → StopsAt stop s seen t
+pub faulted : {X : Type 0} (view : X → Taken) (s : State) (seen : List Text) (text : Text) (fault : Fault) (stop : Stop) → Yields view (Err fault) (token_at text) → IsStopOf fault stop → (t : Token) (rest : Text) → Takes t text rest → StopsAt stop s seen t
 faulted view s seen text (faults.Syntax kind) (stops.Syntax other left) none is t rest h = let e = taken_is t text rest h in absurd cc
 faulted view s seen text (faults.Syntax kind) stops.LimitPatternNesting none is t rest h = absurd is
 faulted view s seen text (faults.Syntax kind) stops.Memory none is t rest h = absurd is

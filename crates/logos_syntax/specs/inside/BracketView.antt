@@ -49,12 +49,12 @@ TooDeep base s (Open negated lead) = 250 < base + length s.below + 2
 TooDeep base s _ = ⊥
 
 -- The flags allow the token.
-abbrev pub MayStand : Flags → BracketToken → Type 0
-MayStand flags (Item item) = item_fits flags item ≡ true
-MayStand flags _ = Unit {0}
+abbrev pub MayOccur : Flags → BracketToken → Type 0
+MayOccur flags (Item item) = item_fits flags item ≡ true
+MayOccur flags _ = Unit {0}
 
 abbrev pub BracketSteps : Flags → ℕ → Frames → BracketToken → Result (Unit {0}) Stop → Frames → Type 0
-BracketSteps flags base old token (Ok _) new = MayStand flags token × (bracket_step flags base old token ≡ Some new)
+BracketSteps flags base old token (Ok _) new = MayOccur flags token × (bracket_step flags base old token ≡ Some new)
 BracketSteps flags base old token (Err (stops.Syntax kind left)) new = NoStep flags old token
 BracketSteps flags base old token (Err stops.LimitPatternNesting) new = TooDeep base old token
 BracketSteps flags base old token (Err stops.Memory) new = Unit {0}

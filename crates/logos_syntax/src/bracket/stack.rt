@@ -1,9 +1,9 @@
 //! The stack of the brackets that are open while a bracket is read.
 
 ghost use Rattle.std.specs.Prelude.{◌≡◌, ◌+◌, ◌≤◌, ◌<◌, [], IfOk, OnOk, MatchBool, vec_len, length};
-ghost use Rattle.logos_syntax.specs.Words.{pattern_nesting, pairs, members};
+ghost use Rattle.logos_syntax.specs.Imports.{pattern_nesting, pairs, members};
 
-use crate::bracket::translate::{item_fits, lead_ranges, push_item, push_set, set_or_complement};
+use crate::bracket::translation::{item_fits, lead_ranges, push_item, push_set, set_or_complement};
 use logos_hir::hir::Range;
 use logos_hir::sets::RangeSet;
 use logos_hir::sets::operands::{OperandRuns, SetOperator, combination};

@@ -31,9 +31,9 @@ pub record AppendsTables (code : CodeValue) (old new : List ℕ) : Type 0 where
   pub is : new ≡ old ++ tables_text code tables sizes
 
 -- These are the rows, the classes and the runs of a code.
-pub record AreMade (code : CodeValue) (numbers symbols places : List ℕ) (distinct : List (List ℕ)) (class_runs runs : List (ℕ × ℕ)) : Type 0 where
-  pub rows : AreRows code (rows_at places distinct)
-  pub placed : (i : ℕ) → i < length places → slice_index places i < length distinct
+pub record AreMade (code : CodeValue) (numbers symbols slots : List ℕ) (distinct : List (List ℕ)) (class_runs runs : List (ℕ × ℕ)) : Type 0 where
+  pub rows : AreRows code (rows_at slots distinct)
+  pub placed : (i : ℕ) → i < length slots → slice_index slots i < length distinct
   pub classes : AreClasses distinct numbers symbols
   pub of_classes : spread class_runs ≡ numbers
   pub of_rows : spread runs ≡ flat_map (by_classes symbols) distinct

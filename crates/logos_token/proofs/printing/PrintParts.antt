@@ -110,12 +110,12 @@ rebuild-close delimiter span inside rest d from ls (closes d' to ∷ ms) more ag
     let same' : d' ≡ delimiter = cc in
     let others : map bare_lexeme ms ≡ map bare_lexeme (lexemes rest ++ more) = cc in
     let r = go ms others in
-    let place : Span = record { from = from; to = to } in
+    let spot : Span = record { from = from; to = to } in
     record {
-      again = also (group delimiter place again) r.again;
+      again = also (group delimiter spot again) r.again;
       rest = r.rest;
       is = ap (λ x. opens x from ∷ ls) same ∙ ap (λ xs. opens delimiter from ∷ xs) is ∙ ap (λ x. opens delimiter from ∷ (lexemes again ++ (closes x to ∷ ms))) same'
-          ∙ ap (λ xs. opens delimiter from ∷ (lexemes again ++ (closes delimiter to ∷ xs))) r.is ∙ sym (run-lexemes delimiter place again r.again r.rest);
+          ∙ ap (λ xs. opens delimiter from ∷ (lexemes again ++ (closes delimiter to ∷ xs))) r.is ∙ sym (run-lexemes delimiter spot again r.again r.rest);
       same = ap (λ xs. also (group delimiter no_span xs) (bare r.again)) bares ∙ ap (λ xs. also (group delimiter no_span (bare inside)) xs) r.same;
       left = r.left;
     }

@@ -110,7 +110,7 @@ module _ (a : List ℕ) (utf8 : IsUtf8 a) (text : HasText a) (docs : HasDocs a) 
   IsPrinted q p to kind rest = drop q b ≡ slice_range a p to ++ after (gap_of a kind p to) (parts (seen a rest))
 
   pub slice_same : (p to q : ℕ) (rest : List ℕ) → p ≤ to → to ≤ length a → drop q b ≡ slice_range a p to ++ rest → (x y : ℕ) → x + q ≡ y + p → p ≤ x → x < to → get_or b y 0 ≡ get_or a x 0
-  slice_same p to q rest le fits e x y places low high =
+  slice_same p to q rest le fits e x y spots low high =
       let i = x - p in
       let long = length-between a p to fits in
       let f : q + i ≡ y = omega arith in
@@ -140,7 +140,7 @@ module _ (a : List ℕ) (utf8 : IsUtf8 a) (text : HasText a) (docs : HasDocs a) 
           filled = omega arith;
           fits = omega arith;
           holds = omega arith;
-          same = λ x y places low high. slice_same p to q tail (omega arith) fits e x y places low (omega arith);
+          same = λ x y spots low high. slice_same p to q tail (omega arith) fits e x y spots low (omega arith);
           blank = elim (separates a kind p to alone) [
             | inl g ↦ elim (blank 32 g) [ inl h ↦ inl h | inr h ↦ inr (inr h) ]
             | inr g ↦ inr (blank 10 g)
@@ -173,8 +173,8 @@ module _ (a : List ℕ) (utf8 : IsUtf8 a) (text : HasText a) (docs : HasDocs a) 
           filled = omega arith;
           fits = omega (arith, w.fits);
           holds = omega (arith, w.holds);
-          same = λ x y places low high. elim (cases_lt x to) [
-            | inl l ↦ slice_same p to q rest (omega arith) fits e x y places low l
+          same = λ x y spots low high. elim (cases_lt x to) [
+            | inl l ↦ slice_same p to q rest (omega arith) fits e x y spots low l
             | inr l ↦ w.same x y (omega arith) l (omega arith)
           ];
           blank = rw (← there) w.blank;

@@ -32,9 +32,9 @@ frame_entries [] current = flat current
 frame_entries (f ∷ frames) current = frame_entries frames f.before ++ group_entry f.delimiter f.span 0 ∷ flat current
 
 -- Where the entries of the groups stand, outermost first.
-abbrev pub frame_places : List Frame → List OpenGroup
-frame_places [] = []
-frame_places (f ∷ frames) = frame_places frames ++ (record { delimiter = f.delimiter; span = f.span; place = length (frame_entries frames f.before) }) ∷ []
+abbrev pub frame_spots : List Frame → List OpenGroup
+frame_spots [] = []
+frame_spots (f ∷ frames) = frame_spots frames ++ (record { delimiter = f.delimiter; span = f.span; spot = length (frame_entries frames f.before) }) ∷ []
 
 -- The opening delimiter of each group stands in the source.
 abbrev pub AreOpenings : List ℕ → List Frame → Type 0
@@ -51,7 +51,7 @@ pub record IsRead (bytes : List ℕ) (to : ℕ) (entries : List EntryValue) (beg
   pub openings : AreOpenings bytes frames
   pub nested : frame_lexemes frames current ≡ seen bytes pieces
   pub held : frame_entries frames current ≡ entries
-  pub places : frame_places frames ≡ begun
+  pub spots : frame_spots frames ≡ begun
 
 -- Unless there is an error, a next piece of this kind is read too.
 abbrev pub ReadsOn : LexemeKind → Span → (entries : List Entry) (open_groups : List OpenGroup) (next_entries : List Entry) (next_open : List OpenGroup) → Result (Unit {0}) TokenError → Type 0

@@ -1,7 +1,7 @@
 //! The codes of faults.
 
 ghost use Rattle.std.specs.Prelude.{◌≡◌, Some};
-ghost use Rattle.logos_token.specs.ViewWords.{name_of};
+ghost use Rattle.logos_token.specs.ViewImports.{name_of};
 
 use std::fmt;
 

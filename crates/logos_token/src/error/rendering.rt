@@ -2,7 +2,7 @@
 //! place of a lexer where a source has faults.
 
 ghost use Rattle.std.specs.Prelude.{◌≡◌, ◌++◌, OnOk, string_bytes, IfOk, option_map};
-ghost use Rattle.logos_token.specs.ViewWords.{flat_map, faults_of, fault_of, rendered_fault, rendered};
+ghost use Rattle.logos_token.specs.ViewImports.{flat_map, faults_of, fault_of, rendered_fault, rendered};
 
 use crate::error::{Errors, Memory, SpannedError};
 use crate::util::push_escaped;

@@ -19,7 +19,7 @@ pub enum Entry<'s> {
 
 impl Entry<'_> {
     ghost use Rattle.std.specs.Prelude.{◌≡◌};
-    ghost use Rattle.logos_token.specs.ViewWords.{size_of};
+    ghost use Rattle.logos_token.specs.ViewImports.{size_of};
 
     /// Returns how many of the next entries belong to this one.
     pub fn size(&self) -> usize

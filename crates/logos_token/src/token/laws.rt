@@ -2,7 +2,7 @@
 //! proved law.
 
 ghost use Rattle.std.specs.Prelude.{List, ℕ, IsUtf8};
-ghost use Rattle.logos_token.specs.Words.{TokenList, run_span, Spells, printed, SpellsAgain, IsRunOf, EndsJoint, IsSpanOf};
+ghost use Rattle.logos_token.specs.Imports.{TokenList, run_span, Spells, printed, SpellsAgain, IsRunOf, EndsJoint, IsSpanOf};
 
 /// The printed text of all tokens of a source spells the same tokens again, apart from their spans.
 pub fn prints_back()

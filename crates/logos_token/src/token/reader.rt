@@ -1,7 +1,7 @@
 //! Reads a source text into tokens. `tokenize` is the first step of each reading of a source.
 
 ghost use Rattle.std.specs.Prelude.{◌≡◌, ℕ, ◌<◌, ◌≤◌, ◌↔◌, List, [], ◌∷◌, ◌++◌, map, length, IfOk, IfErr, OnOk, MatchResult, IsTrue};
-ghost use Rattle.logos_token.specs.ViewWords.{source_limit, delimiter_limit, IsCharBoundary, IsNext, TokenList, depth_of, Spells, RunStands, Memory, value_of, stream_tokens, IsRead, ReadsOn, RefusesAt, SpellsAtEnd, RefusesAtEnd, IsRefusal, SpellsNothing, IsErrOf};
+ghost use Rattle.logos_token.specs.ViewImports.{source_limit, delimiter_limit, IsCharBoundary, IsNext, TokenList, depth_of, Spells, RunOccurs, Memory, value_of, stream_tokens, IsRead, ReadsOn, RefusesAt, SpellsAtEnd, RefusesAtEnd, IsRefusal, SpellsNothing, IsErrOf};
 
 use crate::token::entry::Entry;
 use crate::token::views::TokenStream;
@@ -51,7 +51,7 @@ struct OpenGroup {
     /// The opening delimiter.
     span: Span,
     /// The index of the group among the entries.
-    place: usize,
+    spot: usize,
 }
 
 /// Returns whether `closing` closes `opening`.
@@ -79,7 +79,7 @@ fn begin_group(
     open_groups.push(OpenGroup {
         delimiter,
         span,
-        place: entries.len(),
+        spot: entries.len(),
     })?;
     entries.push(Entry::Group {
         delimiter,
@@ -113,8 +113,8 @@ fn end_group(
     if !is_partner(group.delimiter, delimiter) {
         return Err(unbalanced);
     }
-    let size = entries.len() - group.place - 1;
-    entries[group.place] = Entry::Group {
+    let size = entries.len() - group.spot - 1;
+    entries[group.spot] = Entry::Group {
         delimiter,
         span: Span {
             from: group.span.from,
@@ -246,5 +246,5 @@ pub fn spells_once()
 /// span.
 pub fn spelled_in_order()
     ensures { (bytes : List ℕ) (tokens : TokenList) →
-        Spells bytes tokens → RunStands bytes 0 tokens (length bytes) }
+        Spells bytes tokens → RunOccurs bytes 0 tokens (length bytes) }
 {}

@@ -2,7 +2,7 @@
 //! for the value of each literal that they have.
 
 ghost use Rattle.std.specs.Prelude.{◌≡◌, ℕ, ◌+◌, ◌<◌, ◌≤◌, ◌++◌, ◌⊎◌, ◌==◌, ◌&&◌, ◌||◌, List, length, slice_index, slice_range, string_bytes, option_map, IfOk, OnOk, MatchOption};
-ghost use Rattle.logos_token.specs.ViewWords.{IsCharBoundary, Holds, bytes_of, IsRest, IsAdded, IsAscii, IsValue, IsHeld, held, held_value};
+ghost use Rattle.logos_token.specs.ViewImports.{IsCharBoundary, Holds, bytes_of, IsRest, IsAdded, IsAscii, IsValue, IsHeld, held, held_value};
 
 use crate::error::Memory;
 use crate::token::Literal;

@@ -1,7 +1,7 @@
 //! Writes texts as the contents of string literals. Faults that show tokens write them with it.
 
 ghost use Rattle.std.specs.Prelude.{◌≡◌, ◌++◌, OnOk, string_bytes};
-ghost use Rattle.logos_token.specs.Words.{escaped_character, escaped};
+ghost use Rattle.logos_token.specs.Imports.{escaped_character, escaped};
 
 use crate::error::Memory;
 

@@ -2,7 +2,7 @@
 //! `logos_rust_file` use it.
 
 ghost use Rattle.std.specs.Prelude.{◌≡◌, None, Some, MatchOption};
-ghost use Rattle.logos_token.specs.ViewWords.{begins_with, after_word, is_path_mark, after_colon, after_path_mark, tokens_of};
+ghost use Rattle.logos_token.specs.ViewImports.{begins_with, after_word, is_path_mark, after_colon, after_path_mark, tokens_of};
 
 use crate::token::{Punct, Spacing, TokenTree, Tokens};
 

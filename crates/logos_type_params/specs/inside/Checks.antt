@@ -7,7 +7,7 @@ use Rattle.logos_type_params.specs.Substitution.{ParamValue}
 use Rattle.logos_type_params.specs.SelfFaults.{IsChecked}
 use Rattle.logos_type_params.specs.TypeParams.{Named, Given}
 use Rattle.logos_type_params.specs.Generics.{concrete_type}
-use Rattle.logos_type_params.specs.WrittenTypes.{IsAsked}
+use Rattle.logos_type_params.specs.WrittenTypes.{IsNeeded}
 use Rattle.logos_type_params.specs.inside.Fronts.{AreInFront}
 use Rattle.logos_type_params.specs.inside.Chains.{AreMarked}
 
@@ -18,8 +18,8 @@ pub record ChecksName (params : List ParamValue) (marks : List Bool) (keys : Lis
   pub fronts : (front : List Named) → AreInFront front keys → AreInFront (front ++ named ∷ []) keys'
 
 -- A name is added if its flag says that a chain leads back to it.
-abbrev pub AsksName : List ParamValue → List Bool → List ℕ → List (List ℕ) → List (List ℕ) → Type 0
-AsksName params marks text held held' = AreMarked params marks → IsAsked params text held held'
+abbrev pub NeedsName : List ParamValue → List Bool → List ℕ → List (List ℕ) → List (List ℕ) → Type 0
+NeedsName params marks text held held' = AreMarked params marks → IsNeeded params text held held'
 
 -- The type of a name is copied, unless it is one of `front`, and the name is one of them
 -- afterwards.

@@ -1,11 +1,11 @@
 //! The beginnings of types.
 
 ghost use Rattle.std.specs.Prelude.{◌≡◌, Some, None, MatchOption};
-ghost use Rattle.logos_type_reader.specs.Views.{rest_of, tokens_of, first_span, reference_first, reference_lifetime_first, word_place, word_first, mark_first, begin, is_reserved, name_of, IsFirst, first_text, IsStart};
+ghost use Rattle.logos_type_reader.specs.Views.{rest_of, tokens_of, first_span, reference_first, reference_lifetime_first, word_stage, word_first, mark_first, begin, is_reserved, name_of, IsFirst, first_text, IsStart};
 
-use crate::table::acting::begin_by;
-use crate::table::place::{
-    Beginning, Binder, First, FirstEntry, FrontToken, PathKind, Place, Prefix, StepFault,
+use crate::table::actions::begin_by;
+use crate::table::stage::{
+    Beginning, Binder, First, FirstEntry, FrontToken, PathKind, Prefix, Stage, StepFault,
 };
 use crate::table::tokens::{begins_colons, begins_mark, first_span, first_text, goes_on, look};
 use logos_token::token::{Delimiter, Tokens};
@@ -17,7 +17,7 @@ fn reference_first(run: Tokens<'_, '_>) -> First
 {
     match look(run.rest()) {
         FrontToken::Mark('\'', _) => reference_lifetime(run),
-        _ => Ok(FirstEntry::Lead(false, Prefix::Reference, Place::Referent)),
+        _ => Ok(FirstEntry::Lead(false, Prefix::Reference, Stage::Referent)),
     }
 }
 
@@ -28,31 +28,31 @@ fn reference_lifetime(run: Tokens<'_, '_>) -> First
 {
     let name = run.rest().rest();
     match look(name) {
-        FrontToken::Word => Ok(FirstEntry::Lead(false, Prefix::ReferenceLifetime, Place::Referent)),
+        FrontToken::Word => Ok(FirstEntry::Lead(false, Prefix::ReferenceLifetime, Stage::Referent)),
         _ => Err(StepFault::Mismatch(first_span(name))),
     }
 }
 
 /// Returns the spot after the word with which a type begins.
-fn word_place(plus: bool, text: &str) -> Place
-    ensures { result ≡ word_place plus text.now }
+fn word_stage(plus: bool, text: &str) -> Stage
+    ensures { result ≡ word_stage plus text.now }
 {
     if (text == "dyn") | (text == "impl") {
-        return Place::Bound(plus);
+        return Stage::Bound(plus);
     }
     if text == "fn" {
-        return Place::Function;
+        return Stage::Function;
     }
     if text == "unsafe" {
-        return Place::Unsafe;
+        return Stage::Unsafe;
     }
     if text == "extern" {
-        return Place::Extern;
+        return Stage::Extern;
     }
     if text == "for" {
-        return Place::For(Binder::OfFunction);
+        return Stage::For(Binder::OfFunction);
     }
-    Place::Named(PathKind::Plain)
+    Stage::Named(PathKind::Plain)
 }
 
 /// Returns the step at the word with which a type begins.
@@ -65,7 +65,7 @@ fn word_first(plus: bool, run: Tokens<'_, '_>) -> First
     if text == "_" {
         return Err(StepFault::Unsupported(first_span(run)));
     }
-    Ok(FirstEntry::Lead(text == "impl", Prefix::Word, word_place(plus, text)))
+    Ok(FirstEntry::Lead(text == "impl", Prefix::Word, word_stage(plus, text)))
 }
 
 /// Returns the step at the punctuation with which a type begins.
@@ -76,11 +76,11 @@ fn mark_first(mark: char, run: Tokens<'_, '_>) -> First
 {
     match mark {
         '&' => reference_first(run),
-        '*' => Ok(FirstEntry::Lead(false, Prefix::Mark('*'), Place::Pointer)),
-        '<' => Ok(FirstEntry::Lead(false, Prefix::Mark('<'), Place::SelfType)),
+        '*' => Ok(FirstEntry::Lead(false, Prefix::Mark('*'), Stage::Pointer)),
+        '<' => Ok(FirstEntry::Lead(false, Prefix::Mark('<'), Stage::SelfType)),
         '!' => Err(StepFault::Unsupported(first_span(run))),
         _ if begins_colons(run) => {
-            Ok(FirstEntry::Lead(false, Prefix::Colons, Place::Colons(PathKind::Plain, false)))
+            Ok(FirstEntry::Lead(false, Prefix::Colons, Stage::Colons(PathKind::Plain, false)))
         }
         _ => Err(StepFault::Mismatch(first_span(run))),
     }
@@ -93,8 +93,8 @@ fn start_at(plus: bool, run: Tokens<'_, '_>) -> First
 {
     match look(run) {
         FrontToken::Word => word_first(plus, run),
-        FrontToken::Group(Delimiter::Parenthesis) => Ok(FirstEntry::Open(Place::List)),
-        FrontToken::Group(Delimiter::Bracket) => Ok(FirstEntry::Open(Place::Element)),
+        FrontToken::Group(Delimiter::Parenthesis) => Ok(FirstEntry::Open(Stage::List)),
+        FrontToken::Group(Delimiter::Bracket) => Ok(FirstEntry::Open(Stage::Element)),
         FrontToken::Mark(mark, _) => mark_first(mark, run),
         _ => Err(StepFault::Mismatch(first_span(run))),
     }

@@ -3,7 +3,7 @@
 ghost use Rattle.std.specs.Prelude.{◌≡◌};
 ghost use Rattle.logos_type_reader.specs.Views.{rest_of, tokens_of, mismatches, first_span, begins_colons, begins_mark, begins_arrow, begins_dots, begins_parenthesis, begins_bound, typing, goes_on, spot_of, Looks, first_text, begins_word, IsAction};
 
-use crate::table::place::{FrontToken, Next, Spot, StepFault};
+use crate::table::stage::{FrontToken, Next, Spot, StepFault};
 use logos_token::token::{Delimiter, Spacing, Span, TokenTree, Tokens};
 
 /// Returns what the first token of a run is.

@@ -8,5 +8,5 @@ invariant-loop-at l = record {
   text : l.cursor.text ≡ l.input;
   before : l.cursor.at ≤ l.at;
   within : l.at ≤ length l.input;
-  none : (k : ℕ) → k < l.at → ¬ IsOffsetOf l.input l.place k;
+  none : (k : ℕ) → k < l.at → ¬ IsOffsetOf l.input l.location k;
 }

@@ -1,7 +1,7 @@
 use Rattle.std.proofs.Common.{◌≡◌, map, drop}
 use Rattle.logos_hir.specs.Tree.{trees}
 use Rattle.logos_hir.specs.Hir.{tree_of}
-use Rattle.logos_places.specs.Places.{some_has_look}
+use Rattle.logos_positions.specs.Positions.{some_has_look}
 use Rattle.logos_automaton.proofs.measures.+has_look.Given as goal
 
 -- one has a look exactly if one that is left has

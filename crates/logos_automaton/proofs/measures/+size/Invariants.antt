@@ -2,7 +2,7 @@ use Rattle.std.proofs.Common.{◌≡◌, ℕ, ◌+◌, map, drop}
 use Rattle.logos_hir.specs.Tree.{trees}
 use Rattle.logos_hir.specs.Hir.{tree_of}
 use Rattle.logos_automaton.specs.Measures.{IsWithinLimit}
-use Rattle.logos_places.specs.Size.{sizes}
+use Rattle.logos_positions.specs.Size.{sizes}
 use Rattle.logos_automaton.proofs.measures.+size.Given as goal
 
 -- the sum so far, with what is left, is the whole

@@ -4,7 +4,7 @@ use Rattle.logos_automaton.specs.inside.Steps.{Foresees, state_after}
 use Rattle.logos_automaton.specs.declared.cache.LiveTree.{LiveTree}
 use Rattle.logos_automaton.specs.declared.key.Key.{Key}
 use Rattle.logos_automaton.specs.declared.tree_steps.TreeSteps.{TreeSteps}
-use Rattle.logos_places.specs.Core.{Core}
+use Rattle.logos_positions.specs.Core.{Core}
 use Rattle.logos_automaton.proofs.keys.TargetLemmas.{at_first, at_more, extends_both, extends_none}
 use Rattle.logos_automaton.proofs.keys.TreeStepsLemmas.{if_known}
 use Rattle.logos_automaton.proofs.row.row_by.Goals as goal

@@ -7,7 +7,7 @@ use Rattle.logos_commands.proofs.outcome.of_source.Goals as goal
 
 pub returns-in-Ok-clause-done : goal.returns-in-Ok-clause-done
 returns-in-Ok-clause-done c =
-    part_of effect_of c.args.asked c.args.source.now (rules_of c.in-Ok.made.graph.leaves) c.in-Ok.made.graph.utf8 _ _ _ _ c.in-Ok.ensures.accepted
+    part_of effect_of c.args.requested c.args.source.now (rules_of c.in-Ok.made.graph.leaves) c.in-Ok.made.graph.utf8 _ _ _ _ c.in-Ok.ensures.accepted
     (rw c.shape_of.ensures at c.in-Ok.ensures.given) c.of_lexer.result c.of_lexer.ensures.part
 
 pub returns-in-Ok-clause-denied : goal.returns-in-Ok-clause-denied
@@ -16,4 +16,4 @@ returns-in-Ok-clause-denied c =
 
 pub returns-in-Err-clause-denied : goal.returns-in-Err-clause-denied
 returns-in-Err-clause-denied c =
-    λ s. part_refused _ c.args.asked _ (faults_shown (IsRefused c.args.source.now) c.in-Err.refusal c.refused_source.result c.refused_source.ensures.refusal c.in-Err.ensures.refused s)
+    λ s. part_refused _ c.args.requested _ (faults_shown (IsRefused c.args.source.now) c.in-Err.refusal c.refused_source.result c.refused_source.ensures.refusal c.in-Err.ensures.refused s)

@@ -1,5 +1,5 @@
 use Rattle.std.proofs.Common.{refl}
-use Rattle.logos_cycles.proofs.PlaceLemmas.{follow_step, follow_none}
+use Rattle.logos_cycles.proofs.SlotLemmas.{follow_step, follow_none}
 use Rattle.logos_cycles.proofs.check.follow_all.Goals as goal
 
 pub loop-to-preserved : goal.loop-to-preserved

@@ -1,5 +1,5 @@
 use Rattle.std.proofs.Common.{refl, sym, true≢false}
-use Rattle.logos_cycles.proofs.PlaceLemmas.{inner_step, inner_none, inner_found}
+use Rattle.logos_cycles.proofs.SlotLemmas.{inner_step, inner_none, inner_found}
 use Rattle.logos_cycles.proofs.check.has_inner.Goals as goal
 
 pub loop-to-preserved : goal.loop-to-preserved

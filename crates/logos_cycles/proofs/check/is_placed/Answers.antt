@@ -1,7 +1,7 @@
 use Rattle.std.proofs.Common.{refl, sym, ◌∙◌}
 use Rattle.logos_cycles.specs.inside.Memberships.{graph}
 use Rattle.logos_cycles.proofs.ListLemmas.{read_at, targets_read}
-use Rattle.logos_cycles.proofs.PlaceLemmas.{placed_here}
+use Rattle.logos_cycles.proofs.SlotLemmas.{placed_here}
 use Rattle.logos_cycles.proofs.check.is_placed.Goals as goal
 
 pub returns : goal.returns

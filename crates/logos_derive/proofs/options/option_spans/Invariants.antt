@@ -1,4 +1,4 @@
-use Rattle.logos_enum.specs.Words.{count_of, tokens_of}
+use Rattle.logos_enum.specs.Imports.{count_of, tokens_of}
 use Rattle.logos_derive.proofs.options.option_spans.Given as goal
 
 abbrev pub decreases-loop-attribute : goal.decreases-loop-attribute

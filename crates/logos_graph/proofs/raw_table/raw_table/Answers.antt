@@ -17,7 +17,7 @@ use Rattle.logos_reduce.specs.declared.table.Table.{Table}
 use Rattle.logos_reduce.proofs.tables.RowLemmas.{rows_wide}
 
 wide : (rows : Rows) → AreWide (rows_of rows)
-wide rows = rows_wide rows.places.items rows.distinct.keys (λ i l. rows.placed i (omega arith)) rows.wide
+wide rows = rows_wide rows.slots.items rows.distinct.keys (λ i l. rows.placed i (omega arith)) rows.wide
 
 no_state : (table : Table) (s : ℕ) → size table ≤ s → mark table s ≡ record { accept = None; early = None }
 no_state table s l = get_or_past table.marks.items s (record { accept = None; early = None }) (omega (arith, l))

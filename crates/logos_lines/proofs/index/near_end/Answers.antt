@@ -1,5 +1,5 @@
 use Rattle.std.proofs.Common.{◌≡◌, ◌∙◌, ℕ, List, drop, ap, sym, arith}
-use Rattle.logos_lines.specs.Places.{line_length}
+use Rattle.logos_lines.specs.Locations.{line_length}
 use Rattle.logos_lines.proofs.LineLemmas.{goes_on}
 use Rattle.logos_lines.proofs.index.near_end.Goals as goal
 

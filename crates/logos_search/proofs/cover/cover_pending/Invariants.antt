@@ -5,10 +5,10 @@ use Rattle.logos_search.specs.declared.visits.PendingPoint.{PendingPoint}
 use Rattle.logos_search.proofs.cover.cover_pending.Given as goal
 
 -- the steps that the bytes so far make are covered
-abbrev pub invariant-loop-place : goal.invariant-loop-place
-invariant-loop-place g l = record {
+abbrev pub invariant-loop-site : goal.invariant-loop-site
+invariant-loop-site g l = record {
   cover : CoversSteps (g.M.Machine.leads l.machine) l.explored l.cover;
   grows : HasStepsOf l.initial.cover l.cover;
-  covered : (place b : ℕ) (at : PendingPoint) → place < l.place → IsByteAt place b → slice_get l.explored.visits.points.keys l.number ≡ Some at →
+  covered : (site b : ℕ) (at : PendingPoint) → site < l.site → IsByteAt site b → slice_get l.explored.visits.points.keys l.number ≡ Some at →
       IsCoveredBy (g.M.Machine.leads l.machine) l.explored.utf8 l.cover.steps.keys at b;
 }

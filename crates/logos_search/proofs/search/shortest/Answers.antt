@@ -2,7 +2,7 @@ use Rattle.std.proofs.Common.{◌≡◌, ◌+◌, ◌<◌, true, false, length, 
 use Rattle.logos_search.specs.Rests.{more}
 use Rattle.logos_search.specs.inside.PendingPoints.{pending_at, pending_next, pending_goal}
 use Rattle.logos_search.proofs.ShortestLemmas.{closed_more, no_goal_more, far, nowhere}
-use Rattle.logos_search.proofs.PendingLemmas.{stands_lead, leads_to}
+use Rattle.logos_search.proofs.PendingLemmas.{occurs_lead, leads_to}
 use Rattle.logos_search.proofs.search.shortest.Goals as goal
 
 pub way_to-requires-clause-down : goal.way_to-requires-clause-down
@@ -22,7 +22,7 @@ returns-then-is_goal g c =
     record {
       leads = leads_to next is_goal c.args.utf8 c.args.start _ c.pending_of.result way.are_bytes there is;
       least = λ other leads.
-          let s = stands_lead next is_goal c.args.utf8 c.args.start other leads in
+          let s = occurs_lead next is_goal c.args.utf8 c.args.start other leads in
           let d = far (pending_next next c.args.utf8) (pending_goal is_goal) _ _ c.loop-number.number i.tree i.closed i.none other 0 (pending_at c.args.start (more 0)) s.0
           (omega arith) leads.input.0 i.first s.1 s.2 in
           let size = way.size in
@@ -56,6 +56,6 @@ returns g c = λ bytes leads.
     let next = g.M.Machine.leads c.args.machine.now in
     let is_goal = g.M.Machine.goal c.args.machine.now in
     let i = c.loop-number.invariant in
-    let s = stands_lead next is_goal c.args.utf8 c.args.start bytes leads in
+    let s = occurs_lead next is_goal c.args.utf8 c.args.start bytes leads in
     nowhere (pending_next next c.args.utf8) (pending_goal is_goal) _ _ c.loop-number.number i.tree i.closed i.none bytes 0 (pending_at c.args.start (more 0)) s.0
     (omega arith) leads.input.0 i.first s.1 s.2

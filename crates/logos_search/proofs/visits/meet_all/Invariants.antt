@@ -6,11 +6,11 @@ use Rattle.logos_search.specs.declared.visits.PendingPoint.{PendingPoint}
 use Rattle.logos_search.proofs.visits.meet_all.Given as goal
 
 -- what the bytes so far lead to was met
-abbrev pub invariant-loop-place : goal.invariant-loop-place
-invariant-loop-place g l = record {
+abbrev pub invariant-loop-site : goal.invariant-loop-site
+invariant-loop-site g l = record {
   tree : IsTree (pending_next (g.M.Machine.leads l.machine) l.utf8) l.visits.points.keys l.visits.ways.items;
   within : IsWithin (pending_next (g.M.Machine.leads l.machine) l.utf8) l.visits.points.keys l.visits.ways.items l.depth;
   grows : Grows l.initial.visits.points.keys l.initial.visits.ways.items l.visits.points.keys l.visits.ways.items;
-  met : (place b : ℕ) (to : PendingPoint) → place < l.place → IsByteAt place b → pending_next (g.M.Machine.leads l.machine) l.utf8 l.at b ≡ Some to →
+  met : (site b : ℕ) (to : PendingPoint) → site < l.site → IsByteAt site b → pending_next (g.M.Machine.leads l.machine) l.utf8 l.at b ≡ Some to →
       IsMet l.visits.points.keys l.visits.ways.items to l.depth;
 }

@@ -4,16 +4,16 @@ use Rattle.logos_type.specs.TypeTrees.{type_tree}
 use Rattle.logos_code.specs.Code.{CodeValue}
 use Rattle.logos_text.specs.Arounds.{around_value}
 use Rattle.logos_text.specs.Fronts.{BeginsWith, opening_text, short_core}
-use Rattle.logos_text.specs.Standing.{StandInOrder}
+use Rattle.logos_text.specs.Occurrence.{OccurInOrder}
 use Rattle.logos_text.specs.Texts.{texts_of}
-use Rattle.logos_text.proofs.TextLemmas.{adds_both, begins_whole, grows_after, grows_text, stand_whole}
+use Rattle.logos_text.proofs.TextLemmas.{adds_both, begins_whole, grows_after, grows_text, occur_whole}
 use Rattle.logos_text.proofs.code.text_in.Goals as goal
 
-pub returns-clause-stand : goal.returns-clause-stand
-returns-clause-stand c =
+pub returns-clause-occur : goal.returns-clause-occur
+returns-clause-occur c =
     let code = rw c.new.ensures.shape at c.in_ok-push_code.ensures in
-    let whole = stand_whole c.new-text.ensures.bytes (grows_after (adds_both (grows_text _ c.in_ok-push_front.ensures) code) c.in_ok-push.ensures) in
-    subst (λ (code : CodeValue). StandInOrder (texts_of code) (string_bytes c.push.new.text)) c.parts-parts.ensures.is whole
+    let whole = occur_whole c.new-text.ensures.bytes (grows_after (adds_both (grows_text _ c.in_ok-push_front.ensures) code) c.in_ok-push.ensures) in
+    subst (λ (code : CodeValue). OccurInOrder (texts_of code) (string_bytes c.push.new.text)) c.parts-parts.ensures.is whole
 
 pub returns-clause-begins : goal.returns-clause-begins
 returns-clause-begins c =

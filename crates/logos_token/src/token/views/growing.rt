@@ -1,7 +1,7 @@
 //! Makes buffers tree by tree. Stripping and copies of types and callbacks make buffers.
 
 ghost use Rattle.std.specs.Prelude.{◌≡◌, ◌++◌, List, map, IfOk, OnOk};
-ghost use Rattle.logos_token.specs.ViewWords.{group, none, also, append, value_of, flat_token, stream_tokens, tree_of, inside_of};
+ghost use Rattle.logos_token.specs.ViewImports.{group, none, also, append, value_of, flat_token, stream_tokens, tree_of, inside_of};
 
 use crate::error::Memory;
 use crate::token::entry::Entry;

@@ -1,10 +1,10 @@
 use Rattle.std.proofs.Common.{List, ℕ}
-use Rattle.logos_walk.specs.Blocks.{ArePlaces, AreWalked}
+use Rattle.logos_walk.specs.Blocks.{AreRowStarts, AreWalked}
 use Rattle.logos_walk.proofs.BlocksLemmas.{AreStepped}
 use Rattle.logos_walk.proofs.blocks.column.Given as goal
 
 abbrev pub invariant-loop-block : goal.invariant-loop-block
 invariant-loop-block l = record {
-  walked : (origin : List ℕ) → AreWalked l.rows l.text origin l.initial.trace l.at l.initial.places → AreStepped l.rows l.text origin l.trace l.at l.block l.places;
-  places : ArePlaces l.rows l.places;
+  walked : (origin : List ℕ) → AreWalked l.rows l.text origin l.initial.trace l.at l.initial.row_starts → AreStepped l.rows l.text origin l.trace l.at l.block l.row_starts;
+  row_starts : AreRowStarts l.rows l.row_starts;
 }

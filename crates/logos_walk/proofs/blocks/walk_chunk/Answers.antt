@@ -11,7 +11,7 @@ mended-now-requires-clause-holds c =
       order = omega arith;
       in_text = omega (arith, few, c.requires.text);
       in_trace = omega (arith, few, long);
-      walked = stretched c.args.rows.now c.args.text.now (set c.guess_places-from.result 0 c.args.place) c.walk_blocks.new.places l.trace c.args.place l.block l.now few l.invariant.mended;
+      walked = stretched c.args.rows.now c.args.text.now (set c.guess_row_starts-from.result 0 c.args.row_start) c.walk_blocks.new.row_starts l.trace c.args.row_start l.block l.now few l.invariant.mended;
       stays = l.invariant.ends l.block few;
     }
 
@@ -20,7 +20,7 @@ loop-block-preserved c =
     let l = c.loop-block in
     let e = c.mended-now.ensures in
     record {
-      mended = mended_on c.args.rows.now c.args.text.now (set c.guess_places-from.result 0 c.args.place) c.walk_blocks.new.places l.trace c.mended-now.new.trace c.args.place l.block l.now c.mended-now.result (l.block + 1) refl
+      mended = mended_on c.args.rows.now c.args.text.now (set c.guess_row_starts-from.result 0 c.args.row_start) c.walk_blocks.new.row_starts l.trace c.mended-now.new.trace c.args.row_start l.block l.now c.mended-now.result (l.block + 1) refl
           e.walked e.beside l.invariant.mended;
       ends = l.invariant.ends;
       stays = e.stays;

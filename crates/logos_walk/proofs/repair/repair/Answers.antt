@@ -11,7 +11,7 @@ loop-at-preserved c =
     let s = c.step-now.ensures in
     let e = entry_at rows text c.loop-at.at c.loop-at.now in
     record {
-      walked = walked_step rows text c.args.place c.loop-at.trace c.step-now.new.trace c.args.stretch.from c.loop-at.at (c.loop-at.at + 1) c.loop-at.now c.step-now.result (omega arith) (omega arith) refl s.trace s.result i.walked;
+      walked = walked_step rows text c.args.row_start c.loop-at.trace c.step-now.new.trace c.args.stretch.from c.loop-at.at (c.loop-at.at + 1) c.loop-at.now c.step-now.result (omega arith) (omega arith) refl s.trace s.result i.walked;
       stays = s.stays;
       beside = same_beside c.args.stretch.from c.loop-at.at (c.loop-at.at + 1) c.args.trace.now c.loop-at.trace c.step-now.new.trace e (omega arith) (omega arith) s.trace c.loop-at.at (omega arith) i.beside;
       guessed = (
@@ -28,7 +28,7 @@ returns-then-before-now c =
     let text = c.args.text.now in
     let s = c.step-now.ensures in
     record {
-      walked = walked_again rows text c.args.place i.guessed.0 c.loop-at.trace c.step-now.new.trace c.args.stretch.from c.loop-at.at c.args.stretch.to c.loop-at.now c.step-now.result c.args.stretch.end (omega arith) (omega arith) (omega arith) s.trace s.result c.if-before-now.true i.walked i.guessed.1;
+      walked = walked_again rows text c.args.row_start i.guessed.0 c.loop-at.trace c.step-now.new.trace c.args.stretch.from c.loop-at.at c.args.stretch.to c.loop-at.now c.step-now.result c.args.stretch.end (omega arith) (omega arith) (omega arith) s.trace s.result c.if-before-now.true i.walked i.guessed.1;
       stays = c.requires.holds.stays;
       after = omega arith;
       within = omega arith;

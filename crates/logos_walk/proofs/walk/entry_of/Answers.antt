@@ -6,4 +6,4 @@ pub returns : goal.returns
 returns c =
     let rows = c.args.rows.now in
     let byte = c.args.byte in
-    get_or-take (length rows - byte) (drop byte rows) c.args.place 0 (omega (arith, c.requires)) ∙ get_or-drop byte rows c.args.place 0
+    get_or-take (length rows - byte) (drop byte rows) c.args.row_start 0 (omega (arith, c.requires)) ∙ get_or-drop byte rows c.args.row_start 0

@@ -12,6 +12,6 @@ invariant_of-self-2 c =
     if_ok_is c.push.result _ _ _ (c.push.ensures.succeeds (let room = c.in_ok-reserve.ensures.ok in omega (arith, room))) c.push.ensures.items ∙ ap (λ (xs : List Subpattern). xs ++ c.args.subpattern ∷ []) same in
     record {
       found = λ q.
-          hash_map_updates_str c.args.subpattern.name.text.now c.args.self.now.places c.insert.new.self (Some c.len.result) c.in_ok-insert.ensures.updates q
-          ∙ found_more c.args.subpattern c.args.self.now.list.items c.push.new.self.items c.args.self.now.places.entries c.len.result last c.args.self.now.found c.requires more q;
+          hash_map_updates_str c.args.subpattern.name.text.now c.args.self.now.slots c.insert.new.self (Some c.len.result) c.in_ok-insert.ensures.updates q
+          ∙ found_more c.args.subpattern c.args.self.now.list.items c.push.new.self.items c.args.self.now.slots.entries c.len.result last c.args.self.now.found c.requires more q;
     }

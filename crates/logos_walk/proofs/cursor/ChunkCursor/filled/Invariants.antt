@@ -1,10 +1,10 @@
 use Rattle.std.proofs.Common.{◌-◌}
-use Rattle.logos_walk.specs.Cursors.{Passes, Stands}
+use Rattle.logos_walk.specs.Cursors.{Passes, IsAt}
 use Rattle.logos_walk.proofs.cursor.ChunkCursor.filled.Given as goal
 
 abbrev pub invariant-loop-cursor : goal.invariant-loop-cursor
 invariant-loop-cursor l = record {
-  stands : Stands l.chunk.entries l.cursor;
+  is_at : IsAt l.chunk.entries l.cursor;
   passes : Passes l.chunk.entries l.fn.self l.cursor;
 }
 

@@ -2,8 +2,8 @@ use Rattle.std.proofs.Common.{◌+◌, ◌*◌, ◌<◌, refl, slice_index, arit
 use Rattle.logos_walk.proofs.CursorLemmas.{left_whole, passes_word}
 use Rattle.logos_walk.proofs.cursor.ChunkCursor.moved.Goals as goal
 
-abbrev pub returns-clause-stands : goal.returns-clause-stands
-returns-clause-stands c =
+abbrev pub returns-clause-is_at : goal.returns-clause-is_at
+returns-clause-is_at c =
     let trace = c.args.chunk.now.entries in
     let w = c.args.self.word + 1 in
     let small : w < 72 = omega (arith, c.requires.last) in
@@ -20,4 +20,4 @@ returns-clause-stands c =
 
 pub returns-clause-passes : goal.returns-clause-passes
 returns-clause-passes c =
-    passes_word c.args.chunk.now.entries c.args.self _ c.requires.stands (returns-clause-stands c) (omega arith) c.requires.none refl refl (omega arith) c.start_after.ensures
+    passes_word c.args.chunk.now.entries c.args.self _ c.requires.is_at (returns-clause-is_at c) (omega arith) c.requires.none refl refl (omega arith) c.start_after.ensures

@@ -2,8 +2,8 @@ use Rattle.std.proofs.Common.{◌<◌, ◌/◌, ◌%◌, slice_index, refl, arit
 use Rattle.logos_walk.proofs.CursorLemmas.{left_at, high_bits, start_first}
 use Rattle.logos_walk.proofs.cursor.ChunkCursor.new.Goals as goal
 
-abbrev pub returns-clause-stands : goal.returns-clause-stands
-returns-clause-stands c =
+abbrev pub returns-clause-is_at : goal.returns-clause-is_at
+returns-clause-is_at c =
     let w = c.args.from / 64 in
     let r = c.args.from % 64 in
     let small : w < 72 = omega (arith, c.requires.from) in
@@ -19,4 +19,4 @@ returns-clause-stands c =
     }
 
 pub returns-clause-start : goal.returns-clause-start
-returns-clause-start c = start_first c.args.chunk.now.entries _ (returns-clause-stands c) refl
+returns-clause-start c = start_first c.args.chunk.now.entries _ (returns-clause-is_at c) refl

@@ -1,0 +1,138 @@
+//! What two lexers find where they differ.
+
+use crate::matches::{bytes_between, push_first};
+use crate::names::variant_at;
+use crate::quotes::push_quoted;
+use logos_code::action::Action;
+use logos_code::code::Code;
+use logos_evidence::{Match, matches_from, winner};
+use logos_graph::graph::Graph;
+use logos_machine::machine::{Item, Lexer};
+use logos_page::Page;
+use logos_pattern::leaf::LeafId;
+use std::alloc::{AllocError, Global};
+
+/// A lexer, the path of its file, and the text of its enum.
+#[derive(Clone, Copy)]
+pub struct NamedLexer<'m, 's> {
+    pub path: &'m str,
+    /// The text of the enum, in which the spans of its leaves count.
+    pub text: &'m str,
+    pub graph: &'m Graph<'s>,
+    pub code: &'m Code<'s>,
+}
+
+/// What a lexer finds at the beginning of an input.
+#[derive(Clone, Copy)]
+pub struct Finding<'f> {
+    /// The leaf of the match, or `None` for an error.
+    pub leaf: Option<usize>,
+    /// The variant of the match, or `None` for a skip or an error.
+    pub variant: Option<&'f str>,
+    /// The bytes of the match or of the error.
+    pub bytes: &'f [u8],
+}
+
+/// Appends which inputs two lexers read.
+pub fn push_modes(page: &mut Page, one: NamedLexer<'_, '_>, other: NamedLexer<'_, '_>) {
+    push_mode(page, one);
+    push_mode(page, other);
+}
+
+/// Appends the line that says which inputs a lexer reads.
+fn push_mode(page: &mut Page, one: NamedLexer<'_, '_>) {
+    page.push_shown(one.path);
+    if one.graph.utf8_mode() {
+        page.push(" reads UTF-8\n");
+    } else {
+        page.push(" reads any bytes\n");
+    }
+}
+
+/// Appends an input on which two lexers differ, and what they find there first.
+///
+/// # Errors
+///
+/// Returns `AllocError` if memory runs out. Some lines may be pushed then.
+pub fn push_difference(
+    alloc: Global,
+    page: &mut Page,
+    one: NamedLexer<'_, '_>,
+    other: NamedLexer<'_, '_>,
+    input: &[u8],
+) -> Result<(), AllocError> {
+    page.push("the lexers differ on ");
+    push_quoted(page, input);
+    page.push("\n");
+    push_finding(alloc, page, one, input)?;
+    push_finding(alloc, page, other, input)
+}
+
+/// Appends the line that says what a lexer finds at the beginning of an input.
+fn push_finding(
+    alloc: Global,
+    page: &mut Page,
+    one: NamedLexer<'_, '_>,
+    input: &[u8],
+) -> Result<(), AllocError> {
+    page.push_shown(one.path);
+    page.push(" finds ");
+    if !push_first(alloc, page, one.graph, input)? {
+        push_error(page, first_error(one.code, input));
+    }
+    page.push("\n");
+    Ok(())
+}
+
+/// Appends an error, or that there is none.
+fn push_error(page: &mut Page, error: &[u8]) {
+    if error.is_empty() {
+        page.push("nothing");
+    } else {
+        page.push("an error, ");
+        push_quoted(page, error);
+    }
+}
+
+/// Returns the bytes of the error at the beginning of an input, or none if there is no error.
+fn first_error<'i>(code: &Code<'_>, input: &'i [u8]) -> &'i [u8] {
+    let emit = |_leaf: LeafId, _slice: &[u8]| Action::Emit;
+    let Ok(lexer) = Lexer::new_bytes(code, input, emit) else {
+        return &[];
+    };
+    let mut lexer = lexer;
+    match lexer.next() {
+        Some(Item::Error { slice, .. }) => slice,
+        _ => &[],
+    }
+}
+
+/// Returns what a lexer finds at the beginning of an input.
+///
+/// # Errors
+///
+/// Returns `AllocError` if memory runs out.
+pub fn finding_of<'f>(
+    alloc: Global,
+    one: NamedLexer<'f, '_>,
+    input: &'f [u8],
+) -> Result<Finding<'f>, AllocError> {
+    let matches = matches_from(alloc, one.graph, input, 0)?;
+    match winner(&matches) {
+        Some(found) => Ok(finding_by(one, input, found)),
+        None => Ok(Finding {
+            leaf: None,
+            variant: None,
+            bytes: first_error(one.code, input),
+        }),
+    }
+}
+
+/// Returns what a lexer finds by a match at the beginning of an input.
+fn finding_by<'f>(one: NamedLexer<'f, '_>, input: &'f [u8], found: Match) -> Finding<'f> {
+    Finding {
+        leaf: Some(found.leaf),
+        variant: variant_at(one.graph.leaves(), found.leaf),
+        bytes: bytes_between(input, 0, found.end),
+    }
+}

@@ -1,0 +1,120 @@
+//! An answer that is compared with a stored one.
+
+ghost use Rattle.std.specs.Prelude.{◌≡◌, ◌≤◌, ◌↔◌, IsTrue, drop, length, take};
+ghost use Rattle.logos_answers.specs.Imports.{IsLineStart, timeless};
+
+use crate::quotes::push_quoted;
+use logos_lines::Cursor;
+use logos_page::Page;
+
+/// What begins the line of an answer that differs from one time to the next.
+const TIME: &[u8] = b"milliseconds: ";
+
+/// Appends whether an answer is the stored one, and returns that. If not, pushes at which line and
+/// column of the stored one they differ first, and both lines. The line of the time that was taken
+/// is not compared. `path` is that of the stored answer.
+pub fn push_agreement(page: &mut Page, path: &str, stored: &[u8], made: &[u8]) -> bool
+    ensures { IsTrue result ↔ (timeless stored.now ≡ timeless made.now) }
+{
+    let stored = without_time(stored);
+    let made = without_time(made);
+    let is_same = stored == made;
+    if is_same {
+        page.push("as expected\n");
+    } else {
+        push_difference(page, path, stored, made);
+    }
+    is_same
+}
+
+/// Returns an answer without its last line, if that has the time.
+fn without_time(answer: &[u8]) -> &[u8]
+    ensures { result.now ≡ timeless answer.now }
+{
+    let start = line_start(answer, answer.len().saturating_sub(1));
+    if tail_of(answer, start).starts_with(TIME) {
+        return front_of(answer, start);
+    }
+    answer
+}
+
+/// Returns the offset after the last LF before an offset.
+fn line_start(text: &[u8], at: usize) -> usize
+    requires { at ≤ length text.now }
+    ensures { IsLineStart text.now at result }
+{
+    let mut start = at;
+    while start > 0 && text[start - 1] != b'\n' {
+        start -= 1;
+    }
+    start
+}
+
+/// Returns the bytes before an offset.
+fn front_of(text: &[u8], at: usize) -> &[u8]
+    ensures { result.now ≡ take at text.now }
+{
+    match text.get(..at) {
+        Some(front) => front,
+        None => text,
+    }
+}
+
+/// Returns the bytes from an offset on.
+fn tail_of(text: &[u8], at: usize) -> &[u8]
+    ensures { result.now ≡ drop at text.now }
+{
+    match text.get(at..) {
+        Some(tail) => tail,
+        None => &[],
+    }
+}
+
+/// Appends where two answers differ first, and how.
+fn push_difference(page: &mut Page, path: &str, stored: &[u8], made: &[u8]) {
+    let at = common_length(stored, made);
+    let start = line_start(stored, at);
+    push_location(page, path, stored, at);
+    push_line(page, "expected ", line_from(stored, start));
+    push_line(page, "found    ", line_from(made, start));
+}
+
+/// Returns how many bytes two texts begin with alike.
+fn common_length(one: &[u8], other: &[u8]) -> usize
+    ensures { result ≤ length one.now }
+{
+    let mut at = 0;
+    while at < one.len() && at < other.len() && one[at] == other[at] {
+        at += 1;
+    }
+    at
+}
+
+/// Returns the bytes of the line that begins at an offset.
+fn line_from(text: &[u8], start: usize) -> &[u8] {
+    let tail = tail_of(text, start);
+    match tail.iter().position(|byte| *byte == b'\n') {
+        Some(end) => front_of(tail, end),
+        None => tail,
+    }
+}
+
+/// Appends the path of a file, and a line and a column of it.
+fn push_location(page: &mut Page, path: &str, text: &[u8], at: usize) {
+    let mut cursor = Cursor::new(text);
+    cursor.go_to(at);
+    let location = cursor.location();
+    page.push_shown(path);
+    page.push(":");
+    page.push_number(location.line);
+    page.push(":");
+    page.push_number(location.column);
+    page.push(": the answer is another\n");
+}
+
+/// Appends a line of an answer in quotes.
+fn push_line(page: &mut Page, before: &str, line: &[u8]) {
+    page.push(before);
+    push_quoted(page, line);
+    page.push("\n");
+}

@@ -1,0 +1,316 @@
+//! The bytes that a tree reads otherwise than the byte before them, found in one walk over it from
+//! the places that read the last byte. `alike` and the steps of trees ask for them.
+
+ghost use Rattle.std.specs.Prelude.{◌≡◌, ◌<◌, ◌^◌, ◌+◌, ◌*◌, ◌==◌, ℕ, IsTrue, IsFalse, length, slice_index};
+ghost use Rattle.logos_automaton.specs.Views.{byte_in, core_of, is_measured, reader_of, spelled, Has, IsFirstFrom, IsRising, GoesAlike, IsCopyAlike, MayLeave, MayPass, OpensAlike, SetsFlags};
+ghost use Rattle.logos_positions.specs.Core as core;
+
+use crate::byte_equivalence::{mark_range, mark_ranges};
+use logos_hir::hir::Range;
+use logos_positions::characters::reader::CharacterTable;
+use logos_positions::node::{Copies, Node, copy_count, width};
+use logos_positions::positions::set::{
+    OwnPositions, alike_copies, any_mark, has_mark, next_copy, own_positions,
+};
+
+/// Returns whether the rows differ.
+fn differ(row: Option<usize>, other: Option<usize>) -> bool
+    ensures { IsFalse result → row ≡ other }
+{
+    match (row, other) {
+        (None, None) => false,
+        (Some(row), Some(other)) => row != other,
+        _ => true,
+    }
+}
+
+/// Sets the flags of the bytes by which a class of characters, entered, leads elsewhere than by the
+/// byte before.
+fn mark_first(table: &CharacterTable, marked: &mut [bool; 256])
+    ensures { SetsFlags (OpensAlike (core.character (reader_of table.now))) marked.old marked.new }
+{
+    for byte in 1..256usize {
+        let is_other = differ(table.first((byte - 1) as u8), table.first(byte as u8));
+        marked[byte] = marked[byte] | is_other;
+    }
+}
+
+/// Sets the flags of the bytes by which a row of a class of characters leads elsewhere than by the
+/// byte before.
+fn mark_row(table: &CharacterTable, row: usize, marked: &mut [bool; 256])
+    requires { row < table.now.rows }
+    ensures { SetsFlags (λ x y. (reader_of table.now).follow row x ≡ (reader_of table.now).follow row y)
+        marked.old marked.new }
+{
+    for byte in 0x80..0xC1usize {
+        let before = table.follow(row, (byte - 1) as u8);
+        let is_other = differ(before, table.follow(row, byte as u8));
+        marked[byte] = marked[byte] | is_other;
+    }
+}
+
+/// Sets the flags of the bytes by which a class of characters, from its rows that read the last
+/// byte, leads elsewhere than by the byte before.
+fn mark_rows(table: &CharacterTable, marks: &[usize], base: usize, marked: &mut [bool; 256])
+    requires rising { IsRising marks.now }
+    requires fits { base + table.now.rows < 2 ^ 64 }
+    ensures { SetsFlags (GoesAlike (core.character (reader_of table.now)) (λ q. Has marks.now (base + q)))
+        marked.old marked.new }
+{
+    let rows = Copies {
+        base,
+        each: 1,
+        count: table.rows,
+        entered: false,
+    };
+    let mut row = next_copy(marks, rows, 0, false);
+    while row < table.rows {
+        mark_row(table, row, marked);
+        row = next_copy(marks, rows, row + 1, false);
+    }
+}
+
+/// Sets the flags of a byte and of the byte after it.
+fn mark_byte(byte: u8, marked: &mut [bool; 256])
+    ensures { SetsFlags (OpensAlike (byte_in (λ x. x == byte))) marked.old marked.new }
+{
+    let value = byte as u32;
+    mark_range(Range::new(value, value), marked);
+}
+
+/// Sets the flags of the byte of a literal at an index, if there is one, and of the byte after it.
+fn mark_at(text: &[u8], at: usize, marked: &mut [bool; 256])
+    ensures { SetsFlags (λ x y. at < length text.now →
+        (x == slice_index text.now at) ≡ (y == slice_index text.now at)) marked.old marked.new }
+{
+    if let Some(byte) = text.get(at) {
+        mark_byte(*byte, marked);
+    }
+}
+
+/// Sets the flags of the bytes that a literal, entered, reads otherwise than the byte before, and
+/// returns whether it is empty.
+fn open_literal(text: &[u8], marked: &mut [bool; 256]) -> bool
+    ensures marks { SetsFlags (OpensAlike (spelled text.now)) marked.old marked.new }
+    ensures passes { MayPass (spelled text.now) → IsTrue result }
+{
+    mark_at(text, 0, marked);
+    text.is_empty()
+}
+
+/// Sets the flags of the bytes that a tree, entered, reads otherwise than the byte before, and
+/// returns whether it may be passed without a byte.
+#[cycle(open)]
+fn open(node: &Node, marked: &mut [bool; 256]) -> bool
+    ensures marks { SetsFlags (OpensAlike (core_of node.now)) marked.old marked.new }
+    ensures passes { MayPass (core_of node.now) → IsTrue result }
+{
+    match node {
+        Node::Void => false,
+        Node::Empty | Node::Look(_) => true,
+        Node::Literal(text) => open_literal(text, marked),
+        Node::Bytes(ranges) => {
+            mark_ranges(ranges, marked);
+            false
+        }
+        Node::Characters(table) => {
+            mark_first(table, marked);
+            false
+        }
+        Node::Cat { first, second, .. } => {
+            if !open(first, marked) {
+                return false;
+            }
+            open(second, marked)
+        }
+        Node::Alt { first, second, .. } => {
+            let one = open(first, marked);
+            let other = open(second, marked);
+            one | other
+        }
+        Node::Repeat { least, body, .. } => {
+            let passed = open(body, marked);
+            passed | (*least == 0)
+        }
+    }
+}
+
+/// Does what `open` does, if the tree is entered.
+fn open_if(entered: bool, node: &Node, marked: &mut [bool; 256]) -> bool
+    ensures marks { SetsFlags (λ x y. IsTrue entered → OpensAlike (core_of node.now) x y)
+        marked.old marked.new }
+    ensures passes { IsTrue entered → MayPass (core_of node.now) → IsTrue result }
+{
+    if !entered {
+        return false;
+    }
+    open(node, marked)
+}
+
+/// Sets the flags of the bytes that a literal, from its places, reads otherwise than the byte
+/// before, and returns whether its last place is one of them.
+fn follow_literal(text: &[u8], marks: &[usize], base: usize, marked: &mut [bool; 256]) -> bool
+    requires rising { IsRising marks.now }
+    requires fits { base + length text.now < 2 ^ 64 }
+    ensures marks { SetsFlags (GoesAlike (spelled text.now) (λ q. Has marks.now (base + q)))
+        marked.old marked.new }
+    ensures leaves { MayLeave (spelled text.now) (λ q. Has marks.now (base + q)) → IsTrue result }
+{
+    let bytes = Copies {
+        base,
+        each: 1,
+        count: text.len(),
+        entered: false,
+    };
+    let mut done = next_copy(marks, bytes, 0, false);
+    while done < text.len() {
+        mark_at(text, done + 1, marked);
+        done = next_copy(marks, bytes, done + 1, false);
+    }
+    if text.is_empty() {
+        return false;
+    }
+    has_mark(marks, base + (text.len() - 1))
+}
+
+/// Sets the flags of the bytes that a tree, not entered, from its places reads otherwise than the
+/// byte before, and returns whether it may be left.
+#[cycle(follow)]
+fn follow(node: &Node, marks: &[usize], base: usize, marked: &mut [bool; 256]) -> bool
+    requires fits { base + core.width (core_of node.now) < 2 ^ 64 }
+    requires measured { IsTrue (is_measured node.now) }
+    requires rising { IsRising marks.now }
+    ensures marks { SetsFlags (GoesAlike (core_of node.now) (λ q. Has marks.now (base + q)))
+        marked.old marked.new }
+    ensures leaves { MayLeave (core_of node.now) (λ q. Has marks.now (base + q)) → IsTrue result }
+{
+    if !any_mark(marks, base, width(node)) {
+        return false;
+    }
+    if let Node::Alt { .. } = node {
+        let own = own_positions(marks, base, width(node));
+        return follow_marked(node, marks, own, marked);
+    }
+    follow_node(node, marks, base, marked)
+}
+
+/// Does what `follow` does for a tree that has these places of the set. A branch without one of
+/// them is passed over.
+#[cycle(follow)]
+fn follow_marked(node: &Node, marks: &[usize], own: OwnPositions, marked: &mut [bool; 256]) -> bool
+    requires fits { own.base + core.width (core_of node.now) < 2 ^ 64 }
+    requires measured { IsTrue (is_measured node.now) }
+    requires rising { IsRising marks.now }
+    requires some { own.from < own.to }
+    requires from { IsFirstFrom marks.now own.base own.from }
+    requires to { IsFirstFrom marks.now (own.base + core.width (core_of node.now)) own.to }
+    ensures marks { SetsFlags (GoesAlike (core_of node.now) (λ q. Has marks.now (own.base + q)))
+        marked.old marked.new }
+    ensures leaves { MayLeave (core_of node.now) (λ q. Has marks.now (own.base + q)) →
+        IsTrue result }
+{
+    let Node::Alt { first, second, .. } = node else {
+        return follow_node(node, marks, own.base, marked);
+    };
+    let middle = own.base + width(first);
+    if marks[own.to - 1] < middle {
+        return follow_marked(first, marks, own, marked);
+    }
+    if middle <= marks[own.from] {
+        let own = OwnPositions {
+            base: middle,
+            ..own
+        };
+        return follow_marked(second, marks, own, marked);
+    }
+    let (front, back) = own.parted(marks, middle);
+    let one = follow_marked(first, marks, front, marked);
+    let other = follow_marked(second, marks, back, marked);
+    one | other
+}
+
+/// Does what `follow` does, by the form of the tree.
+#[cycle(follow)]
+fn follow_node(node: &Node, marks: &[usize], base: usize, marked: &mut [bool; 256]) -> bool
+    requires fits { base + core.width (core_of node.now) < 2 ^ 64 }
+    requires measured { IsTrue (is_measured node.now) }
+    requires rising { IsRising marks.now }
+    ensures marks { SetsFlags (GoesAlike (core_of node.now) (λ q. Has marks.now (base + q)))
+        marked.old marked.new }
+    ensures leaves { MayLeave (core_of node.now) (λ q. Has marks.now (base + q)) → IsTrue result }
+{
+    match node {
+        Node::Void | Node::Empty | Node::Look(_) => false,
+        Node::Literal(text) => follow_literal(text, marks, base, marked),
+        Node::Bytes(_) => has_mark(marks, base),
+        Node::Characters(table) => {
+            mark_rows(table, marks, base, marked);
+            has_mark(marks, base)
+        }
+        Node::Cat { first, second, .. } => {
+            let left = follow(first, marks, base, marked);
+            let passed = open_if(left, second, marked);
+            let other = follow(second, marks, base + width(first), marked);
+            passed | other
+        }
+        Node::Alt { first, second, .. } => {
+            let one = follow(first, marks, base, marked);
+            let other = follow(second, marks, base + width(first), marked);
+            one | other
+        }
+        Node::Repeat {
+            least,
+            most,
+            each,
+            body,
+        } => {
+            let copies = Copies {
+                base,
+                each: *each,
+                count: copy_count(*least, *most),
+                entered: false,
+            };
+            follow_copies(body, copies, marks, marked)
+        }
+    }
+}
+
+/// Sets the flags of the bytes that copies of a body, from their places, read otherwise than the
+/// byte before, and returns whether one of them may be left. If one may be, the body may be entered
+/// again. Copies with the same places are asked once.
+#[cycle(follow)]
+fn follow_copies(body: &Node, copies: Copies, marks: &[usize], marked: &mut [bool; 256]) -> bool
+    requires fits { copies.base + copies.each * copies.count < 2 ^ 64 }
+    requires each { copies.each ≡ core.width (core_of body.now) }
+    requires measured { IsTrue (is_measured body.now) }
+    requires rising { IsRising marks.now }
+    ensures marks { SetsFlags (λ x y. (k : ℕ) → k < copies.count → IsCopyAlike (core_of body.now)
+        (λ q. Has marks.now (copies.base + copies.each * k + q)) x y) marked.old marked.new }
+    ensures leaves { (k : ℕ) → k < copies.count → MayLeave (core_of body.now)
+        (λ q. Has marks.now (copies.base + copies.each * k + q)) → IsTrue result }
+{
+    let mut any = false;
+    let mut done = next_copy(marks, copies, 0, false);
+    while done < copies.count {
+        let rest = copies.from(done, false);
+        let left = follow(body, marks, rest.base, marked);
+        any = any | left;
+        let more = alike_copies(marks, rest);
+        done = next_copy(marks, copies, done + 1 + more, false);
+    }
+    open_if(any, body, marked);
+    any
+}
+
+/// Sets the flags of the bytes that a tree, from its places and entered or not, reads otherwise
+/// than the byte before.
+pub fn mark_tree(node: &Node, marks: &[usize], base: usize, entered: bool, marked: &mut [bool; 256])
+    requires fits { base + core.width (core_of node.now) < 2 ^ 64 }
+    requires measured { IsTrue (is_measured node.now) }
+    requires rising { IsRising marks.now }
+    ensures { SetsFlags (λ x y. GoesAlike (core_of node.now) (λ q. Has marks.now (base + q)) x y
+        × (IsTrue entered → OpensAlike (core_of node.now) x y)) marked.old marked.new }
+{
+    open_if(entered, node, marked);
+    follow(node, marks, base, marked);
+}

@@ -1,0 +1,254 @@
+//! What is known of a source that is refused, and what warnings a lexer has.
+
+ghost use Rattle.std.specs.Prelude.{◌≡◌, ◌≢◌, ◌≤◌, [], IfOk};
+ghost use Rattle.logos_causes.specs.Imports.{YieldsEnum, HasSets, IsRefusal, LeavesHaveSets, Spells, delimiter_limit, depth_of, enum_value, set_sizes, sizes_of, tokens_of};
+
+use crate::callbacks::{CallbackOwner, add_callback, add_callbacks};
+use crate::leading_looks::starts_of;
+use crate::meetings::meetings_of;
+use crate::shadowed_leaves::add_hidden;
+use logos_enum::{ItemEnum, ReadError, read_enum};
+use logos_graph::graph::{BuildError, Config, Graph};
+use logos_parser::analysis::{Analysis, analyze_enum};
+use logos_pattern::leaf::{Callback, Leaf};
+use logos_report::{Clues, Warning};
+use logos_token::error::Memory;
+use logos_token::token::{Span, TokenError, Tokens, tokenize};
+use logos_warnings::{Origin, item_warnings};
+use std::alloc::{AllocError, Global};
+use std::mem;
+
+/// What is known of a source that is refused.
+#[derive(Debug, Drop)]
+pub struct Explained {
+    /// What is known of the faults of its graph.
+    pub clues: Clues,
+    /// Its warnings.
+    pub warnings: Vec<Warning>,
+}
+
+impl Explained {
+    /// Returns what is known of a source that cannot be read: nothing.
+    fn nothing(alloc: Global) -> Explained
+        ensures { sizes_of result.clues ≡ [] }
+    {
+        Explained {
+            clues: Clues::none(alloc),
+            warnings: Vec::new(alloc),
+        }
+    }
+}
+
+/// Returns what is known of a source that is refused, beyond its faults, with the warnings of its
+/// callbacks. Nothing is known of one that cannot be read.
+///
+/// # Errors
+///
+/// Returns `Memory` if memory runs out.
+pub fn explain(alloc: Global, source: &str) -> Result<Explained, Memory>
+    // Each set of ambiguous leaves of the source is known, in order.
+    ensures { IfOk result (λ known. HasSets source.now (sizes_of known.clues)) }
+{
+    explain_source(alloc, source, None)
+}
+
+/// Returns the same with all warnings of the enum that the source spells, which derives `Logos`:
+/// first those of `enum_warnings`. So the enum is read once for both.
+///
+/// # Errors
+///
+/// Returns `Memory` if memory runs out.
+pub fn explain_enum(alloc: Global, source: &str, origin: Origin) -> Result<Explained, Memory>
+    // Each set of ambiguous leaves of the source is known, in order.
+    ensures { IfOk result (λ known. HasSets source.now (sizes_of known.clues)) }
+{
+    explain_source(alloc, source, Some(origin))
+}
+
+/// Returns what is known of a source. If its origin is given, the warnings of `enum_warnings` are
+/// part of it.
+fn explain_source(alloc: Global, source: &str, origin: Option<Origin>) -> Result<Explained, Memory>
+    ensures { IfOk result (λ known. HasSets source.now (sizes_of known.clues)) }
+{
+    match tokenize(alloc, source) {
+        Ok(stream) => explain_tokens(alloc, source, stream.run(), origin),
+        Err(error) => explain_unreadable(alloc, source, error),
+    }
+}
+
+/// Returns what is known of a source without tokens, for this reason: nothing.
+fn explain_unreadable(alloc: Global, source: &str, error: TokenError) -> Result<Explained, Memory>
+    requires { IsRefusal source.now error }
+    ensures { IfOk result (λ known. HasSets source.now (sizes_of known.clues)) }
+{
+    match error {
+        TokenError::Lexical { .. } => Ok(Explained::nothing(alloc)),
+        TokenError::LimitSource => Ok(Explained::nothing(alloc)),
+        TokenError::LimitTokenNesting { .. } => Ok(Explained::nothing(alloc)),
+        TokenError::Memory => Err(Memory),
+    }
+}
+
+/// Returns what is known of a source with these tokens.
+fn explain_tokens(
+    alloc: Global,
+    source: &str,
+    tokens: Tokens<'_, '_>,
+    origin: Option<Origin>,
+) -> Result<Explained, Memory>
+    requires spelled { Spells source.now (tokens_of tokens) }
+    requires shallow { depth_of (tokens_of tokens) ≤ delimiter_limit }
+    ensures { IfOk result (λ known. HasSets source.now (sizes_of known.clues)) }
+{
+    match read_enum(alloc, tokens) {
+        Ok(item) => explain_item(alloc, source, &item, tokens.span(), origin),
+        Err(error) => explain_misread(alloc, error),
+    }
+}
+
+/// Returns what is known of tokens that are not an enum, for this reason: nothing.
+fn explain_misread(alloc: Global, error: ReadError) -> Result<Explained, Memory>
+    ensures known { IfOk result (λ known. sizes_of known.clues ≡ []) }
+    ensures fault { IfOk result (λ known. error ≢ ReadError.Memory) }
+{
+    match error {
+        ReadError::NotAnEnum { .. } => Ok(Explained::nothing(alloc)),
+        ReadError::Grammar { .. } => Ok(Explained::nothing(alloc)),
+        ReadError::TypeUnsupported { .. } => Ok(Explained::nothing(alloc)),
+        ReadError::LimitTypeNesting { .. } => Ok(Explained::nothing(alloc)),
+        ReadError::Memory => Err(Memory),
+    }
+}
+
+/// Returns what is known of the enum that a source spells, which has this span.
+fn explain_item(
+    alloc: Global,
+    source: &str,
+    item: &ItemEnum<'_, '_>,
+    span: Span,
+    origin: Option<Origin>,
+) -> Result<Explained, Memory>
+    requires { YieldsEnum source.now (enum_value item.now) span }
+    ensures { IfOk result (λ known. HasSets source.now (sizes_of known.clues)) }
+{
+    let mut warnings = known_warnings(alloc, item, origin)?;
+    let clues = clues_in(alloc, source, item, span, &mut warnings)?;
+    Ok(Explained { clues, warnings })
+}
+
+/// Returns the warnings of an enum that derives `Logos`, if its origin is given.
+fn known_warnings(
+    alloc: Global,
+    item: &ItemEnum<'_, '_>,
+    origin: Option<Origin>,
+) -> Result<Vec<Warning>, AllocError> {
+    match origin {
+        Some(origin) => item_warnings(alloc, item, true, origin),
+        None => Ok(Vec::new(alloc)),
+    }
+}
+
+/// Returns what is known of the faults of the enum that a source spells, which has this span. Adds
+/// the warnings of its callbacks.
+fn clues_in(
+    alloc: Global,
+    source: &str,
+    item: &ItemEnum<'_, '_>,
+    span: Span,
+    warnings: &mut Vec<Warning>,
+) -> Result<Clues, Memory>
+    requires { YieldsEnum source.now (enum_value item.now) span }
+    ensures { IfOk result (λ clues. HasSets source.now (sizes_of clues)) }
+{
+    match analyze_enum(alloc, item, span) {
+        Ok(analysis) => {
+            let mut analysis = analysis;
+            let clues = clues_of_analysis(alloc, source, &mut analysis, warnings);
+            drop(analysis);
+            clues
+        }
+        Err(Memory) => Err(Memory),
+    }
+}
+
+/// Returns what is known of the faults of an analysis, whose leaves it takes out. Adds the warnings
+/// of its callbacks.
+fn clues_of_analysis(
+    alloc: Global,
+    source: &str,
+    analysis: &mut Analysis<'_>,
+    warnings: &mut Vec<Warning>,
+) -> Result<Clues, Memory>
+    ensures { IfOk result (λ clues.
+        LeavesHaveSets analysis.old.leaves.items (sizes_of clues)) }
+{
+    let error = callback_of(analysis);
+    add_callback(alloc, source, CallbackOwner::ErrorType, error, warnings)?;
+    add_callbacks(alloc, source, &analysis.leaves, warnings)?;
+    let utf8_mode = analysis.parser.is_utf8();
+    clues_of_leaves(alloc, leaves_of(alloc, analysis), utf8_mode)
+}
+
+/// Returns the callback for errors of an analysis, if there is one.
+fn callback_of<'a, 's>(analysis: &'a Analysis<'s>) -> Option<&'a Callback<'s>> {
+    match &analysis.parser.error_type {
+        Some(error) => error.callback.as_ref(),
+        None => None,
+    }
+}
+
+/// Takes the leaves out of an analysis, and returns them.
+fn leaves_of<'s>(alloc: Global, analysis: &mut Analysis<'s>) -> Vec<Leaf<'s>>
+    ensures { result ≡ analysis.old.leaves }
+{
+    mem::replace(&mut analysis.leaves, Vec::new(alloc))
+}
+
+/// Returns what is known of the faults of the graph of leaves. Nothing is known where a limit keeps
+/// it from being built.
+fn clues_of_leaves(alloc: Global, leaves: Vec<Leaf<'_>>, utf8_mode: bool) -> Result<Clues, Memory>
+    ensures { IfOk result (λ clues. LeavesHaveSets leaves.entry.items (sizes_of clues)) }
+{
+    match Graph::new(alloc, leaves, Config { utf8_mode }) {
+        Ok(graph) => Ok(clues_of(alloc, &graph)?),
+        Err(BuildError::LimitSize) => Ok(Clues::none(alloc)),
+        Err(BuildError::LimitStates) => Ok(Clues::none(alloc)),
+        Err(BuildError::Memory) => Err(Memory),
+    }
+}
+
+/// Returns what is known of the faults of a graph.
+fn clues_of(alloc: Global, graph: &Graph<'_>) -> Result<Clues, AllocError>
+    ensures { IfOk result (λ clues. sizes_of clues ≡ set_sizes graph.now.faults) }
+{
+    Ok(Clues {
+        meetings: meetings_of(alloc, graph)?,
+        starts: starts_of(alloc, graph.leaves())?,
+        helps: Vec::new(alloc),
+    })
+}
+
+/// Returns the warnings of a lexer without faults: those of its callbacks, of which one may be for
+/// errors, and those of leaves that are never found. `source` is the text of its enum.
+///
+/// # Errors
+///
+/// Returns `Memory` if memory runs out.
+pub fn lexer_warnings(
+    alloc: Global,
+    source: &str,
+    graph: &Graph<'_>,
+    error: Option<&Callback<'_>>,
+) -> Result<Vec<Warning>, Memory> {
+    let mut warnings = Vec::new(alloc);
+    add_callback(
+        alloc,
+        source,
+        CallbackOwner::ErrorType,
+        error,
+        &mut warnings,
+    )?;
+    add_callbacks(alloc, source, graph.leaves(), &mut warnings)?;
+    add_hidden(alloc, graph, &mut warnings)?;
+    Ok(warnings)
+}

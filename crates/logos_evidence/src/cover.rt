@@ -1,0 +1,53 @@
+//! Inputs that together pass all edges of a graph.
+
+ghost use Rattle.std.specs.Prelude.{◌≡◌, IfOk, map};
+ghost use Rattle.logos_evidence.specs.Imports.{AreCoveringInputs, edge_next, edge_goal, shown};
+
+use crate::examples::point_from;
+use crate::graph_steps::{next_at_end, next_by, states_of};
+use logos_graph::graph::{Graph, StateData};
+use logos_search::{Machine, Point, covering};
+use std::alloc::{AllocError, Global};
+
+/// A machine that follows the edges of a graph.
+#[derive(Clone, Copy)]
+struct EdgeMachine<'g> {
+    states: &'g [&'g StateData],
+}
+
+impl Machine for EdgeMachine<'_> {
+    ghost leads = { λ it. edge_next (shown it.states.now) };
+
+    ghost goal = { λ it. edge_goal (shown it.states.now) };
+
+    fn next(&self, at: Point, byte: u8) -> Option<Point> {
+        let here = next_by(self.states, at.here, byte)?;
+        Some(point_from(here))
+    }
+
+    fn is_goal(&self, at: Point) -> bool {
+        next_at_end(self.states, at.here).is_some()
+    }
+}
+
+/// Returns inputs that together pass all edges of a graph that inputs pass: each edge that a byte
+/// takes from one state to another, and each that the end of an input takes. They are seeds for
+/// tests and fuzzers.
+///
+/// Each input passes an edge that none before it passes, so there are at most as many as there are
+/// edges. In UTF-8 mode they are UTF-8. Deep states come first. Each input has at most one byte for
+/// each state on its way, and up to four more. Where many long keywords stand beside a leaf for
+/// names, all inputs together can have as many bytes as the square of the states.
+///
+/// # Errors
+///
+/// Returns `AllocError` if memory runs out.
+pub fn covering_inputs(alloc: Global, graph: &Graph<'_>) -> Result<Vec<Vec<u8>>, AllocError>
+    ensures { IfOk result (λ inputs. AreCoveringInputs graph.now.states graph.now.utf8
+        (map (λ v. v.items) inputs.items)) }
+{
+    let states = states_of(alloc, graph)?;
+    let machine = EdgeMachine { states: &states };
+    let inputs = covering(alloc, &machine, graph.utf8_mode(), point_from(0))?;
+    Ok(inputs)
+}

@@ -1,0 +1,13 @@
+-- Definitions that clauses cite: of lower crates, and those of this one that name no type of it.
+pub use Rattle.logos_causes.specs.Sets.{HasSets}
+pub use Rattle.logos_codegen.specs.Source.{IsRefused}
+pub use Rattle.logos_layout.specs.Inner.{IsWithoutInner}
+pub use Rattle.logos_layout.specs.Layout.{IsLaidOut}
+pub use Rattle.logos_page.specs.Pages.{OccurInOrder}
+pub use Rattle.logos_report.specs.Parts.{refused_texts}
+pub use Rattle.logos_report.specs.Sets.{sizes_of}
+pub use Rattle.logos_rust_file.specs.Files.{AreEnumsOf}
+pub use Rattle.logos_rust_file.specs.Handed.{Refuses}
+pub use Rattle.logos_rust_file.specs.Replacing.{AreInOrder, IsFoundCut, found_span, part_span}
+pub use Rattle.logos_strip.specs.Results.{SpellsEnum}
+pub use Rattle.logos_token.specs.Views.{tokens_of}

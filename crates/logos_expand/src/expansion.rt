@@ -1,0 +1,376 @@
+//! A file with the derive of its lexers expanded.
+
+ghost use Rattle.std.specs.Prelude.{◌≡◌, ◌≤◌, ◌++◌, All, IfErr, IfOk, IsTrue, OnOk, length, map, string_bytes};
+ghost use Rattle.logos_expand.specs.Views.{IsRefused, AreInOrder, IsFoundCut, found_span, part_span, AreEnumsOf, OccurInOrder, Refuses, IsExpanded, IsExpansion, IsFileOf, IsUnreadable, AreRefused, EndsWithLines, FailsFor, GathersAll, ShowsRefused, refused_texts, AddsRefusal, GathersOne, HasSets, IsExpansionBy, sizes_of, SpellsEnum};
+
+use crate::head::with_head;
+use crate::printer::{Site, printed_with};
+use logos_causes::{Explained, explain_enum};
+use logos_codegen::error::Memory;
+use logos_codegen::{Generated, Refusal, generate};
+use logos_file_warnings::{
+    Showing, add_lexer, add_missing, add_passed, add_text, add_warnings, denial_text, push_warned,
+    text_of, warning_lines, warning_text,
+};
+use logos_help::add_helps;
+use logos_host::{Failure, MessageFormat};
+use logos_messages::push_refused_messages;
+use logos_page::Page;
+use logos_report::{
+    Clues, Part, Refused, Source, Warning, count_errors, push_refused, push_summary,
+};
+use logos_rust_file::{FoundEnum, Replacement, enums_in, replace};
+use logos_strip::stripper::strip_enum;
+use logos_tables::{Shape, config_of};
+use logos_warnings::Origin;
+use std::alloc::{AllocError, Global};
+
+/// A file with the derive of its lexers expanded.
+#[derive(Drop)]
+pub struct Expansion {
+    pub bytes: Vec<u8>,
+    /// What is written of the warnings.
+    pub warnings: Vec<u8>,
+}
+
+/// The replacements of the enums of a file, and the faults of those that are refused.
+#[derive(Drop)]
+struct Gathered {
+    parts: Vec<Replacement>,
+    refused: Vec<Refused>,
+}
+
+/// Returns a file with each enum that derives `Logos` replaced by the enum without what belongs to
+/// the derive, and by the implementation. All other text stays as it is.
+///
+/// # Errors
+///
+/// Returns `Refused` with all faults of all these enums, in the order of the file, or with the one
+/// fault of a file that cannot be read into tokens, after its warnings, or with these alone if they
+/// are denied. Returns `Memory` if memory runs out.
+pub fn expand<'w>(
+    source: &Source<'_>,
+    shape: Shape,
+    showing: Showing,
+) -> Result<Expansion, Failure<'w>>
+    ensures done { IfOk result (λ made. IsExpanded shape source.now.text made.bytes.items) }
+    ensures denied { IfErr result (FailsFor showing.format showing.denies shape source.now) }
+{
+    let found = match enums_in(showing.alloc, source.text()) {
+        Ok(found) => found,
+        Err(refusal) => return Err(refused_whole(source, showing, refusal)),
+    };
+    expand_enums(source, shape, showing, &found)
+}
+
+/// Returns the refusal of a file that cannot be read into tokens.
+fn refused_whole<'w>(source: &Source<'_>, showing: Showing, refusal: Refusal) -> Failure<'w>
+    requires { Refuses (IsUnreadable source.now.text) refusal }
+    ensures { (shape : Shape) → FailsFor showing.format showing.denies shape source.now result }
+{
+    let mut refused = Vec::new(showing.alloc);
+    let part = Part { source, offset: 0 };
+    match push_refusal(&mut refused, part, refusal, Clues::none(showing.alloc)) {
+        Ok(()) => refused_file(source, showing, &refused, &[]),
+        Err(Memory) => Failure::Memory,
+    }
+}
+
+/// Returns a file with these enums expanded.
+fn expand_enums<'w>(
+    source: &Source<'_>,
+    shape: Shape,
+    showing: Showing,
+    found: &[FoundEnum],
+) -> Result<Expansion, Failure<'w>>
+    requires enums { AreEnumsOf source.now.text found.now }
+    requires order { AreInOrder 0 (map found_span found.now) (length source.now.text) }
+    requires cut { All (IsFoundCut source.now.text) found.now }
+    ensures done { IfOk result (λ made. IsExpanded shape source.now.text made.bytes.items) }
+    ensures denied { IfErr result (FailsFor showing.format showing.denies shape source.now) }
+{
+    let mut warned = Vec::new(showing.alloc);
+    let site = Site {
+        shape,
+        file: source,
+        offset: 0,
+        by_name: has_import(source),
+    };
+    let gathered = gather(source.text(), site, found, &mut warned)?;
+    add_passed(source.text(), found, &mut warned)?;
+    add_missing(showing, found, &mut warned)?;
+    if gathered.refused.is_empty() {
+        return accepted_file(source, shape, showing, &gathered.parts, &warned);
+    }
+    Err(refused_file(source, showing, &gathered.refused, &warned))
+}
+
+/// Returns whether a file may have an import of `Logos`: whether it has such a path in it.
+fn has_import(source: &Source<'_>) -> bool {
+    let text = source.text();
+    text.contains("::Logos") | text.contains("logos::{") | text.contains("::*")
+}
+
+/// Returns a file with parts replaced, unless its warnings are denied.
+fn accepted_file<'w>(
+    source: &Source<'_>,
+    shape: Shape,
+    showing: Showing,
+    parts: &[Replacement],
+    warned: &[Warning],
+) -> Result<Expansion, Failure<'w>>
+    requires { AreInOrder 0 (map part_span parts.now) (length source.now.text) }
+    ensures done { IfOk result (λ made. IsFileOf shape source.now.text parts.now made.bytes.items) }
+    ensures denied { IfErr result (FailsFor showing.format showing.denies shape source.now) }
+{
+    if showing.denies && !warned.is_empty() {
+        return Err(denied_file(source, showing, warned));
+    }
+    Ok(Expansion {
+        bytes: expanded_file(showing.alloc, source, shape, parts)?,
+        warnings: warning_text(source, showing, warned, parts.is_empty())?,
+    })
+}
+
+/// Returns the refusal of a file for its warnings, which are denied.
+fn denied_file<'w>(source: &Source<'_>, showing: Showing, warned: &[Warning]) -> Failure<'w>
+    requires { IsTrue showing.denies }
+    ensures { (shape : Shape) → FailsFor showing.format showing.denies shape source.now result }
+{
+    match denial_text(source, showing, warned) {
+        Ok(text) => Failure::Refused(text),
+        Err(Memory) => Failure::Memory,
+    }
+}
+
+/// Returns a file with parts replaced, and with a first line that says so if there are any.
+fn expanded_file(
+    alloc: Global,
+    source: &Source<'_>,
+    shape: Shape,
+    parts: &[Replacement],
+) -> Result<Vec<u8>, Memory>
+    requires { AreInOrder 0 (map part_span parts.now) (length source.now.text) }
+    ensures { IfOk result (λ made. IsFileOf shape source.now.text parts.now made.items) }
+{
+    let bytes = replace(alloc, source.text(), parts)?;
+    if parts.is_empty() {
+        return Ok(bytes);
+    }
+    with_head(alloc, source.path(), shape, &bytes)
+}
+
+/// Returns the replacements of these enums of a file, and the faults of those that are refused.
+/// Adds their warnings.
+fn gather(
+    text: &str,
+    site: Site<'_, '_>,
+    found: &[FoundEnum],
+    warned: &mut Vec<Warning>,
+) -> Result<Gathered, Memory>
+    requires order { AreInOrder 0 (map found_span found.now) (length text.now) }
+    requires cut { All (IsFoundCut text.now) found.now }
+    ensures gathers { IfOk result (GathersAll site.entry.shape text.now found.now) }
+    ensures order { IfOk result (λ gathered.
+        AreInOrder 0 (map part_span gathered.parts.items) (length text.now)) }
+{
+    let alloc = *warned.allocator();
+    let mut gathered = Gathered {
+        parts: Vec::new(alloc),
+        refused: Vec::new(alloc),
+    };
+    for one in found {
+        gather_enum(text, site, *one, &mut gathered, warned)?;
+    }
+    Ok(gathered)
+}
+
+/// Adds the replacement or the faults of an enum, if it derives `Logos`, and its warnings.
+fn gather_enum(
+    text: &str,
+    site: Site<'_, '_>,
+    one: FoundEnum,
+    gathered: &mut Gathered,
+    warned: &mut Vec<Warning>,
+) -> Result<(), Memory>
+    requires order { one.span.from ≤ one.span.to }
+    requires cut { IsFoundCut text.now one }
+    ensures { OnOk result (GathersOne site.entry.shape text.now one gathered.old gathered.new) }
+{
+    let span = one.span;
+    let source = &text[span.from..span.to];
+    if !one.derives {
+        return add_text(source, span.from, false, warned);
+    }
+    let site = Site {
+        offset: span.from,
+        by_name: one.by_name & site.by_name,
+        ..site
+    };
+    match expanded(source, site, warned) {
+        Ok(text) => {
+            gathered.parts.push(Replacement { span, text })?;
+            Ok(())
+        }
+        Err(refusal) => {
+            let clues = clues_of(source, span.from, warned)?;
+            let part = Part {
+                source: site.file,
+                offset: span.from,
+            };
+            push_refusal(&mut gathered.refused, part, refusal, clues)
+        }
+    }
+}
+
+/// Returns what is known of an enum that is refused, and adds all its warnings. Its text begins at
+/// an offset of the file.
+fn clues_of(text: &str, offset: usize, warned: &mut Vec<Warning>) -> Result<Clues, Memory>
+    ensures { IfOk result (λ clues. HasSets text.now (sizes_of clues)) }
+{
+    let Explained { clues, warnings } = explain_enum(*warned.allocator(), text, Origin::File)?;
+    add_warnings(offset, warnings, warned)?;
+    Ok(clues)
+}
+
+/// Appends the faults of a part of a file, with what is known of them and what to do about them.
+fn push_refusal(
+    refused: &mut Vec<Refused>,
+    part: Part<'_, '_>,
+    refusal: Refusal,
+    mut clues: Clues,
+) -> Result<(), Memory>
+    ensures { OnOk result
+        (AddsRefusal part.entry.offset refusal clues refused.old.items refused.new.items) }
+{
+    match refusal {
+        Refusal::Errors(errors) => {
+            add_helps(part, &errors, &mut clues)?;
+            refused.push(Refused {
+                offset: part.offset,
+                errors,
+                clues,
+            })?;
+            Ok(())
+        }
+        Refusal::Memory => Err(Memory),
+    }
+}
+
+/// Returns an enum without what belongs to the derive, and the implementation. Adds the warnings of
+/// the enum and of its lexer.
+fn expanded(source: &str, site: Site<'_, '_>, warned: &mut Vec<Warning>) -> Result<String, Refusal>
+    ensures done { IfOk result
+        (λ text. IsExpansion site.entry.shape source.now (string_bytes text)) }
+    ensures refused { IfErr result (Refuses (IsRefused source.now)) }
+{
+    match generate(*warned.allocator(), source, config_of(site.shape)) {
+        Ok(made) => match expansion_by(source, site, &made, warned) {
+            Ok(text) => Ok(text),
+            Err(Memory) => Err(Refusal::Memory),
+        },
+        Err(refusal) => Err(refusal),
+    }
+}
+
+/// Returns an enum without what belongs to the derive, and the text of its lexer. Adds the warnings
+/// of both.
+fn expansion_by(
+    source: &str,
+    site: Site<'_, '_>,
+    made: &Generated<'_>,
+    warned: &mut Vec<Warning>,
+) -> Result<String, Memory>
+    requires { SpellsEnum source.now }
+    ensures { IfOk result (λ text.
+        IsExpansionBy site.entry.shape made.now.code source.now (string_bytes text)) }
+{
+    let alloc = *warned.allocator();
+    add_text(source, site.offset, true, warned)?;
+    add_lexer(
+        source,
+        site.offset,
+        &made.graph,
+        made.code.error_callback(),
+        warned,
+    )?;
+    let left = strip_enum(alloc, source)?;
+    printed_with(alloc, source, left.run(), site, made)
+}
+
+/// Returns the refusal of a file, with the text of all its faults.
+fn refused_file<'w>(
+    source: &Source<'_>,
+    showing: Showing,
+    refused: &[Refused],
+    warned: &[Warning],
+) -> Failure<'w>
+    ensures { (shape : Shape) → AreRefused shape source.now.text refused.now →
+        FailsFor showing.format showing.denies shape source.now result }
+{
+    match faults_text(source, showing, refused, warned) {
+        Ok(text) => Failure::Refused(text),
+        Err(Memory) => Failure::Memory,
+    }
+}
+
+/// Returns what is written of all faults of a file, after its warnings.
+fn faults_text(
+    source: &Source<'_>,
+    showing: Showing,
+    refused: &[Refused],
+    warned: &[Warning],
+) -> Result<String, Memory>
+    ensures { IfOk result (λ text. ShowsRefused showing.format source.now refused.now
+        (string_bytes text)) }
+{
+    match showing.format {
+        MessageFormat::Human => match refusal_text(source, showing, refused, warned) {
+            Ok(text) => Ok(text),
+            Err(AllocError) => Err(Memory),
+        },
+        MessageFormat::Json => text_of(fault_lines(showing.alloc, source, refused, warned)?),
+    }
+}
+
+/// Returns a line of JSON for each warning and each fault of a file, but no more than 50 of a code.
+fn fault_lines(
+    alloc: Global,
+    source: &Source<'_>,
+    refused: &[Refused],
+    warned: &[Warning],
+) -> Result<Vec<u8>, Memory>
+    ensures { IfOk result (λ lines. EndsWithLines source.now refused.now lines.items) }
+{
+    let mut lines = warning_lines(alloc, source, warned)?;
+    push_refused_messages(alloc, &mut lines, source, refused)?;
+    Ok(lines)
+}
+
+/// Returns the text of all faults of a file, in order, with their number, after its warnings. For
+/// each, a line with the name of its code and the first line of its message, and one with its
+/// position in the file stand in it.
+fn refusal_text(
+    source: &Source<'_>,
+    showing: Showing,
+    refused: &[Refused],
+    warned: &[Warning],
+) -> Result<String, AllocError>
+    ensures { IfOk result (λ text. OccurInOrder
+        (refused_texts showing.is_colored source.now refused.now) (string_bytes text)) }
+{
+    let mut page = Page::new(showing.alloc, showing.is_colored);
+    push_warned(&mut page, source, warned);
+    push_refused(&mut page, source, refused);
+    push_summary(&mut page, count_refused(refused));
+    page.finish()
+}
+
+/// Returns how many of these faults are errors.
+fn count_refused(refused: &[Refused]) -> usize {
+    let mut count: usize = 0;
+    for one in refused {
+        count = count.saturating_add(count_errors(&one.errors, &one.clues));
+    }
+    count
+}

@@ -1,0 +1,207 @@
+//! The warnings of a file, and how they are shown.
+
+ghost use Rattle.std.specs.Prelude.{◌≡◌, IfOk, [], string_bytes};
+ghost use Rattle.logos_page.specs.Pages.{Shows};
+
+use logos_causes::lexer_warnings;
+use logos_graph::graph::Graph;
+use logos_host::MessageFormat;
+use logos_messages::push_warning_messages;
+use logos_page::Page;
+use logos_pattern::leaf::Callback;
+use logos_report::{Part, Source, Warning, push_warnings};
+use logos_rust_file::FoundEnum;
+use logos_token::error::Memory;
+use logos_token::token::Span;
+use logos_warnings::{Origin, enum_warnings, fixed_warning, passed_over};
+use std::alloc::{AllocError, Global};
+
+/// How what is wrong with a file is shown.
+#[derive(Clone, Copy)]
+pub struct Showing {
+    /// Where memory for messages comes from.
+    pub alloc: Global,
+    pub format: MessageFormat,
+    /// Whether messages have colors.
+    pub is_colored: bool,
+    /// Whether a file with warnings is refused.
+    pub denies: bool,
+}
+
+/// Adds warnings of what begins at an offset of a file. Their spans then count from the beginning
+/// of the file.
+pub fn add_warnings(
+    offset: usize,
+    warnings: Vec<Warning>,
+    warned: &mut Vec<Warning>,
+) -> Result<(), Memory> {
+    for warning in warnings {
+        warned.push(moved(warning, offset))?;
+    }
+    Ok(())
+}
+
+/// Returns a warning whose spans count from another offset.
+fn moved(warning: Warning, offset: usize) -> Warning {
+    let mut moved = warning;
+    moved.span = moved_span(moved.span, offset);
+    moved.also = match moved.also {
+        Some(span) => Some(moved_span(span, offset)),
+        None => None,
+    };
+    moved
+}
+
+/// Returns a span that counts from an offset as one of the file.
+fn moved_span(span: Span, offset: usize) -> Span {
+    Span {
+        from: span.from.saturating_add(offset),
+        to: span.to.saturating_add(offset),
+    }
+}
+
+/// Adds the warnings of the text of an enum that begins at an offset of a file, and that derives
+/// `Logos` or not.
+pub fn add_text(
+    text: &str,
+    offset: usize,
+    derives: bool,
+    warned: &mut Vec<Warning>,
+) -> Result<(), Memory> {
+    let warnings = enum_warnings(*warned.allocator(), text, derives, Origin::File)?;
+    add_warnings(offset, warnings, warned)
+}
+
+/// Adds the warnings of the lexer of an enum, whose text begins at an offset of a file. It may have
+/// a callback for errors.
+pub fn add_lexer(
+    text: &str,
+    offset: usize,
+    graph: &Graph<'_>,
+    error: Option<&Callback<'_>>,
+    warned: &mut Vec<Warning>,
+) -> Result<(), Memory> {
+    let warnings = lexer_warnings(*warned.allocator(), text, graph, error)?;
+    add_warnings(offset, warnings, warned)
+}
+
+/// Adds the warnings of entries of `derive` that are passed over in a file with these enums.
+pub fn add_passed(
+    text: &str,
+    found: &[FoundEnum],
+    warned: &mut Vec<Warning>,
+) -> Result<(), Memory> {
+    let alloc = *warned.allocator();
+    let spans = spans_of(alloc, found)?;
+    let warnings = passed_over(alloc, text, &spans)?;
+    add_warnings(0, warnings, warned)
+}
+
+const MISSING: &str = "no enum in this file derives `Logos`";
+
+/// Adds the warning of a file with these enums of which none derives `Logos`, where it has to be a
+/// line of JSON or is denied. It is about the beginning of the file.
+pub fn add_missing(
+    showing: Showing,
+    found: &[FoundEnum],
+    warned: &mut Vec<Warning>,
+) -> Result<(), Memory> {
+    let is_requested = showing.denies | matches!(showing.format, MessageFormat::Json);
+    if !is_requested || has_lexer(found) {
+        return Ok(());
+    }
+    let mut warnings = Vec::new(showing.alloc);
+    let start = Span { from: 0, to: 0 };
+    warnings.push(fixed_warning(showing.alloc, MISSING, start, None)?)?;
+    add_warnings(0, warnings, warned)
+}
+
+/// Returns whether one of these enums derives `Logos`.
+pub fn has_lexer(found: &[FoundEnum]) -> bool {
+    for one in found {
+        if one.derives {
+            return true;
+        }
+    }
+    false
+}
+
+/// Returns the spans of those of these enums that derive `Logos`.
+fn spans_of(alloc: Global, found: &[FoundEnum]) -> Result<Vec<Span>, AllocError> {
+    let mut spans = Vec::new(alloc);
+    for one in found {
+        if one.derives {
+            spans.push(one.span)?;
+        }
+    }
+    Ok(spans)
+}
+
+/// Appends the warnings of a file.
+pub fn push_warned(page: &mut Page, source: &Source<'_>, warned: &[Warning])
+    ensures { Shows [] page.old page.new }
+{
+    push_warnings(page, Part { source, offset: 0 }, warned);
+}
+
+/// Returns what is written of the warnings of a file. `is_missing` says whether none of its enums
+/// derives `Logos`, which is a line of the report.
+pub fn warning_text(
+    source: &Source<'_>,
+    showing: Showing,
+    warned: &[Warning],
+    is_missing: bool,
+) -> Result<Vec<u8>, Memory> {
+    match showing.format {
+        MessageFormat::Human => {
+            let mut page = Page::new(showing.alloc, showing.is_colored);
+            push_warned(&mut page, source, warned);
+            push_missing(&mut page, source, is_missing);
+            Ok(page.finish()?.into_bytes())
+        }
+        MessageFormat::Json => warning_lines(showing.alloc, source, warned),
+    }
+}
+
+/// Appends that no enum of a file derives `Logos`, if that is so.
+fn push_missing(page: &mut Page, source: &Source<'_>, is_missing: bool) {
+    if is_missing {
+        page.push("warning: no enum in ");
+        page.push_shown(source.path());
+        page.push(" derives `Logos`\n");
+    }
+}
+
+/// Returns a line of JSON for each warning.
+pub fn warning_lines(
+    alloc: Global,
+    source: &Source<'_>,
+    warned: &[Warning],
+) -> Result<Vec<u8>, Memory> {
+    let mut lines = Vec::new(alloc);
+    push_warning_messages(alloc, &mut lines, Part { source, offset: 0 }, warned)?;
+    Ok(lines)
+}
+
+/// Returns what is written of a file whose warnings are denied.
+pub fn denial_text(
+    source: &Source<'_>,
+    showing: Showing,
+    warned: &[Warning],
+) -> Result<String, Memory> {
+    let mut text = text_of(warning_text(source, showing, warned, false)?)?;
+    if let MessageFormat::Human = showing.format {
+        text.push_str("error: warnings are denied by `--deny-warnings`\n")?;
+    }
+    Ok(text)
+}
+
+/// Returns the text that these bytes spell.
+pub fn text_of(bytes: Vec<u8>) -> Result<String, Memory>
+    ensures { IfOk result (λ text. string_bytes text ≡ bytes.items) }
+{
+    match String::from_utf8(bytes) {
+        Ok(text) => Ok(text),
+        Err(_) => Err(Memory),
+    }
+}

@@ -1,0 +1,160 @@
+//! The documentation and the attributes of a file itself, which stand first in it.
+
+ghost use Rattle.std.specs.Prelude.{◌≡◌, ◌<◌, ◌++◌, IfOk, IfSome, IsTrue, MatchOption, None, Some, string_bytes};
+ghost use Rattle.logos_layout.specs.Imports.{AreInner, IsInnerText, IsPlainly, IsWithoutInner, Spells, after_brackets, after_inner, after_mark, count_of, is_inner, none, tokens_of};
+
+use crate::plain_comments::plain_text;
+use logos_token::error::Memory;
+use logos_token::token::{Delimiter, TokenError, TokenTree, Tokens, tokenize};
+use std::alloc::Global;
+
+/// Returns a Rust text in which the inner documentation and the inner attributes that come first
+/// are plain comments: `//!` is `//`, `/*!` is `/*`, and `#![..]` stands in `/* */`. So another
+/// file can include it. All other bytes stay.
+///
+/// A text that cannot be read into tokens stays as it is, and so does one whose attributes would
+/// end these comments.
+///
+/// # Errors
+///
+/// Returns `Memory` if memory runs out.
+pub fn without_inner(alloc: Global, text: &str) -> Result<String, Memory>
+    ensures { IfOk result (λ made. IsWithoutInner text.now (string_bytes made)) }
+{
+    let end = inner_end(alloc, text)?;
+    match text.split_at_checked(end) {
+        Some((front, rest)) => match plain_front(alloc, front)? {
+            Some(plain) => joined(plain, rest),
+            None => same(alloc, text),
+        },
+        None => same(alloc, text),
+    }
+}
+
+/// Returns a text as it is.
+fn same(alloc: Global, text: &str) -> Result<String, Memory>
+    ensures { IfOk result (λ made. string_bytes made ≡ text.now) }
+{
+    Ok(String::from_str(alloc, text)?)
+}
+
+/// Returns two texts, one after the other.
+fn joined(front: String, rest: &str) -> Result<String, Memory>
+    ensures { IfOk result (λ made. string_bytes made ≡ string_bytes front ++ rest.now) }
+{
+    let mut text = front;
+    text.push_str(rest)?;
+    Ok(text)
+}
+
+/// Returns where the inner documentation comments and attributes end that come first in a text, in
+/// bytes.
+fn inner_end(alloc: Global, text: &str) -> Result<usize, Memory> {
+    match tokenize(alloc, text) {
+        Ok(stream) => Ok(read_inner(stream.run()).0),
+        Err(TokenError::Memory) => Err(Memory),
+        Err(_) => Ok(0),
+    }
+}
+
+/// Returns the plain comments that stand for a text of inner documentation comments and attributes.
+/// `None` if the text spells anything else, or if the comments would spell anything.
+fn plain_front(alloc: Global, front: &str) -> Result<Option<String>, Memory>
+    ensures { IfOk result (λ found. IfSome found
+        (λ plain. IsInnerText front.now × Spells (string_bytes plain) none)) }
+{
+    if !is_inner_text(alloc, front)? {
+        return Ok(None);
+    }
+    let plain = plain_text(alloc, front)?;
+    if is_bare(alloc, plain.as_str())? {
+        return Ok(Some(plain));
+    }
+    Ok(None)
+}
+
+/// Returns whether a text spells inner documentation comments and attributes alone.
+fn is_inner_text(alloc: Global, text: &str) -> Result<bool, Memory>
+    ensures { IfOk result (λ is. IsTrue is → IsInnerText text.now) }
+{
+    match tokenize(alloc, text) {
+        Ok(stream) => Ok(read_inner(stream.run()).1),
+        Err(TokenError::Memory) => Err(Memory),
+        Err(_) => Ok(false),
+    }
+}
+
+/// Returns whether a text spells no tokens.
+fn is_bare(alloc: Global, text: &str) -> Result<bool, Memory>
+    ensures { IfOk result (λ is. IsTrue is → Spells text.now none) }
+{
+    match tokenize(alloc, text) {
+        Ok(stream) => Ok(stream.run().is_empty()),
+        Err(TokenError::Memory) => Err(Memory),
+        Err(_) => Ok(false),
+    }
+}
+
+/// Returns where the inner documentation comments and attributes end that come first in a run, in
+/// bytes, and whether they are all of it.
+fn read_inner(run: Tokens<'_, '_>) -> (usize, bool)
+    ensures { IsTrue result.1 → AreInner (tokens_of run.entry) }
+{
+    let mut rest = run;
+    let mut end = 0;
+    while let Some((to, next)) = inner_at(rest) {
+        end = to;
+        rest = next;
+    }
+    (end, rest.is_empty())
+}
+
+/// Returns where the inner documentation comment or attribute ends that comes first, and what
+/// follows it; `None` if none comes first.
+fn inner_at<'t, 's>(tokens: Tokens<'t, 's>) -> Option<(usize, Tokens<'t, 's>)>
+    ensures { MatchOption result (after_inner (tokens_of tokens.entry) ≡ None)
+        (λ read. (after_inner (tokens_of tokens.entry) ≡ Some (tokens_of read.1))
+        × (count_of (tokens_of read.1) < count_of (tokens_of tokens.entry))) }
+{
+    match tokens.first() {
+        Some(TokenTree::Doc(doc)) if is_inner(doc.text) => Some((doc.span.to, tokens.rest())),
+        Some(TokenTree::Punct(punct)) if punct.character == '#' => marked(tokens.rest()),
+        _ => None,
+    }
+}
+
+/// Returns where the brackets end that come after `!`, and what follows them.
+fn marked<'t, 's>(tokens: Tokens<'t, 's>) -> Option<(usize, Tokens<'t, 's>)>
+    ensures { MatchOption result (after_mark (tokens_of tokens.entry) ≡ None)
+        (λ read. (after_mark (tokens_of tokens.entry) ≡ Some (tokens_of read.1))
+        × (count_of (tokens_of read.1) < count_of (tokens_of tokens.entry))) }
+{
+    match tokens.first() {
+        Some(TokenTree::Punct(punct)) if punct.character == '!' => bracketed(tokens.rest()),
+        _ => None,
+    }
+}
+
+/// Returns where the brackets end that come first, and what follows them.
+fn bracketed<'t, 's>(tokens: Tokens<'t, 's>) -> Option<(usize, Tokens<'t, 's>)>
+    ensures { MatchOption result (after_brackets (tokens_of tokens.entry) ≡ None)
+        (λ read. (after_brackets (tokens_of tokens.entry) ≡ Some (tokens_of read.1))
+        × (count_of (tokens_of read.1) < count_of (tokens_of tokens.entry))) }
+{
+    match tokens.first() {
+        Some(TokenTree::Group(group)) if group.delimiter == Delimiter::Bracket => {
+            Some((group.span.to, tokens.rest()))
+        }
+        _ => None,
+    }
+}
+
+/// Returns whether a documentation comment is of what surrounds it.
+fn is_inner(comment: &str) -> bool
+    ensures { result ≡ is_inner comment.now }
+{
+    match comment.as_bytes() {
+        [_, _, mark, ..] => *mark == b'!',
+        _ => false,
+    }
+}

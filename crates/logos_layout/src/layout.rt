@@ -1,0 +1,56 @@
+//! Lays out a text.
+
+ghost use Rattle.std.specs.Prelude.{IfOk, string_bytes};
+ghost use Rattle.logos_layout.specs.Imports.{IsLaidOut};
+
+use crate::comparison::spell_same;
+use crate::line_breaks::lines_of;
+use logos_token::error::Memory;
+use std::alloc::Global;
+
+/// A comment that names a line of another text.
+#[derive(Clone, Copy)]
+pub struct Note {
+    /// Before which byte of the text it stands, as an offset.
+    pub offset: usize,
+    /// The number of the line, from 1 on.
+    pub line: usize,
+}
+
+/// How a text is laid out, apart from its tokens.
+#[derive(Clone, Copy)]
+pub struct Setting<'n> {
+    /// The blanks that stand before each line: spaces and tabs.
+    pub margin: &'n str,
+    /// The comments that are put in, in the order of their offsets.
+    pub notes: &'n [Note],
+}
+
+/// Returns a Rust text laid out in lines, with the same tokens and the same comments, and with
+/// those that the setting puts in. The margin and four blanks for each level of braces stand before
+/// a line, and a line has at most 100 bytes where a blank allows it. Lines end after `;`, after the
+/// braces of blocks, after commas between braces, after attributes and comments, and where the text
+/// has a line end. Short braces stay on one line.
+///
+/// A text that cannot be read into tokens, or is longer than 16,777,216 bytes in lines, stays as it
+/// is.
+///
+/// # Errors
+///
+/// Returns `Memory` if memory runs out.
+pub fn lay_out(alloc: Global, text: &str, setting: Setting<'_>) -> Result<String, Memory>
+    ensures { IfOk result (λ laid. IsLaidOut text.now (string_bytes laid)) }
+{
+    let laid = lines_of(alloc, text, setting)?;
+    if spell_same(alloc, text, laid.as_str())? {
+        return Ok(laid);
+    }
+    unchanged(alloc, text)
+}
+
+/// Returns a text as it is.
+fn unchanged(alloc: Global, text: &str) -> Result<String, Memory>
+    ensures { IfOk result (λ laid. IsLaidOut text.now (string_bytes laid)) }
+{
+    Ok(String::from_str(alloc, text)?)
+}

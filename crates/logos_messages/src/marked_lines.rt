@@ -1,0 +1,87 @@
+//! Lines of a file, and the columns of a span in them.
+
+ghost use Rattle.std.specs.Prelude.{◌≡◌, [], ◌∷◌};
+ghost use Rattle.logos_messages.specs.Imports.{Gains, YieldsLineList, YieldsLines, marked_tokens};
+
+use logos_json::JsonLines;
+use logos_lines::Location;
+use logos_report::Source;
+
+/// How many lines a span may go on after its first one to be shown with its lines.
+const LINES: usize = 8;
+
+/// How many bytes a line that is shown may have.
+pub(crate) const LONG: usize = 400;
+
+/// Where a span begins and ends.
+#[derive(Clone, Copy)]
+pub(crate) struct Reach {
+    pub(crate) first: Location,
+    pub(crate) last: Location,
+}
+
+/// Appends the lines of a span, as a member. Lines that are long are left out, and so are all lines
+/// of a span that has many.
+pub(crate) fn push_lines(lines: &mut JsonLines, source: &Source<'_>, reach: Reach)
+    ensures { YieldsLineList source.now.text lines.old lines.new }
+{
+    lines.begin_list("text");
+    push_each_line(lines, source, reach);
+    lines.end_list();
+}
+
+/// Appends the lines of a span that are not long, if there are few.
+fn push_each_line(lines: &mut JsonLines, source: &Source<'_>, reach: Reach)
+    ensures { YieldsLines source.now.text lines.old lines.new }
+{
+    if reach.last.line.saturating_sub(reach.first.line) > LINES {
+        return;
+    }
+    for number in reach.first.line..reach.last.line.saturating_add(1) {
+        push_line(lines, source, reach, number);
+    }
+}
+
+/// Appends a line, unless it is long.
+fn push_line(lines: &mut JsonLines, source: &Source<'_>, reach: Reach, number: usize)
+    ensures { YieldsLines source.now.text lines.old lines.new }
+{
+    if let Some(text) = source.short_line(number, LONG) {
+        push_marked(
+            lines,
+            text,
+            first_column(reach, number),
+            last_column(reach, number, text),
+        );
+    }
+}
+
+/// Returns the column at which a span begins in a line.
+fn first_column(reach: Reach, number: usize) -> usize {
+    if number == reach.first.line {
+        reach.first.column
+    } else {
+        1
+    }
+}
+
+/// Returns the column before which a span ends in a line with this text.
+fn last_column(reach: Reach, number: usize, text: &str) -> usize {
+    if number == reach.last.line {
+        reach.last.column
+    } else {
+        text.chars().count().saturating_add(1)
+    }
+}
+
+/// Appends a line with the columns of a span in it.
+fn push_marked(lines: &mut JsonLines, text: &str, from: usize, to: usize)
+    ensures { Gains (marked_tokens (record { text = text.now; from = from; to = to })) lines.old
+        lines.new }
+{
+    lines.begin_object();
+    lines.push_text("text", text);
+    lines.push_number("highlight_start", from);
+    lines.push_number("highlight_end", to);
+    lines.end_object();
+}

@@ -1,0 +1,172 @@
+//! Trees, prepared for the automaton. `prepare` makes them, and steps read them.
+
+ghost use Rattle.std.specs.Prelude.{◌≡◌, ◌+◌, ◌*◌, ◌^◌, ◌<◌, ◌≤◌, ◌-◌, IsTrue, false};
+ghost use Rattle.logos_positions.specs.Views.{count_of, core_of, is_measured};
+ghost use Rattle.logos_positions.specs.Core as core;
+
+use crate::characters::reader::CharacterTable;
+use logos_hir::hir::{Look, Range};
+
+/// A tree whose parts and branches are in pairs, with their numbers of places.
+#[derive(Drop)]
+pub enum Node {
+    /// Matches nothing.
+    Void,
+    /// Matches the empty text.
+    Empty,
+    /// These bytes, in order.
+    Literal(Vec<u8>),
+    /// One byte of these ranges.
+    Bytes(Vec<Range>),
+    /// One character of a class.
+    Characters(CharacterTable),
+    /// A look: a condition on a position in the input.
+    Look(Look),
+    /// One tree after the other.
+    Cat {
+        /// The number of places of both.
+        width: usize,
+        first: Box<Node>,
+        second: Box<Node>,
+    },
+    /// One of two trees.
+    Alt {
+        /// The number of places of both.
+        width: usize,
+        first: Box<Node>,
+        second: Box<Node>,
+    },
+    /// The body, at least `least` times, and at most `most` times if there is such a bound.
+    Repeat {
+        least: usize,
+        most: Option<usize>,
+        /// The number of places of the body.
+        each: usize,
+        body: Box<Node>,
+    },
+}
+
+/// Returns how many copies of its body a repetition has, each with places of its own.
+pub fn copy_count(least: usize, most: Option<usize>) -> usize
+    ensures { result ≡ count_of least most }
+{
+    match most {
+        None => least.max(1),
+        Some(most) => most,
+    }
+}
+
+/// Returns the number of places of a tree.
+pub fn width(node: &Node) -> usize
+    requires fits { core.width (core_of node.now) < 2 ^ 64 }
+    requires measured { IsTrue (is_measured node.now) }
+    ensures { result ≡ core.width (core_of node.now) }
+{
+    match node {
+        Node::Void | Node::Empty | Node::Look(_) => 0,
+        Node::Literal(text) => text.len(),
+        Node::Bytes(_) => 1,
+        Node::Characters(table) => table.rows,
+        Node::Cat { width, .. } => *width,
+        Node::Alt { width, .. } => *width,
+        Node::Repeat {
+            least,
+            most,
+            each,
+            ..
+        } => *each * copy_count(*least, *most),
+    }
+}
+
+/// Where a tree stands in a step: at which place its own begin, and whether it is entered.
+#[derive(Clone, Copy)]
+pub struct TreeSpot {
+    /// The first place of the tree.
+    pub base: usize,
+    /// Whether a match of the tree begins at the position of the step.
+    pub entered: bool,
+}
+
+impl TreeSpot {
+    /// Returns the spot of a tree whose places begin at `base`, and that is not entered.
+    pub fn unentered(base: usize) -> TreeSpot
+        ensures base { result.base ≡ base }
+        ensures entered { result.entered ≡ false }
+    {
+        TreeSpot {
+            base,
+            entered: false,
+        }
+    }
+
+    /// Returns the spot after the next `width` places.
+    pub fn after(self, width: usize, entered: bool) -> TreeSpot
+        requires { self.base + width < 2 ^ 64 }
+        ensures base { result.base ≡ self.base + width }
+        ensures entered { result.entered ≡ entered }
+    {
+        TreeSpot {
+            base: self.base + width,
+            entered,
+        }
+    }
+}
+
+/// Copies of the body of a repetition, one after another.
+#[derive(Clone, Copy)]
+pub struct Copies {
+    /// The first place of the first copy.
+    pub base: usize,
+    /// The number of places of each copy.
+    pub each: usize,
+    /// The number of copies.
+    pub count: usize,
+    /// Whether the first copy is entered.
+    pub entered: bool,
+}
+
+impl Copies {
+    /// Returns `count` copies of a body with `each` places, the first of which stands at `spot`.
+    pub fn new(spot: TreeSpot, each: usize, count: usize) -> Copies
+        ensures base { result.base ≡ spot.base }
+        ensures entered { result.entered ≡ spot.entered }
+        ensures each { result.each ≡ each }
+        ensures count { result.count ≡ count }
+    {
+        Copies {
+            base: spot.base,
+            each,
+            count,
+            entered: spot.entered,
+        }
+    }
+
+    /// Returns the copies from this number on. `entered` says whether the first one is entered.
+    pub fn from(self, number: usize, entered: bool) -> Copies
+        requires fits { self.base + self.each * number < 2 ^ 64 }
+        requires within { number ≤ self.count }
+        ensures base { result.base ≡ self.base + self.each * number }
+        ensures each { result.each ≡ self.each }
+        ensures count { result.count ≡ self.count - number }
+        ensures entered { result.entered ≡ entered }
+    {
+        Copies {
+            base: self.base + self.each * number,
+            each: self.each,
+            count: self.count - number,
+            entered,
+        }
+    }
+
+    /// Returns the spot of the copy with this number.
+    pub fn at(self, number: usize, entered: bool) -> TreeSpot
+        requires { self.base + self.each * number < 2 ^ 64 }
+        ensures base { result.base ≡ self.base + self.each * number }
+        ensures entered { result.entered ≡ entered }
+    {
+        TreeSpot {
+            base: self.base + self.each * number,
+            entered,
+        }
+    }
+}

@@ -1,0 +1,8 @@
+//! Steps from the places of a set to those that read the next byte.
+
+pub(crate) mod exits;
+pub mod look;
+pub mod set;
+pub mod step;
+pub mod tree;
+pub mod trees;
