@@ -5,13 +5,13 @@ ghost use Rattle.logos_derive.specs.Views.{All, HasErrors, IsAcceptedBy, IsDeriv
 
 use crate::diagnostic::Diagnostic;
 use crate::errors::errors_of;
-use crate::implementation::{Implementation, implementation_of};
 use crate::warnings::warnings_of;
 use logos_causes::{Explained, explain_enum, lexer_warnings};
 use logos_codegen::{Generated, Refusal, generate};
 use logos_help::add_helps;
 use logos_report::{Part, Source};
-use logos_tables::{Shape, config_of};
+use logos_tables::{Shape, config_of, lexer_text};
+use logos_text::Sink;
 use logos_token::error::{Errors, Memory};
 use logos_warnings::{Origin, enum_warnings};
 use std::alloc::Global;
@@ -20,7 +20,7 @@ use std::alloc::Global;
 #[derive(Debug, Drop)]
 pub struct Derivation {
     /// The implementation, if the enum is accepted.
-    pub implementation: Option<Implementation>,
+    pub implementation: Option<Sink>,
     /// The errors, in the order of the faults, and then the warnings.
     pub diagnostics: Vec<Diagnostic>,
 }
@@ -53,7 +53,7 @@ fn accepted(
 ) -> Result<Derivation, Memory>
     ensures { IfOk result (IsAcceptedBy shape (around_made made.now) made.now.code source.now) }
 {
-    let implementation = implementation_of(alloc, source, shape, made)?;
+    let implementation = lexer_text(alloc, shape, made)?;
     let diagnostics = warnings_by(alloc, source, made)?;
     Ok(Derivation {
         implementation: Some(implementation),
