@@ -10,4 +10,5 @@ pub use Rattle.logos_rust_file.specs.Files.{AreEnumsOf}
 pub use Rattle.logos_rust_file.specs.Handed.{Refuses}
 pub use Rattle.logos_rust_file.specs.Replacing.{AreInOrder, IsFoundCut, found_span, part_span}
 pub use Rattle.logos_strip.specs.Results.{SpellsEnum}
+pub use Rattle.logos_token.specs.Spelling.{Spells}
 pub use Rattle.logos_token.specs.Views.{tokens_of}
