@@ -1,7 +1,7 @@
 //! Prints what matches of a lexer by tables give, with leaves as numbers. `code` calls it once.
 
-ghost use Rattle.std.specs.Prelude.{◌++◌, OnOk};
-ghost use Rattle.logos_text.specs.Views.{Notes, NotesLast, called_runs, called_leaf_runs, flat_map, last_arm_text, plain_leaf_runs, table_runs};
+ghost use Rattle.std.specs.Prelude.{◌≡◌, OnOk};
+ghost use Rattle.logos_text.specs.Views.{Notes, NotesLast, called_leaf_runs, flat_map, is_called, last_arm_text, plain_leaf_runs, table_runs, variant_runs};
 
 use crate::errors::push_make_error;
 use crate::leaves::{push_leaf, push_variant};
@@ -27,7 +27,8 @@ pub(crate) fn push_table_actions(
     push_make_error(alloc, sink, parts.header.error_callback.as_ref(), names)?;
     push_action(alloc, sink, &parts.leaves, names)?;
     push_tokens(sink, &parts.leaves, names)?;
-    sink.push("_ => _Option :: None } } ")
+    sink.push("_ => _Option :: None } } ")?;
+    Ok(())
 }
 
 /// Appends the function `_get_action`, which returns what a match of a leaf gives that has a
@@ -47,7 +48,8 @@ fn push_action(
         "# [ inline ] # [ allow ( clippy :: match_single_binding ) ] fn _get_action < 's > ( lex : & mut _Lexer < 's > , leaf : usize ) -> CallbackResult < 's , {this} > {{ match leaf {{ "
     )?;
     push_action_arms(alloc, sink, leaves, names)?;
-    sink.push("_ => { let _ = lex ; CallbackResult :: Skip } } } ")
+    sink.push("_ => { let _ = lex ; CallbackResult :: Skip } } } ")?;
+    Ok(())
 }
 
 /// Appends the match arms of the leaves that have a callback or a value.
@@ -81,7 +83,8 @@ fn push_action_arm(
     }
     write!(sink.text, "{n} => {{ ")?;
     push_leaf(alloc, sink, leaf, names)?;
-    sink.push("} , ")
+    sink.push("} , ")?;
+    Ok(())
 }
 
 /// Returns whether a leaf has a callback or a value.
@@ -102,15 +105,12 @@ fn push_tokens(sink: &mut Sink, leaves: &[CodeLeaf<'_>], names: Names<'_>) -> Re
         sink.text,
         "# [ inline ] # [ allow ( clippy :: extra_unused_lifetimes , clippy :: match_single_binding ) ] fn _token < 's > ( leaf : usize ) -> _Option < {this} > {{ match leaf {{ "
     )?;
-    push_token_arms(sink, leaves, names.name)
+    push_token_arms(sink, leaves, names.name)?;
+    Ok(())
 }
 
 /// Appends the match arms of the leaves that have no callback and no value.
-fn push_token_arms(
-    sink: &mut Sink,
-    leaves: &[CodeLeaf<'_>],
-    name: Ident<'_>,
-) -> Result<(), Memory>
+fn push_token_arms(sink: &mut Sink, leaves: &[CodeLeaf<'_>], name: Ident<'_>) -> Result<(), Memory>
     ensures { OnOk result (Notes (flat_map (plain_leaf_runs name) leaves.now) sink.old sink.new) }
 {
     for n in 0..leaves.len() {
@@ -120,12 +120,7 @@ fn push_token_arms(
 }
 
 /// Appends the match arm of leaf number n, if it has no callback and no value.
-fn push_token(
-    sink: &mut Sink,
-    n: usize,
-    leaf: &CodeLeaf<'_>,
-    name: Ident<'_>,
-) -> Result<(), Memory>
+fn push_token(sink: &mut Sink, n: usize, leaf: &CodeLeaf<'_>, name: Ident<'_>) -> Result<(), Memory>
     ensures { OnOk result (Notes (plain_leaf_runs name leaf.now) sink.old sink.new) }
 {
     match &leaf.kind {
@@ -147,5 +142,6 @@ fn push_token_arm(
 {
     write!(sink.text, "{n} => _Option :: Some ( ")?;
     push_variant(sink, name, variant)?;
-    sink.push(" ) , ")
+    sink.push(" ) , ")?;
+    Ok(())
 }

@@ -1,7 +1,7 @@
 //! Prints the callbacks of leaves. `leaves` calls it.
 
 ghost use Rattle.std.specs.Prelude.{OnOk};
-ghost use Rattle.logos_text.specs.Views.{Notes, callback_runs, inline_runs, noted_runs, tokens_of};
+ghost use Rattle.logos_text.specs.Views.{Notes, callback_runs, callback_value, inline_runs, noted_runs, stream_tokens, tokens_of};
 
 use crate::sink::Sink;
 use logos_pattern::leaf::{Callback, InlineCallback};
@@ -15,7 +15,7 @@ pub(crate) fn push_call(
     sink: &mut Sink,
     callback: &Callback<'_>,
 ) -> Result<(), Memory>
-    ensures { OnOk result (Notes (callback_runs callback.now) sink.old sink.new) }
+    ensures { OnOk result (Notes (callback_runs (callback_value callback.now)) sink.old sink.new) }
 {
     match callback {
         Callback::Label(label) => push_label(alloc, sink, label.run()),
@@ -28,16 +28,19 @@ fn push_label(alloc: Global, sink: &mut Sink, label: Tokens<'_, '_>) -> Result<(
     ensures { OnOk result (Notes (noted_runs (tokens_of label.entry)) sink.old sink.new) }
 {
     sink.push_run(alloc, label)?;
-    sink.push("( lex ) ")
+    sink.push("( lex ) ")?;
+    Ok(())
 }
 
 /// Appends a callback that is written out: its parameter, and then its body.
 fn push_inline(alloc: Global, sink: &mut Sink, inline: &InlineCallback<'_>) -> Result<(), Memory>
-    ensures { OnOk result (Notes (inline_runs inline.now) sink.old sink.new) }
+    ensures { OnOk result (Notes (inline_runs inline.now.arg (stream_tokens inline.now.body))
+        sink.old sink.new) }
 {
     sink.push("{ let ")?;
     sink.push_name(inline.arg)?;
     sink.push(" = lex ; ")?;
     sink.push_run(alloc, inline.body.run())?;
-    sink.push("} ")
+    sink.push("} ")?;
+    Ok(())
 }

@@ -1,7 +1,7 @@
 //! Prints a whole code. `logos_codegen` calls it.
 
-ghost use Rattle.std.specs.Prelude.{IfOk, OnOk, string_bytes};
-ghost use Rattle.logos_text.specs.Views.{Adds, ArePrinted, BeginsWith, Grows, IsFront, Notes, OccurInOrder, action_runs, around_value, code_of, front_runs, opening_text, printed_type, short_core, text_runs, texts_in, texts_of, type_tree};
+ghost use Rattle.std.specs.Prelude.{IfOk, OnOk, map, string_bytes};
+ghost use Rattle.logos_text.specs.Views.{Adds, ArePrinted, BeginsWith, Grows, IsFront, Notes, OccurInOrder, action_runs, around_value, code_of, flat_map, front_runs, opening_text, printed_type, short_core, state_of, state_texts, text_runs, texts_in, texts_of, type_tree};
 
 use crate::actions::push_table_actions;
 use crate::errors::push_make_error;
@@ -102,7 +102,8 @@ fn push_code(
     push_macros(&mut sink.text, parts.root, names)?;
     push_tables(&mut sink.text, &parts.bit_tables)?;
     push_actions(alloc, sink, parts, names)?;
-    push_rest(alloc, &mut sink.text, parts, names)
+    push_rest(alloc, &mut sink.text, parts, names)?;
+    Ok(())
 }
 
 /// Appends the macros, with fast loops over blocks of eight bytes.
@@ -125,7 +126,8 @@ fn push_actions(
 {
     push_make_error(alloc, sink, parts.header.error_callback.as_ref(), names)?;
     push_get_action(alloc, sink, &parts.leaves, names)?;
-    push_leaf_names(&mut sink.text, parts.leaves.len())
+    push_leaf_names(&mut sink.text, parts.leaves.len())?;
+    Ok(())
 }
 
 /// Appends the states, with the text before and after them.
@@ -141,5 +143,6 @@ fn push_rest(
 {
     push_opening(alloc, text, parts, names.shape)?;
     push_states(alloc, text, parts, names)?;
-    push_closing(text, parts.root, names.shape)
+    push_closing(text, parts.root, names.shape)?;
+    Ok(())
 }

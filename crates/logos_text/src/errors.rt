@@ -1,7 +1,7 @@
 //! Prints the function that makes errors. `code` calls it once.
 
-ghost use Rattle.std.specs.Prelude.{[], OnOk, option_copied};
-ghost use Rattle.logos_text.specs.Views.{Notes, callback_runs, error_runs, inline_runs, noted_runs, tokens_of};
+ghost use Rattle.std.specs.Prelude.{OnOk, option_copied, option_map};
+ghost use Rattle.logos_text.specs.Views.{Notes, called_runs, callback_runs, callback_value, inline_runs, noted_runs, stream_tokens, tokens_of};
 
 use crate::names::Names;
 use crate::sink::Sink;
@@ -17,7 +17,7 @@ pub(crate) fn push_make_error(
     callback: Option<&Callback<'_>>,
     names: Names<'_>,
 ) -> Result<(), Memory>
-    ensures { OnOk result (Notes (error_runs (option_copied callback.entry))
+    ensures { OnOk result (Notes (called_runs (option_map callback_value (option_copied callback.entry)))
         sink.old sink.new) }
 {
     let this = names.this;
@@ -26,7 +26,8 @@ pub(crate) fn push_make_error(
         "# [ inline ] fn _make_error < 's > ( lex : & mut _Lexer < 's > ) -> < {this} as Logos < 's >> :: Error {{ "
     )?;
     push_error_body(alloc, sink, callback, names)?;
-    sink.push("} ")
+    sink.push("} ")?;
+    Ok(())
 }
 
 /// Appends the body of that function: the default error, or the call of the error callback.
@@ -36,21 +37,25 @@ fn push_error_body(
     callback: Option<&Callback<'_>>,
     names: Names<'_>,
 ) -> Result<(), Memory>
-    ensures { OnOk result (Notes (error_runs (option_copied callback.entry))
+    ensures { OnOk result (Notes (called_runs (option_map callback_value (option_copied callback.entry)))
         sink.old sink.new) }
 {
     let Some(callback) = callback else {
         let this = names.this;
-        write!(sink.text, "< {this} as Logos < 's >> :: Error :: default ( ) ")?;
+        write!(
+            sink.text,
+            "< {this} as Logos < 's >> :: Error :: default ( ) "
+        )?;
         return Ok(());
     };
     sink.note_call(callback)?;
-    push_error_call(alloc, sink, callback)
+    push_error_call(alloc, sink, callback)?;
+    Ok(())
 }
 
 /// Appends the call of the error callback.
 fn push_error_call(alloc: Global, sink: &mut Sink, callback: &Callback<'_>) -> Result<(), Memory>
-    ensures { OnOk result (Notes (callback_runs callback.now) sink.old sink.new) }
+    ensures { OnOk result (Notes (callback_runs (callback_value callback.now)) sink.old sink.new) }
 {
     match callback {
         Callback::Label(label) => push_error_label(alloc, sink, label.run()),
@@ -64,7 +69,8 @@ fn push_error_label(alloc: Global, sink: &mut Sink, label: Tokens<'_, '_>) -> Re
 {
     sink.push("let error = ")?;
     sink.push_run(alloc, label)?;
-    sink.push("( lex ) ; error . into ( ) ")
+    sink.push("( lex ) ; error . into ( ) ")?;
+    Ok(())
 }
 
 /// Appends an error callback that is written out: its parameter, and then its body.
@@ -73,11 +79,13 @@ fn push_error_inline(
     sink: &mut Sink,
     inline: &InlineCallback<'_>,
 ) -> Result<(), Memory>
-    ensures { OnOk result (Notes (inline_runs inline.now) sink.old sink.new) }
+    ensures { OnOk result (Notes (inline_runs inline.now.arg (stream_tokens inline.now.body))
+        sink.old sink.new) }
 {
     sink.push("let ")?;
     sink.push_name(inline.arg)?;
     sink.push(" = lex ; let error = { ")?;
     sink.push_run(alloc, inline.body.run())?;
-    sink.push("} ; error . into ( ) ")
+    sink.push("} ; error . into ( ) ")?;
+    Ok(())
 }

@@ -1,8 +1,9 @@
 //! Prints the implementation of `Logos` around the body of a lexer. `code` calls it before the
 //! body.
 
-ghost use Rattle.std.specs.Prelude.{◌≡◌, [], OnOk, option_map, string_bytes};
-ghost use Rattle.logos_text.specs.Views.{Prints, around_value, core_text, error_runs_in, error_type_text, extras_text, head_runs, head_text, internals_text, lexer_text, library_runs, library_text, noted_option, opening_runs, opening_text, option_runs, signature_text, tables_use_text, this_runs, tokens_of, type_runs, types_text, uses_runs, uses_text};
+ghost use Rattle.std.specs.Prelude.{[], ◌++◌, OnOk, option_copied, option_map};
+ghost use Rattle.logos_text.specs.Views.{Prints, answer_text, around_value, core_text, error_type_runs, error_type_text, gap_after, head_runs, head_text, internals_text, lexer_end_text, lexer_text, library_text, library_twice};
+ghost use Rattle.logos_text.specs.Views.{opening_runs, opening_text, option_runs, read_type_runs, read_type_text, signature_text, source_text, tables_use_text, this_runs, tokens_of, type_text, type_tree, typed_runs, types_runs, types_text, uses_runs, uses_text};
 
 use crate::gaps::gap_after;
 use crate::names::Names;
@@ -43,7 +44,8 @@ pub(crate) fn push_front(
     push_head(alloc, sink, around.logos, names)?;
     push_types(alloc, sink, around)?;
     push_signature(alloc, sink, core, around.logos)?;
-    push_uses(alloc, sink, core, around.logos, names.this)
+    push_uses(alloc, sink, core, around.logos, names.this)?;
+    Ok(())
 }
 
 /// Appends the path of the library, and the gap after it.
@@ -65,12 +67,16 @@ fn push_library(
 fn push_this(sink: &mut Sink, name: Ident<'_>, this: &str) -> Result<(), Memory>
     ensures { OnOk result (Prints this.now (this_runs name this.now) sink.old sink.new) }
 {
-    match this.split_at_checked(name.text.len()) {
-        Some((front, rest)) if front == name.text => {
+    match this.strip_prefix(name.text) {
+        Some(rest) => {
             sink.push_name(name)?;
-            sink.push(rest)
+            sink.push(rest)?;
+            Ok(())
         }
-        _ => sink.push(this),
+        None => {
+            sink.push(this)?;
+            Ok(())
+        }
     }
 }
 
@@ -90,19 +96,21 @@ fn push_head(
     push_library(alloc, sink, library)?;
     sink.push(":: Logos < 's > for ")?;
     push_this(sink, names.name, names.this)?;
-    sink.push(" { ")
+    sink.push(" { ")?;
+    Ok(())
 }
 
 /// Appends the associated types of the implementation.
 fn push_types(alloc: Global, sink: &mut Sink, around: Around<'_, '_>) -> Result<(), Memory>
     ensures { OnOk result (Prints (types_text (around_value around.entry))
-        (type_runs (around_value around.entry)) sink.old sink.new) }
+        (types_runs (around_value around.entry)) sink.old sink.new) }
 {
     sink.push("type Error = ")?;
     push_error(alloc, sink, around)?;
     sink.push("; type Extras = ")?;
     push_type(alloc, sink, around.extras)?;
-    push_source(sink, around.source)
+    push_source(sink, around.source)?;
+    Ok(())
 }
 
 /// Appends the type of sources.
@@ -115,8 +123,11 @@ fn push_source(sink: &mut Sink, source: &str) -> Result<(), Memory>
 
 /// Appends the type of errors, and the gap after it.
 fn push_error(alloc: Global, sink: &mut Sink, around: Around<'_, '_>) -> Result<(), Memory>
-    ensures { OnOk result (Prints (error_type_text (around_value around.entry))
-        (error_runs_in (around_value around.entry)) sink.old sink.new) }
+    ensures { OnOk result (Prints
+        (error_type_text (option_map type_tree (option_copied around.entry.error_type))
+        (option_map tokens_of around.entry.error))
+        (error_type_runs (option_map type_tree (option_copied around.entry.error_type))
+        (option_map tokens_of around.entry.error)) sink.old sink.new) }
 {
     match around.error_type {
         Some(error) => push_read_type(alloc, sink, error, around.error),
@@ -142,7 +153,8 @@ fn push_read_type(
         Some(run) => push_typed_run(alloc, sink, printed.as_str(), run),
         None => {
             sink.push(printed.as_str())?;
-            sink.push(" ")
+            sink.push(" ")?;
+            Ok(())
         }
     }
 }
@@ -154,15 +166,17 @@ fn push_typed_run(
     printed: &str,
     run: Tokens<'_, '_>,
 ) -> Result<(), Memory>
-    ensures { OnOk result (Prints (typed_text printed.now (tokens_of run.entry))
+    ensures { OnOk result (Prints (printed.now ++ gap_after [] (tokens_of run.entry))
         (typed_runs printed.now (tokens_of run.entry)) sink.old sink.new) }
 {
     let text = print(alloc, run)?;
     if text.as_str() == printed {
-        return sink.push_run(alloc, run);
+        sink.push_run(alloc, run)?;
+        return Ok(());
     }
     sink.push(printed)?;
-    sink.push(gap_after(run))
+    sink.push(gap_after(run))?;
+    Ok(())
 }
 
 /// Appends a type that is not read, and the gap after it.
@@ -185,13 +199,14 @@ fn push_signature(
 ) -> Result<(), Memory>
     ensures { OnOk result (Prints
         (signature_text core.now (library_text (option_map tokens_of library.entry)))
-        (signature_runs (option_map tokens_of library.entry)) sink.old sink.new) }
+        (library_twice (option_map tokens_of library.entry)) sink.old sink.new) }
 {
     sink.push("fn lex ( lex : & mut ")?;
     push_library(alloc, sink, library)?;
     push_answer(sink, core)?;
     push_library(alloc, sink, library)?;
-    sink.push(":: Logos < 's >> :: Error >> { ")
+    sink.push(":: Logos < 's >> :: Error >> { ")?;
+    Ok(())
 }
 
 /// Appends the type of the lexer, and of what the function that lexes returns, up to the library.
@@ -219,7 +234,8 @@ fn push_uses(
 {
     push_internals(alloc, sink, library)?;
     push_core(sink, core)?;
-    push_lexer(alloc, sink, library, this)
+    push_lexer(alloc, sink, library, this)?;
+    Ok(())
 }
 
 /// Appends the import of what the library has for the body alone.
@@ -233,7 +249,10 @@ fn push_internals(
 {
     sink.push("use ")?;
     push_library(alloc, sink, library)?;
-    sink.push(":: internal :: { LexerInternal , CallbackRetVal , CallbackResult , SkipRetVal , SkipResult , } ; ")
+    sink.push(
+        ":: internal :: { LexerInternal , CallbackRetVal , CallbackResult , SkipRetVal , SkipResult , } ; ",
+    )?;
+    Ok(())
 }
 
 /// Appends the imports of types of Rust's `core`.
@@ -256,13 +275,14 @@ fn push_lexer(
 ) -> Result<(), Memory>
     ensures { OnOk result (Prints
         (lexer_text (library_text (option_map tokens_of library.entry)) this.now)
-        (lexer_runs (option_map tokens_of library.entry)) sink.old sink.new) }
+        (library_twice (option_map tokens_of library.entry)) sink.old sink.new) }
 {
     sink.push("use ")?;
     push_library(alloc, sink, library)?;
     sink.push(":: Logos ; type _Lexer < 's > = ")?;
     push_library(alloc, sink, library)?;
-    push_lexer_end(sink, this)
+    push_lexer_end(sink, this)?;
+    Ok(())
 }
 
 /// Appends the rest of the type of the lexer, after the path of the library.
@@ -284,5 +304,6 @@ pub(crate) fn push_tables_use(
 {
     sink.push("use ")?;
     push_library(alloc, sink, library)?;
-    sink.push(":: internal :: { _Data , _Ranges , _Tables , _Unpacked } ; ")
+    sink.push(":: internal :: { _Data , _Ranges , _Tables , _Unpacked } ; ")?;
+    Ok(())
 }

@@ -1,8 +1,8 @@
 //! Prints the leaves, and what the lexer does with their matches. `code` calls it once for all
 //! leaves.
 
-ghost use Rattle.std.specs.Prelude.{[], OnOk, map, string_bytes};
-ghost use Rattle.logos_text.specs.Views.{Grows, Notes, flat_map, kind_runs, leaf_runs, variant_runs};
+ghost use Rattle.std.specs.Prelude.{[], OnOk, string_bytes};
+ghost use Rattle.logos_text.specs.Views.{Grows, Notes, flat_map, kind_runs, kind_value, leaf_runs, variant_runs};
 
 use crate::callbacks::push_call;
 use crate::names::Names;
@@ -59,7 +59,8 @@ pub(crate) fn push_get_action(
         "# [ inline ] fn _get_action < 's > ( lex : & mut _Lexer < 's > , offset : usize , context : _Option < LogosLeaf > ) -> CallbackResult < 's , {this} > {{ match context {{ None => {{ lex . end_to_boundary ( offset . max ( lex . offset ( ) + 1 ) ) ; CallbackResult :: Error ( _make_error ( lex ) ) }} , "
     )?;
     push_arms(alloc, sink, leaves, names)?;
-    sink.push("} } ")
+    sink.push("} } ")?;
+    Ok(())
 }
 
 /// Appends the match arms of all leaves.
@@ -101,7 +102,8 @@ fn push_arm(
     let comma = comma_before(n);
     write!(sink.text, "{comma}Some ( LogosLeaf :: Leaf{n} ) => {{ ")?;
     push_leaf(alloc, sink, leaf, names)?;
-    sink.push("} ")
+    sink.push("} ")?;
+    Ok(())
 }
 
 /// Appends the body of a leaf's arm: the call of its callback, if it has one, and what a match
@@ -121,12 +123,13 @@ pub(crate) fn push_leaf(
     sink.push("let cb_result = ")?;
     push_call(alloc, sink, callback)?;
     sink.push("; ")?;
-    push_result(alloc, sink, &leaf.kind, names)
+    push_result(alloc, sink, &leaf.kind, names)?;
+    Ok(())
 }
 
 /// Appends what a match gives if the leaf has no callback.
 fn push_plain(sink: &mut Sink, kind: &VariantKind<'_>, names: Names<'_>) -> Result<(), Memory>
-    ensures { OnOk result (Notes (kind_runs names.entry.name kind.now) sink.old sink.new) }
+    ensures { OnOk result (Notes (kind_runs names.entry.name (kind_value kind.now)) sink.old sink.new) }
 {
     match kind {
         VariantKind::Skip => sink.push("CallbackResult :: Skip "),
@@ -141,7 +144,8 @@ fn push_unit(sink: &mut Sink, variant: Ident<'_>, names: Names<'_>) -> Result<()
 {
     sink.push("CallbackResult :: Emit ( ")?;
     push_variant(sink, names.name, variant)?;
-    sink.push(" ) ")
+    sink.push(" ) ")?;
+    Ok(())
 }
 
 /// Appends that a match gives a variant whose field is the slice that was matched.
@@ -150,7 +154,8 @@ fn push_value(sink: &mut Sink, variant: Ident<'_>, names: Names<'_>) -> Result<(
 {
     sink.push("let token = ")?;
     push_variant(sink, names.name, variant)?;
-    sink.push(" ( lex . slice ( ) ) ; CallbackResult :: Emit ( token ) ")
+    sink.push(" ( lex . slice ( ) ) ; CallbackResult :: Emit ( token ) ")?;
+    Ok(())
 }
 
 /// Appends the path of a variant of the enum with a name.
@@ -163,7 +168,8 @@ pub(crate) fn push_variant(
 {
     sink.push_name(name)?;
     sink.push(" :: ")?;
-    sink.push_name(variant)
+    sink.push_name(variant)?;
+    Ok(())
 }
 
 /// Appends what a match gives by the callback's answer.
@@ -173,7 +179,7 @@ fn push_result(
     kind: &VariantKind<'_>,
     names: Names<'_>,
 ) -> Result<(), Memory>
-    ensures { OnOk result (Notes (kind_runs names.entry.name kind.now) sink.old sink.new) }
+    ensures { OnOk result (Notes (kind_runs names.entry.name (kind_value kind.now)) sink.old sink.new) }
 {
     match kind {
         VariantKind::Skip => push_skip_result(sink, names),
@@ -198,11 +204,7 @@ fn push_skip_result(sink: &mut Sink, names: Names<'_>) -> Result<(), Memory>
 }
 
 /// Appends what a match gives by the callback's answer, of a variant without a field.
-fn push_unit_result(
-    sink: &mut Sink,
-    variant: Ident<'_>,
-    names: Names<'_>,
-) -> Result<(), Memory>
+fn push_unit_result(sink: &mut Sink, variant: Ident<'_>, names: Names<'_>) -> Result<(), Memory>
     ensures { OnOk result (Notes (variant_runs names.entry.name variant) sink.old sink.new) }
 {
     let this = names.this;
@@ -211,7 +213,8 @@ fn push_unit_result(
         "CallbackRetVal :: < 's , ( ) , {this} > :: construct ( cb_result , | ( ) | "
     )?;
     push_variant(sink, names.name, variant)?;
-    sink.push(" ) ")
+    sink.push(" ) ")?;
+    Ok(())
 }
 
 /// Appends what a match gives by the callback's answer, of a variant with a field of this type.
@@ -229,5 +232,6 @@ fn push_value_result(
         "CallbackRetVal :: < 's , {field} , {this} > :: construct ( cb_result , "
     )?;
     push_variant(sink, names.name, variant)?;
-    sink.push(" ) ")
+    sink.push(" ) ")?;
+    Ok(())
 }

@@ -1,8 +1,8 @@
 //! What printers write into: a text, and where tokens of the source are in it. `code` makes it, and
 //! all printers of a user's tokens write into it.
 
-ghost use Rattle.std.specs.Prelude.{◌≡◌, ◌++◌, [], OnOk, string_bytes};
-ghost use Rattle.logos_text.specs.Views.{Prints, IsEmptySink, ident_run, name_runs, noted_runs, printed, run_after, tokens_of};
+ghost use Rattle.std.specs.Prelude.{[], OnOk};
+ghost use Rattle.logos_text.specs.Views.{IsEmptySink, Prints, PrintsPiece, name_runs, noted_runs, printed, run_after, tokens_of};
 
 use crate::gaps::gap_after;
 use logos_pattern::leaf::Callback;
@@ -64,9 +64,8 @@ impl Sink {
     pub(crate) fn push_name(&mut self, name: Ident<'_>) -> Result<(), Memory>
         ensures { OnOk result (Prints name.text.now (name_runs name) self.old self.new) }
     {
-        let from = self.text.len();
-        self.text.push_str(name.text)?;
-        self.note(from, name.span)
+        self.push_piece(name.text, name.span)?;
+        Ok(())
     }
 
     /// Appends tokens of the source, without the gap after them.
@@ -77,9 +76,9 @@ impl Sink {
         if tokens.is_empty() {
             return Ok(());
         }
-        let from = self.text.len();
-        self.text.push_str(&print(alloc, tokens)?)?;
-        self.note(from, tokens.span())
+        let text = print(alloc, tokens)?;
+        self.push_piece(text.as_str(), tokens.span())?;
+        Ok(())
     }
 
     /// Appends tokens of the source, and the gap after them.
@@ -88,11 +87,16 @@ impl Sink {
             (noted_runs (tokens_of tokens.entry)) self.old self.new) }
     {
         self.push_tokens(alloc, tokens)?;
-        self.push(gap_after(tokens))
+        self.push(gap_after(tokens))?;
+        Ok(())
     }
 
-    /// Notes that the text from an offset on is a piece: the printed tokens at a span of the source.
-    fn note(&mut self, from: usize, span: Span) -> Result<(), Memory> {
+    /// Appends the printed text of tokens, which have this span in the source.
+    fn push_piece(&mut self, text: &str, span: Span) -> Result<(), Memory>
+        ensures { OnOk result (PrintsPiece text.now span self.old self.new) }
+    {
+        let from = self.text.len();
+        self.text.push_str(text)?;
         let to = self.text.len();
         self.pieces.push(Piece { from, to, span })?;
         Ok(())

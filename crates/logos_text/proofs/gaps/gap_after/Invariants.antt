@@ -4,7 +4,7 @@ use denote.Text.{Utf8}
 use Rattle.logos_token.specs.Tokens.{count_of}
 use Rattle.logos_token.specs.Views.{tokens_of}
 use Rattle.logos_text.specs.Gaps.{gap_after}
-use Rattle.logos_text.proofs.callbacks.gap_after.Given as goal
+use Rattle.logos_text.proofs.gaps.gap_after.Given as goal
 
 -- the gap after what is left is that after the whole
 abbrev pub invariant-loop-tree : goal.invariant-loop-tree
