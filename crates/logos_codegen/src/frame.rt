@@ -1,7 +1,7 @@
 //! What is printed around the body of a lexer. `Generated` prints its text with it.
 
 ghost use Rattle.std.specs.Prelude.{◌≡◌, option_map, option_copied};
-ghost use Rattle.logos_codegen.specs.Views.{around_value, around_options, error_type_in, error_run, input_text, run_in, stream_tokens, tokens_of};
+ghost use Rattle.logos_codegen.specs.Views.{around_options, around_value, error_run, error_tree, error_view, input_text, run_in, stream_tokens, tokens_of, type_tree};
 
 use logos_definition::error_type::ErrorType;
 use logos_text::Around;
@@ -62,7 +62,8 @@ fn run_in<'t, 's>(tokens: &'t MaybeVoid<'s>) -> Option<Tokens<'t, 's>>
 
 /// Returns the tokens of the type of errors, if it has some.
 fn error_run<'t, 's>(error: Option<&'t ErrorType<'s>>) -> Option<Tokens<'t, 's>>
-    ensures { option_map tokens_of result ≡ error_run (option_copied error.entry) }
+    ensures { option_map tokens_of result
+        ≡ error_run (option_map error_view (option_copied error.entry)) }
 {
     match error {
         Some(error) => run_in(&error.ty),
@@ -72,7 +73,8 @@ fn error_run<'t, 's>(error: Option<&'t ErrorType<'s>>) -> Option<Tokens<'t, 's>>
 
 /// Returns the type of errors as it was read, if it was.
 fn read_type<'t, 's>(error: Option<&'t ErrorType<'s>>) -> Option<&'t TypeExpr<'s>>
-    ensures { option_map type_tree (option_copied result) ≡ error_type_in (option_copied error.entry) }
+    ensures { option_map type_tree (option_copied result)
+        ≡ error_tree (option_map error_view (option_copied error.entry)) }
 {
     match error {
         Some(error) => error.type_expr.as_ref(),

@@ -2,6 +2,7 @@
 
 ghost use Rattle.std.specs.Prelude.{◌≡◌, ◌<◌, ◌↔◌, ◌∷◌, ◌++◌, Bool, List, [], length, map, flat_map, option_map, IfOk, IfErr, IsErrAnd, OnOk, IsTrue, string_bytes, option_copied};
 ghost use Rattle.logos_codegen.specs.Views.{Rule, fault_of, ident_slice, callback_view, parser_view, kind_value, utf8_mode, IsGraphOf, rules_of, KeepsGiven, IsLexer, HeadHasItsType, IsHeadOf, analysis_view, too_long, Refuses, IsMemory, OccurInOrder, texts_of, named_leaf, reported_as, IsGiven, KeepsEnum, error_callback, variant_at, RunsAreCut, IsAccepted, IsRefused, IsWithinSizes, IsWithinLimits, IsLimit, ReportsGraph, IsFaultless, AreGraphFaults, IsGraphMade, BeginsImplementation, IsFrontOf};
+ghost use Rattle.logos_codegen.specs.Views.{ArePrinted, IsAroundOf, around_given, around_made, front_runs, text_runs};
 
 use crate::frame::AroundOptions;
 use crate::reports::report_fault;
@@ -300,6 +301,8 @@ fn put_together<'s>(code: Code<'s>, graph: Graph<'s>, head: EnumHead<'s>) -> Gen
         × (result.name ≡ head.entry.name) }
     ensures path { option_map string_bytes result.export_path
         ≡ option_map (λ e. e.path) (parser_view head.entry.options).export_path }
+    ensures around { around_made result
+        ≡ around_given (parser_view head.entry.options) graph.entry.utf8 }
 {
     let EnumHead { name, options, .. } = head;
     let Parser {
@@ -345,6 +348,8 @@ pub fn generate<'s>(alloc: Global, src: &'s str, config: Config) -> Result<Gener
     // the enum's, and the path is that of `export_dir`.
     ensures given { IfOk result (λ made. IsGiven src.now config made.graph made.code
         (ident_slice made.name) (option_map string_bytes made.export_path)) }
+    // What is printed around the lexer is that of the options of the source.
+    ensures around { IfOk result (λ made. IsAroundOf src.now made.graph (around_made made)) }
     // The length of the source, its nesting and the size of its trees are within their limits.
     ensures within { IfOk result (λ made. IsWithinSizes src.now (rules_of made.graph.leaves)) }
     // From each point of each input the code finds exactly what maximal munch finds there.

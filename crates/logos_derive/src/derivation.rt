@@ -52,7 +52,7 @@ fn accepted(
     shape: Shape,
     made: &Generated<'_>,
 ) -> Result<Derivation, Memory>
-    ensures { IfOk result (IsAcceptedBy shape (around_made made.now) made.now.code source.now) }
+    ensures { IfOk result (IsAcceptedBy shape (around_made made.now) made.now.code) }
 {
     let implementation = lexer_text(alloc, shape, made)?;
     let diagnostics = warnings_by(alloc, source, made)?;

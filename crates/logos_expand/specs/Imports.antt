@@ -1,5 +1,6 @@
 -- Definitions that clauses cite: of lower crates, and those of this one that name no type of it.
 pub use Rattle.logos_causes.specs.Sets.{HasSets}
+pub use Rattle.logos_codegen.specs.Fronts.{around_made}
 pub use Rattle.logos_codegen.specs.Source.{IsRefused}
 pub use Rattle.logos_layout.specs.Inner.{IsWithoutInner}
 pub use Rattle.logos_layout.specs.Layout.{IsLaidOut}

@@ -1,7 +1,7 @@
 //! A file with the derive of its lexers expanded.
 
 ghost use Rattle.std.specs.Prelude.{◌≡◌, ◌≤◌, ◌++◌, All, IfErr, IfOk, IsTrue, OnOk, length, map, string_bytes};
-ghost use Rattle.logos_expand.specs.Views.{IsRefused, AreInOrder, IsFoundCut, found_span, part_span, AreEnumsOf, OccurInOrder, Refuses, IsExpanded, IsExpansion, IsFileOf, IsUnreadable, AreRefused, EndsWithLines, FailsFor, GathersAll, ShowsRefused, refused_texts, AddsRefusal, GathersOne, HasSets, IsExpansionBy, sizes_of, Spells, SpellsEnum, tokens_of};
+ghost use Rattle.logos_expand.specs.Views.{IsRefused, AreInOrder, IsFoundCut, found_span, part_span, AreEnumsOf, OccurInOrder, Refuses, IsExpanded, IsExpansion, IsFileOf, IsUnreadable, AreRefused, EndsWithLines, FailsFor, GathersAll, ShowsRefused, refused_texts, AddsRefusal, GathersOne, HasSets, IsExpansionBy, around_made, sizes_of, Spells, SpellsEnum, tokens_of};
 
 use crate::head::with_head;
 use crate::printer::{Site, printed_with};
@@ -283,7 +283,7 @@ fn expansion_by(
 ) -> Result<String, Memory>
     requires { SpellsEnum source.now }
     ensures { IfOk result (λ text.
-        IsExpansionBy site.entry.shape made.now.code source.now (string_bytes text)) }
+        IsExpansionBy site.entry.shape (around_made made.now) made.now.code source.now (string_bytes text)) }
 {
     match tokenize(*warned.allocator(), source) {
         Ok(stream) => expansion_with(source, stream.run(), site, made, warned),
@@ -303,7 +303,7 @@ fn expansion_with(
     requires known { SpellsEnum source.now }
     requires spelled { Spells source.now (tokens_of tokens) }
     ensures { IfOk result (λ text.
-        IsExpansionBy site.entry.shape made.now.code source.now (string_bytes text)) }
+        IsExpansionBy site.entry.shape (around_made made.now) made.now.code source.now (string_bytes text)) }
 {
     let alloc = *warned.allocator();
     let lexer = Lexer {

@@ -2,7 +2,7 @@
 //! implementation.
 
 ghost use Rattle.std.specs.Prelude.{◌≡◌, ◌++◌, true, IfOk, OnOk, string_bytes};
-ghost use Rattle.logos_expand.specs.Views.{tokens_of, IsLaidOut, IsGuard, IsGuarded, are_blanks, guard_text, import_under, lexer_under, under, IsPrintedWith};
+ghost use Rattle.logos_expand.specs.Views.{around_made, tokens_of, IsLaidOut, IsGuard, IsGuarded, are_blanks, guard_text, import_under, lexer_under, under, IsPrintedWith};
 
 use logos_codegen::Generated;
 use logos_codegen::error::Memory;

@@ -1,7 +1,7 @@
 //! Prints a lexer as tables. `shape` calls it for the shape `tables`.
 
 ghost use Rattle.std.specs.Prelude.{◌∷◌, [], IfOk, OnOk, length, string_bytes};
-ghost use Rattle.logos_tables.specs.Views.{Appends, AppendsMade, AppendsNumbers, AppendsTables, HoldsTables, around_made, marks_text, skips_text, step_texts};
+ghost use Rattle.logos_tables.specs.Views.{Appends, AppendsMade, AppendsNumbers, AppendsTables, ArePrinted, HoldsTables, around_made, front_runs, marks_text, skips_text, step_texts};
 
 use crate::fields::{push_field, push_runs};
 use crate::made::{PrintedTables, tables_of};

@@ -1,7 +1,7 @@
 //! The shapes in which lexers are printed. `logos_derive`, `logos_expand` and `logos_cli` call it.
 
 ghost use Rattle.std.specs.Prelude.{◌≡◌, IfOk, string_bytes};
-ghost use Rattle.logos_tables.specs.Views.{IsShown, around_made, config_of};
+ghost use Rattle.logos_tables.specs.Views.{ArePrinted, IsShown, around_made, config_of, shape_runs};
 
 use crate::lexer::tables;
 use logos_codegen::Generated;

@@ -50,6 +50,12 @@ printed_together (x ∷ xs) ys offset u v p q h k =
       printed_together xs ys (offset + length (h.0 ++ printed x)) h.1 v h.2 q h.5 (subst (λ n. ArePrinted ys n q v) one k),
     )
 
+-- text without runs comes last
+pub printed_before : (runs : List TokenList) (offset : ℕ) (u v : List ℕ) (pieces : List Piece) → ArePrinted runs offset pieces u → ArePrinted runs offset pieces (u ++ v)
+printed_before runs offset u v pieces h =
+    subst (λ rs. ArePrinted rs offset pieces (u ++ v)) (append-nil runs)
+    (subst (λ ps. ArePrinted (runs ++ []) offset ps (u ++ v)) (append-nil pieces) (printed_together runs [] offset u v pieces [] h refl))
+
 -- one step after another
 pub prints_both : {text more : List ℕ} {xs ys : List TokenList} {a b c : Sink} → Prints text xs a b → Prints more ys b c → Prints (text ++ more) (xs ++ ys) a c
 prints_both {text} {more} {xs} {ys} {a} {b} {c} p q = record {
