@@ -7,7 +7,7 @@ use Rattle.logos_code.specs.Code.{CodeValue}
 use Rattle.logos_code.specs.Rows.{IsUse}
 use Rattle.logos_code.specs.declared.code.rows.MatchUse.{MatchUse}
 use Rattle.logos_code.specs.declared.code.rows.MatchUse.TheVariants.{Emits, Skips, CallsBack}
-use Rattle.logos_fold.specs.Folds.{AreFolded, IsFolded, EndsAs, HasUse, leaf_of}
+use Rattle.logos_scan.specs.fold.Folds.{AreFolded, IsFolded, EndsAs, HasUse, leaf_of}
 use Rattle.logos_machine.specs.inside.Looks.{Tried}
 use Rattle.logos_scan.specs.Attempts.{ComesTo, SkipsTo, skips_none, skips_then}
 use Rattle.logos_scan.proofs.TryLemmas.{is_at_begun, is_at_goes, tried_ends}

@@ -11,7 +11,7 @@ use Rattle.logos_code.specs.Runs.{Status, goes_on, acts_on, looped, stays, targe
 use Rattle.logos_code.specs.declared.code.rows.MatchUse.{MatchUse}
 use Rattle.logos_code.specs.declared.code.rows.Step.{Step}
 use Rattle.logos_code.specs.declared.code.rows.Step.TheVariants.{Leads, Halts, Looks}
-use Rattle.logos_fold.specs.Folds.{Goes, EndsAs, leaf_of}
+use Rattle.logos_scan.specs.fold.Folds.{Goes, EndsAs, leaf_of}
 use Rattle.logos_machine.specs.inside.Looks.{Sees, Tried}
 use Rattle.logos_machine.proofs.LookLemmas.{loops_no, loops_on, sees_byte}
 use Rattle.logos_machine.proofs.StatusLemmas.{is_at_next, is_at_match}

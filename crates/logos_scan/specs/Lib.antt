@@ -1,3 +1,4 @@
+pub mod fold
 pub mod Attempts
 pub mod Runs
 pub mod Items

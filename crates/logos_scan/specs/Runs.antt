@@ -4,7 +4,7 @@ use Rattle.logos_automaton.specs.Munch.{matched, failed, ended}
 use Rattle.logos_code.specs.Code.{CodeValue}
 use Rattle.logos_code.specs.Rows.{IsUse}
 use Rattle.logos_code.specs.declared.code.rows.MatchUse.TheVariants.{Emits as IsEmitted}
-use Rattle.logos_fold.specs.Folds.{AreFolded}
+use Rattle.logos_scan.specs.fold.Folds.{AreFolded}
 use Rattle.logos_machine.specs.inside.Looks.{Tried}
 use Rattle.logos_scan.specs.Attempts.{ComesTo, SkipsTo}
 use Rattle.logos_scan.specs.declared.run.Loaded.{Loaded}

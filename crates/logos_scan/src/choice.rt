@@ -2,8 +2,8 @@
 
 ghost use Rattle.std.specs.Prelude.{◌≡◌, ◌<◌, ◌≤◌, ◌+◌, IfOk, IfSome, length};
 
+use crate::fold::folded::Folded;
 use logos_code::code::Code;
-use logos_fold::folded::Folded;
 use logos_machine::machine::walk::{Outcome, attempt};
 use std::alloc::{AllocError, Global};
 

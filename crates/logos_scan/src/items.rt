@@ -4,9 +4,9 @@ ghost use Rattle.std.specs.Prelude.{◌≡◌, map, IfOk};
 ghost use Rattle.logos_scan.specs.Imports.{answers_of, item_of, Runs, TakesMatches};
 
 use crate::choice::rows_for;
+use crate::fold::folded::Folded;
 use crate::run::{Reading, Run};
 use logos_code::action::Action;
-use logos_fold::folded::Folded;
 use logos_hir::leaf::LeafId;
 use logos_machine::machine::{Item, Lexer};
 use logos_walk::masks::ChunkEntries;

@@ -4,5 +4,6 @@
 
 pub mod attempts;
 pub mod choice;
+pub mod fold;
 pub mod items;
 pub mod run;

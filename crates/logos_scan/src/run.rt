@@ -4,10 +4,10 @@ ghost use Rattle.std.specs.Prelude.{◌≡◌, ◌+◌, ◌<◌, ◌≤◌, leng
 ghost use Rattle.logos_scan.specs.Views.{IsBytes, IsRowStart, ComesTo, answers_of, item_of, EndsItems, YieldsItem, IsChunk, IsFlagged, IsHeld, IsLoaded, IsMarked, IsOver, IsReading, IsReady, IsRun, IsTaken, TakesMatches, start_of, with_chunk};
 
 use crate::attempts::{Taken, tried};
+use crate::fold::entries::CALLS;
+use crate::fold::folded::Folded;
 use logos_code::action::Action;
 use logos_code::code::Code;
-use logos_fold::entries::CALLS;
-use logos_fold::folded::Folded;
 use logos_hir::leaf::LeafId;
 use logos_machine::machine::{Item, error, matched_item, token};
 use logos_token::token::Span;

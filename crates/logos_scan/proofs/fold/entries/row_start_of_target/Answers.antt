@@ -1,6 +1,6 @@
 use Rattle.std.proofs.Common.{sym, ◌∙◌, arith}
-use Rattle.logos_fold.proofs.FoldLemmas.{goes_target, target_small}
-use Rattle.logos_fold.proofs.entries.row_start_of_target.Goals as goal
+use Rattle.logos_scan.proofs.fold.FoldLemmas.{goes_target, target_small}
+use Rattle.logos_scan.proofs.fold.entries.row_start_of_target.Goals as goal
 
 pub overflow_mul-result : goal.overflow_mul-result
 overflow_mul-result c = omega (arith, target_small c.args.code.now c.args.state c.args.byte c.in-Some.next c.requires.few c.requires.sound c.requires.state (sym c.target.ensures ∙ c.in-Some.is))

@@ -1,7 +1,7 @@
 //! Entries of folded rows.
 
 ghost use Rattle.std.specs.Prelude.{◌≡◌, ◌+◌, ◌<◌, false, length, IfSome};
-ghost use Rattle.logos_fold.specs.Imports.{first_halting, flags_of, row_start_of, state_at, stays, Goes, IsEnded, IsFew, IsFolded, IsFoldedRow, IsSound, IsStepOf, IsWithin, LeadsToRowStart, Says};
+ghost use Rattle.logos_scan.specs.fold.Imports.{first_halting, flags_of, row_start_of, state_at, stays, Goes, IsEnded, IsFew, IsFolded, IsFoldedRow, IsSound, IsStepOf, IsWithin, LeadsToRowStart, Says};
 
 use logos_code::code::Code;
 use logos_code::code::rows::{

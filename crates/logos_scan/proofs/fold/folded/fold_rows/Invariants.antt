@@ -1,7 +1,7 @@
 use Rattle.std.proofs.Common.{◌≡◌, ℕ, ◌+◌, ◌*◌, ◌<◌, length, slice_index}
 use Rattle.logos_walk.specs.Walk.{row_start_of}
-use Rattle.logos_fold.specs.Folds.{IsFolded, IsWithin}
-use Rattle.logos_fold.proofs.folded.fold_rows.Given as goal
+use Rattle.logos_scan.specs.fold.Folds.{IsFolded, IsWithin}
+use Rattle.logos_scan.proofs.fold.folded.fold_rows.Given as goal
 
 -- the states so far have their rows
 abbrev pub invariant-loop-state : goal.invariant-loop-state

@@ -1,7 +1,7 @@
 use Rattle.std.proofs.Common.{◌≡◌, ℕ, ◌<◌, length, slice_index}
 use Rattle.logos_walk.specs.Walk.{row_start_of}
-use Rattle.logos_fold.specs.Folds.{IsFolded, IsWithin}
-use Rattle.logos_fold.proofs.entries.row_of.Given as goal
+use Rattle.logos_scan.specs.fold.Folds.{IsFolded, IsWithin}
+use Rattle.logos_scan.proofs.fold.entries.row_of.Given as goal
 
 abbrev pub invariant-loop-b : goal.invariant-loop-b
 invariant-loop-b l = record {

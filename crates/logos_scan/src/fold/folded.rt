@@ -1,9 +1,9 @@
 //! The folded rows of a code.
 
 ghost use Rattle.std.specs.Prelude.{◌≡◌, IfOk, IfSome, None, length};
-ghost use Rattle.logos_fold.specs.Imports.{AreFolded, IsFew, IsMany};
+ghost use Rattle.logos_scan.specs.fold.Imports.{AreFolded, IsFew, IsMany};
 
-use crate::entries::{ENTRIES, row_of};
+use crate::fold::entries::{ENTRIES, row_of};
 use logos_code::code::Code;
 use logos_code::code::rows::WIDTH;
 use std::alloc::{AllocError, Global};
@@ -18,7 +18,7 @@ pub struct Folded<'c, 's> {
 
 impl<'c, 's> Model for Folded<'c, 's> {
     ghost use Rattle.std.specs.Prelude.{[]};
-    ghost use Rattle.logos_fold.specs.Imports.{codes, named, AreFolded, FoldedValue};
+    ghost use Rattle.logos_scan.specs.fold.Imports.{codes, named, AreFolded, FoldedValue};
     ghost use Rattle.logos_type.specs.contracts.type_expr.TypePart as p;
 
     ghost Value = { FoldedValue };

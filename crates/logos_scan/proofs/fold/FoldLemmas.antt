@@ -11,7 +11,7 @@ use Rattle.logos_code.specs.declared.code.rows.MatchUse.{MatchUse}
 use Rattle.logos_code.specs.declared.code.rows.MatchUse.TheVariants.{Emits, Skips, CallsBack}
 use Rattle.logos_code.proofs.TargetLemmas.{All-slice_get, target_there}
 use Rattle.logos_walk.specs.Walk.{row_start_of}
-use Rattle.logos_fold.specs.Folds.{Goes, IsEnded, IsFew, IsFolded, IsFoldedRow, IsWithin, flags_of}
+use Rattle.logos_scan.specs.fold.Folds.{Goes, IsEnded, IsFew, IsFolded, IsFoldedRow, IsWithin, flags_of}
 
 -- a state is small
 pub small : (code : CodeValue) (s : ℕ) → IsFew code → s < length code.states → 272 * s + 272 ≤ 1048576

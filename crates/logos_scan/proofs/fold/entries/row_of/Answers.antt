@@ -1,6 +1,6 @@
 use Rattle.std.proofs.Common.{length-set, refl, ◌∙◌, arith}
-use Rattle.logos_fold.proofs.FoldLemmas.{blank, row_each, row_within}
-use Rattle.logos_fold.proofs.entries.row_of.Goals as goal
+use Rattle.logos_scan.proofs.fold.FoldLemmas.{blank, row_each, row_within}
+use Rattle.logos_scan.proofs.fold.entries.row_of.Goals as goal
 
 pub loop-b-init : goal.loop-b-init
 loop-b-init c = record {

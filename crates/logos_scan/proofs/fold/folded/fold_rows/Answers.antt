@@ -1,6 +1,6 @@
 use Rattle.std.proofs.Common.{◌≡◌, ◌∙◌, length, ap, rules}
-use Rattle.logos_fold.proofs.FoldLemmas.{rows_count, rows_each, rows_within}
-use Rattle.logos_fold.proofs.folded.fold_rows.Goals as goal
+use Rattle.logos_scan.proofs.fold.FoldLemmas.{rows_count, rows_each, rows_within}
+use Rattle.logos_scan.proofs.fold.folded.fold_rows.Goals as goal
 
 pub loop-state-preserved : goal.loop-state-preserved
 loop-state-preserved c =
