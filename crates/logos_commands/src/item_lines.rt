@@ -14,7 +14,7 @@ use logos_host::{Failure, Files, print_bytes, read_bytes, read_text, write_full}
 use logos_scan::choice::rows_for;
 use logos_scan::fold::folded::Folded;
 use logos_scan::run::{Reading, Run};
-use logos_walk::masks::ChunkEntries;
+use logos_scan::walk::masks::ChunkEntries;
 use std::alloc::Global;
 use std::io::Write;
 

@@ -11,7 +11,7 @@ use logos_host::Failure;
 use logos_scan::choice::rows_for;
 use logos_scan::fold::folded::Folded;
 use logos_scan::run::{Reading, Run};
-use logos_walk::masks::ChunkEntries;
+use logos_scan::walk::masks::ChunkEntries;
 use std::alloc::{AllocError, Global};
 use std::io::Write;
 

@@ -21,12 +21,12 @@ use Rattle.logos_scan.specs.declared.attempts.Taken.TheVariants.{Emits as TakenE
 use Rattle.logos_scan.specs.declared.run.Loaded.{Loaded}
 use Rattle.logos_scan.proofs.RunLemmas.{Holds, later_at, starts_short, tried, ends_as, holds_next}
 use Rattle.logos_scan.proofs.TryLemmas.{is_at_begun}
-use Rattle.logos_walk.specs.declared.cursor.ChunkCursor.{ChunkCursor}
-use Rattle.logos_walk.specs.Cursor.{HasRoom, IsNext, NoToken, StartsAt, token_bit, end_bit}
-use Rattle.logos_walk.specs.Cursors.{IsMarked, IsAt, start_of}
-use Rattle.logos_walk.proofs.CursorLemmas.{starts_same}
-use Rattle.logos_walk.specs.Masks.{MarksFrom}
-use Rattle.logos_walk.specs.Walk.{IsRowStart, IsSameBeside, Walked, entry_at, row_start_of}
+use Rattle.logos_scan.specs.declared.walk.cursor.ChunkCursor.{ChunkCursor}
+use Rattle.logos_scan.specs.walk.Cursor.{HasRoom, IsNext, NoToken, StartsAt, token_bit, end_bit}
+use Rattle.logos_scan.specs.walk.Cursors.{IsMarked, IsAt, start_of}
+use Rattle.logos_scan.proofs.walk.CursorLemmas.{starts_same}
+use Rattle.logos_scan.specs.walk.Masks.{MarksFrom}
+use Rattle.logos_scan.specs.walk.Walk.{IsRowStart, IsSameBeside, Walked, entry_at, row_start_of}
 
 pub ways : (a b : ℕ) → (a < b) ⊎ (b ≤ a)
 ways a b = grind arith

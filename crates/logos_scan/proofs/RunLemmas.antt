@@ -11,10 +11,10 @@ use Rattle.logos_scan.specs.fold.Folds.{AreFolded, IsFolded, EndsAs, HasUse, lea
 use Rattle.logos_machine.specs.inside.Looks.{Tried}
 use Rattle.logos_scan.specs.Attempts.{ComesTo, SkipsTo, skips_none, skips_then}
 use Rattle.logos_scan.proofs.TryLemmas.{is_at_begun, is_at_goes, tried_ends}
-use Rattle.logos_walk.specs.Cursor.{token_bit, end_bit, NoToken, StartsAt}
-use Rattle.logos_walk.specs.Walk.{Walked, row_start_of}
-use Rattle.logos_walk.proofs.CursorLemmas.{ways, starts_join}
-use Rattle.logos_walk.proofs.WalkLemmas.{walked_rest}
+use Rattle.logos_scan.specs.walk.Cursor.{token_bit, end_bit, NoToken, StartsAt}
+use Rattle.logos_scan.specs.walk.Walk.{Walked, row_start_of}
+use Rattle.logos_scan.proofs.walk.CursorLemmas.{ways, starts_join}
+use Rattle.logos_scan.proofs.walk.WalkLemmas.{walked_rest}
 
 module _ (code : CodeValue) (rows : List ℕ) (folded : AreFolded code rows) (input : List ℕ) (are : (k : ℕ) → get_or input k 0 < 256) (base count last : ℕ) (entries : List ℕ)
     (fits : base + count ≤ length input) where

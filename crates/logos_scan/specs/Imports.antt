@@ -3,4 +3,4 @@ pub use Rattle.logos_code.specs.Runs.{Runs}
 pub use Rattle.logos_hir.specs.Text.{IsBytes}
 pub use Rattle.logos_machine.specs.LexerValue.{TakesMatches, answers_of, item_of}
 pub use Rattle.logos_scan.specs.Attempts.{SkipsTo, ComesTo}
-pub use Rattle.logos_walk.specs.Walk.{IsRowStart}
+pub use Rattle.logos_scan.specs.walk.Walk.{IsRowStart}

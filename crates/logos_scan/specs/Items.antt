@@ -4,7 +4,7 @@ use Rattle.logos_code.specs.Items.{Callback, Item}
 use Rattle.logos_machine.specs.LexerValue.{LexerValue, Ends, Yields}
 use Rattle.logos_scan.specs.declared.run.Reading.{Reading}
 use Rattle.logos_scan.specs.declared.run.Run.{Run}
-use Rattle.logos_walk.specs.Cursors.{start_of}
+use Rattle.logos_scan.specs.walk.Cursors.{start_of}
 
 -- The lexer of the code on the input, with this callback, after an item with this span.
 abbrev pub lexer_at : {C : Type 0} → Reading → C → (from to : ℕ) → LexerValue C

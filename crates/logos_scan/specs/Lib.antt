@@ -1,3 +1,4 @@
+pub mod walk
 pub mod fold
 pub mod Attempts
 pub mod Runs

@@ -12,11 +12,11 @@ use Rattle.logos_scan.specs.declared.run.Reading.{Reading}
 use Rattle.logos_scan.specs.declared.run.Run.{Run}
 use Rattle.logos_scan.specs.declared.attempts.Taken.{Taken}
 use Rattle.logos_scan.specs.declared.attempts.Taken.TheVariants.{Emits, CallsBack, Fails, Ends}
-use Rattle.logos_walk.specs.Cursor.{HasRoom, end_bit, token_bit}
-use Rattle.logos_walk.specs.Cursors.{IsInWord, IsMarked, IsAt, start_at, start_of}
-use Rattle.logos_walk.specs.declared.cursor.ChunkCursor.{ChunkCursor}
-use Rattle.logos_walk.specs.declared.masks.ChunkEntries.{ChunkEntries}
-use Rattle.logos_walk.specs.Walk.{IsRowStart, Walked}
+use Rattle.logos_scan.specs.walk.Cursor.{HasRoom, end_bit, token_bit}
+use Rattle.logos_scan.specs.walk.Cursors.{IsInWord, IsMarked, IsAt, start_at, start_of}
+use Rattle.logos_scan.specs.declared.walk.cursor.ChunkCursor.{ChunkCursor}
+use Rattle.logos_scan.specs.declared.walk.masks.ChunkEntries.{ChunkEntries}
+use Rattle.logos_scan.specs.walk.Walk.{IsRowStart, Walked}
 
 -- The rows are those of the code.
 abbrev pub IsReading : Reading → Type 0

@@ -6,10 +6,10 @@ ghost use Rattle.logos_scan.specs.Imports.{answers_of, item_of, Runs, TakesMatch
 use crate::choice::rows_for;
 use crate::fold::folded::Folded;
 use crate::run::{Reading, Run};
+use crate::walk::masks::ChunkEntries;
 use logos_code::action::Action;
 use logos_hir::leaf::LeafId;
 use logos_machine::machine::{Item, Lexer};
-use logos_walk::masks::ChunkEntries;
 use std::alloc::{AllocError, Global};
 
 /// Returns all items of the input of a lexer that stands at its start, in order: by chunks where

@@ -7,3 +7,4 @@ pub mod choice;
 pub mod fold;
 pub mod items;
 pub mod run;
+pub mod walk;

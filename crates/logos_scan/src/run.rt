@@ -6,16 +6,16 @@ ghost use Rattle.logos_scan.specs.Views.{IsBytes, IsRowStart, ComesTo, answers_o
 use crate::attempts::{Taken, tried};
 use crate::fold::entries::CALLS;
 use crate::fold::folded::Folded;
+use crate::walk::blocks::walk_chunk;
+use crate::walk::cursor::ChunkCursor;
+use crate::walk::masks::ChunkEntries;
+use crate::walk::repair::{Stretch, repair};
+use crate::walk::{ENDED, PLACE, walk};
 use logos_code::action::Action;
 use logos_code::code::Code;
 use logos_hir::leaf::LeafId;
 use logos_machine::machine::{Item, error, matched_item, token};
 use logos_token::token::Span;
-use logos_walk::blocks::walk_chunk;
-use logos_walk::cursor::ChunkCursor;
-use logos_walk::masks::ChunkEntries;
-use logos_walk::repair::{Stretch, repair};
-use logos_walk::walk::{ENDED, PLACE, walk};
 
 /// A code, its folded rows, and the input that is stepped over.
 #[derive(Clone, Copy, Drop)]

@@ -10,7 +10,7 @@ use Rattle.logos_code.specs.Runs.{stays, target}
 use Rattle.logos_code.specs.declared.code.rows.MatchUse.{MatchUse}
 use Rattle.logos_code.specs.declared.code.rows.MatchUse.TheVariants.{Emits, Skips, CallsBack}
 use Rattle.logos_code.proofs.TargetLemmas.{All-slice_get, target_there}
-use Rattle.logos_walk.specs.Walk.{row_start_of}
+use Rattle.logos_scan.specs.walk.Walk.{row_start_of}
 use Rattle.logos_scan.specs.fold.Folds.{Goes, IsEnded, IsFew, IsFolded, IsFoldedRow, IsWithin, flags_of}
 
 -- a state is small

@@ -1,6 +1,6 @@
 -- What folded rows say of a code.
 use Rattle.std.specs.Prelude.{◌≡◌, ℕ, ◌+◌, ◌*◌, ◌/◌, ◌%◌, ◌<◌, ◌≤◌, ◌⊎◌, true, false, List, length, Some, slice_index}
-use Rattle.logos_walk.specs.Walk.{IsClosed, row_start_of}
+use Rattle.logos_scan.specs.walk.Walk.{IsClosed, row_start_of}
 use Rattle.std.specs.Int.{bit_at}
 use Rattle.logos_code.specs.Code.{CodeValue}
 use Rattle.logos_code.specs.CodeView.{state_at}

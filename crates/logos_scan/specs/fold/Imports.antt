@@ -4,6 +4,6 @@ pub use Rattle.logos_code.specs.Headline.{IsSound}
 pub use Rattle.logos_code.specs.Rows.{IsStepOf, LeadsToRowStart, Says, first_halting}
 pub use Rattle.logos_code.specs.Runs.{stays}
 pub use Rattle.logos_scan.specs.fold.Folds.{AreFolded, FoldedValue, Goes, IsEnded, IsFew, IsFolded, IsFoldedRow, IsMany, IsWithin, flags_of}
-pub use Rattle.logos_walk.specs.Walk.{row_start_of}
+pub use Rattle.logos_scan.specs.walk.Walk.{row_start_of}
 pub use Rattle.std.specs.Coded.{codes}
 pub use mir.Syntax.{named}

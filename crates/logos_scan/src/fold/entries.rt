@@ -3,13 +3,13 @@
 ghost use Rattle.std.specs.Prelude.{◌≡◌, ◌+◌, ◌<◌, false, length, IfSome};
 ghost use Rattle.logos_scan.specs.fold.Imports.{first_halting, flags_of, row_start_of, state_at, stays, Goes, IsEnded, IsFew, IsFolded, IsFoldedRow, IsSound, IsStepOf, IsWithin, LeadsToRowStart, Says};
 
+use crate::walk::{ENDED, TOKEN};
 use logos_code::code::Code;
 use logos_code::code::rows::{
     ASKS, ASKS_AFTER, CLOSES, HALTS, LATE, LEAVES, MatchUse, SHUTS, STAYS, STUCK, Step, UNSAID,
     WIDTH,
 };
 use logos_hir::leaf::LeafId;
-use logos_walk::walk::{ENDED, TOKEN};
 
 /// The flag of an entry before whose byte a match ends that may be up to a callback.
 pub const CALLS: u32 = 1 << 29;

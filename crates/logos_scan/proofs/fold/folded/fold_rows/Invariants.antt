@@ -1,5 +1,5 @@
 use Rattle.std.proofs.Common.{◌≡◌, ℕ, ◌+◌, ◌*◌, ◌<◌, length, slice_index}
-use Rattle.logos_walk.specs.Walk.{row_start_of}
+use Rattle.logos_scan.specs.walk.Walk.{row_start_of}
 use Rattle.logos_scan.specs.fold.Folds.{IsFolded, IsWithin}
 use Rattle.logos_scan.proofs.fold.folded.fold_rows.Given as goal
 
