@@ -5,7 +5,7 @@ use Rattle.std.proofs.lemmas.List.Elements.{Contains-push, Contains-push_cases, 
 use Rattle.std.proofs.lemmas.Slice.Eq.{bytes_eq-Decides}
 use Rattle.std.specs.Str.{bytes_eq}
 use Rattle.std.specs.List.{list_any}
-use Rattle.logos_cycles.specs.Cycles.{targets_of, Leads as Path, one as step, on as steps}
+use Rattle.logos_type_params.specs.cycles.Cycles.{targets_of, Leads as Path, one as step, on as steps}
 use Rattle.logos_type.specs.declared.type_expr.TypePart.{TypePart}
 use Rattle.logos_type.specs.Parts.{name, trees, also, tree_of}
 use Rattle.logos_type_params.specs.declared.substitution.TypeParam.{TypeParam}

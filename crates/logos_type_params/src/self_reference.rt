@@ -5,8 +5,8 @@ ghost use Rattle.std.specs.Prelude.{◌≡◌, ◌↔◌, [], length, map, IfOk,
 ghost use Rattle.logos_type_params.specs.Views.{name, tree_of, names, Leads, Reaches, AreReached};
 ghost use Rattle.logos_type_params.specs.SelfReference.{param_value};
 
+use crate::cycles::on_cycles;
 use crate::given_types::GivenTypes;
-use logos_cycles::on_cycles;
 use logos_type::TypePart;
 use std::alloc::{AllocError, Global};
 
