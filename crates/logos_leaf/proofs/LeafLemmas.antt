@@ -6,8 +6,8 @@ use Rattle.logos_hir.specs.Tree.{Tree}
 use Rattle.logos_pattern.specs.Leaf.{KindValue}
 use Rattle.logos_attribute.specs.Reports.{Report, IsReport, and_then}
 use Rattle.logos_definition.specs.Definitions.{DefinitionView}
-use Rattle.logos_subpattern.specs.PatternFaults.{Reading, spelled, broken, too_deep, Reads, IsRead, tree_in, pattern_faults}
-use Rattle.logos_subpattern.specs.Substitution.{Stored}
+use Rattle.logos_leaf.specs.subpattern.PatternFaults.{Reading, spelled, broken, too_deep, Reads, IsRead, tree_in, pattern_faults}
+use Rattle.logos_leaf.specs.subpattern.Substitution.{Stored}
 use Rattle.logos_leaf.specs.Leaves.{LeafView, is_string, greedy_faults, fitted_report, tree_report, reading_report, regex_priority, text_report, whole_report, IsRegexLeaf}
 use Rattle.logos_leaf.specs.inside.Readings.{IsWholeLeaf}
 use Rattle.logos_attribute.proofs.ReportLemmas.{listed_then, report_alone}

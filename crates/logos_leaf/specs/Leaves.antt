@@ -16,9 +16,9 @@ use Rattle.logos_hir.specs.Tree.{Tree}
 use Rattle.logos_attribute.specs.Callbacks.{CallbackView}
 use Rattle.logos_attribute.specs.Reports.{Report, with_faults, without_faults, and_then, fault, only, IsReport}
 use Rattle.logos_definition.specs.Definitions.{DefinitionView}
-use Rattle.logos_subpattern.specs.PatternFaults.{Reading, spelled, broken, too_deep, Reads, pattern_faults}
-use Rattle.logos_subpattern.specs.Substitution.{Stored, subst_report}
-use Rattle.logos_subpattern.specs.Subpatterns.{pattern_text}
+use Rattle.logos_leaf.specs.subpattern.PatternFaults.{Reading, spelled, broken, too_deep, Reads, pattern_faults}
+use Rattle.logos_leaf.specs.subpattern.Substitution.{Stored, subst_report}
+use Rattle.logos_leaf.specs.subpattern.Subpatterns.{pattern_text}
 
 -- A leaf as contracts see it: the tree and the source of its pattern, its span, its priority, its
 -- kind, its callback and its options.

@@ -12,8 +12,8 @@ use Rattle.logos_enum.specs.Values.{ParameterValue}
 use Rattle.logos_attribute.specs.Reports.{IsReport}
 use Rattle.logos_definition.specs.Attributes.{ReadsAttribute, parameter_report}
 use Rattle.logos_definition.specs.Options.{OptionsView, no_options, utf8_mode}
-use Rattle.logos_subpattern.specs.Subpatterns.{AreAdded}
-use Rattle.logos_subpattern.specs.Substitution.{Stored}
+use Rattle.logos_leaf.specs.subpattern.Subpatterns.{AreAdded}
+use Rattle.logos_leaf.specs.subpattern.Substitution.{Stored}
 use Rattle.logos_leaf.specs.Leaves.{LeafView}
 use Rattle.logos_leaf.specs.Variants.{SkipsAdd, VariantsAdd}
 

@@ -17,7 +17,7 @@ use Rattle.logos_attribute.specs.Reports.{IsReport, AddsFault}
 use Rattle.logos_definition.specs.Definitions.{DefinitionView}
 use Rattle.logos_definition.specs.Metas.{Meta, meta_of}
 use Rattle.logos_definition.specs.Attributes.{meta_report}
-use Rattle.logos_subpattern.specs.Substitution.{Stored}
+use Rattle.logos_leaf.specs.subpattern.Substitution.{Stored}
 use Rattle.logos_leaf.specs.Leaves.{LeafView, IsTokenLeaf, IsRegexLeaf}
 use Rattle.logos_leaf.specs.VariantFaults.{variant_fields, count_faults, named_fields, error_variant, token_form, regex_form}
 

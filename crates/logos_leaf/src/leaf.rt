@@ -4,11 +4,11 @@ ghost use Rattle.std.specs.Prelude.{◌≡◌, ◌++◌, IfOk, IfSome, OnOk, OnE
 ghost use Rattle.logos_leaf.specs.Imports.{literal_tree, KindValue, pattern_tree, source_of, is_token, kind_value, token_of, literal_view, IsReport, definition_view, IsRead, pattern_text, subst_report, names_of, bytes_of, is_string, escaped_of, leaf_with, options_of, token_priority, token_leaf, regex_priority, greedy_faults, tree_report, IsTokenLeaf, IsRegexLeaf, leaf_view, leaf_by, IsFoldedLeaf, IsWholeLeaf};
 
 use crate::fault::{report_greedy_dot, report_overflow};
+use crate::subpattern::fault::{Making, ReadingMode, WrittenPattern, read_pattern};
+use crate::subpattern::{Subpatterns, pattern_text};
 use logos_definition::definition::Definition;
 use logos_pattern::leaf::{Leaf, LeafOptions, VariantKind};
 use logos_pattern::pattern::{Literal, Pattern, token_priority};
-use logos_subpattern::fault::{Making, ReadingMode, WrittenPattern, read_pattern};
-use logos_subpattern::subpattern::{Subpatterns, pattern_text};
 use logos_token::error::{Errors, Memory};
 use std::alloc::Global;
 

@@ -6,4 +6,5 @@ mod fault;
 pub mod laws;
 pub mod leaf;
 pub mod source;
+pub mod subpattern;
 pub mod variant;

@@ -4,12 +4,12 @@ ghost use Rattle.std.specs.Prelude.{◌≡◌, IfOk, OnOk, map, []};
 ghost use Rattle.logos_leaf.specs.Imports.{tokens_of, texts, params_with, parameter_value, enum_value, variant_value, names_of, definition_view, no_options, parser_view, leaf_view, SkipsAdd, ReadsParameters, ReadsAttributes, YieldsLeaves, IsSourceRead, IsWithoutSkips, AreMadeWith};
 
 use crate::leaf::regex_leaf;
+use crate::subpattern::Subpatterns;
 use crate::variant::{add_variants, push_leaf};
 use logos_definition::definition::Definition;
 use logos_definition::parser::Parser;
 use logos_enum::{ItemEnum, Parameter, Variant, split_attribute};
 use logos_pattern::leaf::{Leaf, VariantKind};
-use logos_subpattern::subpattern::Subpatterns;
 use logos_token::error::{Errors, Memory};
 use logos_token::token::Tokens;
 use std::collections::HashSet;

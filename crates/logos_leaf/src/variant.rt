@@ -6,6 +6,7 @@ ghost use Rattle.logos_leaf.specs.Imports.{option_to_list, tokens_of, texts, par
 mod fault;
 
 use crate::leaf::{regex_leaf, token_leaf};
+use crate::subpattern::Subpatterns;
 use crate::variant::fault::{
     report_count, report_error_variant, report_named_fields, report_regex_form, report_token_form,
     report_variant_fields,
@@ -14,7 +15,6 @@ use logos_definition::meta::meta_of;
 use logos_definition::parser::Parser;
 use logos_enum::{Attribute, Field, Fields, Variant, split_attribute};
 use logos_pattern::leaf::{Leaf, VariantKind};
-use logos_subpattern::subpattern::Subpatterns;
 use logos_token::error::{Errors, Memory};
 use logos_token::token::{Ident, Span, Tokens};
 use logos_type_params::TypeParams;

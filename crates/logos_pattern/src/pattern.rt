@@ -1,5 +1,5 @@
 //! Patterns, which are read from the text of a literal. `logos_leaf` makes one for each leaf, and
-//! `logos_subpattern` one for each subpattern.
+//! one for each subpattern.
 
 ghost use Rattle.std.specs.Prelude.{◌≡◌, ◌≤◌, ◌++◌, ℕ, chars, IfOk, IfErr, IsTrue, Some};
 ghost use Rattle.logos_pattern.specs.Views.{tree_of, literal_tree, value, fitted, is_text, has_greedy_dot, IsTooDeep, IsSpelled, IsFound, Refuses, first_flags, pattern_tree, source_of, is_token, pattern_text, token_of, held_bytes, literal_value};

@@ -26,8 +26,8 @@ use Rattle.logos_definition.specs.Attributes.{parameter_report, meta_report}
 use Rattle.logos_definition.specs.Definitions.{DefinitionView}
 use Rattle.logos_definition.specs.Metas.{meta_of}
 use Rattle.logos_definition.specs.Options.{OptionsView}
-use Rattle.logos_subpattern.specs.PatternFaults.{Reading, spelled, broken, too_deep}
-use Rattle.logos_subpattern.specs.Substitution.{Stored}
+use Rattle.logos_leaf.specs.subpattern.PatternFaults.{Reading, spelled, broken, too_deep}
+use Rattle.logos_leaf.specs.subpattern.Substitution.{Stored}
 use Rattle.logos_leaf.specs.Leaves.{LeafView, bytes_of, folded_report, token_report, token_leaf, IsTokenLeaf, fitted_report, regex_priority, reading_report, text_report, whole_report, IsRegexLeaf}
 use Rattle.logos_leaf.specs.Sources.{ReadsParameters, no_parameter, one_parameter, ReadsAttributes, no_attribute, one_attribute, ReadsSource, IsSourceRead}
 use Rattle.logos_leaf.specs.Variants.{TokenYields, no_token, a_token, RegexYields, no_regex, a_regex, AttributeYields, on_error, on_token, on_regex, on_other, AttributesAdd, no_attribute as no_more, one_attribute as one_first, VariantsAdd, no_variant, one_variant, SkipsAdd, no_skip, one_skip}

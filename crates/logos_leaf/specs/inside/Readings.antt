@@ -5,10 +5,10 @@ use Rattle.logos_pattern.specs.Leaf.{KindValue, pattern_tree}
 use Rattle.logos_pattern.specs.declared.pattern.Pattern.{Pattern}
 use Rattle.logos_attribute.specs.Reports.{IsReport}
 use Rattle.logos_definition.specs.Definitions.{DefinitionView}
-use Rattle.logos_subpattern.specs.PatternFaults.{Reading, Reads}
+use Rattle.logos_leaf.specs.subpattern.PatternFaults.{Reading, Reads}
 use Rattle.logos_type_params.specs.Substitution.{Params}
 use Rattle.logos_enum.specs.EnumValues.{VariantValue}
-use Rattle.logos_subpattern.specs.Substitution.{Stored}
+use Rattle.logos_leaf.specs.subpattern.Substitution.{Stored}
 use Rattle.logos_leaf.specs.Variants.{SkipsAdd, VariantsAdd}
 use Rattle.logos_leaf.specs.Leaves.{LeafView, leaf_with, is_string, escaped_of, folded_report, reading_report}
 
