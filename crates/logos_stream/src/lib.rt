@@ -6,9 +6,11 @@ mod front;
 mod item;
 mod items;
 pub mod laws;
+mod parts;
 mod stream;
 mod tail;
 mod window;
 
 pub use item::{StreamItem, Streamed};
+pub use parts::Parts;
 pub use stream::Stream;

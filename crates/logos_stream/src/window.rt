@@ -4,8 +4,8 @@ ghost use Rattle.std.specs.Prelude.{◌≡◌, ◌*◌, ◌<◌, ◌≤◌, [], 
 ghost use Rattle.logos_stream.specs.Views.{end_of, nothing_read, start_of, unread_length, Finishes, Yields, GoesPast, IsPutOff, IsTorn, ReadsOn, StaysUnread, Waits};
 
 use crate::item::{StreamItem, Streamed, later};
+use crate::parts::Parts;
 use crate::tail::{is_cut, tail_of};
-use logos_parts::Parts;
 use std::alloc::{AllocError, Global};
 use std::io;
 use std::io::Read;

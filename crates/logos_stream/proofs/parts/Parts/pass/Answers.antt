@@ -1,7 +1,7 @@
 use Rattle.std.proofs.Common.{◌≤◌, ◌∙◌, length, sym, ap, subst}
-use Rattle.logos_parts.specs.PartsValue.{PartsValue, without}
-use Rattle.logos_parts.proofs.PartsLemmas.{passed_gone}
-use Rattle.logos_parts.proofs.parts.Parts.pass.Goals as goal
+use Rattle.logos_stream.specs.parts.PartsValue.{PartsValue, without}
+use Rattle.logos_stream.proofs.parts.PartsLemmas.{passed_gone}
+use Rattle.logos_stream.proofs.parts.Parts.pass.Goals as goal
 
 pub returns : goal.returns
 returns g c =

@@ -1,7 +1,7 @@
-//! An input that is read in parts.
+//! Reading of an input in parts: in memory are the bytes that were read and not passed.
 
 ghost use Rattle.std.specs.Prelude.{◌≡◌, ◌+◌, ◌<◌, ◌≤◌, [], length, take, false, IfOk, OnErr, MatchBool, min};
-ghost use Rattle.logos_parts.specs.Imports.{ReadsAfter, Reads, Stays, without};
+ghost use Rattle.logos_stream.specs.parts.Imports.{ReadsAfter, Reads, Stays, without};
 
 use std::alloc::{AllocError, Global};
 use std::io;
@@ -29,7 +29,7 @@ pub struct Parts<R> {
 
 impl<R> Model for Parts<R> {
     ghost use Rattle.std.specs.Prelude.{◌≤◌, length, take};
-    ghost use Rattle.logos_parts.specs.Imports.{PartsValue};
+    ghost use Rattle.logos_stream.specs.parts.Imports.{PartsValue};
 
     ghost Value = { PartsValue R };
 

@@ -1,8 +1,8 @@
 use Rattle.std.proofs.Common.{◌∙◌, ℕ, ◌+◌, List, ap, sym, length, nat_eq, subst, take}
 use Rattle.std.proofs.lemmas.List.{with_items_is}
-use Rattle.logos_parts.specs.PartsValue.{PartsValue, Reads}
-use Rattle.logos_parts.proofs.PartsLemmas.{read_adds}
-use Rattle.logos_parts.proofs.parts.Parts.read.Goals as goal
+use Rattle.logos_stream.specs.parts.PartsValue.{PartsValue, Reads}
+use Rattle.logos_stream.proofs.parts.PartsLemmas.{read_adds}
+use Rattle.logos_stream.proofs.parts.Parts.read.Goals as goal
 
 pub returns-in-Ok-clause-read : goal.returns-in-Ok-clause-read
 returns-in-Ok-clause-read g c =

@@ -6,7 +6,7 @@ use Rattle.std.proofs.Math.Seq.{take-add}
 use Rattle.std.proofs.lemmas.List.{drop-take, length-take, length-drop}
 use Rattle.std.proofs.lemmas.Bool.Decides.{eqb_tells}
 use Rattle.std.proofs.lemmas.List.Edits.{take-paste, length-paste}
-use Rattle.logos_parts.specs.PartsValue.{PartsValue, Reads, without}
+use Rattle.logos_stream.specs.parts.PartsValue.{PartsValue, Reads, without}
 
 some_read : (count : ℕ) → IsFalse (nat_eq count 0) → 0 < count
 some_read count h = ⊎_elim (λ p. absurd (let f : true ≡ false = sym p.0 ∙ h in cc)) (λ p. positive count p.1) (eqb_tells count 0)
