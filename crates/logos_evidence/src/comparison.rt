@@ -6,8 +6,8 @@ ghost use Rattle.logos_evidence.specs.inside.Machines as machines;
 
 use crate::examples::point_from;
 use crate::graph_steps::{next_at_end, next_by, seen_by, states_of};
+use crate::search::{Machine, Point, shortest};
 use logos_graph::graph::{Graph, StateData};
-use logos_search::{Machine, Point, shortest};
 use std::alloc::{AllocError, Global};
 
 /// What a comparison of two lexers gives.

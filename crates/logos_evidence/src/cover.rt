@@ -5,8 +5,8 @@ ghost use Rattle.logos_evidence.specs.Imports.{AreCoveringInputs, edge_next, edg
 
 use crate::examples::point_from;
 use crate::graph_steps::{next_at_end, next_by, states_of};
+use crate::search::{Machine, Point, covering};
 use logos_graph::graph::{Graph, StateData};
-use logos_search::{Machine, Point, covering};
 use std::alloc::{AllocError, Global};
 
 /// A machine that follows the edges of a graph.

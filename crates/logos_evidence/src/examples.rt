@@ -5,8 +5,8 @@ ghost use Rattle.logos_evidence.specs.Imports.{IsGraphOf, rules_of, HasNoExample
 ghost use Rattle.logos_evidence.specs.inside.Machines as machines;
 
 use crate::graph_steps::{next_at_end, next_by, seen_by, states_of};
+use crate::search::{Machine, Point, shortest};
 use logos_graph::graph::{Graph, StateData};
-use logos_search::{Machine, Point, shortest};
 use std::alloc::{AllocError, Global};
 
 /// A machine that follows a graph, and looks for inputs whose last match on the way is one of a

@@ -9,6 +9,7 @@ mod graph_steps;
 mod losses;
 mod matches;
 mod meetings;
+pub mod search;
 mod steps;
 
 pub use comparison::{Comparison, Named, compare};

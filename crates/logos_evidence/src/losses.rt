@@ -6,10 +6,10 @@ ghost use Rattle.logos_evidence.specs.inside.Machines as machines;
 
 use crate::examples::{is_last, point_from};
 use crate::graph_steps::{next_at_end, next_by, seen_by, states_of};
+use crate::search::{Machine, Point, shortest};
 use crate::steps::{listed, listed_at_end, step_by};
 use logos_automaton::dfa::Dfa;
 use logos_graph::graph::{Graph, StateData};
-use logos_search::{Machine, Point, shortest};
 use std::alloc::{AllocError, Global};
 
 /// A machine that follows an automaton and its graph, and looks for inputs on which a leaf has

@@ -1,8 +1,7 @@
 //! The matches from an offset of an input.
 
 ghost use Rattle.std.specs.Prelude.{◌≡◌, ◌≤◌, ◌⊎◌, ◌++◌, [], IfOk, MatchOption, OnOk, length, map};
-ghost use Rattle.logos_evidence.specs.Views.{AllStart, IsGraphOf, rules_of, IsBytes, AreMatches, IsAtMost, IsWinner, match_to};
-ghost use Rattle.logos_automaton.specs.Munch as munch;
+ghost use Rattle.logos_evidence.specs.Views.{AllStart, IsGraphOf, rules_of, IsBytes, AreMatches, IsAtMost, IsWinner, match_to, priority_of};
 
 use logos_automaton::dfa::parts::leaves_at;
 use logos_graph::graph::Graph;
@@ -22,7 +21,7 @@ pub struct Match {
 
 /// Returns the priority of a leaf by its number, or 0 if there is no such leaf.
 pub(crate) fn priority_of(leaves: &[Leaf<'_>], leaf: usize) -> usize
-    ensures { result ≡ munch.priority_of (rules_of leaves.now) leaf }
+    ensures { result ≡ priority_of (rules_of leaves.now) leaf }
 {
     match leaves.get(leaf) {
         Some(leaf) => leaf.priority,
@@ -42,7 +41,7 @@ fn add_matches(
     end: usize,
 ) -> Result<(), AllocError>
     ensures { OnOk result (found.new.items ≡ found.old.items ++
-        map (match_to (munch.priority_of (rules_of leaves.now)) end) listed.now) }
+        map (match_to (priority_of (rules_of leaves.now)) end) listed.now) }
 {
     for leaf in listed {
         let priority = priority_of(leaves, *leaf);

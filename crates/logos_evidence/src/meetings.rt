@@ -5,10 +5,10 @@ ghost use Rattle.logos_evidence.specs.Imports.{IsStrictlyIncreasing, AllStart, h
 ghost use Rattle.logos_evidence.specs.inside.Machines as machines;
 
 use crate::matches::priority_of;
+use crate::search::{Machine, Point, shortest};
 use crate::steps::{listed, listed_at_end, step_by};
 use logos_graph::graph::Graph;
 use logos_pattern::leaf::Leaf;
-use logos_search::{Machine, Point, shortest};
 use std::alloc::{AllocError, Global};
 
 /// A machine that follows an automaton, and looks for inputs that begin with a span of which a set

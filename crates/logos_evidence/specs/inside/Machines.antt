@@ -5,7 +5,7 @@ use Rattle.logos_graph.specs.Graph.{GraphState, next_by, next_at_end}
 use Rattle.logos_automaton.specs.Automaton.{Automaton}
 use Rattle.logos_automaton.specs.Munch.{Rule}
 use Rattle.logos_automaton.specs.inside.TopSets.{top_of}
-use Rattle.logos_search.specs.declared.point.Point.{Point}
+use Rattle.logos_evidence.specs.declared.search.point.Point.{Point}
 use Rattle.logos_evidence.specs.inside.Steps.{step_by, listed_at_end}
 use Rattle.logos_evidence.specs.inside.Lasts.{mark_by, mark_at_end, step_to}
 

@@ -1,0 +1,34 @@
+//! Machines that read bytes, and their points.
+
+/// A point that a machine can reach. What the parts mean is the machine's own.
+#[derive(Clone, Copy, PartialEq, Eq, Hash)]
+pub struct Point {
+    /// A state.
+    pub here: usize,
+    /// A second state.
+    pub there: usize,
+    /// Whether a byte was read.
+    pub begun: bool,
+    /// Whether what is asked about was met on the way.
+    pub met: bool,
+    /// What holds of the last match on the way.
+    pub last: bool,
+}
+
+/// A machine that reads bytes, and the points that are looked for.
+pub trait Machine {
+    ghost use Rattle.std.specs.Prelude.{◌≡◌, ℕ, Bool, Option};
+    ghost use Rattle.logos_evidence.specs.declared.search.point.Point.{Point as At};
+
+    ghost leads: { Self → At → ℕ → Option At };
+
+    ghost goal: { Self → At → Bool };
+
+    /// Returns the point to which a byte leads.
+    fn next(&self, at: Point, byte: u8) -> Option<Point>
+        ensures { result ≡ leads self.now at byte };
+
+    /// Returns whether an input that ends at a point is one that is looked for.
+    fn is_goal(&self, at: Point) -> bool
+        ensures { result ≡ goal self.now at };
+}
