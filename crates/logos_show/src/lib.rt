@@ -6,6 +6,7 @@ mod choice;
 mod comparison;
 mod pages;
 mod program;
+mod questions;
 mod refusals;
 mod replies;
 mod stream;

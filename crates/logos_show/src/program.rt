@@ -6,6 +6,7 @@ ghost use Rattle.logos_show.specs.Imports.{status_of, IsNoMisuse, requested};
 use crate::choice::{found_in, lexer_in};
 use crate::comparison::compare;
 use crate::pages::{Form, PageStyle, SHAPE, Shown, shown_of};
+use crate::questions::{Question, ShowOrder, ShowRequest, request_of};
 use crate::refusals::{refused, text_of, write_note};
 use crate::replies::{
     Agreement, Input, InputPoint, write_agreement, write_input_records, write_inputs,
@@ -22,7 +23,6 @@ use logos_options::{
     HelpText, OptionName, Program, STANDARD_INPUT, path_by_word, print_help, print_version,
     with_nearest,
 };
-use logos_questions::{Question, ShowOrder, ShowRequest, request_of};
 use logos_report::{Part, Source};
 use logos_rust_file::FoundEnum;
 use std::alloc::Global;

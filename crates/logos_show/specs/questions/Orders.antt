@@ -9,11 +9,11 @@ use Rattle.logos_options.specs.declared.message_style.MessageStyle.{MessageStyle
 use Rattle.logos_options.specs.declared.options.OptionName.{OptionName}
 use Rattle.logos_options.specs.declared.options.OptionName.TheVariants as options
 use Rattle.logos_options.specs.declared.program.Program.TheVariants as programs
-use Rattle.logos_questions.specs.declared.questions.ShowOrder.{ShowOrder}
-use Rattle.logos_questions.specs.declared.questions.Question.{Question}
-use Rattle.logos_questions.specs.declared.questions.Question.TheVariants as questions
-use Rattle.logos_questions.specs.declared.questions.ShowRequest.{ShowRequest}
-use Rattle.logos_questions.specs.declared.questions.ShowRequest.TheVariants.{Help, Version, Show}
+use Rattle.logos_show.specs.declared.questions.ShowOrder.{ShowOrder}
+use Rattle.logos_show.specs.declared.questions.Question.{Question}
+use Rattle.logos_show.specs.declared.questions.Question.TheVariants as questions
+use Rattle.logos_show.specs.declared.questions.ShowRequest.{ShowRequest}
+use Rattle.logos_show.specs.declared.questions.ShowRequest.TheVariants.{Help, Version, Show}
 
 -- What is asked of the lexers of a file: their leaves; the items of an input, by its path; what
 -- matches from a position of an input; examples of what leaves find; at most a number of inputs
