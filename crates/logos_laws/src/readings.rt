@@ -1,0 +1,56 @@
+//! Definitions of the crates below in another form, which is easier to believe, as laws: the pieces
+//! of an attribute one after another, and what stripping leaves, by the parts of the enum.
+//!
+//! No code calls these functions: the contract of each is a proved law.
+
+ghost use Rattle.std.specs.Prelude.{◌≡◌, ◌<◌, ◌≤◌, ◌↔◌, ℕ, ◌+◌, ◌^◌, Bool, List, Ok, Option, IfSome};
+ghost use Rattle.logos_laws.specs.readings.Imports.{EnumValue, Piece, Reads, TokenList, pieces, stripped, in_file, moved, OccurInReport, OccurInText, ArePieces, EnumStays, IsBytes, Matches, MatchesInOrder, SomeMatches, Tree, repetition, trees, alternation_of, concat_of, repetition_of};
+
+/// The pieces of an argument are its first piece, and then the pieces of what is left after that
+/// piece and its comma.
+pub fn pieces_in_turn()
+    ensures are { (run : TokenList) → ArePieces run (pieces run) }
+    ensures only { (run : TokenList) (list : List Piece) → ArePieces run list →
+        list ≡ pieces run }
+{}
+
+/// Stripping leaves of an enum exactly this: its attributes, those of its variants and those of
+/// their fields without the helper attributes, the lists of the enum's `derive`s without the
+/// entries that name the macro, and all other tokens.
+pub fn strips_by_parts()
+    ensures are { (tokens : TokenList) (value : EnumValue) → Reads tokens (Ok value) →
+        EnumStays value tokens (stripped tokens) }
+    ensures only { (tokens remaining : TokenList) (value : EnumValue) →
+        EnumStays value tokens remaining → remaining ≡ stripped tokens }
+{}
+
+/// An offset of a part of a file, counted from the beginning of the file, is a sum, as long as that
+/// is a number of 64 bits.
+pub fn offsets_are_sums()
+    ensures report { (begin offset : ℕ) → offset + begin < 2 ^ 64 →
+        in_file begin offset ≡ offset + begin }
+    ensures rows { (begin offset : ℕ) → offset + begin < 2 ^ 64 →
+        moved begin offset ≡ begin + offset }
+{}
+
+/// Texts stand in a report as they stand in the text of a lexer.
+pub fn texts_occur_alike()
+    ensures { (texts : List (List ℕ)) (whole : List ℕ) →
+        OccurInReport texts whole ↔ OccurInText texts whole }
+{}
+
+/// What is built of parts, of branches or of a repetition, in its simplest form, matches exactly
+/// what the parts match one after another, what one of the branches does, or what the repetition
+/// does.
+pub fn builders_change_no_match()
+    ensures parts { (parts : List Tree) (bytes : List ℕ) (from to : ℕ) →
+        Matches (concat_of parts) bytes from to ↔ MatchesInOrder (trees parts) bytes from to }
+    ensures branches { (branches : List Tree) (bytes : List ℕ) → IsBytes bytes →
+        (from to : ℕ) →
+        Matches (alternation_of branches) bytes from to
+        ↔ SomeMatches (trees branches) bytes from to }
+    ensures counts { (least : ℕ) (most : Option ℕ) (greedy : Bool) (body : Tree)
+        (bytes : List ℕ) (from to : ℕ) → IfSome most (λ m. least ≤ m) →
+        Matches (repetition_of least most greedy body) bytes from to
+        ↔ Matches (repetition least most greedy body) bytes from to }
+{}
