@@ -2,6 +2,7 @@
 
 #![tactic(auto)]
 
+mod distinction;
 pub mod graph;
 pub mod laws;
 mod leaves;

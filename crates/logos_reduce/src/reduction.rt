@@ -17,9 +17,9 @@ pub struct Reduction {
     /// The states, numbered by first visit from the root, which is 0.
     pub table: Table,
     /// For each state the block that it stands for.
-    pub(crate) blocks: Vec<usize>,
+    pub blocks: Vec<usize>,
     /// How each block was parted from one with a lower number.
-    pub(crate) splits: Vec<Split>,
+    pub splits: Vec<Split>,
 }
 
 /// Returns the least table that has the marks of this one, from the root on.
@@ -27,8 +27,8 @@ pub struct Reduction {
 /// Early marks are set, and late marks that they make needless are dropped; edges to states that
 /// have no mark and lead to none are left out; states that no word distinguishes are merged; and
 /// the states that the root leads to are numbered by first visit. Where each state can be reached,
-/// and there are only late marks, and none after the end, each state is of use, and `evidence`
-/// finds bytes that distinguish two of them.
+/// and there are only late marks, and none after the end, each state is of use, and what
+/// is kept of the blocks yields bytes that distinguish two of them.
 ///
 /// # Errors
 ///

@@ -4,6 +4,7 @@ ghost use Rattle.std.specs.Prelude.{◌≡◌, ◌≢◌, ◌<◌, ◌↔◌, []
 ghost use Rattle.logos_graph.specs.Imports.{Distinguishes, IsEvidence};
 
 use super::{Graph, State};
+use crate::distinction::{checks, evidence};
 use logos_token::error::Memory;
 use std::alloc::Global;
 
@@ -30,7 +31,7 @@ impl Graph<'_> {
         ensures { IfOk result (λ telling.
             IsEvidence self.now.states s.0 t.0 telling.bytes.items telling.at_end) }
     {
-        let (bytes, at_end) = self.reduced().evidence(alloc, s.0, t.0)?;
+        let (bytes, at_end) = evidence(alloc, self.reduced(), s.0, t.0)?;
         Ok(Telling { bytes, at_end })
     }
 
@@ -41,6 +42,6 @@ impl Graph<'_> {
         requires t_in { t.0 < length self.now.states }
         ensures { IsTrue result ↔ Distinguishes self.now.states s.0 t.0 bytes.now at_end }
     {
-        self.reduced().checks(s.0, t.0, bytes, at_end)
+        checks(self.reduced(), s.0, t.0, bytes, at_end)
     }
 }

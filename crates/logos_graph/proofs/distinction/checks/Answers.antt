@@ -1,5 +1,5 @@
 use Rattle.std.proofs.Common.{sym, ◌∙◌}
-use Rattle.logos_reduce.proofs.reduction.Reduction.checks.Goals as goal
+use Rattle.logos_graph.proofs.distinction.checks.Goals as goal
 
 pub returns : goal.returns
 returns c =

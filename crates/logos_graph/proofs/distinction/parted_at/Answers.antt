@@ -4,7 +4,7 @@ use Rattle.std.proofs.lemmas.List.{get_or_default}
 use Rattle.logos_reduce.specs.Merge.{split_at}
 use Rattle.logos_reduce.specs.declared.merge.blocks.Split.{Split}
 use Rattle.logos_reduce.proofs.words.EvidenceLemmas.{placed_last, parted_here, climbed, renamed}
-use Rattle.logos_reduce.proofs.evidence.parted_at.Goals as goal
+use Rattle.logos_graph.proofs.distinction.parted_at.Goals as goal
 
 pub loop-low-init : goal.loop-low-init
 loop-low-init c =

@@ -1,12 +1,12 @@
-//! Distinguishes two states of a reduced table by bytes. `Graph` of `logos_graph` asks for it after
-//! the reduction, for two states that a caller names.
+//! Distinguishes two states of a reduced table by bytes. `Graph` calls it for two states that a
+//! caller names.
 
 ghost use Rattle.std.specs.Prelude.{◌≡◌, ◌≢◌, ◌⊎◌, ◌↔◌, ◌<◌, ℕ, IsTrue, IfOk, IfSome, MatchOption, Some, None};
 ghost use Rattle.logos_reduce.specs.Views.{size, to, YieldsEvidence, mark_with_end, mark_after, Distinguishes, IsEvidence, state_after, ArePartedAt};
 
-use crate::reduction::Reduction;
-use crate::rows::{END, WIDTH};
-use crate::table::{StateMarks, Table};
+use logos_reduce::reduction::Reduction;
+use logos_reduce::rows::{END, WIDTH};
+use logos_reduce::table::{StateMarks, Table};
 use std::alloc::{AllocError, Global};
 
 /// Returns the state to which bytes lead from a state.
@@ -89,49 +89,52 @@ fn parted_at(reduced: &Reduction, s: usize, t: usize) -> usize
     }
 }
 
-impl Reduction {
-    /// Returns whether the bytes, with the end after them or without, distinguish the two states.
-    /// It takes no memory.
-    pub fn checks(&self, s: usize, t: usize, bytes: &[u8], at_end: bool) -> bool
-        requires s_in { s < size self.now.table }
-        requires t_in { t < size self.now.table }
-        ensures { IsTrue result ↔ Distinguishes self.now.table s t bytes.now at_end }
-    {
-        let one = mark_after(&self.table, s, bytes, at_end);
-        let other = mark_after(&self.table, t, bytes, at_end);
-        differ(one, other)
-    }
+/// Returns whether the bytes, with the end after them or without, distinguish the two states.
+/// It takes no memory.
+pub fn checks(reduced: &Reduction, s: usize, t: usize, bytes: &[u8], at_end: bool) -> bool
+    requires s_in { s < size reduced.now.table }
+    requires t_in { t < size reduced.now.table }
+    ensures { IsTrue result ↔ Distinguishes reduced.now.table s t bytes.now at_end }
+{
+    let one = mark_after(&reduced.table, s, bytes, at_end);
+    let other = mark_after(&reduced.table, t, bytes, at_end);
+    differ(one, other)
+}
 
-    /// Returns bytes that distinguish two different states, fewer than there are states, and
-    /// whether the end follows them.
-    ///
-    /// # Errors
-    ///
-    /// `AllocError` where there is no memory for the bytes.
-    pub fn evidence(&self, alloc: Global, s: usize, t: usize) -> Result<(Vec<u8>, bool), AllocError>
-        requires evidence { YieldsEvidence self.now }
-        requires s_in { s < size self.now.table }
-        requires t_in { t < size self.now.table }
-        requires different { s ≢ t }
-        ensures { IfOk result (λ p. IsEvidence self.now.table s t p.0.items p.1) }
-    {
-        let mut bytes = Vec::new(alloc);
-        let mut left = s;
-        let mut right = t;
-        loop {
-            let split = self.splits[parted_at(self, left, right)];
-            let Some(k) = split.symbol else {
-                return Ok((bytes, false));
-            };
-            if k == END {
-                return Ok((bytes, true));
-            }
-            bytes.push(k as u8)?;
-            let Some((a, b)) = both_targets(&self.table, left, right, k) else {
-                return Ok((bytes, false));
-            };
-            left = a;
-            right = b;
+/// Returns bytes that distinguish two different states, fewer than there are states, and
+/// whether the end follows them.
+///
+/// # Errors
+///
+/// `AllocError` where there is no memory for the bytes.
+pub fn evidence(
+    alloc: Global,
+    reduced: &Reduction,
+    s: usize,
+    t: usize,
+) -> Result<(Vec<u8>, bool), AllocError>
+    requires evidence { YieldsEvidence reduced.now }
+    requires s_in { s < size reduced.now.table }
+    requires t_in { t < size reduced.now.table }
+    requires different { s ≢ t }
+    ensures { IfOk result (λ p. IsEvidence reduced.now.table s t p.0.items p.1) }
+{
+    let mut bytes = Vec::new(alloc);
+    let mut left = s;
+    let mut right = t;
+    loop {
+        let split = reduced.splits[parted_at(reduced, left, right)];
+        let Some(k) = split.symbol else {
+            return Ok((bytes, false));
+        };
+        if k == END {
+            return Ok((bytes, true));
         }
+        bytes.push(k as u8)?;
+        let Some((a, b)) = both_targets(&reduced.table, left, right, k) else {
+            return Ok((bytes, false));
+        };
+        left = a;
+        right = b;
     }
 }
