@@ -8,6 +8,7 @@ pub use Rattle.logos_positions.specs.Marks.{Has, IsFirstFrom, IsRising}
 pub use Rattle.logos_positions.specs.Node.{AreMeasured, core_of, is_measured}
 pub use Rattle.logos_positions.specs.Repeat.{spelled}
 pub use Rattle.logos_positions.specs.Run.{width_of}
+pub use Rattle.logos_positions.specs.Several.{AreStarts}
 pub use Rattle.logos_positions.specs.Size.{size, sizes}
 pub use Rattle.logos_positions.specs.Table.{reader_of}
 pub use Rattle.logos_positions.specs.declared.node.Node.{Node}

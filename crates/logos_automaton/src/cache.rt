@@ -10,7 +10,7 @@ use crate::tree_steps::construction::steps_of;
 use crate::tree_steps::{TreeState, TreeSteps};
 use crate::trees::Trees;
 use indexmap::IndexSet;
-use logos_positions::positions::tree::marks_between;
+use logos_positions::positions::set::first_from;
 use logos_positions::positions::trees::next_tree;
 use std::alloc::{AllocError, Global};
 
@@ -34,6 +34,28 @@ pub struct LiveTree {
     pub tree: usize,
     /// The index of its steps in the cache.
     pub steps: usize,
+}
+
+/// Returns the places from `low` on and below `high`.
+///
+/// # Errors
+///
+/// Returns `AllocError` if memory runs out.
+fn marks_between(
+    alloc: Global,
+    marks: &[usize],
+    low: usize,
+    high: usize,
+) -> Result<Vec<usize>, AllocError>
+    requires rising { IsRising marks.now }
+    requires order { low ≤ high }
+    ensures rising { IfOk result (λ own. IsRising own.items) }
+    ensures has { IfOk result (λ own. (q : ℕ) → low ≤ q → q < high →
+        Has own.items q ↔ Has marks.now q) }
+{
+    let from = first_from(marks, low);
+    let to = first_from(marks, high);
+    Vec::from_slice(alloc, &marks[from..to])
 }
 
 /// Returns the state of a tree in a state of all trees.

@@ -13,10 +13,9 @@ use crate::key::{Key, number_of, start_key};
 use crate::nodes::nodes_of;
 use crate::row::{Row, end_after, narrowed, row_of};
 use crate::rule::{RuleView, some_look};
-use crate::trees::Trees;
+use crate::trees::{Trees, starts_of};
 use indexmap::IndexSet;
 use logos_positions::node::Node;
-use logos_positions::positions::trees::starts_of;
 use std::alloc::{AllocError, Global};
 
 /// The greatest number of states that an automaton may have.

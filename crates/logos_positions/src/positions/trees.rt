@@ -4,7 +4,7 @@
 ghost use Rattle.std.specs.Prelude.{◌≡◌, ◌∷◌, ◌++◌, ◌^◌, ◌<◌, ◌≤◌, ◌+◌, ◌-◌, ℕ, [], IsTrue, IsFalse, IfOk, OnOk, length, map, slice_index, if◌then◌else◌};
 ghost use Rattle.logos_positions.specs.Views.{IsRising, Has, HasBetween, width_of, test_at, core_of, AreMeasured, ReadBy, LeftBy, AreStarts};
 
-use crate::node::{Node, TreeSpot, width};
+use crate::node::{Node, TreeSpot};
 use crate::positions::exits::exits;
 use crate::positions::look::Context;
 use crate::positions::set::first_from;
@@ -27,28 +27,6 @@ pub struct JointStep {
     pub positions: Vec<usize>,
     /// The numbers of the trees that can be left before the byte, ascending.
     pub left: Vec<usize>,
-}
-
-/// Returns where the places of each tree begin, and where those of the last tree end.
-///
-/// # Errors
-///
-/// Returns `AllocError` if memory runs out.
-pub fn starts_of(alloc: Global, nodes: &[Node]) -> Result<Vec<usize>, AllocError>
-    requires fits { width_of (map core_of nodes.now) < 2 ^ 64 }
-    requires measured { AreMeasured nodes.now }
-    ensures { IfOk result (λ starts. AreStarts nodes.now starts.items) }
-{
-    let mut starts = Vec::new(alloc);
-    let mut base = 0;
-    let mut number = 0;
-    while number < nodes.len() {
-        starts.push(base)?;
-        base += width(&nodes[number]);
-        number += 1;
-    }
-    starts.push(base)?;
-    Ok(starts)
 }
 
 /// Returns the number of the tree, from `from` on, that has the place.

@@ -2,7 +2,7 @@ use Rattle.std.proofs.Common.{◌≡◌, ◌≤◌, ◌<◌, ◌↔◌, ℕ, sli
 use Rattle.std.proofs.lemmas.Result.{IfOk-weaker}
 use Rattle.logos_positions.specs.Marks.{Has}
 use Rattle.logos_positions.proofs.steps.TreeLemmas.{range_has}
-use Rattle.logos_positions.proofs.positions.tree.marks_between.Goals as goal
+use Rattle.logos_automaton.proofs.cache.marks_between.Goals as goal
 
 pub returns-clause-has : goal.returns-clause-has
 returns-clause-has c =

@@ -2,7 +2,7 @@ use Rattle.std.proofs.Common.{◌≡◌, ◌+◌, ◌-◌, ◌≤◌, drop, leng
 use Rattle.logos_positions.specs.Node.{core_of}
 use Rattle.logos_positions.specs.Run.{width_of}
 use Rattle.logos_positions.specs.Several.{AreFirstStarts}
-use Rattle.logos_positions.proofs.positions.trees.starts_of.Given as goal
+use Rattle.logos_automaton.proofs.trees.starts_of.Given as goal
 
 abbrev pub invariant-loop-number : goal.invariant-loop-number
 invariant-loop-number l = record {
