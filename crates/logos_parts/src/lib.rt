@@ -1,4 +1,5 @@
-//! Reading of an input in parts: in memory are the bytes that were read and not passed.
+//! Reads an input in parts: only the bytes that were read and not yet passed are in memory. Called
+//! by `logos_stream`.
 
 #![tactic(auto)]
 

@@ -1,4 +1,5 @@
-//! Items of a stream: an input of any length that is lexed while it is read.
+//! Lexes an input of any length while it is read. Called by the tests; `docs/GUIDE.md` shows it to
+//! users.
 
 #![tactic(auto)]
 
