@@ -1,4 +1,4 @@
-//! Lexing of an input with the lexer of a source. Called by `logos lex`.
+//! Lexing of an input with the lexer of a source. Called by users' code.
 
 ghost use Rattle.std.specs.Prelude.{◌≡◌, List, Bool, map, length, true, IfOk, IfErr, IsTrue};
 ghost use Rattle.logos_codegen.specs.Views.{All, IsUtf8, Rule, CodeValue, IsCut, IsLexer, Items, answers_of, item_of, AreInOrder, Parts, IsLeftOut, Runs, IsAccepted, IsWithinLimits, IsUnlexed, IsJust, IsNoRefusal, TakesMatches, TakesMatchesOf, Memory as OutOfMemory, NotUtf8 as NoUtf8, IsThatRefusal};

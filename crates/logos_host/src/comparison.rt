@@ -1,4 +1,4 @@
-//! Comparison of files with bytes, and with each other. Called for `--check`.
+//! Comparison of files with bytes, and with each other. Called for `--check` and `--version`.
 
 ghost use Rattle.std.specs.Prelude.{◌≡◌, ℕ, List, Bool, ⊤, IfOk};
 ghost use Rattle.logos_host.specs.declared.comparison.Occurrence.{Occurrence as OccurrenceValue};

@@ -1,5 +1,5 @@
-//! Shortest inputs that lead a machine to a point that is looked for, and inputs that together take
-//! all of its steps.
+//! Searches over machines that read bytes: shortest inputs that lead to a goal, and inputs that
+//! together take all steps. Called by `logos_evidence`.
 
 #![tactic(auto)]
 
