@@ -1,4 +1,5 @@
-//! Inputs on which a leaf matches and another one takes the match. Called for `--examples` and for warnings.
+//! Inputs on which a leaf matches and another one takes the match. Called for `--examples` and for
+//! warnings.
 
 ghost use Rattle.std.specs.Prelude.{◌≡◌, ◌==◌, [], IfOk, MatchOption, option_map};
 ghost use Rattle.logos_evidence.specs.Imports.{list_any, IsGraphOf, rules_of, IsShortestLoss, NeverLoses, dfa_of, loss_next, loss_goal, shown};

@@ -1,5 +1,4 @@
-//! Lexes an input of any length while it is read. Called by the tests; `docs/GUIDE.md` shows it to
-//! users.
+//! Lexes an input of any length while it is read. `logos_items` and users' code call it.
 
 #![tactic(auto)]
 
