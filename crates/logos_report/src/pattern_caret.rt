@@ -155,7 +155,8 @@ impl Reader {
         }
     }
 
-    /// Returns the result of `step` for a character that begins a piece. CR is read only before LF, and is dropped.
+    /// Returns the result of `step` for a character that begins a piece. CR is read only before LF,
+    /// and is dropped.
     fn begin(self, character: char) -> (LiteralState, usize) {
         if (character == '\\') & !self.is_raw {
             (LiteralState::Escape, 0)
