@@ -1,4 +1,5 @@
-//! Collects and formats the warnings of a file. Called by `logos_cli`, `logos_expand` and `logos_show`.
+//! Collects and formats the warnings of a file. Called by `logos_cli`, `logos_expand` and
+//! `logos_show`.
 
 ghost use Rattle.std.specs.Prelude.{◌≡◌, IfOk, [], string_bytes};
 ghost use Rattle.logos_page.specs.Pages.{Shows};

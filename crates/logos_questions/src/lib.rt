@@ -1,4 +1,4 @@
-//! What the arguments of `logos_show` request.
+//! Reads the arguments of `logos_show`. Called by `logos_show`.
 
 #![tactic(auto)]
 
