@@ -1,4 +1,4 @@
-//! The generated code around the body of a lexer. `Generated` prints its text with it.
+//! The texts around the body of a lexer. `Generated` prints its text with them.
 
 ghost use Rattle.std.specs.Prelude.{◌≡◌, ◌++◌, IfOk, option_map, option_copied, string_bytes};
 ghost use Rattle.logos_codegen.specs.Views.{stream_tokens, error_view, run_in, around_value, error_type_text, extras_text, gap_after_run, input_text, library_text};
@@ -10,7 +10,7 @@ use logos_token::token::{TokenStream, print};
 use logos_token::util::MaybeVoid;
 use std::alloc::Global;
 
-/// The options of a source that determine the text around its code.
+/// The options of a source that the texts around its code depend on.
 #[derive(Drop)]
 pub(crate) struct AroundOptions<'s> {
     /// The path of the library, if the source gives one.
@@ -19,7 +19,7 @@ pub(crate) struct AroundOptions<'s> {
     pub(crate) extras: MaybeVoid<'s>,
 }
 
-/// The texts around a code, each followed by its gap.
+/// The texts around a code, each with the gap after it.
 #[derive(Drop)]
 pub(crate) struct AroundTexts {
     /// The path of the library.
@@ -79,7 +79,7 @@ fn input_text(utf8_mode: bool) -> &'static str
     if utf8_mode { "str " } else { "[ u8 ] " }
 }
 
-/// Returns `text` with the gap after it.
+/// Returns the text with the gap after it.
 fn with_gap(text: String, gap: &str) -> Result<String, Memory>
     ensures { IfOk result (λ whole. string_bytes whole ≡ string_bytes text ++ gap.now) }
 {
