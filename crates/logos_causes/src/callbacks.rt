@@ -1,4 +1,5 @@
-//! What callbacks lose, and what is probably not meant as one.
+//! Warnings for callbacks: tokens that a callback loses, and tokens that were probably not meant as
+//! a callback.
 
 use logos_pattern::leaf::{Callback, InlineCallback, Leaf};
 use logos_report::Warning;
@@ -8,14 +9,14 @@ use logos_token::util::begins_with;
 use logos_warnings::fixed_warning;
 use std::alloc::Global;
 
-/// What a callback belongs to.
+/// The owner of a callback.
 #[derive(Clone, Copy)]
 pub(crate) enum CallbackOwner {
     Leaf,
     ErrorType,
 }
 
-/// Adds the warnings of the callbacks of these leaves of a source.
+/// Adds the warnings for the callbacks of these leaves of a source.
 pub(crate) fn add_callbacks(
     alloc: Global,
     source: &str,
@@ -29,7 +30,7 @@ pub(crate) fn add_callbacks(
     Ok(())
 }
 
-/// Adds the warnings of a callback, if there is one.
+/// Adds the warnings for a callback, if there is one.
 pub(crate) fn add_callback(
     alloc: Global,
     source: &str,
@@ -58,7 +59,7 @@ fn add(
 
 const PATH: &str = "write the path of a function, or a closure with one parameter, as `|lex| ..`";
 
-/// Adds the warning of a callback that is not a closure, if it has one.
+/// Adds the warning for a callback that is not a closure, if it has one.
 fn add_label(
     owner: CallbackOwner,
     label: Tokens<'_, '_>,
@@ -84,7 +85,7 @@ fn add_label(
     Ok(())
 }
 
-/// Returns what to do about an option without a value.
+/// Returns the help for an option without a value.
 fn help_for_option(owner: CallbackOwner, label: Tokens<'_, '_>) -> &'static str {
     match owner {
         CallbackOwner::Leaf => "write its value, as in `priority = 3` or `ignore(case)`",
@@ -92,7 +93,7 @@ fn help_for_option(owner: CallbackOwner, label: Tokens<'_, '_>) -> &'static str 
     }
 }
 
-/// Returns what to do about a callback that is neither a path nor a closure.
+/// Returns the help for a callback that is neither a path nor a closure.
 fn help_for_label(owner: CallbackOwner, label: Tokens<'_, '_>) -> &'static str {
     match owner {
         CallbackOwner::Leaf => help_for_leaf(label),
@@ -100,8 +101,7 @@ fn help_for_label(owner: CallbackOwner, label: Tokens<'_, '_>) -> &'static str {
     }
 }
 
-/// Returns what to do about such a callback of an error type, which has the option `callback`
-/// alone.
+/// Returns the help for such a callback of an error type, whose only option is `callback`.
 fn help_for_error(label: Tokens<'_, '_>) -> &'static str {
     match label.first() {
         Some(TokenTree::Ident(name)) if name.text == "callback" => {
@@ -111,7 +111,7 @@ fn help_for_error(label: Tokens<'_, '_>) -> &'static str {
     }
 }
 
-/// Returns what to do about such a callback of a leaf, by its first token.
+/// Returns the help for such a callback of a leaf, chosen by its first token.
 fn help_for_leaf(label: Tokens<'_, '_>) -> &'static str {
     match label.first() {
         Some(TokenTree::Ident(name)) if is_option(name.text) => {
@@ -127,7 +127,7 @@ fn help_for_leaf(label: Tokens<'_, '_>) -> &'static str {
     }
 }
 
-/// Returns whether a run is the name of an option alone.
+/// Returns whether a run consists of the name of an option.
 fn names_option(label: Tokens<'_, '_>) -> bool {
     match label.first() {
         Some(TokenTree::Ident(name)) => label.rest().is_empty() & is_option(name.text),
@@ -141,7 +141,7 @@ fn is_option(name: &str) -> bool {
     is_argument | (name == "ignore") | (name == "ignore_case") | (name == "ignore_ascii_case")
 }
 
-/// Returns whether all of a run can be the path of a function.
+/// Returns whether a whole run can be the path of a function.
 fn is_path(label: Tokens<'_, '_>) -> bool {
     let mut rest = label;
     while let Some(tree) = rest.first() {
@@ -153,7 +153,7 @@ fn is_path(label: Tokens<'_, '_>) -> bool {
     begins_path(label)
 }
 
-/// Returns whether a run begins as a path does.
+/// Returns whether a run begins like a path.
 fn begins_path(label: Tokens<'_, '_>) -> bool {
     match label.first() {
         Some(TokenTree::Ident(name)) => name.text != "move",
@@ -162,7 +162,7 @@ fn begins_path(label: Tokens<'_, '_>) -> bool {
     }
 }
 
-/// Returns whether a token can be a part of the path of a function, also of types in it.
+/// Returns whether a token can be a part of the path of a function, including the types in it.
 fn is_path_part(tree: TokenTree<'_, '_>) -> bool {
     match tree {
         TokenTree::Ident(_) => true,
@@ -172,7 +172,7 @@ fn is_path_part(tree: TokenTree<'_, '_>) -> bool {
     }
 }
 
-/// Adds the warnings of a closure.
+/// Adds the warnings for a closure.
 fn add_closure(
     alloc: Global,
     source: &str,
@@ -191,12 +191,12 @@ fn add_closure(
     }
 }
 
-/// Returns what follows the parameter of a closure and the bars around it.
+/// Returns the tokens after the parameter of a closure and the bars around it.
 fn after_bars<'t, 's>(closure: Tokens<'t, 's>) -> Tokens<'t, 's> {
     closure.rest().rest().rest()
 }
 
-/// Adds the warnings of the body of a closure, whose text begins in the source at an offset.
+/// Adds the warnings for the body of a closure, whose text begins in the source at an offset.
 fn add_body(
     offset: usize,
     body: Tokens<'_, '_>,
@@ -211,7 +211,8 @@ fn add_body(
 
 const BRACES: &str = "put all of the body in braces";
 
-/// Adds the warning of a body that begins with a group, if more follows or its brackets matter.
+/// Adds the warning for a body that begins with a group, if tokens follow it or its brackets are
+/// significant.
 fn add_group(
     offset: usize,
     group: Group<'_, '_>,
@@ -237,7 +238,7 @@ fn add_group(
     Ok(())
 }
 
-/// Returns whether a body means something else without the brackets around it.
+/// Returns whether a body has another meaning without the brackets around it.
 fn loses_brackets(delimiter: Delimiter, inside: Tokens<'_, '_>) -> bool {
     match delimiter {
         Delimiter::Bracket => true,
@@ -246,7 +247,7 @@ fn loses_brackets(delimiter: Delimiter, inside: Tokens<'_, '_>) -> bool {
     }
 }
 
-/// Returns whether a comma stands in a run, outside of its groups.
+/// Returns whether a run contains a comma outside of its groups.
 fn has_comma(run: Tokens<'_, '_>) -> bool {
     let mut rest = run;
     while !rest.is_empty() {
@@ -258,7 +259,7 @@ fn has_comma(run: Tokens<'_, '_>) -> bool {
     false
 }
 
-/// Adds the warning of a body that begins with the type of its value.
+/// Adds the warning for a body that begins with the type of its value.
 fn add_type(
     offset: usize,
     body: Tokens<'_, '_>,
@@ -275,7 +276,7 @@ fn add_type(
     Ok(())
 }
 
-/// Adds a warning for each token of a body that leaves more than the closure.
+/// Adds a warning for each token of a body that exits the function around the closure.
 fn add_escapes(body: Tokens<'_, '_>, warnings: &mut Vec<Warning>) -> Result<(), Memory> {
     let mut rest = body;
     while let Some(tree) = rest.first() {
@@ -285,7 +286,7 @@ fn add_escapes(body: Tokens<'_, '_>, warnings: &mut Vec<Warning>) -> Result<(), 
     Ok(())
 }
 
-/// Adds a warning for a token of a body, if it leaves more than the closure.
+/// Adds a warning for a token of a body, if it exits the function around the closure.
 fn add_escape(tree: TokenTree<'_, '_>, warnings: &mut Vec<Warning>) -> Result<(), Memory> {
     match tree {
         TokenTree::Ident(name) if name.text == "return" => add(
@@ -304,7 +305,7 @@ fn add_escape(tree: TokenTree<'_, '_>, warnings: &mut Vec<Warning>) -> Result<()
     }
 }
 
-/// Returns a span that counts from an offset as one of the source.
+/// Returns a span relative to an offset as a span of the source.
 fn moved(span: Span, offset: usize) -> Span {
     Span {
         from: span.from.saturating_add(offset),

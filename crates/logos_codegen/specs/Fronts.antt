@@ -1,4 +1,4 @@
--- The texts around the body of a lexer, by the options of its source.
+-- The texts around the body of a lexer, determined by the options of its source.
 use Rattle.std.specs.Prelude.{ℕ, Bool, List, [], ◌++◌, codes, Option, Some, None, option_map, if◌then◌else◌}
 use Rattle.logos_token.specs.Printing.{printed}
 use Rattle.logos_token.specs.Tokens.{TokenList}
@@ -11,7 +11,7 @@ use Rattle.logos_text.specs.Fronts.{AroundValue, BeginsWith, IsFront, opening_te
 use Rattle.logos_text.specs.Gaps.{gap_after}
 use Rattle.logos_codegen.specs.declared.generation.Generated.{Generated}
 
--- The gap after tokens, or after `( )` where there are none.
+-- The gap after tokens, or after `( )` if there are none.
 abbrev pub gap_after_run : Option TokenList → List ℕ
 gap_after_run (Some run) = gap_after [] run
 gap_after_run None = codes " "
@@ -34,7 +34,7 @@ extras_text run = run_text run ++ gap_after_run run
 abbrev pub input_text : Bool → List ℕ
 input_text utf8 = if utf8 then codes "str " else codes "[ u8 ] "
 
--- The texts around the body of what was made of a source, by its options and its mode.
+-- The texts around the body of a source's lexer, determined by its options and its mode.
 abbrev pub around_made : Generated → AroundValue
 around_made made = record {
   logos = library_text (option_map stream_tokens made.options.library);

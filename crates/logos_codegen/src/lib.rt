@@ -1,5 +1,5 @@
-//! From a source to its code, and to the items of an input. Hands on the public modules of the
-//! crates below.
+//! Generates the code of a source, and lexes an input with it. Re-exports the public modules of the
+//! crates below. Called by the programs and by users' Rattle code.
 
 #![tactic(auto)]
 

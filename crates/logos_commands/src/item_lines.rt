@@ -18,11 +18,11 @@ use logos_scan::walk::masks::ChunkEntries;
 use std::alloc::Global;
 use std::io::Write;
 
-/// The length in bytes from which a block is written.
+/// The minimum length in bytes of a block that is written.
 const BLOCK: usize = 65_536;
 
-/// What the command `lex` is given: the paths of the source and of the input, and the shape of the
-/// lexer's code.
+/// A request for the items of an input: the paths of the source and of the input, and the shape of
+/// the lexer's code.
 #[derive(Clone, Copy)]
 pub(super) struct LexRequest<'w> {
     pub(super) source: &'w str,
@@ -32,7 +32,8 @@ pub(super) struct LexRequest<'w> {
 
 /// Writes a line for each item of an input, found by the lexer of the enum in a file.
 ///
-/// All refusals come before the first item. After it only writing can fail.
+/// The source and the input are validated before the first item is written. After it only writing
+/// can fail.
 pub(super) fn lex<'w, F: Files, O: Write>(
     alloc: Global,
     request: LexRequest<'w>,
@@ -113,7 +114,7 @@ fn lex_by_code<O: Write>(
     }
 }
 
-/// Writes a line for each item of an input, found by chunks and collected in a block, and flushes
+/// Writes a line for each item of an input, found in chunks and collected in a block, and flushes
 /// the writer. Only writing can fail.
 fn write_by_chunks<C: Fn(LeafId, &[u8]) -> Action, O: Write>(
     folded: &Folded<'_, '_>,

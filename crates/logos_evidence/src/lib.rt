@@ -1,4 +1,4 @@
-//! What a lexer finds, shown by inputs.
+//! Inputs as evidence about lexers: examples, differences, coverage. Called by `logos_show`.
 
 #![tactic(auto)]
 

@@ -1,5 +1,5 @@
-//! Shortest inputs that lead a machine to a point that is looked for, and inputs that together take
-//! all of its steps.
+//! Searches over machines that read bytes: shortest inputs that lead to a goal, and inputs that
+//! together take all steps. `evidence` and `cover` call them.
 
 ghost use Rattle.std.specs.Prelude.{◌≡◌, IfOk, MatchOption};
 ghost use Rattle.logos_evidence.specs.search.Views.{IsShortest, NoneLeads, pending_goal};
@@ -18,19 +18,18 @@ pub use cover::covering;
 pub use point::{Machine, Point};
 use std::alloc::{AllocError, Global};
 
-/// Returns whether an input can end at a pending point, and its point is looked for.
+/// Returns whether an input can end at a pending point, and the point is a goal.
 pub(crate) fn is_goal<M: Machine>(machine: &M, pending: PendingPoint) -> bool
     ensures { result ≡ pending_goal (M.goal machine.now) pending }
 {
     machine.is_goal(pending.point) & (pending.rest.count == 0)
 }
 
-/// Returns a shortest input that leads a machine from a point to one that is looked for, or `None`
-/// if no input does. Of inputs of the same length it is the one with letters, digits and
-/// punctuation first.
+/// Returns a shortest input that leads a machine from a point to a goal, or `None` if there is
+/// none. Of inputs of the same length it is the one with letters, digits and punctuation first.
 ///
-/// Where `utf8` is set, inputs are UTF-8, and else any bytes. Each point that is met is stored,
-/// with what leads to it.
+/// If `utf8` is set, inputs are UTF-8, otherwise any bytes. Each point is stored with its
+/// predecessor and byte.
 ///
 /// # Errors
 ///

@@ -1,4 +1,4 @@
-//! The first line of a file with the derive of its lexers expanded.
+//! The first line of an expanded file.
 
 ghost use Rattle.std.specs.Prelude.{◌≡◌, ◌++◌, IfOk, OnOk, string_bytes};
 ghost use Rattle.logos_expand.specs.Views.{IsWithoutInner, IsFileWith, IsHead, code_name, head_text, is_plain, is_printable, line_text, shape_name, shown_name};
@@ -9,10 +9,10 @@ use logos_tables::Shape;
 use logos_token::error::Memory;
 use std::alloc::Global;
 
-/// Returns the text of a file after its first line, which says what the file was made from.
-/// Documentation and attributes of the file itself are plain comments, so another file can include
-/// it. A file
-/// whose first bytes mean something has no such line: that of `#!`, and U+FEFF.
+/// Returns the text of a file after a first line that names the file from which it was made.
+/// Documentation and attributes of the file itself become plain comments, so another file can
+/// include it. A file whose first bytes are significant, which are `#!` and U+FEFF, gets no such
+/// line.
 pub(crate) fn with_head(
     alloc: Global,
     path: &str,
@@ -28,8 +28,7 @@ pub(crate) fn with_head(
     Ok(made)
 }
 
-/// Returns the bytes of a file in which documentation and attributes of the file itself are plain
-/// comments.
+/// Returns the bytes of a file with its own documentation and attributes as plain comments.
 fn plain_bytes(alloc: Global, bytes: &[u8]) -> Result<Vec<u8>, Memory>
     ensures { IfOk result (λ body. IsWithoutInner bytes.now body.items) }
 {
@@ -42,7 +41,7 @@ fn plain_bytes(alloc: Global, bytes: &[u8]) -> Result<Vec<u8>, Memory>
     }
 }
 
-/// Returns the first line of a file with these bytes, or nothing if it can have none.
+/// Returns the first line of a file with these bytes, or nothing if it cannot have one.
 fn head_of(alloc: Global, path: &str, shape: Shape, bytes: &[u8]) -> Result<String, Memory>
     ensures { IfOk result (λ head. IsHead shape (string_bytes head)) }
 {
@@ -54,7 +53,7 @@ fn head_of(alloc: Global, path: &str, shape: Shape, bytes: &[u8]) -> Result<Stri
     Ok(text)
 }
 
-/// Returns whether a line can stand before these bytes of a file.
+/// Returns whether a line can be inserted before these bytes of a file.
 fn is_headed(bytes: &[u8]) -> bool {
     match bytes {
         [0xEF, 0xBB, 0xBF, ..] => false,
@@ -81,8 +80,8 @@ fn push_line(text: &mut String, name: &str, shape: &str) -> Result<(), Memory>
     Ok(())
 }
 
-/// Returns the name of a file as the first line has it: other words stand for a name that has a
-/// character which is not printable ASCII.
+/// Returns the name of a file in the form for the first line. A name with a character that is not
+/// printable ASCII is replaced by other words.
 fn shown_name(name: &str) -> &str
     ensures { result.now ≡ shown_name name.now }
 {

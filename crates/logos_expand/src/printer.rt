@@ -20,7 +20,7 @@ pub(crate) struct Site<'f, 't> {
     pub(crate) shape: Shape,
     /// The file.
     pub(crate) file: &'f Source<'t>,
-    /// Where the enum begins in the file, in bytes.
+    /// The byte offset of the enum in the file.
     pub(crate) offset: usize,
     /// Whether the file may have an import of `Logos`, and the enum derives it without a path.
     pub(crate) by_name: bool,
@@ -103,8 +103,8 @@ fn push_guard(text: &mut String, margin: &str) -> Result<(), Memory>
     Ok(())
 }
 
-/// Returns whether a comma stands before a closing parenthesis, as where the last entry of a
-/// `derive` is gone.
+/// Returns whether a comma precedes a closing parenthesis, for example after the last entry of a
+/// `derive` was removed.
 fn has_last_comma(bytes: &[u8]) -> bool {
     let mut last = b' ';
     for byte in bytes {
@@ -140,7 +140,7 @@ fn margin_at(text: &str, offset: usize) -> &str
     }
 }
 
-/// Returns what follows the last line end of a text.
+/// Returns the text after the last line end of a text.
 fn last_line(text: &str) -> &str {
     match text.rsplit_once('\n') {
         Some((_, line)) => line,

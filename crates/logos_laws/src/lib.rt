@@ -1,5 +1,6 @@
-//! Laws, which no code calls: where leaves stand in a source, and definitions of other crates in
-//! another form, which is easier to believe. The contract of each function is a proved law.
+//! Laws: the spans of leaves in a source, and definitions of other crates in another form, which
+//! is easier to check by reading. The contract of each function is a proved law, and no code calls
+//! it.
 
 #![tactic(auto)]
 

@@ -1,12 +1,13 @@
-//! Definitions of the crates below in another form, which is easier to believe, as laws: the pieces
-//! of an attribute one after another, and what stripping leaves, by the parts of the enum.
+//! Laws that restate definitions of the crates below in another form, which is easier to check by
+//! reading: the pieces of an attribute one after another, and the result of stripping, part by
+//! part.
 //!
 //! No code calls these functions: the contract of each is a proved law.
 
 ghost use Rattle.std.specs.Prelude.{◌≡◌, ◌<◌, ◌≤◌, ◌↔◌, ℕ, ◌+◌, ◌^◌, Bool, List, Ok, Option, IfSome};
 ghost use Rattle.logos_laws.specs.readings.Imports.{EnumValue, Piece, Reads, TokenList, pieces, stripped, in_file, moved, OccurInReport, OccurInText, ArePieces, EnumStays, IsBytes, Matches, MatchesInOrder, SomeMatches, Tree, repetition, trees, alternation_of, concat_of, repetition_of};
 
-/// The pieces of an argument are its first piece, and then the pieces of what is left after that
+/// The pieces of an argument are its first piece, and then the pieces of the tokens after that
 /// piece and its comma.
 pub fn pieces_in_turn()
     ensures are { (run : TokenList) → ArePieces run (pieces run) }
@@ -14,8 +15,8 @@ pub fn pieces_in_turn()
         list ≡ pieces run }
 {}
 
-/// Stripping leaves of an enum exactly this: its attributes, those of its variants and those of
-/// their fields without the helper attributes, the lists of the enum's `derive`s without the
+/// The result of stripping an enum is exactly this: its attributes, those of its variants and those
+/// of their fields without the helper attributes, the lists of the enum's `derive`s without the
 /// entries that name the macro, and all other tokens.
 pub fn strips_by_parts()
     ensures are { (tokens : TokenList) (value : EnumValue) → Reads tokens (Ok value) →
@@ -33,15 +34,15 @@ pub fn offsets_are_sums()
         moved begin offset ≡ begin + offset }
 {}
 
-/// Texts stand in a report as they stand in the text of a lexer.
+/// Texts occur in a report exactly if they occur in the generated code of a lexer.
 pub fn texts_occur_alike()
     ensures { (texts : List (List ℕ)) (whole : List ℕ) →
         OccurInReport texts whole ↔ OccurInText texts whole }
 {}
 
-/// What is built of parts, of branches or of a repetition, in its simplest form, matches exactly
-/// what the parts match one after another, what one of the branches does, or what the repetition
-/// does.
+/// A tree that is built from parts, from branches or from a repetition, in its simplest form,
+/// matches exactly what the parts match one after another, what one of the branches matches, or
+/// what the repetition matches.
 pub fn builders_change_no_match()
     ensures parts { (parts : List Tree) (bytes : List ℕ) (from to : ℕ) →
         Matches (concat_of parts) bytes from to ↔ MatchesInOrder (trees parts) bytes from to }

@@ -12,7 +12,7 @@ use std::alloc::Global;
 ///
 /// # Errors
 ///
-/// Returns `Memory` if memory runs out. Then a part of them can have been pushed.
+/// Returns `Memory` if memory runs out. Then some of them may have been appended.
 pub fn push_conditions(alloc: Global, text: &mut String, item: Tokens<'_, '_>) -> Result<(), Memory>
     ensures { OnOk result (string_bytes text.new
         ≡ string_bytes text.old ++ conditions_text (tokens_of item.entry)) }

@@ -1,4 +1,5 @@
-//! The documentation and the attributes of a file itself, which stand first in it.
+//! The documentation and the attributes of a file itself, at its beginning. Called by
+//! `logos_expand`.
 
 ghost use Rattle.std.specs.Prelude.{◌≡◌, ◌<◌, ◌++◌, IfOk, IfSome, IsTrue, MatchOption, None, Some, string_bytes};
 ghost use Rattle.logos_layout.specs.Imports.{AreInner, IsInnerText, IsPlainly, IsWithoutInner, Spells, after_brackets, after_inner, after_mark, count_of, is_inner, none, tokens_of};
@@ -8,12 +9,12 @@ use logos_token::error::Memory;
 use logos_token::token::{Delimiter, TokenError, TokenTree, Tokens, tokenize};
 use std::alloc::Global;
 
-/// Returns a Rust text in which the inner documentation and the inner attributes that come first
-/// are plain comments: `//!` is `//`, `/*!` is `/*`, and `#![..]` stands in `/* */`. So another
-/// file can include it. All other bytes stay.
+/// Returns a Rust text with its leading inner documentation and inner attributes as plain comments:
+/// `//!` becomes `//`, `/*!` becomes `/*`, and `#![..]` is put in `/* */`. Thus another file can
+/// include it. All other bytes stay.
 ///
-/// A text that cannot be read into tokens stays as it is, and so does one whose attributes would
-/// end these comments.
+/// A text that cannot be read into tokens is returned unchanged, and so is one whose attributes
+/// would end these comments.
 ///
 /// # Errors
 ///
@@ -31,7 +32,7 @@ pub fn without_inner(alloc: Global, text: &str) -> Result<String, Memory>
     }
 }
 
-/// Returns a text as it is.
+/// Returns a text unchanged.
 fn same(alloc: Global, text: &str) -> Result<String, Memory>
     ensures { IfOk result (λ made. string_bytes made ≡ text.now) }
 {
@@ -47,8 +48,8 @@ fn joined(front: String, rest: &str) -> Result<String, Memory>
     Ok(text)
 }
 
-/// Returns where the inner documentation comments and attributes end that come first in a text, in
-/// bytes.
+/// Returns the byte offset at which the leading inner documentation comments and attributes of a
+/// text end.
 fn inner_end(alloc: Global, text: &str) -> Result<usize, Memory> {
     match tokenize(alloc, text) {
         Ok(stream) => Ok(read_inner(stream.run()).0),
@@ -57,8 +58,8 @@ fn inner_end(alloc: Global, text: &str) -> Result<usize, Memory> {
     }
 }
 
-/// Returns the plain comments that stand for a text of inner documentation comments and attributes.
-/// `None` if the text spells anything else, or if the comments would spell anything.
+/// Returns the plain comments for a text of inner documentation comments and attributes, or `None`
+/// if the text spells any other token or the comments would spell a token.
 fn plain_front(alloc: Global, front: &str) -> Result<Option<String>, Memory>
     ensures { IfOk result (λ found. IfSome found
         (λ plain. IsInnerText front.now × Spells (string_bytes plain) none)) }
@@ -73,7 +74,7 @@ fn plain_front(alloc: Global, front: &str) -> Result<Option<String>, Memory>
     Ok(None)
 }
 
-/// Returns whether a text spells inner documentation comments and attributes alone.
+/// Returns whether a text spells only inner documentation comments and attributes.
 fn is_inner_text(alloc: Global, text: &str) -> Result<bool, Memory>
     ensures { IfOk result (λ is. IsTrue is → IsInnerText text.now) }
 {
@@ -95,8 +96,8 @@ fn is_bare(alloc: Global, text: &str) -> Result<bool, Memory>
     }
 }
 
-/// Returns where the inner documentation comments and attributes end that come first in a run, in
-/// bytes, and whether they are all of it.
+/// Returns the byte offset at which the leading inner documentation comments and attributes of a
+/// run end, and whether they are all of it.
 fn read_inner(run: Tokens<'_, '_>) -> (usize, bool)
     ensures { IsTrue result.1 → AreInner (tokens_of run.entry) }
 {
@@ -109,8 +110,8 @@ fn read_inner(run: Tokens<'_, '_>) -> (usize, bool)
     (end, rest.is_empty())
 }
 
-/// Returns where the inner documentation comment or attribute ends that comes first, and what
-/// follows it; `None` if none comes first.
+/// Returns the byte offset at which the first inner documentation comment or attribute ends, and
+/// the tokens after it; `None` if the run does not begin with one.
 fn inner_at<'t, 's>(tokens: Tokens<'t, 's>) -> Option<(usize, Tokens<'t, 's>)>
     ensures { MatchOption result (after_inner (tokens_of tokens.entry) ≡ None)
         (λ read. (after_inner (tokens_of tokens.entry) ≡ Some (tokens_of read.1))
@@ -123,7 +124,7 @@ fn inner_at<'t, 's>(tokens: Tokens<'t, 's>) -> Option<(usize, Tokens<'t, 's>)>
     }
 }
 
-/// Returns where the brackets end that come after `!`, and what follows them.
+/// Returns the byte offset at which the brackets after `!` end, and the tokens after them.
 fn marked<'t, 's>(tokens: Tokens<'t, 's>) -> Option<(usize, Tokens<'t, 's>)>
     ensures { MatchOption result (after_mark (tokens_of tokens.entry) ≡ None)
         (λ read. (after_mark (tokens_of tokens.entry) ≡ Some (tokens_of read.1))
@@ -135,7 +136,7 @@ fn marked<'t, 's>(tokens: Tokens<'t, 's>) -> Option<(usize, Tokens<'t, 's>)>
     }
 }
 
-/// Returns where the brackets end that come first, and what follows them.
+/// Returns the byte offset at which leading brackets end, and the tokens after them.
 fn bracketed<'t, 's>(tokens: Tokens<'t, 's>) -> Option<(usize, Tokens<'t, 's>)>
     ensures { MatchOption result (after_brackets (tokens_of tokens.entry) ≡ None)
         (λ read. (after_brackets (tokens_of tokens.entry) ≡ Some (tokens_of read.1))
@@ -149,7 +150,7 @@ fn bracketed<'t, 's>(tokens: Tokens<'t, 's>) -> Option<(usize, Tokens<'t, 's>)>
     }
 }
 
-/// Returns whether a documentation comment is of what surrounds it.
+/// Returns whether a documentation comment documents the item around it.
 fn is_inner(comment: &str) -> bool
     ensures { result ≡ is_inner comment.now }
 {

@@ -28,7 +28,7 @@ impl Program {
         }
     }
 
-    /// Returns the lines of a row in the help of the program, which are empty if the program does
+    /// Returns the lines for a row in the help of the program, which are empty if the program does
     /// not take the option.
     pub(crate) fn help_of(self, row: &OptionRow) -> &'static str {
         let lines = match self {

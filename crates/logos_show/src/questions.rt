@@ -1,4 +1,4 @@
-//! What the arguments of `logos_show` request.
+//! The request of `logos_show`, read from its arguments.
 
 ghost use Rattle.std.specs.Prelude.{◌≡◌, IfErr, IfOk, Some, map, option_map, string_bytes};
 ghost use Rattle.logos_show.specs.questions.Imports.{arguments_value, requested, inputs_given, matches_given, number_named, option_value, order_given, location_named, question_given, question_named, question_value, request_given, request_value, status_of};
@@ -11,7 +11,7 @@ use logos_options::{
     style_given,
 };
 
-/// What is requested.
+/// A request.
 #[derive(Clone, Copy)]
 pub enum ShowRequest<'w> {
     Help,
@@ -19,33 +19,33 @@ pub enum ShowRequest<'w> {
     Show(ShowOrder<'w>),
 }
 
-/// A file, and what is asked of its lexers.
+/// A file, and the question about its lexers.
 #[derive(Clone, Copy)]
 pub struct ShowOrder<'w> {
     /// The path of the file.
     pub file: &'w str,
     pub question: Question<'w>,
-    /// The settings that are given: whether the answer is JSON, the path of a stored answer to
-    /// compare it with, the name of an enum, and whether a file with warnings is refused.
+    /// The given settings: whether the answer is JSON, the path of a stored answer to compare it
+    /// with, the name of an enum, and whether a file with warnings is refused.
     pub settings: Settings<'w>,
-    /// How messages are written.
+    /// The style of messages.
     pub style: MessageStyle,
 }
 
-/// What is asked of the lexers of a file.
+/// A question about the lexers of a file.
 #[derive(Clone, Copy)]
 pub enum Question<'w> {
     /// Their leaves.
     Leaves,
     /// The items of the file at this path.
     Items(&'w str),
-    /// What matches from a position of the file at this path.
+    /// The matches from a location of the file at this path.
     Matches(&'w str, Location),
-    /// For each leaf a text that it finds, and one where it loses.
+    /// For each leaf an input that it finds, and one that it loses.
     Examples,
-    /// At most this many inputs that together pass all edges of a lexer's graph.
+    /// At most this many inputs that together take all edges of a lexer's graph.
     Inputs(usize),
-    /// Whether the lexer of the file at this path is the same.
+    /// Whether the lexer of the file at this path is equivalent.
     Comparison(&'w str),
 }
 
@@ -66,7 +66,7 @@ pub fn request_of(arguments: &[String]) -> Result<ShowRequest<'_>, Failure<'_>>
     }
 }
 
-/// Returns what arguments request.
+/// Returns the request of arguments.
 fn request_given(arguments: Arguments<'_>) -> Result<ShowRequest<'_>, Failure<'_>>
     ensures requested { IfOk result (λ request. request_given (arguments_value arguments.entry)
         (arguments_value arguments.entry).text ≡ Some (request_value request)) }
@@ -105,7 +105,7 @@ fn order_given(arguments: Arguments<'_>) -> Result<ShowRequest<'_>, Failure<'_>>
     }
 }
 
-/// Returns what is asked of a file, by the question that is given and by the second path.
+/// Returns the question about a file, from the given option and the second path.
 fn question_given<'w>(
     requested: Option<GivenOption<'w>>,
     input: Option<&'w str>,
@@ -124,7 +124,7 @@ fn question_given<'w>(
     }
 }
 
-/// Returns the question that an option asks of a file, perhaps with a second path.
+/// Returns the question of an option, with an optional second path.
 fn question_named<'w>(
     one: GivenOption<'w>,
     input: Option<&'w str>,
@@ -144,7 +144,7 @@ fn question_named<'w>(
     }
 }
 
-/// Returns the question for inputs, of which `word` is the number, of a file alone.
+/// Returns the question for inputs, whose maximum number is `word`. It takes no second path.
 fn inputs_given<'w>(word: &'w str, input: Option<&'w str>) -> Result<Question<'w>, Failure<'w>>
     ensures requested { IfOk result (λ question. inputs_given (number_named word.now)
         (option_map (λ path. path.now) input.entry) ≡ Some (question_value question)) }
@@ -158,7 +158,7 @@ fn inputs_given<'w>(word: &'w str, input: Option<&'w str>) -> Result<Question<'w
     }
 }
 
-/// Returns the question for matches from a line and column of an input, which `word` names.
+/// Returns the question for the matches from the line and column of an input that `word` names.
 fn matches_given<'w>(word: &'w str, input: Option<&'w str>) -> Result<Question<'w>, Failure<'w>>
     ensures requested { IfOk result (λ question. matches_given (location_named word.now)
         (option_map (λ path. path.now) input.entry) ≡ Some (question_value question)) }

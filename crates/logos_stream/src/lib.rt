@@ -1,4 +1,4 @@
-//! Items of a stream: an input of any length that is lexed while it is read.
+//! Lexes an input of any length while it is read. `logos_items` and users' code call it.
 
 #![tactic(auto)]
 

@@ -1,4 +1,5 @@
-//! Reading of an input in parts: in memory are the bytes that were read and not passed.
+//! Reads an input in parts: only the bytes that were read and not yet passed are in memory. Each
+//! `Stream` holds one `Parts`.
 
 ghost use Rattle.std.specs.Prelude.{◌≡◌, ◌+◌, ◌<◌, ◌≤◌, [], length, take, false, IfOk, OnErr, MatchBool, min};
 ghost use Rattle.logos_stream.specs.parts.Imports.{ReadsAfter, Reads, Stays, without};
@@ -8,16 +9,17 @@ use std::io;
 use std::io::Read;
 use std::marker::Model;
 
-/// An input that is read in parts: a reader, and the bytes that were read and not passed, which are
-/// the part. Offsets and lengths count bytes.
+/// An input that is read in parts: a reader, and the part, which is the bytes that were read and
+/// not passed. Offsets and lengths count bytes.
 ///
-/// No more than the bound is in memory. To lex an input of any length: read, lex the part with
-/// `Lexer::next_within(parts.is_last())`, and pass what is before the point where the lexer waits.
-/// The span of an item in the input is that in the part, `before` bytes later. An item that is
-/// longer than the bound shows by a full part of which nothing can be passed.
+/// At most the bound is in memory. To lex an input of any length: read, lex the part with
+/// `Lexer::next_within(parts.is_last())`, and pass the bytes before the offset at which the lexer
+/// waits. To get the span of an item in the input, add `before` to its span in the part. If the
+/// part is full and nothing can be passed, the item is longer than the bound.
 ///
-/// In UTF-8 mode the part may end inside a character: lex its longest beginning that is UTF-8. So
-/// that the time grows as the input does, read until the part is twice as long as what was left.
+/// In UTF-8 mode the part may end inside a character: lex its longest prefix that is UTF-8. To keep
+/// the time linear in the length of the input, read until the part is twice as long as the bytes
+/// that were left.
 #[derive(Drop)]
 pub struct Parts<R> {
     reader: R,
@@ -83,15 +85,15 @@ impl<R: Read + Drop> Parts<R> {
         self.before
     }
 
-    /// Returns whether the last reading has come to the end, so that the part is the last one.
+    /// Returns whether the last call of `read` reached the end, so that the part is the last one.
     pub fn is_last(&self) -> bool
         ensures { result ≡ self.now.is_over }
     {
         self.is_over
     }
 
-    /// Returns whether the part is as long as the bound. If it is not, `read` can be called. If it
-    /// is, bytes have to be passed first.
+    /// Returns whether the part is as long as the bound. If so, bytes have to be passed before
+    /// `read` can be called.
     pub fn is_full(&self) -> bool
         ensures { MatchBool result (length self.now.part ≡ self.now.bound)
             (length self.now.part < self.now.bound) }
@@ -99,7 +101,7 @@ impl<R: Read + Drop> Parts<R> {
         self.held == self.buffer.len()
     }
 
-    /// Passes the first bytes of the part.
+    /// Passes the first `bytes` bytes of the part.
     pub fn pass(&mut self, bytes: usize)
         requires { bytes ≤ length self.old.part }
         ensures { self.new ≡ without bytes self.old }
@@ -109,11 +111,11 @@ impl<R: Read + Drop> Parts<R> {
         self.before = self.before.saturating_add(bytes as u64);
     }
 
-    /// Reads once, and adds what was read to the part. If nothing was read, the input is over.
+    /// Reads once, and appends the bytes read to the part. If there are none, the input is over.
     ///
     /// # Errors
     ///
-    /// Returns what the reader returns. The part stays, and it can be read on.
+    /// Returns the error of the reader. The part stays unchanged, and `read` can be called again.
     pub fn read(&mut self) -> io::Result<()>
         requires { length self.old.part < self.old.bound }
         ensures read { IfOk result (λ _. Reads R.remaining self.old self.new) }
@@ -130,7 +132,7 @@ impl<R: Read + Drop> Parts<R> {
     }
 }
 
-/// Reads once into a buffer, after so many bytes of it.
+/// Reads once into a buffer, after its first `held` bytes.
 fn read_after<R: Read>(reader: &mut R, buffer: &mut [u8], held: usize) -> io::Result<usize>
     requires { held < length buffer.old }
     ensures length { length buffer.new ≡ length buffer.old }

@@ -6,18 +6,18 @@ abbrev pub OccurInOrder : List (List ℕ) → List ℕ → Type 0
 OccurInOrder [] whole = Unit {0}
 OccurInOrder (text ∷ texts) whole = (before after : List ℕ) × (whole ≡ before ++ (text ++ after)) × OccurInOrder texts after
 
--- A text is appended to: the old text is its beginning, and these texts are parts of what was
--- added, in order.
+-- A text is appended to: the old text is its prefix, and these texts are parts of the appended one,
+-- in order.
 pub record Adds (texts : List (List ℕ)) (old new : List ℕ) : Type 0 where
   pub added : List ℕ
   pub is : new ≡ old ++ added
   pub occur : OccurInOrder texts added
 
--- A text is appended to, and this text ends what was added.
+-- A text is appended to, and the appended text ends with this one.
 pub record AddsLast (last old new : List ℕ) : Type 0 where
   pub added : List ℕ
   pub is : new ≡ old ++ (added ++ last)
 
--- A text is appended to, and nothing is promised of what was added.
+-- A text is appended to. The appended text is unspecified.
 abbrev pub Grows : List ℕ → List ℕ → Type 0
 Grows = Adds []

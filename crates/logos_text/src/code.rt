@@ -17,7 +17,8 @@ use logos_token::error::Memory;
 use logos_type::print_type;
 use std::alloc::Global;
 
-/// The path of `core`, with the gap after it, in a text of code, which has the names of the crate.
+/// The path of `core`, with the gap after it, in generated code, where the names of the crate are
+/// in scope.
 const SHORT_CORE: &str = "core ";
 /// The same in a text of tables: the whole path, which no module beside the enum changes.
 const WHOLE_CORE: &str = ":: core ";

@@ -1,4 +1,4 @@
-//! Warnings that have a message, a span and perhaps what to do.
+//! Warnings with a message, a span and optionally a help.
 
 ghost use Rattle.std.specs.Prelude.{◌≡◌, IfOk, string_bytes};
 

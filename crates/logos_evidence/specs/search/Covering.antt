@@ -1,4 +1,4 @@
--- Inputs that together take all steps that inputs take.
+-- Inputs that together take all steps that any input takes.
 use Rattle.std.specs.Prelude.{◌≡◌, ◌⊎◌, ℕ, Bool, true, false, List, [], ◌∷◌, Option, Contains, IsSomeAnd, IsTrue}
 use Rattle.logos_evidence.specs.search.Machines.{IsInput}
 use Rattle.logos_evidence.specs.declared.search.point.Point.{Point}
@@ -13,7 +13,7 @@ abbrev pub end_at : Point → InputStep
 end_at at = record { from = at; to = at; ends = true }
 
 module _ (next : Point → ℕ → Option Point) where
-  -- An input takes a step on its way from a point.
+  -- An input takes a step when read from a point.
   abbrev pub Takes : Point → List ℕ → InputStep → Type 0
   Takes at [] step = step ≡ end_at at
   Takes at (b ∷ bytes) step = IsSomeAnd (next at b) (λ to. (step ≡ step_to at to) ⊎ Takes to bytes step)
@@ -22,8 +22,8 @@ module _ (next : Point → ℕ → Option Point) where
   abbrev pub OneTakes : Point → List (List ℕ) → InputStep → Type 0
   OneTakes start inputs step = (input : List ℕ) × Contains inputs input × Takes start input step
 
-  -- These inputs take each step that inputs take; of the points at which inputs end, those that are
-  -- looked for count.
+  -- These inputs take each step that any input takes. An end of an input counts if its point is a
+  -- goal.
   pub record AreCovering (is_goal : Point → Bool) (utf8 : Bool) (start : Point) (inputs : List (List ℕ)) : Type 0 where
     pub are_inputs : (input : List ℕ) → Contains inputs input → IsInput utf8 input
     pub all : (bytes : List ℕ) (step : InputStep) → IsInput utf8 bytes → Takes start bytes step →

@@ -1,4 +1,4 @@
-//! The search for inputs that together take all steps of a machine.
+//! The search for inputs that together take all steps of a machine. Called for `--inputs`.
 
 ghost use Rattle.std.specs.Prelude.{◌≡◌, ◌<◌, ◌∷◌, ◌++◌, [], true, IfOk, OnOk, Contains, Some, length, map, slice_get};
 ghost use Rattle.logos_evidence.specs.search.Views.{AreCovering, end_at, pending_goal, GoDown, PendingPoint as At};
@@ -15,7 +15,7 @@ use crate::search::visits::{
 use indexmap::IndexSet;
 use std::alloc::{AllocError, Global};
 
-/// The pending points that a machine reaches from a point on.
+/// The pending points that a machine can reach.
 #[derive(Drop)]
 struct Explored {
     alloc: Global,
@@ -38,7 +38,7 @@ struct PointByte {
     byte: u8,
 }
 
-/// Returns all pending points that a machine reaches from a point on.
+/// Returns all pending points that a machine can reach from a point.
 ///
 /// # Errors
 ///
@@ -67,8 +67,8 @@ fn explore<M: Machine>(
     })
 }
 
-/// Returns the bytes that lead to a pending point and by one more byte from it, with the least ones
-/// that complete a character then.
+/// Returns the bytes that lead to a pending point, one more byte, and the least bytes that then
+/// complete a character.
 ///
 /// # Errors
 ///
@@ -111,7 +111,7 @@ fn add_input<M: Machine>(
     Ok(())
 }
 
-/// Covers the step that a byte makes from a pending point, if it leads on.
+/// Covers the step from a pending point by a byte, if there is one.
 ///
 /// # Errors
 ///
@@ -152,7 +152,7 @@ fn cover_byte<M: Machine>(
     Ok(())
 }
 
-/// Covers the end at a pending point, if inputs can end there and it is looked for.
+/// Covers the end of the input at a pending point, if inputs can end there and the point is a goal.
 ///
 /// # Errors
 ///
@@ -222,12 +222,12 @@ fn cover_pending<M: Machine>(
     Ok(())
 }
 
-/// Returns inputs that together take each step that a machine takes on its way from a point over
-/// any input: from a point to another by a byte, and the end of an input at a point that is looked
-/// for. Each input takes a step that none before it takes.
+/// Returns inputs that together take each step that a machine takes from a point over any input:
+/// from a point to another by a byte, and the end of an input at a goal. Each input takes a step
+/// that no earlier one takes.
 ///
-/// Where `utf8` is set, inputs are UTF-8, and else any bytes. Each point that is met is stored,
-/// with what leads to it, and each step.
+/// If `utf8` is set, inputs are UTF-8, otherwise any bytes. Each point is stored with its
+/// predecessor and byte, and so is each step.
 ///
 /// # Errors
 ///

@@ -1,4 +1,4 @@
-//! The order in which bytes are tried, so that texts are easy to read.
+//! The order in which bytes are searched, which makes the inputs that are found easy to read.
 
 ghost use Rattle.std.specs.Prelude.{◌<◌};
 ghost use Rattle.logos_evidence.specs.search.inside.Order.{IsByteAt};

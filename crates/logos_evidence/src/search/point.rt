@@ -1,6 +1,6 @@
 //! Machines that read bytes, and their points.
 
-/// A point that a machine can reach. What the parts mean is the machine's own.
+/// A point that a machine can reach. Each machine defines the meaning of the fields.
 #[derive(Clone, Copy, PartialEq, Eq, Hash)]
 pub struct Point {
     /// A state.
@@ -9,13 +9,13 @@ pub struct Point {
     pub there: usize,
     /// Whether a byte was read.
     pub begun: bool,
-    /// Whether what is asked about was met on the way.
+    /// Whether the goal's first condition was met on the way.
     pub met: bool,
-    /// What holds of the last match on the way.
+    /// A property of the last match on the way.
     pub last: bool,
 }
 
-/// A machine that reads bytes, and the points that are looked for.
+/// A machine that reads bytes, with the points that are its goals.
 pub trait Machine {
     ghost use Rattle.std.specs.Prelude.{◌≡◌, ℕ, Bool, Option};
     ghost use Rattle.logos_evidence.specs.declared.search.point.Point.{Point as At};
@@ -28,7 +28,7 @@ pub trait Machine {
     fn next(&self, at: Point, byte: u8) -> Option<Point>
         ensures { result ≡ leads self.now at byte };
 
-    /// Returns whether an input that ends at a point is one that is looked for.
+    /// Returns whether a point is a goal: an input that ends there is found.
     fn is_goal(&self, at: Point) -> bool
         ensures { result ≡ goal self.now at };
 }

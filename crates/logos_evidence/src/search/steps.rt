@@ -7,17 +7,17 @@ use crate::search::point::{Machine, Point};
 use indexmap::IndexSet;
 use std::alloc::AllocError;
 
-/// A step on the way over an input: a byte leads from a point to another one, or the input ends.
+/// A step of a machine over an input: a byte leads from a point to another one, or the input ends.
 #[derive(Clone, Copy, PartialEq, Eq, Hash)]
 pub(crate) struct InputStep {
     pub(crate) from: Point,
-    /// Where the byte leads, or the same point.
+    /// The next point, or the same point if the input ends.
     pub(crate) to: Point,
     /// Whether the input ends.
     pub(crate) ends: bool,
 }
 
-/// Adds a step, if it is not there yet. Returns whether it is new.
+/// Adds a step, if the set does not contain it. Returns whether it is new.
 ///
 /// # Errors
 ///

@@ -6,18 +6,18 @@ ghost use Rattle.simdutf8.specs.Steps as steps;
 
 use std::alloc::AllocError;
 
-/// What has to follow for the bytes read so far to be UTF-8.
+/// The bytes that may complete the character begun by the bytes read so far.
 #[derive(Clone, Copy, PartialEq, Eq, Hash)]
 pub struct Rest {
     /// The least byte that may come next, inside a character.
     pub low: u8,
     /// The greatest one.
     pub high: u8,
-    /// How many bytes of the character are to come.
+    /// The number of bytes until the end of the character.
     pub count: usize,
 }
 
-/// Returns what has to follow where so many bytes of a character are to come.
+/// Returns the rest of a character with `count` bytes to come.
 pub(crate) fn more(count: usize) -> Rest
     ensures { result ≡ rests.more count }
 {
@@ -54,7 +54,7 @@ fn most_after(byte: u8) -> u8
     }
 }
 
-/// Returns what follows a byte that begins a character, if one can begin so.
+/// Returns the rest of the character that `byte` begins, if it begins one.
 fn begun(byte: u8) -> Option<Rest>
     ensures { result ≡ rests.begun byte }
 {
@@ -86,7 +86,7 @@ fn begun(byte: u8) -> Option<Rest>
     None
 }
 
-/// Returns what has to follow after one more byte, if it may come.
+/// Returns the rest of the character after one more byte, if the byte is valid.
 fn rest_after(rest: Rest, byte: u8) -> Option<Rest>
     ensures { result ≡ rests.rest_after rest byte }
 {
@@ -99,7 +99,7 @@ fn rest_after(rest: Rest, byte: u8) -> Option<Rest>
     None
 }
 
-/// Returns what has to follow after one more byte in either mode, if it may come.
+/// Returns the rest of the character after one more byte, if the byte is valid in the mode.
 pub(crate) fn rest_by(utf8: bool, rest: Rest, byte: u8) -> Option<Rest>
     ensures { result ≡ rests.rest_by utf8 rest byte }
 {

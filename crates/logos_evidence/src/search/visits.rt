@@ -1,4 +1,4 @@
-//! The points that were met, breadth first, and how each was met first.
+//! The points that were visited, breadth first, and how each was first reached.
 
 ghost use Rattle.std.specs.Prelude.{◌≡◌, ◌+◌, ◌<◌, ◌∷◌, [], ℕ, IfOk, OnOk, Option, Some, length, slice_get};
 ghost use Rattle.logos_evidence.specs.search.Views.{more, PendingPoint as At};
@@ -11,25 +11,25 @@ use crate::search::utf8::{Rest, more, rest_by};
 use indexmap::IndexSet;
 use std::alloc::{AllocError, Global};
 
-/// A point, with what has to follow for the bytes read so far to be an input.
+/// A point, with the rest of the character begun by the bytes read so far.
 #[derive(Clone, Copy, PartialEq, Eq, Hash)]
 pub(crate) struct PendingPoint {
     pub(crate) point: Point,
     pub(crate) rest: Rest,
 }
 
-/// How a pending point was met first.
+/// How a pending point was first reached.
 #[derive(Clone, Copy)]
 pub(crate) struct Visit {
-    /// The number of the pending point before it.
+    /// The number of its predecessor.
     pub(crate) from: usize,
-    /// The byte that leads from there.
+    /// The byte that leads from the predecessor to it.
     pub(crate) byte: u8,
-    /// How many bytes lead to it.
+    /// The number of bytes that lead to it.
     pub(crate) depth: usize,
 }
 
-/// The pending points that were met, numbered in their order.
+/// The pending points that were visited, numbered in the order of their visits.
 #[derive(Drop)]
 pub(crate) struct Visits {
     pub(crate) points: IndexSet<PendingPoint>,
@@ -46,7 +46,7 @@ pub(crate) fn first_pending(point: Point) -> PendingPoint
     }
 }
 
-/// Returns where a byte leads from a pending point.
+/// Returns the pending point after one more byte, if the byte is valid.
 pub(crate) fn advance<M: Machine>(
     machine: &M,
     utf8: bool,
@@ -60,7 +60,7 @@ pub(crate) fn advance<M: Machine>(
     Some(PendingPoint { point, rest })
 }
 
-/// Adds a pending point with the way to it, if it was not met before.
+/// Adds a pending point with the way to it, if it was not visited before.
 ///
 /// # Errors
 ///
@@ -76,7 +76,7 @@ fn meet(visits: &mut Visits, pending: PendingPoint, way: Visit) -> Result<(), Al
     Ok(())
 }
 
-/// Adds what a byte leads to from a pending point, by the way that it goes.
+/// Adds the pending point to which a byte leads from another one, with the way to it.
 ///
 /// # Errors
 ///
@@ -112,7 +112,7 @@ fn meet_next<M: Machine>(
     Ok(())
 }
 
-/// Adds what each byte leads to from the pending point with a number.
+/// Adds the pending points to which the bytes lead from the one with a number.
 ///
 /// # Errors
 ///
@@ -167,7 +167,7 @@ pub(crate) fn pending_of(visits: &Visits, number: usize) -> PendingPoint
     }
 }
 
-/// Returns the visits of the first pending point alone.
+/// Returns visits with only the first pending point.
 ///
 /// # Errors
 ///

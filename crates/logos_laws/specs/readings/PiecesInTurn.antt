@@ -1,5 +1,5 @@
 -- The pieces of an attribute's argument, one after another: the first piece of a run, and then the
--- pieces of what is left after it.
+-- pieces of the tokens after it.
 use Rattle.std.specs.Prelude.{◌≡◌, ◌||◌, if◌then◌else◌, Bool, true, false, List, [], ◌∷◌}
 use Rattle.logos_lexeme.specs.declared.lexeme.Span.{Span}
 use Rattle.logos_lexeme.specs.declared.lexeme.Delimiter.{Delimiter}
@@ -8,17 +8,17 @@ use Rattle.logos_token.specs.Punctuation.{is_alone}
 use Rattle.logos_attribute.specs.Pieces.{Piece, unnamed, named, unexpected, assigned, beside, grouped, keyed, comma, equals, name_token, up_to_comma, after_comma, rest_after_piece}
 use Rattle.logos_attribute.specs.Slices.{Slice}
 
--- A lone `=` comes first.
+-- The run begins with a lone `=`.
 abbrev pub begins_assigned : TokenList → Bool
 begins_assigned none = false
 begins_assigned (also token rest) = is_alone equals token
 
--- A lone comma comes first, or nothing.
+-- The run begins with a lone comma, or is empty.
 abbrev pub begins_end : TokenList → Bool
 begins_end none = true
 begins_end (also token rest) = is_alone comma token
 
--- The piece that begins with two names. A comma, or nothing, counts as the `=`.
+-- The piece that begins with two names. A comma, or the end of the run, counts as the `=`.
 abbrev pub keyed_piece : Slice → Slice → TokenList → Piece
 keyed_piece keyword name rest =
     if begins_assigned rest || begins_end rest then named keyword (keyed name (up_to_comma (rest_of rest)))
@@ -52,7 +52,7 @@ mutual
     with_group : {name : Slice} {delimiter : Delimiter} {span : Span} {inside rest : TokenList} {others : List Piece} →
         AreAfterGroup rest others → ArePieces (also (name_token name) (also (group delimiter span inside) rest)) (named name (grouped inside) ∷ others)
 
-  -- The same after a name and a group: tokens before the comma are a piece of their own.
+  -- The pieces of a run after a name and a group: tokens before the comma are a separate piece.
   pub data AreAfterGroup : TokenList → List Piece → Type 0 where
     at_end : AreAfterGroup none []
     at_comma : {token : Token} {rest : TokenList} {others : List Piece} → is_alone comma token ≡ true → ArePieces rest others → AreAfterGroup (also token rest) others

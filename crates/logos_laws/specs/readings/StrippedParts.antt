@@ -1,4 +1,4 @@
--- What stripping leaves of an enum, by its parts: attributes, variants, fields, and the tokens
+-- The result of stripping an enum, part by part: attributes, variants, fields, and the tokens
 -- between them, which stay.
 use Rattle.std.specs.Prelude.{◌≡◌, IsTrue, true, List, [], ◌∷◌, ◌++◌, Option, Some}
 use Rattle.logos_lexeme.specs.declared.lexeme.Span.{Span}
@@ -9,7 +9,7 @@ use Rattle.logos_strip.specs.Helpers.{is_comma}
 use Rattle.logos_strip.specs.Stripping.{left}
 use Rattle.logos_laws.specs.readings.Stays.{stay, attributes_stay, derive_without_macro, unchanged, are_attributes, are_plain, is_number, begins_word}
 
--- Items with commas between them, and perhaps one after the last: the commas stay.
+-- Items with commas between them, and optionally one after the last: the commas stay.
 pub data ItemsStay {A : Type 0} (Item : A → TokenList → List (Option Token) → Type 0) : List A → TokenList → List (Option Token) → Type 0 where
   no_item : ItemsStay Item [] none []
   last_item : {value : A} {tokens : TokenList} {pieces : List (Option Token)} → Item value tokens pieces → ItemsStay Item (value ∷ []) tokens pieces
@@ -44,9 +44,9 @@ pub record VariantStays (value : VariantValue) (tokens : TokenList) (pieces : Li
   pub is : tokens ≡ append value.attributes (also (identifier value.name.text value.name.span) (append held number))
   pub stays : pieces ≡ attributes_stay unchanged value.attributes ++ (Some (identifier value.name.text value.name.span) ∷ (held_pieces ++ stay number))
 
--- These tokens are an enum, and those are left of it: its attributes without the helper attributes
--- and without the entries of `derive` that name the macro; all up to its braces; and in these the
--- variants. Punctuation directly before what goes is alone.
+-- `tokens` are an enum, and `remaining` is the result of stripping it: its attributes without the
+-- helper attributes and without the entries of `derive` that name the macro; all tokens up to its
+-- braces; and inside these the variants. Punctuation directly before a removed token is alone.
 pub record EnumStays (value : EnumValue) (tokens remaining : TokenList) : Type 0 where
   pub attributes : IsTrue (are_attributes value.attributes)
   -- Visibility, `enum`, name, generic parameters and where clause.

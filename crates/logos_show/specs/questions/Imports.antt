@@ -1,4 +1,4 @@
--- Definitions that clauses cite: of lower crates, and those of this one.
+-- Definitions that clauses cite: those of lower crates, and those of this one.
 pub use Rattle.logos_answers.specs.Locations.{number_named, location_named}
 pub use Rattle.logos_host.specs.Failures.{status_of}
 pub use Rattle.logos_options.specs.ArgumentSteps.{option_value}

@@ -1,4 +1,4 @@
--- What the arguments of `logos_show` request.
+-- The request of `logos_show`, read from its arguments.
 use Rattle.std.specs.Prelude.{ℕ, List, Option, Some, None, option_map}
 use Rattle.logos_answers.specs.Locations.{number_named, location_named}
 use Rattle.logos_lines.specs.declared.location.Location.{Location}
@@ -15,9 +15,9 @@ use Rattle.logos_show.specs.declared.questions.Question.TheVariants as questions
 use Rattle.logos_show.specs.declared.questions.ShowRequest.{ShowRequest}
 use Rattle.logos_show.specs.declared.questions.ShowRequest.TheVariants.{Help, Version, Show}
 
--- What is asked of the lexers of a file: their leaves; the items of an input, by its path; what
--- matches from a position of an input; examples of what leaves find; at most a number of inputs
--- that together pass all edges; or whether the lexer of another file, by its path, is the same.
+-- A question about the lexers of a file: their leaves; the items of an input, given by its path;
+-- the matches from a location of an input; examples for each leaf; at most a number of inputs that
+-- together take all edges; or whether the lexer of another file, given by its path, is equivalent.
 pub data QuestionValue : Type 0 where
   leaves : QuestionValue
   items : (input : List ℕ) → QuestionValue
@@ -26,33 +26,32 @@ pub data QuestionValue : Type 0 where
   inputs : (most : ℕ) → QuestionValue
   comparison : (other : List ℕ) → QuestionValue
 
--- A file: its path, what is asked of its lexers, the settings that are given, and how messages are
--- written.
+-- A file: its path, the question about its lexers, the given settings, and the style of messages.
 pub record OrderValue : Type 0 where
   pub file : List ℕ
   pub question : QuestionValue
   pub settings : List (Option (List ℕ))
   pub style : MessageStyle
 
--- What is requested.
+-- A request.
 pub data Requested : Type 0 where
   requests_help : Requested
   requests_version : Requested
   requests_showing : (order : OrderValue) → Requested
 
--- At most this many inputs, of a file alone.
+-- At most this many inputs. There is no second path.
 abbrev pub inputs_given : Option ℕ → Option (List ℕ) → Option QuestionValue
 inputs_given None input = None
 inputs_given (Some most) None = Some (inputs most)
 inputs_given (Some most) (Some input) = None
 
--- What matches from a position of an input.
+-- The matches from a location of an input.
 abbrev pub matches_given : Option Location → Option (List ℕ) → Option QuestionValue
 matches_given None input = None
 matches_given (Some location) None = None
 matches_given (Some location) (Some input) = Some (matches input location)
 
--- Examples, of a file alone.
+-- Examples. There is no second path.
 abbrev pub examples_given : Option (List ℕ) → Option QuestionValue
 examples_given None = Some examples
 examples_given (Some input) = None
@@ -62,14 +61,14 @@ abbrev pub comparison_given : Option (List ℕ) → Option QuestionValue
 comparison_given None = None
 comparison_given (Some other) = Some (comparison other)
 
--- The question that an option asks, by its value and perhaps a second path.
+-- The question of an option, with its value and an optional second path.
 abbrev pub question_named : OptionName → List ℕ → Option (List ℕ) → Option QuestionValue
 question_named options.Compare word input = comparison_given input
 question_named options.Inputs word input = inputs_given (number_named word) input
 question_named options.At word input = matches_given (location_named word) input
 question_named option word input = examples_given input
 
--- What is asked of a file. Without a question a second path asks for its items.
+-- The question about a file. Without an option a second path requests its items.
 abbrev pub question_given : Option OptionValue → Option (List ℕ) → Option QuestionValue
 question_given None None = Some leaves
 question_given None (Some input) = Some (items input)
@@ -94,16 +93,16 @@ request_given arguments (Some options.Version) = Some requests_version
 request_given arguments (Some option) = Some requests_help
 request_given arguments None = order_given arguments arguments.first
 
--- What these arguments request.
+-- The request of these arguments.
 abbrev pub requested_given : Option ArgumentsValue → Option Requested
 requested_given None = None
 requested_given (Some arguments) = request_given arguments arguments.text
 
--- What the arguments of a command line request, if they are valid.
+-- The request of a command line, if its arguments are valid.
 abbrev pub requested : List (List ℕ) → Option Requested
 requested arguments = requested_given (arguments_of programs.Show arguments)
 
--- The values of the program's types.
+-- The views of the program's types.
 abbrev pub question_value : Question → QuestionValue
 question_value questions.Leaves = leaves
 question_value (questions.Items input) = items input.now
@@ -115,7 +114,7 @@ question_value (questions.Comparison other) = comparison other.now
 abbrev pub order_value : ShowOrder → OrderValue
 order_value order = record { file = order.file.now; question = question_value order.question; settings = settings_value order.settings; style = order.style }
 
--- What is requested, as a value.
+-- The view of a request.
 abbrev pub request_value : ShowRequest → Requested
 request_value Help = requests_help
 request_value Version = requests_version

@@ -1,5 +1,5 @@
--- The search for covering inputs: all pending points were met, and for some the steps from them are
--- covered.
+-- The search for covering inputs: all pending points were visited, and for some the steps from them
+-- are covered.
 use Rattle.std.specs.Prelude.{◌≡◌, ◌⊎◌, ℕ, ◌<◌, Bool, true, List, ◌∷◌, ◌++◌, length, map, Option, Some, Contains, slice_get}
 use Rattle.logos_evidence.specs.search.Covering.{Takes, OneTakes, step_to, end_at}
 use Rattle.logos_evidence.specs.search.Machines.{IsInput}
@@ -14,13 +14,13 @@ use Rattle.logos_evidence.specs.declared.search.steps.InputStep.{InputStep}
 use Rattle.logos_evidence.specs.declared.search.visits.PendingPoint.{PendingPoint}
 use Rattle.logos_evidence.specs.declared.search.visits.Visit.{Visit}
 
--- These are all pending points that inputs lead to from a point.
+-- These are all pending points to which inputs lead from a point.
 pub record IsExplored (next : Point → ℕ → Option Point) (utf8 : Bool) (start : Point) (points : List PendingPoint) (ways : List Visit) : Type 0 where
   pub first : slice_get points 0 ≡ Some (pending_at start (more 0))
   pub tree : IsTree (pending_next next utf8) points ways
   pub closed : IsClosed (pending_next next utf8) points ways (length points)
 
--- A search has met these pending points.
+-- A search has visited these pending points.
 abbrev pub HasExplored : (Point → ℕ → Option Point) → Explored → Type 0
 HasExplored next explored =
     IsExplored next explored.utf8 explored.start explored.visits.points.keys explored.visits.ways.items
@@ -38,7 +38,7 @@ pub record Adds (next : Point → ℕ → Option Point) (start : Point) (steps :
   pub grows : (step : InputStep) → Contains steps step → Contains more step
   pub all : (step : InputStep) → Takes next start input step → Contains more step
 
--- Inputs that take each of the steps.
+-- Inputs that together take each of the steps.
 pub record IsCover (next : Point → ℕ → Option Point) (utf8 : Bool) (start : Point) (steps : List InputStep) (inputs : List (List ℕ)) : Type 0 where
   pub are_inputs : (input : List ℕ) → Contains inputs input → IsInput utf8 input
   pub taken : (step : InputStep) → Contains steps step → OneTakes next start inputs step
@@ -52,11 +52,11 @@ CoversSteps next explored cover =
 abbrev pub HasStepsOf : Cover → Cover → Type 0
 HasStepsOf old new = (step : InputStep) → Contains old.steps.keys step → Contains new.steps.keys step
 
--- The step that a byte makes from a pending point is covered, if it leads on.
+-- The step from a pending point by a byte is covered, if there is one.
 abbrev pub IsCoveredBy : (Point → ℕ → Option Point) → Bool → List InputStep → PendingPoint → ℕ → Type 0
 IsCoveredBy next utf8 steps at b = (to : PendingPoint) → pending_next next utf8 at b ≡ Some to → Contains steps (step_to at.point to.point)
 
--- All steps from a pending point are covered, and its end if it is looked for.
+-- All steps from a pending point are covered, and the end of the input there if it is a goal.
 pub record AreCoveredAt (next : Point → ℕ → Option Point) (is_goal : Point → Bool) (utf8 : Bool) (steps : List InputStep) (at : PendingPoint) : Type 0 where
   pub bytes : (b : ℕ) → b < 256 → IsCoveredBy next utf8 steps at b
   pub end : pending_goal is_goal at ≡ true → Contains steps (end_at at.point)

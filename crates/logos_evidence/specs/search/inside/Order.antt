@@ -1,4 +1,4 @@
--- The order in which bytes are tried: letters, digits, punctuation, and then the rest.
+-- The order in which bytes are searched: letters, digits, punctuation, and then the rest.
 use Rattle.std.specs.Prelude.{◌≡◌, ℕ, ◌+◌, ◌<◌, ◌≤◌}
 
 -- The byte at an index of the order.

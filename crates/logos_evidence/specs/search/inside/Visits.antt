@@ -1,4 +1,4 @@
--- The pending points that were met, breadth first, and how each was met first.
+-- The pending points that were visited, breadth first, and how each was first reached.
 use Rattle.std.specs.Prelude.{◌≡◌, ℕ, ◌+◌, ◌<◌, ◌≤◌, All, Bool, false, List, [], ◌∷◌, ◌++◌, length, Option, Some, slice_get, slice_index_or}
 use Rattle.logos_evidence.specs.search.Machines.{after}
 use Rattle.logos_evidence.specs.declared.search.visits.PendingPoint.{PendingPoint}
@@ -14,13 +14,13 @@ visit_at ways i = slice_index_or ways i no_visit
 abbrev pub depth_at : List Visit → ℕ → ℕ
 depth_at ways i = (visit_at ways i).depth
 
--- A pending point was met, after at most so many bytes.
+-- A pending point was visited, after at most `depth` bytes.
 pub record IsMet (points : List PendingPoint) (ways : List Visit) (pending : PendingPoint) (depth : ℕ) : Type 0 where
   pub number : ℕ
   pub occurs_there : slice_get points number ≡ Some pending
   pub near : depth_at ways number ≤ depth
 
--- A pending point is added with the way to it, if it was not met before.
+-- A pending point is added with the way to it, if it was not visited before.
 pub data Meets (points : List PendingPoint) (ways : List Visit) (pending : PendingPoint) (way : Visit) (met : List PendingPoint) (found : List Visit) : Type 0 where
   known : (number : ℕ) → slice_get points number ≡ Some pending → met ≡ points → found ≡ ways → Meets points ways pending way met found
   fresh : met ≡ points ++ pending ∷ [] → found ≡ ways ++ way ∷ [] → Meets points ways pending way met found
@@ -54,25 +54,24 @@ module _ (next : PendingPoint → ℕ → Option PendingPoint) where
     pub reached : (number : ℕ) → 0 < number → number < length points → IsReached points ways number
     pub rising : (i j : ℕ) → i ≤ j → j < length points → depth_at ways i ≤ depth_at ways j
 
-  -- No pending point lies more bytes from the first one.
+  -- All pending points are at most `depth` bytes from the first one.
   abbrev pub IsWithin : List PendingPoint → List Visit → ℕ → Type 0
   IsWithin points ways depth = (number : ℕ) → number < length points → depth_at ways number ≤ depth
 
-  -- What the byte leads to from a pending point was met.
+  -- The pending point to which the byte leads was visited.
   abbrev pub LeadsToMet : List PendingPoint → List Visit → PendingPoint → ℕ → ℕ → Type 0
   LeadsToMet points ways from depth b = (to : PendingPoint) → next from b ≡ Some to → IsMet points ways to (depth + 1)
 
-  -- The same of each byte from the pending points with the lowest numbers.
+  -- Each byte leads from the first `count` pending points to visited ones.
   abbrev pub IsClosed : List PendingPoint → List Visit → ℕ → Type 0
   IsClosed points ways count = (number b : ℕ) (from : PendingPoint) → number < count → slice_get points number ≡ Some from →
       b < 256 → LeadsToMet points ways from (depth_at ways number) b
 
--- None of the pending points with the lowest numbers is looked for.
+-- None of the first `count` pending points is a goal.
 abbrev pub NoGoal : (PendingPoint → Bool) → List PendingPoint → ℕ → Type 0
 NoGoal is_goal points count = (number : ℕ) (pending : PendingPoint) → number < count → slice_get points number ≡ Some pending → is_goal pending ≡ false
 
--- These bytes lead to the pending point with this number, and are as many as it lies from the first
--- one.
+-- These bytes lead to the pending point with this number, and their number is its depth.
 pub record IsWayTo (next : PendingPoint → ℕ → Option PendingPoint) (points : List PendingPoint) (ways : List Visit) (number : ℕ) (to : PendingPoint) (bytes : List ℕ) : Type 0 where
   pub are_bytes : All (λ b. b < 256) bytes
   pub size : length bytes ≡ depth_at ways number
