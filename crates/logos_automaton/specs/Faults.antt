@@ -50,8 +50,8 @@ pub record AreAmbiguous (rules : List Rule) (sets : List (List ℕ)) : Type 0 wh
   pub ascending : Ascends sets
   pub exactly : (set : List ℕ) → Contains sets set ↔ IsAmbiguous rules set
 
--- The faults: a missing universal start alone, else the empty matches alone, else the ambiguous
--- sets.
+-- The faults: a missing universal start alone, otherwise the empty matches alone, otherwise the
+-- ambiguous sets.
 abbrev pub AreFaults : List Rule → List Fault → Type 0
 AreFaults rules faults =
     MatchBool (some_leads rules) (faults ≡ no_universal_start ∷ [])

@@ -13,7 +13,7 @@ letter_of b =
 abbrev pub lower_digit : ℕ → ℕ
 lower_digit n = if nat_lt n 10 then 48 + n else 87 + n
 
--- A byte that has no such letter: itself if it is a printable character, else `\xNN`.
+-- A byte that has no such letter: itself if it is a printable character, otherwise `\xNN`.
 abbrev pub plain_byte_text : ℕ → List ℕ
 plain_byte_text b = if nat_le 32 b && nat_lt b 127 then b ∷ [] else 92 ∷ 120 ∷ lower_digit (b / 16) ∷ lower_digit (b % 16) ∷ []
 

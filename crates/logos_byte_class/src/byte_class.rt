@@ -199,8 +199,8 @@ impl Comparisons {
         }
     }
 
-    /// Returns the number of operations that test a byte: one for a single byte, else one for a
-    /// start above 0 and one for an end below 255; and one for each exception.
+    /// Returns the number of operations that test a byte: one for a single byte, otherwise one for
+    /// a start above 0 and one for an end below 255; and one for each exception.
     pub fn count_ops(&self) -> usize
         ensures { result ≡ operations (comparison_of self.now) }
     {

@@ -34,8 +34,8 @@ infixl 10 ◌>>=◌
 abbrev pub ◌>>=◌ : {A B : Type 0} → Rule A → (A → Rule B) → Rule B
 first >>= next = Then first next
 
--- The tokens after an element of a list: none are taken where the list ends, and else a comma of
--- either spacing.
+-- The tokens after an element of a list: none are taken where the list ends, and otherwise a comma
+-- of either spacing.
 abbrev pub after_item : (TokenList → Bool) → TokenList → Outcome (Unit {0})
 after_item ends (also (punctuation character spacing span) rest) =
     if ends (also (punctuation character spacing span) rest) then Ok (tt, also (punctuation character spacing span) rest)

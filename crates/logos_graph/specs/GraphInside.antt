@@ -19,8 +19,8 @@ value_of graph = record {
   automaton = dfa_of graph.dfa;
 }
 
--- Without faults there is a finished graph, with the table that it shows; else there are no states.
--- Each state has the states that lead to it.
+-- Without faults there is a finished graph, with the table that it shows; otherwise there are no
+-- states. Each state has the states that lead to it.
 pub record IsConsistent (graph : Inside) : Type 0 where
   pub shown : IfSome graph.reduced (λ reduced. Shows reduced.table (value_of graph).states × YieldsEvidence reduced)
   pub has_table : (value_of graph).faults ≡ [] → IsSome graph.reduced

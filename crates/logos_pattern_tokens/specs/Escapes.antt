@@ -1,4 +1,4 @@
--- What comes after a backslash, read from the front.
+-- The text after a backslash, read from the front.
 use Rattle.std.specs.Prelude.{ℕ, Bool, true, false, not, ◌||◌, ◌&&◌, nat_le, nat_lt, ◌==◌, [], ◌∷◌, length, take, drop, Option, Some, None, option_map, if◌then◌else◌}
 use Rattle.std.specs.Char.{is_ascii_alphanumeric}
 use Rattle.unicode.specs.declared.sets.Set.{Set}

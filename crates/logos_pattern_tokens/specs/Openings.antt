@@ -1,4 +1,4 @@
--- What comes after an opening parenthesis, read from the front.
+-- The text after an opening parenthesis, read from the front.
 use Rattle.std.specs.Prelude.{ℕ, Bool, true, false, ◌||◌, ◌&&◌, ◌==◌, [], ◌∷◌, Option, Some, None, option_map, if◌then◌else◌}
 use Rattle.std.specs.List.{list_all}
 use Rattle.unicode.specs.Binary.{is_alphabetic}

@@ -155,12 +155,12 @@ fn count_end<'t>(
     }
 }
 
-/// Reads what comes after `{n,`.
+/// Reads the text after `{n,`.
 ///
 /// # Errors
 ///
-/// Those of `number_at` and `count_end`, and `CountOrder` if the second count is less than the
-/// first.
+/// Returns the errors of `number_at` and `count_end`, and `CountOrder` if the second count is less
+/// than the first.
 #[tactic(auto, unfolding(crate::specs::Token::most_at, crate::specs::Token::order_at))]
 fn most_at(least: u32, text: &[char]) -> Result<(Token<'_>, &[char]), Fault>
     ensures { Yields (λ x. (token_view x.0, x.1.now)) result (most_at least text.now) }
@@ -178,11 +178,11 @@ fn most_at(least: u32, text: &[char]) -> Result<(Token<'_>, &[char]), Fault>
     }
 }
 
-/// Reads what comes after `{n`.
+/// Reads the text after `{n`.
 ///
 /// # Errors
 ///
-/// Returns `Unclosed` if the text is empty, and else those of `most_at` or `count_end`.
+/// Returns `Unclosed` if the text is empty, and otherwise the errors of `most_at` or `count_end`.
 #[tactic(auto, unfolding(crate::specs::Token::bounds_at))]
 fn bounds_at(least: u32, text: &[char]) -> Result<(Token<'_>, &[char]), Fault>
     ensures { Yields (λ x. (token_view x.0, x.1.now)) result (bounds_at least text.now) }

@@ -1,4 +1,4 @@
-//! Reads what comes after a backslash. Both readers of tokens call it at a backslash.
+//! Reads the text after a backslash. Both readers of tokens call it at a backslash.
 
 ghost use Rattle.std.specs.Prelude.{◌≡◌, MatchResult};
 ghost use Rattle.logos_pattern_tokens.specs.Views.{Yields, is_among, is_escapable, single_of, begins, is_form, plain_property, property_of, property_at, braces_at, fixed_at, byte_at, hex_at, boundary_at, single_at, escape_at};
@@ -83,7 +83,7 @@ fn plain_property(alloc: Global, name: &[char]) -> Result<Set, Fault>
 ///
 /// # Errors
 ///
-/// Those of `plain_property`.
+/// Returns the errors of `plain_property`.
 #[tactic(auto, unfolding(crate::specs::Escapes::property_of))]
 fn property_of<'t>(
     alloc: Global,
@@ -102,7 +102,7 @@ fn property_of<'t>(
 /// # Errors
 ///
 /// Returns `Unclosed` if a brace is not closed; of a name of one character, and without one,
-/// `UnknownProperty`; else those of `plain_property`.
+/// `UnknownProperty`; otherwise the errors of `plain_property`.
 #[tactic(auto, unfolding(crate::specs::Escapes::property_at))]
 fn property_at(alloc: Global, negated: bool, text: &[char]) -> Result<(Atom, &[char]), Fault>
     ensures { Yields (λ x. (x.0, x.1.now)) result (property_at negated text.now) }
@@ -187,11 +187,12 @@ fn byte_at(text: &[char]) -> Result<(Atom, &[char]), Fault>
     }
 }
 
-/// Reads what comes after `\x`, `\u` or `\U`; `letter` is which of them.
+/// Reads the text after `\x`, `\u` or `\U`; `letter` is which of them.
 ///
 /// # Errors
 ///
-/// Returns `HexSyntax` if the text is empty; else those of `braces_at`, `byte_at` or `fixed_at`.
+/// Returns `HexSyntax` if the text is empty; otherwise the errors of `braces_at`, `byte_at` or
+/// `fixed_at`.
 #[tactic(auto, unfolding(crate::specs::Escapes::hex_at))]
 fn hex_at(letter: char, text: &[char]) -> Result<(Atom, &[char]), Fault>
     ensures { Yields (λ x. (x.0, x.1.now)) result (hex_at letter text.now) }
@@ -207,7 +208,7 @@ fn hex_at(letter: char, text: &[char]) -> Result<(Atom, &[char]), Fault>
     }
 }
 
-/// Reads what comes after `\b`: nothing, as this is a word boundary.
+/// Reads the text after `\b`: nothing, as this is a word boundary.
 ///
 /// # Errors
 ///
@@ -250,7 +251,7 @@ fn single_at(c: char, rest: &[char]) -> Result<(Atom, &[char]), Fault>
 /// # Errors
 ///
 /// Returns `EscapeUnknown` if the text is empty or begins with a character that cannot be escaped;
-/// else the fault of the escape; and `Memory`.
+/// otherwise the fault of the escape; and `Memory`.
 #[tactic(auto, unfolding(crate::specs::Escapes::escape_at))]
 pub fn escape_at(alloc: Global, text: &[char]) -> Result<(Atom, &[char]), Fault>
     ensures { Yields (λ x. (x.0, x.1.now)) result (escape_at text.now) }

@@ -1,4 +1,4 @@
-//! Reads what comes after an opening parenthesis. The reader of tokens calls it at `(`.
+//! Reads the text after an opening parenthesis. The reader of tokens calls it at `(`.
 
 ghost use Rattle.std.specs.Prelude.{◌≡◌};
 ghost use Rattle.logos_pattern_tokens.specs.Views.{no_change, set_once, with_letter, Yields, token_view, sets, opens, plain, is_name_start, is_name_part, are_name_parts, is_name, name_at, python_at, dash, next_letter, setting_end, letters_from, no_letters, option_at, group_at};
@@ -50,12 +50,12 @@ fn name_fault(text: &[char]) -> Kind {
     }
 }
 
-/// Reads what comes after `(?<` or `(?P<`.
+/// Reads the text after `(?<` or `(?P<`.
 ///
 /// # Errors
 ///
-/// Returns `Unclosed` if the text is a name, or empty, and has no `>`; else `GroupSyntax` if no
-/// name comes before the `>`.
+/// Returns `Unclosed` if the text is a name, or empty, and has no `>`; otherwise `GroupSyntax` if
+/// no name comes before the `>`.
 #[tactic(auto, unfolding(crate::specs::Openings::name_at))]
 fn name_at(text: &[char]) -> Result<(Token<'_>, &[char]), Fault>
     ensures { Yields (λ x. (token_view x.0, x.1.now)) result (name_at text.now) }
@@ -69,12 +69,12 @@ fn name_at(text: &[char]) -> Result<(Token<'_>, &[char]), Fault>
     Ok((Token::Open(GroupOpening::Named(name)), rest))
 }
 
-/// Reads what comes after `(?P`.
+/// Reads the text after `(?P`.
 ///
 /// # Errors
 ///
-/// Returns `Unclosed` if the text is empty, `FlagSyntax` if it does not begin with `<`, and else
-/// those of `name_at`.
+/// Returns `Unclosed` if the text is empty, `FlagSyntax` if it does not begin with `<`, and
+/// otherwise the errors of `name_at`.
 #[tactic(auto, unfolding(crate::specs::Openings::python_at))]
 fn python_at(text: &[char]) -> Result<(Token<'_>, &[char]), Fault>
     ensures { Yields (λ x. (token_view x.0, x.1.now)) result (python_at text.now) }
@@ -172,7 +172,7 @@ fn dash(letters: Letters) -> Result<Letters, Fault>
 ///
 /// # Errors
 ///
-/// Those of `dash` and `with_letter`.
+/// Returns the errors of `dash` and `with_letter`.
 #[tactic(auto, unfolding(crate::specs::Openings::next_letter))]
 fn next_letter(letters: Letters, c: char) -> Result<Letters, Fault>
     ensures { Yields (λ x. x) result (next_letter letters c) }
@@ -213,8 +213,8 @@ fn setting_end<'t>(
 ///
 /// # Errors
 ///
-/// Returns `Unclosed` if the text ends before; else those of `next_letter` and `setting_end`, from
-/// the left.
+/// Returns `Unclosed` if the text ends before; otherwise the errors of `next_letter` and
+/// `setting_end`, from the left.
 fn letters_from(start: Letters, text: &[char]) -> Result<(Token<'_>, &[char]), Fault>
     ensures { Yields (λ x. (token_view x.0, x.1.now)) result (letters_from start text.now) }
 {
@@ -237,11 +237,12 @@ fn letters_from(start: Letters, text: &[char]) -> Result<(Token<'_>, &[char]), F
     Err(Fault::Syntax(Kind::Unclosed))
 }
 
-/// Reads what comes after `(?`.
+/// Reads the text after `(?`.
 ///
 /// # Errors
 ///
-/// Returns `Unclosed` if the text is empty; else those of `name_at`, `python_at` or `letters_from`.
+/// Returns `Unclosed` if the text is empty; otherwise the errors of `name_at`, `python_at` or
+/// `letters_from`.
 #[tactic(auto, unfolding(crate::specs::Openings::option_at))]
 fn option_at(text: &[char]) -> Result<(Token<'_>, &[char]), Fault>
     ensures { Yields (λ x. (token_view x.0, x.1.now)) result (option_at text.now) }
@@ -266,7 +267,7 @@ fn no_letters() -> Letters
     }
 }
 
-/// Reads what comes after an opening parenthesis: returns the token of the group or of the flag
+/// Reads the text after an opening parenthesis: returns the token of the group or of the flag
 /// setting, and the rest of the text.
 ///
 /// # Errors

@@ -15,7 +15,7 @@ use std::alloc::Global;
 ///
 /// # Errors
 ///
-/// Those of `escape_at`.
+/// Returns the errors of `escape_at`.
 #[tactic(auto, unfolding(crate::specs::Reader::escape_token_at))]
 fn escape_token_at(alloc: Global, text: &[char]) -> Result<(Token<'_>, &[char]), Fault>
     ensures { Yields (λ x. (token_view x.0, x.1.now)) result (escape_token_at text.now) }
@@ -29,7 +29,7 @@ fn escape_token_at(alloc: Global, text: &[char]) -> Result<(Token<'_>, &[char]),
 ///
 /// # Errors
 ///
-/// Returns `Unclosed` if the text is empty; else the fault of the token, and `Memory`.
+/// Returns `Unclosed` if the text is empty; otherwise the fault of the token, and `Memory`.
 #[tactic(auto, unfolding(crate::specs::Reader::token_at))]
 pub fn token_at(alloc: Global, text: &[char]) -> Result<(Token<'_>, &[char]), Fault>
     ensures { Yields (λ x. (token_view x.0, x.1.now)) result (token_at text.now) }

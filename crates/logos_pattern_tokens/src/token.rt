@@ -6,7 +6,7 @@ use unicode::sets::Set;
 /// The flags that are on at a point of a pattern.
 #[derive(Clone, Copy)]
 pub struct Flags {
-    /// `u`: the pattern matches characters; else it matches bytes.
+    /// `u`: the pattern matches characters; otherwise it matches bytes.
     pub unicode: bool,
     /// `i`: letters match in both cases.
     pub ignore_case: bool,
@@ -46,7 +46,7 @@ pub struct Operator {
 pub enum Atom {
     /// A character, or an escape of one other than `\xNN`.
     Character(char),
-    /// `\xNN`: a byte where the pattern matches bytes, else the character with this number.
+    /// `\xNN`: a byte where the pattern matches bytes, otherwise the character with this number.
     Byte(u8),
     /// `.`
     Dot,

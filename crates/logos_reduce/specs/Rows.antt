@@ -1,7 +1,8 @@
 -- Rows of targets.
 use Rattle.std.specs.Prelude.{◌≡◌, ◌<◌, ◌≤◌, ℕ, zero, suc, List, [], map, length, Option, Some, None, slice_index, slice_index_or}
 
--- What an entry of a row stands for: 0 is no target, and else the entry is one more than the state.
+-- What an entry of a row stands for: 0 is no target, and otherwise the entry is one more than the
+-- state.
 abbrev pub target_of : ℕ → Option ℕ
 target_of zero = None
 target_of (suc t) = Some t

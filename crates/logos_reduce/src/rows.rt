@@ -14,7 +14,7 @@ pub const WIDTH: usize = 257;
 /// The symbol that stands for the end.
 pub const END: usize = 256;
 
-/// For each symbol its target: 0 where there is none, and else one more than the number of the
+/// For each symbol its target: 0 where there is none, and otherwise one more than the number of the
 /// state. The symbols are the bytes, and then the end.
 pub type Row = [u32; WIDTH];
 

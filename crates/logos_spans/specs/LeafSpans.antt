@@ -7,7 +7,7 @@ use Rattle.logos_token.specs.Spans.{IsSpanOf}
 use Rattle.logos_attribute.specs.Callbacks.{view_span}
 use Rattle.logos_leaf.specs.Leaves.{LeafView}
 
--- The span reaches from one of these tokens to another one: it is that of neighbouring tokens, at
+-- The span reaches from one of these tokens to another one: it is that of neighboring tokens, at
 -- any depth.
 pub record IsRunSpan (tokens : TokenList) (span : Span) : Type 0 where
   pub run : TokenList

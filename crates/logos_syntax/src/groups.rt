@@ -343,7 +343,7 @@ impl Groups {
     ///
     /// # Errors
     ///
-    /// Those of `OpenedGroup::repeat`.
+    /// Returns the errors of `OpenedGroup::repeat`.
     fn repeat(&mut self, alloc: Global, op: Operator, left: usize) -> Result<(), Stop>
         ensures { Steps (state_view self.old) (repeats op) result (state_view self.new) }
     {

@@ -5,7 +5,7 @@ use Rattle.logos_token.specs.declared.token.reader.TokenError.TheVariants.{Lexic
 use Rattle.logos_token.specs.Tokens.{TokenList, depth_of}
 use Rattle.logos_token.specs.Spelling.{Spells, IsUnreadable, IsTooDeep}
 
--- What an error says about the source.
+-- The condition on the source under which an error is returned.
 abbrev pub IsRefusal : List ℕ → TokenError → Type 0
 IsRefusal bytes (Lexical kind span) = IsUnreadable bytes kind span
 IsRefusal bytes LimitSource = 16777216 < length bytes

@@ -194,7 +194,7 @@ abbrev pub lifetime_move : PathKind → TokenList → Option TokenList → Move
 lifetime_move kind (also (identifier text span) rest) outside = takes (argument_lifetime kind text) (to (stage.ArgumentEnd kind) rest outside)
 lifetime_move kind run outside = mismatches run
 
--- Among arguments, at a name: before `=` it is bound, before `:` constrained, and else a type
+-- Among arguments, at a name: before `=` it is bound, before `:` constrained, and otherwise a type
 -- begins.
 abbrev pub argument_word : PathKind → List ℕ → TokenList → Option TokenList → Move
 argument_word kind text rest outside =

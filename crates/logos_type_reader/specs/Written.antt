@@ -228,8 +228,8 @@ mutual
     a_binding : {levels : ℕ} {kind : PathKind} {text : List ℕ} {s u : Span} {p : Spacing} {run rest : TokenList} {t : Tree} {e : Ending} → Written levels true run t rest e →
         Argument levels kind (also (identifier text s) (also (punctuation 61 p u) run)) (sign (word text) ∷ sign (mark 61) ∷ t ∷ []) rest
 
-  -- Bounds: one where `plus` does not hold, else some with `+` between them, and perhaps one after
-  -- the last.
+  -- Bounds: one where `plus` does not hold, otherwise some with `+` between them, and perhaps one
+  -- after the last.
   pub data Bounds : ℕ → Bool → TokenList → List Tree → TokenList → Ending → Type 0 where
     one_bound : {levels : ℕ} {run rest : TokenList} {parts : List Tree} {e : Ending} → Bound levels run parts rest e → Bounds levels false run parts rest e
     last_bound : {levels : ℕ} {run rest : TokenList} {parts : List Tree} {e : Ending} → Bound levels run parts rest e → Bounds levels true run parts rest (bounded e)

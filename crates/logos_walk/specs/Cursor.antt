@@ -3,11 +3,11 @@ use Rattle.std.specs.Prelude.{◌≡◌, ℕ, zero, suc, ◌+◌, ◌-◌, ◌*�
 use Rattle.std.specs.Int.{bit_at}
 use Rattle.std.specs.Int.Count.{count_leading_zeros}
 
--- 1 at an entry at which there is something to do, and else 0.
+-- 1 at an entry at which there is something to do, and otherwise 0.
 abbrev pub token_bit : List ℕ → ℕ → ℕ
 token_bit trace k = bit_at (slice_index trace k) 30
 
--- 1 at an entry before whose byte a match ends, and else 0.
+-- 1 at an entry before whose byte a match ends, and otherwise 0.
 abbrev pub end_bit : List ℕ → ℕ → ℕ
 end_bit trace k = bit_at (slice_index trace k) 31
 

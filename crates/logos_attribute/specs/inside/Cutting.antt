@@ -1,4 +1,4 @@
--- What is known while an argument is cut.
+-- Invariants that hold while an argument is cut.
 use Rattle.std.specs.Prelude.{List, ◌∷◌, if◌then◌else◌}
 use Rattle.logos_token.specs.Tokens.{Token, TokenList, none, also}
 use Rattle.logos_token.specs.Punctuation.{is_alone}

@@ -1,4 +1,4 @@
--- What is known while flags are read.
+-- Invariants that hold while flags are read.
 use Rattle.std.specs.Prelude.{◌≡◌, ◌<◌, Bool, true, List, Option, MatchOption}
 use Rattle.logos_token.specs.Faults.{Fault}
 use Rattle.logos_token.specs.Tokens.{TokenList, count_of}

@@ -157,7 +157,7 @@ impl<'s> Generator<'_, 's> {
 }
 
 /// Returns the number of the state to which a fork has no edge: the state itself if `ignore_self`
-/// holds, else a number that no state has.
+/// holds, otherwise a number that no state has.
 fn left_out(ignore_self: bool, state: usize) -> usize
     ensures { result ≡ left_out ignore_self state }
 {

@@ -28,7 +28,7 @@ fn automaton_of_none(alloc: Global) -> Result<Dfa, BuildError>
 }
 
 /// Returns the automaton of the rules, if each of their trees takes a byte before it looks or
-/// matches, and else of no rules.
+/// matches, and otherwise of no rules.
 fn automaton(alloc: Global, rules: &[RuleView<'_>]) -> Result<Dfa, BuildError>
     requires { size_of (views.rules_of rules.now) ≤ 2 ^ 20 }
     ensures late { IfOk result (λ dfa. AllStart (views.rules_of rules.now) →
@@ -98,9 +98,9 @@ fn finished<'s>(
 impl<'s> Graph<'s> {
     /// Returns the graph of leaves, which are numbered in their order.
     ///
-    /// The faults of the leaves are in `errors`: a missing universal start alone; else the leaves
-    /// that match nothing; else all sets of leaves that are ambiguous, ascending. Where there is a
-    /// fault, the graph has no states.
+    /// The faults of the leaves are in `errors`: a missing universal start alone; otherwise the
+    /// leaves that match nothing; otherwise all sets of leaves that are ambiguous, ascending. Where
+    /// there is a fault, the graph has no states.
     ///
     /// # Errors
     ///

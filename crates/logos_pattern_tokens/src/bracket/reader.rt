@@ -67,7 +67,7 @@ fn no_symbol(atom: Atom) -> Kind {
 /// # Errors
 ///
 /// Returns `Unclosed` if the text is empty, `ClassRange` if a class comes next, `EscapeUnknown` if
-/// another escape does that is not a character; else those of `escape_at`.
+/// another escape does that is not a character; otherwise the errors of `escape_at`.
 #[tactic(auto, unfolding(crate::specs::bracket::Reader::last_at))]
 fn last_at(alloc: Global, text: &[char]) -> Result<(Symbol, &[char]), Fault>
     ensures { Yields (λ x. (x.0, x.1.now)) result (last_at text.now) }
@@ -104,12 +104,12 @@ fn range_token<'t>(
     Ok((BracketToken::Item(BracketItem::Range(first, last)), rest))
 }
 
-/// Reads what comes after the character `first`: returns the range that it begins, if it does, or
-/// the character alone.
+/// Reads the text after the character `first`: returns the range that it begins, if it does, or the
+/// character alone.
 ///
 /// # Errors
 ///
-/// Those of `last_at` and `range_token`.
+/// Returns the errors of `last_at` and `range_token`.
 #[tactic(auto, unfolding(crate::specs::bracket::Reader::range_at))]
 fn range_at(alloc: Global, first: Symbol, rest: &[char]) -> Result<(BracketToken, &[char]), Fault>
     ensures { Yields (λ x. (x.0, x.1.now)) result (range_at first rest.now) }
@@ -136,12 +136,12 @@ fn lone_at(item: BracketItem, rest: &[char]) -> Result<(BracketToken, &[char]), 
     Ok((BracketToken::Item(item), rest))
 }
 
-/// Reads what comes after an escape: returns the element that begins with it.
+/// Reads the text after an escape: returns the element that begins with it.
 ///
 /// # Errors
 ///
-/// Returns `EscapeUnknown` if the escape is neither a character nor a class; else those of
-/// `range_at` or `lone_at`.
+/// Returns `EscapeUnknown` if the escape is neither a character nor a class; otherwise the errors
+/// of `range_at` or `lone_at`.
 #[tactic(auto, unfolding(crate::specs::bracket::Reader::escape_item))]
 fn escape_item(alloc: Global, atom: Atom, rest: &[char]) -> Result<(BracketToken, &[char]), Fault>
     ensures { Yields (λ x. (x.0, x.1.now)) result (escape_item atom rest.now) }
@@ -159,7 +159,7 @@ fn escape_item(alloc: Global, atom: Atom, rest: &[char]) -> Result<(BracketToken
 ///
 /// # Errors
 ///
-/// Returns `Unclosed` if the text is empty; else the fault of the element, and `Memory`.
+/// Returns `Unclosed` if the text is empty; otherwise the fault of the element, and `Memory`.
 #[tactic(auto, unfolding(crate::specs::bracket::Reader::item_at))]
 fn item_at(alloc: Global, text: &[char]) -> Result<(BracketToken, &[char]), Fault>
     ensures { Yields (λ x. (x.0, x.1.now)) result (item_at text.now) }
@@ -203,8 +203,8 @@ fn lead_at(text: &[char]) -> (Lead, &[char])
     }
 }
 
-/// Reads what comes after `[`: returns whether `^` negates the bracket, the literals after that,
-/// and the rest of the text.
+/// Reads the text after `[`: returns whether `^` negates the bracket, the literals after that, and
+/// the rest of the text.
 #[tactic(auto, unfolding(crate::specs::bracket::Reader::open_at))]
 pub fn open_at(text: &[char]) -> (bool, Lead, &[char])
     ensures negated { result.0 ≡ (open_at text.now).0 }
@@ -277,7 +277,7 @@ fn class_at(text: &[char]) -> Option<(BracketToken, &[char])>
     }
 }
 
-/// Reads what comes after `[` inside a bracket: a class of ASCII characters, or else the start of a
+/// Reads the text after `[` inside a bracket: a class of ASCII characters, or else the start of a
 /// nested bracket.
 #[tactic(auto, unfolding(crate::specs::bracket::Reader::inner_at))]
 fn inner_at(text: &[char]) -> (BracketToken, &[char])
@@ -309,7 +309,7 @@ fn operator_of(c: char) -> SetOperator
 ///
 /// # Errors
 ///
-/// Returns `Unclosed` if the text is empty; else the fault of the token, and `Memory`.
+/// Returns `Unclosed` if the text is empty; otherwise the fault of the token, and `Memory`.
 #[tactic(auto, unfolding(crate::specs::bracket::Reader::bracket_token_at))]
 pub fn bracket_token_at(alloc: Global, text: &[char]) -> Result<(BracketToken, &[char]), Fault>
     ensures { Yields (λ x. (x.0, x.1.now)) result (bracket_token_at text.now) }

@@ -9,7 +9,7 @@ use unicode::sets::Set;
 pub enum Symbol {
     /// A character, or an escape of one other than `\xNN`.
     Character(char),
-    /// `\xNN`: a byte where the pattern matches bytes, else the character with this number.
+    /// `\xNN`: a byte where the pattern matches bytes, otherwise the character with this number.
     Byte(u8),
 }
 

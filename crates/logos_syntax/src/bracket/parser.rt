@@ -56,7 +56,7 @@ fn property_kind(flags: Flags, kind: Kind) -> Kind {
     }
 }
 
-/// Reads what comes after the opening of a bracket, up to its end: returns its set, how deeply it
+/// Reads the text after the opening of a bracket, up to its end: returns its set, how deeply it
 /// nests, and the rest of the text. `base` is the number of groups that are open around it.
 ///
 /// # Errors
