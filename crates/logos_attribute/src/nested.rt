@@ -340,7 +340,7 @@ impl<'t, 's> Iterator for AttributeParser<'t, 's> {
 
     ghost remaining = { item_count pieces_left };
 
-    /// Returns the next piece and takes the comma that ends it, so that `run` and `parsed` go on
+    /// Returns the next piece and takes the comma that ends it, so that `run` and `parsed` continue
     /// after that comma. After `None` nothing has changed.
     fn next(&mut self) -> Option<Nested<'t, 's>> {
         let (nested, rest) = self.read()?;

@@ -15,7 +15,7 @@ pub record Status : Type 0 where
   -- The last mark passed: its leaf, and where the match ends.
   pub context : Option (ℕ × ℕ)
 
--- A try goes on in another state, or it is over.
+-- A try continues in another state, or it is over.
 pub data Turn : Type 0 where
   enters : Status → Turn
   acts : Option (ℕ × ℕ) → (offset : ℕ) → Turn

@@ -17,7 +17,7 @@ pub record Meta : Type 0 where
   pub name : Slice
   pub arguments : Option TokenList
 
--- After the name: nothing, a group, or `=` and a value; if the path goes on, it has no name.
+-- After the name: nothing, a group, or `=` and a value; if the path continues, it has no name.
 abbrev pub after_name : Slice → TokenList → Option Meta
 after_name name (also (group delimiter span inside) rest) = Some (record { name = name; arguments = Some inside })
 after_name name (also (punctuation character spacing span) rest) = if character == colon then None else Some (record { name = name; arguments = None })

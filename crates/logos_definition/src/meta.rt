@@ -17,7 +17,7 @@ pub struct Meta<'t, 's> {
 }
 
 /// Returns the attribute with this name, whose tokens after the name come next. `None` if its path
-/// goes on.
+/// continues.
 fn after_name<'t, 's>(name: Ident<'s>, tokens: Tokens<'t, 's>) -> Option<Meta<'t, 's>>
     ensures { MatchOption result
         (after_name (ident_slice name.entry) (tokens_of tokens.entry) ≡ None)

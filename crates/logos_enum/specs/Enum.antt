@@ -27,7 +27,7 @@ type_error run (unsupported span) = TypeUnsupported span
 type_error run (type_mismatch span) = Grammar span
 type_error run too_deep = LimitTypeNesting (run_span run)
 
--- The error is that of the fault, or there was not enough memory for both.
+-- The error is that of the fault, or memory ran out for both.
 abbrev pub error_is : TokenList → TypeFault → ReadError → Type 0
 error_is run (faults.Unsupported span) error = error ≡ TypeUnsupported span
 error_is run (faults.Mismatch span) error = error ≡ Grammar span

@@ -36,7 +36,7 @@ depth_after arrow depth character =
 abbrev pub is_end : End → Bool → ℕ → ℕ → Bool
 is_end end arrow depth character = (depth == 0) && (ends end character && not (ends_arrow arrow character))
 
--- The tokens after the extent, with `depth` angle brackets open. `arrow` says whether the next
+-- The tokens after the extent, with `depth` angle brackets open. `arrow` is whether the next
 -- character can be the second one of `->`.
 abbrev pub after_from : End → Bool → ℕ → TokenList → TokenList
 after_from end arrow depth none = none

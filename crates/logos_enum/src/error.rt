@@ -18,10 +18,10 @@ pub enum ReadError {
     Grammar { span: Span },
     /// The type of a field is not supported. The span is that of the innermost type that is not.
     TypeUnsupported { span: Span },
-    /// In the type of a field more types stand inside one another than are allowed. The span is
-    /// that of the whole type.
+    /// In the type of a field more types are nested than are allowed. The span is that of the whole
+    /// type.
     LimitTypeNesting { span: Span },
-    /// There is not enough memory.
+    /// Memory ran out.
     Memory,
 }
 
@@ -41,7 +41,7 @@ impl<T: Drop> From<AllocFailed<T>> for ReadError {
     }
 }
 
-/// The first token that does not fit stands at this span.
+/// The first token that does not fit is at this span.
 #[derive(Clone, Copy)]
 pub(crate) struct Mismatch {
     pub span: Span,

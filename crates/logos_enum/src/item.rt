@@ -146,15 +146,14 @@ fn read_item<'t, 's>(
 /// type, or `const` and a name; attributes can come before it, and its bounds and default stay
 /// tokens. A where clause is everything up to the first brace that is not inside another group. A
 /// variant is attributes, a name, then nothing, fields in parentheses, or fields with names in
-/// braces, and optionally `=` and tokens. At most 128 types can stand inside one another in the
-/// type of a field.
+/// braces, and optionally `=` and tokens. At most 128 types can be nested in the type of a field.
 ///
 /// # Errors
 ///
 /// Returns `NotAnEnum` if well-formed attributes, an optional visibility and `enum` do not come
 /// first. If they do, the first fault from the left: `Grammar` at a token that does not fit,
-/// `TypeUnsupported` at a type that is not supported, or `LimitTypeNesting` at a type that passes
-/// the limit. `Memory` if memory runs out.
+/// `TypeUnsupported` at an unsupported type, or `LimitTypeNesting` at a type that passes the limit.
+/// `Memory` if memory runs out.
 pub fn read_enum<'t, 's>(
     alloc: Global,
     tokens: Tokens<'t, 's>,

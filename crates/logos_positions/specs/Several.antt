@@ -7,7 +7,7 @@ use Rattle.logos_positions.specs.Run.{width_of, StepsIn, ExitsIn}
 use Rattle.logos_positions.specs.declared.node.Node.{Node}
 use Rattle.logos_hir.specs.declared.hir.Look.{Look}
 
--- Exactly these places, of those of the pattern t from `base` on, read the byte x, and `left` says
+-- Exactly these places, of those of the pattern t from `base` on, read the byte x, and `left` is
 -- whether t can be left here. The pattern is not entered here.
 pub record IsStepOf (t : Core) (test : Look → Bool) (x : ℕ) (marks : List ℕ) (base : ℕ) (positions : List ℕ) (left : Bool) : Type 0 where
   pub set : IsSet positions (base + width t)

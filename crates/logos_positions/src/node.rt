@@ -141,7 +141,7 @@ impl Copies {
         }
     }
 
-    /// Returns the copies from this number on. `entered` says whether the first one is entered.
+    /// Returns the copies from this number on. `entered` is whether the first one is entered.
     pub fn from(self, number: usize, entered: bool) -> Copies
         requires fits { self.base + self.each * number < 2 ^ 64 }
         requires within { number ≤ self.count }

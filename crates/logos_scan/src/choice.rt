@@ -107,7 +107,7 @@ pub fn rows_for<'c, 's>(
 }
 
 /// Returns where the first line begins that begins in a part of an input, after its first byte, or
-/// 0 if none does. Few tokens go on over a line end.
+/// 0 if none does. Few tokens continue over a line end.
 fn line_start(part: &[u8]) -> usize
     ensures { result ≤ length part.now }
 {

@@ -16,7 +16,7 @@ is_comma token = false
 abbrev pub is_helper_name : List ℕ → Bool
 is_helper_name text = bytes_eq text (codes "logos") || (bytes_eq text (codes "token") || bytes_eq text (codes "regex"))
 
--- The path of an attribute, with which the run begins, is exactly the name of a helper attribute.
+-- The path of an attribute, at the start of the run, is exactly the name of a helper attribute.
 abbrev pub is_helper_path : TokenList → Bool
 is_helper_path (also (identifier text span) rest) = is_helper_name text && not (begins_with colon rest)
 is_helper_path run = false

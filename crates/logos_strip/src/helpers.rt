@@ -24,8 +24,8 @@ fn is_helper_name(text: &str) -> bool
     (text == "logos") | ((text == "token") | (text == "regex"))
 }
 
-/// Returns whether the path of an attribute, with which a run begins, is exactly a helper
-/// attribute's name.
+/// Returns whether the path of an attribute, at the start of a run, is exactly a helper attribute's
+/// name.
 fn is_helper_path(tokens: Tokens<'_, '_>) -> bool
     ensures { result ≡ is_helper_path (tokens_of tokens.entry) }
 {

@@ -41,7 +41,7 @@ fn is_word(c: char) -> bool
     ((('/' < c) & (c < ':')) | (('@' < c) & (c < '['))) | ((('`' < c) & (c < '{')) | (c == '_'))
 }
 
-/// Returns the longest word with which a text begins, and the rest.
+/// Returns the longest word at the start of a text, and the rest.
 fn word_in(text: &[char]) -> (&[char], &[char])
     ensures front { result.0.now ≡ word_front text.now }
     ensures rest { result.1.now ≡ word_rest text.now }

@@ -1,5 +1,5 @@
 -- What becomes of a type whose declared parameters are replaced and whose lifetimes are set.
--- `levels` is how many types can stand inside one another.
+-- `levels` is how many types can be nested.
 use Rattle.std.specs.Prelude.{◌≡◌, ℕ, ◌-◌, ◌<◌, List, [], ◌∷◌, Bool, true, false, if◌then◌else◌, Some, codes}
 use Rattle.std.specs.Str.{bytes_eq}
 use denote.Ref.{Bor}

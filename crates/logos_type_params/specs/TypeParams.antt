@@ -106,7 +106,7 @@ type_syntax at = fault TypeSyntax (codes "not a type") at
 abbrev pub type_nesting_text : List ℕ
 type_nesting_text = codes "limit LimitTypeNesting passed"
 
--- The fault that too many types stand inside one another.
+-- The fault that too many types are nested.
 abbrev pub limit_type_nesting : Span → Fault
 limit_type_nesting at = fault LimitTypeNesting type_nesting_text at
 

@@ -72,15 +72,15 @@ pub fn report_previous(errors: &mut Errors, at: Span) -> Result<(), Memory>
     errors.err(FaultCode::Previous, "Previously assigned here", at)
 }
 
-/// Returns the message of the fault that too many types stand inside one another.
+/// Returns the message of the fault that too many types are nested.
 pub fn type_nesting_text() -> &'static str
     ensures { result.now ≡ type_nesting_text }
 {
     "limit LimitTypeNesting passed"
 }
 
-/// Reports that too many types stand inside one another in the value at this span. After an error
-/// the faults are unchanged.
+/// Reports that too many types are nested in the value at this span. After an error the faults are
+/// unchanged.
 pub(crate) fn report_depth(errors: &mut Errors, at: Span) -> Result<(), Memory>
     ensures ok { OnOk result (errors.new ≡ errors.old ++ limit_type_nesting at ∷ []) }
     ensures err { OnErr result (errors.new ≡ errors.old) }

@@ -82,8 +82,8 @@ fn find<'p, 's>(params: Replacing<'p, 's>, text: &str) -> GivenType<'p, 's>
 ///
 /// # Errors
 ///
-/// Returns `LimitNesting` if more than `levels` types stand inside one another then, and `Memory`
-/// if memory runs out.
+/// Returns `LimitNesting` if more than `levels` types are nested then, and `Memory` if memory runs
+/// out.
 #[cycle(after)]
 pub fn type_after<'s>(
     alloc: Global,

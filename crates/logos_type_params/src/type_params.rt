@@ -57,8 +57,8 @@ fn report_no_type(
     }
 }
 
-/// Returns the type with which a run begins if no tokens are left after it. Reports at this span
-/// that the run is not a type if some are.
+/// Returns the type at the start of a run if no tokens are left after it. Reports at this span that
+/// the run is not a type if some are.
 fn whole_type<'s>(
     type_expr: TypeExpr<'s>,
     rest: Tokens<'_, 's>,

@@ -8,7 +8,7 @@ use Rattle.logos_attribute.specs.Slices.{Slice}
 use Rattle.logos_attribute.specs.Reports.{IsReport}
 use Rattle.logos_attribute.specs.Flags.{flags_report, after_flag}
 
--- After `case`: the flags go on after a comma, or they end here.
+-- After `case`: the flags continue after a comma, or they end here.
 abbrev pub GoesOn : Slice → TokenList → List Fault → List Fault → Option Tokens → Type 0
 GoesOn name run old new next = MatchOption next
     (IsReport (after_flag name run) true old new)

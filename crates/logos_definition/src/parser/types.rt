@@ -88,9 +88,9 @@ impl<'s> Parser<'s> {
     }
 
     /// Returns a written type with its declared parameters replaced by the types given to them, but
-    /// for those that hold themselves, and with its lifetimes set to `'s`. If too many types stand
-    /// inside one another then, reports that at this span and returns the type as it is written.
-    /// Each call looks for the parameters that hold themselves.
+    /// for those that hold themselves, and with its lifetimes set to `'s`. If too many types are
+    /// nested then, reports that at this span and returns the type as it is written. Each call
+    /// looks for the parameters that hold themselves.
     ///
     /// # Errors
     ///

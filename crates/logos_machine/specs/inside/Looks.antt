@@ -50,7 +50,7 @@ module _ (code : CodeValue) (bytes : List ℕ) (start : ℕ) where
   Sees state offset stop Stuck = stop < length bytes → EndsStuck state offset stop
   Sees state offset stop Unsaid = Unit {0}
 
-  -- The try enters the state after so many others, and what goes on from there is the whole try.
+  -- The try enters the state after so many others, and what continues from there is the whole try.
   pub record Comes (state offset before : ℕ) : Type 0 where
     pub context : Option (ℕ × ℕ)
     pub is_at : IsStatus code bytes start (record { state = state; offset = offset; context = context })

@@ -174,7 +174,7 @@ fn exits_at_least(body: &Node, copies: Copies, marks: &[usize], at: Context) -> 
 }
 
 /// Returns how many copies after the first one have the same places and are entered as it is, so
-/// that they can be left as it can. `left` says whether the first copy can be left.
+/// that they can be left as it can. `left` is whether the first copy can be left.
 fn alike_exits(marks: &[usize], rest: Copies, left: bool) -> usize
     requires rising { IsRising marks.now }
     requires fits { rest.base + rest.each * rest.count < 2 ^ 64 }

@@ -134,7 +134,7 @@ fn empty_copies(marks: &[usize], copies: Copies) -> usize
 }
 
 /// Returns the number of the first copy from `done` on that is entered or has a place, or the
-/// number of copies if there is none. `entered` says whether the copy with the number `done` is
+/// number of copies if there is none. `entered` is whether the copy with the number `done` is
 /// entered.
 pub fn next_copy(marks: &[usize], copies: Copies, done: usize, entered: bool) -> usize
     requires rising { IsRising marks.now }

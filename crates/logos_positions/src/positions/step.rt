@@ -41,7 +41,7 @@ pub fn has_byte(ranges: &[Range], byte: u8) -> bool
     false
 }
 
-/// Steps on the place of a class that has one byte. `fits` says whether the class has the byte that
+/// Steps on the place of a class that has one byte. `fits` is whether the class has the byte that
 /// is read.
 ///
 /// # Errors
@@ -455,7 +455,7 @@ fn step_at_least(
 }
 
 /// Steps on the copies after the first one that have the same places and are entered as it is, and
-/// returns how many these are. The step on the first one is made, and `left` says whether it can be
+/// returns how many these are. The step on the first one is made, and `left` is whether it can be
 /// left.
 ///
 /// # Errors

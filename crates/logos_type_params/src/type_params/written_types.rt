@@ -64,9 +64,8 @@ impl<'s> TypeParams<'s> {
     }
 
     /// Returns a written type with its declared parameters replaced by the types given to them, but
-    /// for the names in `held`, and with its lifetimes set to `'s`. If too many types stand inside
-    /// one another then, reports `LimitTypeNesting` at this span and returns the type as it is
-    /// written.
+    /// for the names in `held`, and with its lifetimes set to `'s`. If too many types are nested
+    /// then, reports `LimitTypeNesting` at this span and returns the type as it is written.
     ///
     /// # Errors
     ///
