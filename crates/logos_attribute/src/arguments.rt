@@ -71,8 +71,8 @@ impl<'s> FromRun<'s> for TypeExpr<'s> {
 
 impl<'t, 's> AttributeParser<'t, 's> {
     /// Takes the tokens up to the next comma that cuts, and that comma, and reads these tokens as
-    /// one value. `None` if no token comes before that comma, and `Reported` if the tokens are not
-    /// such a value.
+    /// one value. Returns `None` if no token comes before that comma, and `Reported` if the tokens
+    /// are not such a value.
     ///
     /// # Errors
     ///

@@ -85,8 +85,8 @@ fn report_none(name: Ident<'_>, errors: &mut Errors) -> Result<(), Memory>
     )
 }
 
-/// Returns the tokens after the comma that follows `case`. `None` if no comma is there; reports a
-/// token that is there in its place.
+/// Returns the tokens after the comma that follows `case`. Returns `None` if no comma is there;
+/// reports a token that is there in its place.
 fn after_flag<'t, 's>(
     tokens: Tokens<'t, 's>,
     errors: &mut Errors,
@@ -104,8 +104,8 @@ fn after_flag<'t, 's>(
     Ok(None)
 }
 
-/// Returns the tokens after `case` if that comes first. `None` if it does not, and the reading of
-/// flags ends; reports what is wrong if anything is.
+/// Returns the tokens after `case` if that comes first. Returns `None` if it does not, and the
+/// reading of flags ends; reports what is wrong if anything is.
 fn read_case<'t, 's>(
     name: Ident<'s>,
     found: bool,

@@ -44,7 +44,7 @@ pub fn report_syntax(tokens: Tokens<'_, '_>, errors: &mut Errors) -> Result<(), 
     )
 }
 
-/// Returns the string or byte string that a literal is. `None` if it is neither.
+/// Returns the string or byte string that a literal is. Returns `None` if it is neither.
 fn text_in<'s>(alloc: Global, token: token::Literal<'s>) -> Result<Option<Literal<'s>>, Memory>
     ensures { IfOk result (λ literal.
         option_map literal_view literal ≡ text_in (literal_slice token.entry)) }
@@ -103,7 +103,7 @@ pub fn read_literal<'s>(
     }
 }
 
-/// Returns the string or byte string that a run is. `None` if it is neither.
+/// Returns the string or byte string that a run is. Returns `None` if it is neither.
 ///
 /// # Errors
 ///

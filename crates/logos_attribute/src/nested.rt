@@ -303,7 +303,7 @@ impl<'t, 's> AttributeParser<'t, 's> {
     }
 
     /// Takes the tokens up to the next comma that cuts, and that comma, and returns these tokens.
-    /// `None` if no token comes before that comma.
+    /// Returns `None` if no token comes before that comma.
     pub fn run(&mut self) -> Option<Tokens<'t, 's>>
         ensures run { MatchOption result
             (up_to_comma (tokens_of self.old.rest) ≡ none)

@@ -30,7 +30,7 @@ fn decimal(text: &str) -> Option<usize>
 }
 
 /// Returns the number that a run is: one literal of decimal digits, without a suffix, whose value
-/// fits `usize`. `None` if it is anything else.
+/// fits `usize`. Returns `None` if it is anything else.
 pub fn number_in(tokens: Tokens<'_, '_>) -> Option<usize>
     ensures { result ≡ number_in (tokens_of tokens.entry) }
 {
@@ -53,8 +53,8 @@ fn boolean_named(text: &str) -> Option<bool>
     None
 }
 
-/// Returns the boolean that a run is: the identifier `true` or `false` alone. `None` if it is
-/// anything else.
+/// Returns the boolean that a run is: the identifier `true` or `false` alone. Returns `None` if it
+/// is anything else.
 pub fn boolean_in(tokens: Tokens<'_, '_>) -> Option<bool>
     ensures { result ≡ boolean_in (tokens_of tokens.entry) }
 {

@@ -35,7 +35,7 @@ pub record Comparison : Type 0 where
   pub last : ℕ
   pub except : List ℕ
 
--- The range and the exceptions that a value of type `Comparisons` stands for.
+-- The range and the exceptions that a value of type `Comparisons` represents.
 abbrev pub comparison_of : Comparisons → Comparison
 comparison_of c = record { first = range_inclusive_start c.range; last = range_inclusive_end c.range; except = c.except.items }
 

@@ -1,4 +1,4 @@
--- The options that a value of type `Parser` stands for.
+-- The options that a value of type `Parser` represents.
 use Rattle.std.specs.Prelude.{◌≡◌, false, map, option_map, string_bytes}
 use Rattle.logos_token.specs.Views.{stream_tokens}
 use Rattle.logos_attribute.specs.LiteralViews.{named_literal_view}

@@ -219,9 +219,9 @@ impl<'s> Definition<'s> {
     }
 }
 
-/// Reads the definition in the parentheses of `token`, `regex` or `skip`. `None` if these do not
-/// begin with a literal; tokens in place of the literal are reported. After `Memory` some of the
-/// faults can have been added.
+/// Reads the definition in the parentheses of `token`, `regex` or `skip`. Returns `None` if these
+/// do not begin with a literal; tokens in place of the literal are reported. After `Memory` some of
+/// the faults can have been added.
 pub(crate) fn read_definition<'s>(
     tokens: Tokens<'_, 's>,
     errors: &mut Errors,

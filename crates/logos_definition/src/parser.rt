@@ -155,8 +155,8 @@ impl<'s> Parser<'s> {
         unless_failed!(self, read_text(self.alloc, literal, &mut self.errors))
     }
 
-    /// Reads the definition in the parentheses of a `token` or `regex`. `None` if these do not
-    /// begin with a literal; tokens in place of the literal are reported.
+    /// Reads the definition in the parentheses of a `token` or `regex`. Returns `None` if these do
+    /// not begin with a literal; tokens in place of the literal are reported.
     ///
     /// # Errors
     ///

@@ -51,9 +51,9 @@ pub record EndsTokens (tokens : TokenList) (faults : List Fault) : Type 0 where
   pub reads : Reads tokens (Err error)
   pub are : IsMisread error faults
 
--- The fault ends the reading of the source: it is too long, it has no tokens, its tokens nest too
--- deep, or they do not and are not an enum. So a source that nests too deep has that fault,
--- whatever its tokens are.
+-- The fault ends the reading of the source: it is too long, it has no tokens, its tokens are nested
+-- too deeply, or they do not and are not an enum. So a source that is nested too deeply has that
+-- fault, whatever its tokens are.
 pub data EndsReading (source : List ℕ) (ending : Fault) : Type 0 where
   source_limit : 16777216 < length source → ending ≡ too_long source → EndsReading source ending
   nesting_limit : {span : Span} → IsTooDeep source span →

@@ -1,4 +1,4 @@
-//! Compares types for equality. The readers of types and of attributes call it.
+//! Compares types by their parts, regardless of their spans.
 
 ghost use Rattle.std.specs.Prelude.{◌≡◌, ◌↔◌, IsTrue, map};
 ghost use Rattle.logos_type.specs.Views.{sign_of, tree_of, type_tree};

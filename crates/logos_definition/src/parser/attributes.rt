@@ -59,9 +59,9 @@ impl<'s> Parser<'s> {
         unless_failed!(self, self.add_attribute(attribute))
     }
 
-    /// Reads the definition in the arguments of a `token` or `regex` attribute. `None` if the
-    /// attribute has no group, or if its group does not begin with a literal; tokens in place of
-    /// the literal are reported.
+    /// Reads the definition in the arguments of a `token` or `regex` attribute. Returns `None` if
+    /// the attribute has no group, or if its group does not begin with a literal; tokens in place
+    /// of the literal are reported.
     ///
     /// # Errors
     ///

@@ -57,8 +57,8 @@ impl<'s> Parser<'s> {
     }
 
     /// Returns the generic arguments that follow the enum's name: `'s` if a lifetime is declared,
-    /// then the types given to the declared parameters, in order of declaration. `None` if there
-    /// are none. Reports each parameter without a type.
+    /// then the types given to the declared parameters, in order of declaration. Returns `None` if
+    /// there are none. Reports each parameter without a type.
     ///
     /// # Errors
     ///

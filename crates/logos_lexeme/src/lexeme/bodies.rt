@@ -79,8 +79,8 @@ fn greatest_of(content: Content) -> u32
     }
 }
 
-/// Returns the byte that `\xNN` at the byte offset `at` stands for. `None` if a digit is missing or
-/// the byte is too great.
+/// Returns the byte that `\xNN` at the byte offset `at` stands for. Returns `None` if a digit is
+/// missing or the byte is too great.
 fn hex_escape(source: &str, content: Content, at: usize) -> Option<u8>
     requires within { at ≤ length source.now }
     requires backslash { slice_index source.now at ≡ 92 }
@@ -153,7 +153,7 @@ impl Digits {
     }
 }
 
-/// Returns the number that the digits in a span spell. `None` if there are more than six.
+/// Returns the number that the digits in a span spell. Returns `None` if there are more than six.
 fn number_between(source: &str, from: usize, to: usize) -> Option<u32>
     requires begun { from ≤ to }
     requires within { to ≤ length source.now }
@@ -277,7 +277,7 @@ fn plain_at(source: &str, content: Content, at: usize) -> Option<(Piece, usize)>
 }
 
 /// Returns the value of the piece of a string at the byte offset `at`, and the byte offset after
-/// it. `None` if there is no piece. `escapes` is whether the string has escapes.
+/// it. Returns `None` if there is no piece. `escapes` is whether the string has escapes.
 pub fn piece_at(source: &str, escapes: bool, content: Content, at: usize) -> Option<(Piece, usize)>
     requires { at ≤ length source.now }
     ensures { MatchOption result

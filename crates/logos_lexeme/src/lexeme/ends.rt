@@ -135,7 +135,7 @@ fn block_step(source: &str, depth: usize, at: usize) -> Option<(usize, usize)>
 }
 
 /// Returns the byte offset after a block comment whose text begins at `from`, after its `/*`.
-/// `None` if it has no end.
+/// Returns `None` if it has no end.
 fn block_end(source: &str, from: usize) -> Option<usize>
     requires { from ≤ length source.now + 2 }
     ensures { MatchOption result
@@ -207,8 +207,8 @@ fn is_raw_end(source: &str, count: u8, at: usize) -> bool
     true
 }
 
-/// Returns the byte offset after a raw string whose contents begin at `body`. `None` if it has no
-/// end.
+/// Returns the byte offset after a raw string whose contents begin at `body`. Returns `None` if it
+/// has no end.
 fn raw_end(source: &str, count: u8, body: usize) -> Option<usize>
     ensures { MatchOption result
         ((to : ℕ) → IsRaw count source.now body to → ⊥)

@@ -32,7 +32,7 @@ fn push_faults(text: &mut String, faults: &[SpannedError]) -> Result<(), Memory>
 
 impl Errors {
     /// Returns a function that does not compile and whose compile errors are the messages of the
-    /// faults. `None` if there is no fault.
+    /// faults. Returns `None` if there is no fault.
     ///
     /// # Errors
     ///

@@ -131,7 +131,8 @@ impl Printer {
     }
 }
 
-/// Closes the innermost open group and returns the trees after it. `None` if no group is open.
+/// Closes the innermost open group and returns the trees after it. Returns `None` if no group is
+/// open.
 fn leave<'t, 's>(
     printer: &mut Printer,
     outer: &mut Vec<Outer<'t, 's>>,
