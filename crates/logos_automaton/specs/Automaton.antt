@@ -1,4 +1,4 @@
--- What contracts see of an automaton.
+-- The views of an automaton in contracts.
 use Rattle.std.specs.Prelude.{◌≡◌, ℕ, ◌<◌, ◌≤◌, ◌↔◌, ◌⊎◌, List, [], ◌∷◌, ◌++◌, length, Option, None, Some, Contains, slice_get, option_and_then}
 use Rattle.std.specs.List.Sorted.{IsStrictlyIncreasing}
 use Rattle.logos_hir.specs.Text.{IsBytes}

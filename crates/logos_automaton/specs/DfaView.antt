@@ -1,4 +1,4 @@
--- What contracts see of an automaton.
+-- The views of an automaton in contracts.
 use Rattle.logos_automaton.specs.Keys.{automaton_of}
 use Rattle.logos_automaton.specs.Automaton.{Automaton}
 use Rattle.logos_automaton.specs.declared.dfa.Dfa.{Dfa}

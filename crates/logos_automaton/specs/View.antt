@@ -1,4 +1,4 @@
--- What contracts see of rules.
+-- The views of rules in contracts.
 use Rattle.std.specs.Prelude.{List, map}
 use Rattle.logos_hir.specs.Hir.{tree_of}
 use Rattle.logos_automaton.specs.Munch.{Rule}

@@ -1,4 +1,4 @@
--- What contracts see of the last marks of a code.
+-- The views of the last marks of a code in contracts.
 use Rattle.std.specs.Prelude.{◌≡◌, ℕ, ◌-◌, List, Option, Some, None, slice_index_or}
 use Rattle.logos_hir.specs.Text.{IsBytes}
 use Rattle.logos_code.specs.Code.{CodeValue}

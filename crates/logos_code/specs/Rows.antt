@@ -1,4 +1,4 @@
--- What contracts see of the rows of a code.
+-- The views of the rows of a code in contracts.
 use Rattle.std.specs.Prelude.{◌≡◌, ℕ, ◌+◌, ◌*◌, ◌/◌, ◌<◌, ◌≤◌, ◌⊎◌, true, false, List, [], length, Option, Some, None, slice_index, slice_get}
 use Rattle.logos_automaton.specs.Munch.{Use}
 use Rattle.logos_code.specs.Code.{CodeValue, CodeState, Mark, by_conditions}

@@ -1,4 +1,4 @@
--- What contracts see of a graph, and what holds between its fields.
+-- The views of a graph, and what holds between its fields in contracts.
 use Rattle.std.specs.Prelude.{◌≡◌, ◌≢◌, [], map, length, IsSome, IfSome}
 use Rattle.logos_automaton.specs.DfaView.{dfa_of}
 use Rattle.logos_automaton.specs.Errors.{fault_of}

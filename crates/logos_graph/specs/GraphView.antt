@@ -1,4 +1,4 @@
--- What contracts see of the states of a graph.
+-- The views of the states of a graph in contracts.
 use Rattle.std.specs.Prelude.{ℕ, List, map, option_map}
 use Rattle.logos_hir.specs.declared.leaf.LeafId.{LeafId}
 use Rattle.logos_reduce.specs.Edges.{StateType}

@@ -1,4 +1,4 @@
--- What contracts see of a graph and of its leaves.
+-- The views of a graph and of its leaves in contracts.
 use Rattle.std.specs.Prelude.{Bool, List, map}
 use Rattle.logos_pattern.specs.Leaf.{pattern_tree, is_skip, calls_back}
 use Rattle.logos_automaton.specs.Munch.{Rule}

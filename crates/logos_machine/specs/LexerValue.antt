@@ -1,4 +1,4 @@
--- What contracts see of a lexer.
+-- The views of a lexer in contracts.
 use Rattle.std.specs.Prelude.{◌≡◌, ℕ, ◌+◌, ◌-◌, ◌<◌, ◌≤◌, Bool, false, List, [], ◌∷◌, length, map, slice_get, slice_range, Option, option_map, IsTrue}
 use Rattle.std.specs.Option.{option_map_or, option_to_list}
 use denote.Param.Members.{Shared}

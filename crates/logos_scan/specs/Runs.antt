@@ -1,4 +1,4 @@
--- What contracts see of a run over the chunks of an input.
+-- The views of a run over the chunks of an input in contracts.
 use Rattle.std.specs.Prelude.{◌≡◌, ℕ, ◌+◌, ◌<◌, ◌≤◌, ◌⊎◌, min, List, length, drop, slice_index}
 use Rattle.logos_automaton.specs.Munch.{matched, failed, ended}
 use Rattle.logos_code.specs.Code.{CodeValue}

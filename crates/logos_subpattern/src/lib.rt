@@ -1,4 +1,5 @@
-//! Subpatterns: patterns with names, which other patterns use as `(?&name)`.
+//! Subpatterns: patterns with names, which other patterns use as `(?&name)`. `logos_leaf` reads
+//! them for each lexer.
 
 #![tactic(auto)]
 

@@ -1,4 +1,4 @@
--- What contracts see of a cursor, and of a chunk with its flags.
+-- The views of a cursor, and of a chunk with its flags in contracts.
 use Rattle.std.specs.Prelude.{◌≡◌, ℕ, ◌+◌, ◌-◌, ◌*◌, ◌^◌, ◌<◌, ◌≤◌, ◌⊎◌, List, slice_index, bit_and}
 use Rattle.logos_walk.specs.declared.cursor.ChunkCursor.{ChunkCursor}
 use Rattle.logos_walk.specs.declared.masks.ChunkEntries.{ChunkEntries}

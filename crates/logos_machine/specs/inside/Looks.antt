@@ -1,4 +1,4 @@
--- What contracts see of the fast way of a try.
+-- The views of the fast way of a try in contracts.
 use Rattle.std.specs.Prelude.{◌≡◌, ℕ, ◌+◌, ◌-◌, ◌<◌, ◌≤◌, ◌⊎◌, List, length, drop, Option, Some}
 use Rattle.std.specs.List.{prefix_len}
 use Rattle.logos_automaton.specs.Munch.{Found, ended, matched, failed}

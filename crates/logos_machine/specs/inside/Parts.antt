@@ -1,4 +1,4 @@
--- What contracts see of a try on a part of an input.
+-- The views of a try on a part of an input in contracts.
 use Rattle.std.specs.Prelude.{ℕ, ◌+◌, ◌-◌, ◌≤◌, List, length}
 use Rattle.logos_automaton.specs.Munch.{Found, matched, failed}
 use Rattle.logos_code.specs.Code.{CodeValue}

@@ -28,7 +28,7 @@ pub enum Detail {
 #[derive(Clone, Copy, Debug)]
 pub struct PatternDetail {
     pub kind: PatternKind,
-    /// The byte offset of the fault in the text of the pattern, with all subpatterns put in.
+    /// The byte offset of the fault in the text of the pattern, with all subpatterns substituted.
     pub at: usize,
     /// The bytes of that text from `at` on.
     pub front: PatternFront,
