@@ -8,7 +8,7 @@ use Rattle.logos_automaton.specs.Ambiguity.{IsAmbiguous}
 
 -- A fault of rules, by the numbers of its rules.
 pub data Fault : Type 0 where
-  -- Some tree can meet a look before its first byte.
+  -- Some tree can meet a look-around assertion before its first byte.
   no_universal_start : Fault
   -- The leaf can match nothing.
   empty_match : ℕ → Fault
@@ -28,7 +28,7 @@ Ascends [] = Unit {0}
 Ascends (xs ∷ []) = Unit {0}
 Ascends (xs ∷ ys ∷ rest) = IsBefore xs ys × Ascends (ys ∷ rest)
 
--- Some tree can meet a look before its first byte.
+-- Some tree can meet a look-around assertion before its first byte.
 abbrev pub some_leads : List Rule → Bool
 some_leads rules = list_any (λ rule. leads rule.tree) rules
 
@@ -36,7 +36,7 @@ some_leads rules = list_any (λ rule. leads rule.tree) rules
 abbrev pub some_passable : List Rule → Bool
 some_passable rules = list_any (λ rule. passable rule.tree) rules
 
--- No tree can be passed without a byte or meet a look before its first one.
+-- No tree can be passed without a byte or meet a look-around assertion before its first one.
 abbrev pub AllStart : List Rule → Type 0
 AllStart rules = IsFalse (some_leads rules) × IsFalse (some_passable rules)
 

@@ -40,8 +40,8 @@ dead_state = record { positions = []; kind = kind.Unseen; matches = [] }
 abbrev pub ended_state : List ℕ → State
 ended_state matches = record { positions = []; kind = kind.Unseen; matches = matches }
 
--- What is remembered of the byte x, read at these places: its kind, if there are places and some
--- tree has a look.
+-- What is remembered of the byte x, read at these positions: its kind, if there are positions and
+-- some tree has a look-around assertion.
 abbrev pub next_kind : Bool → List ℕ → ℕ → ByteKind
 next_kind looks [] x = kind.Unseen
 next_kind false (p ∷ positions) x = kind.Unseen
@@ -70,7 +70,7 @@ pub record IsAt (ks : List Key) (i : ℕ) (s : State) : Type 0 where
 pub record Grows (old new : List Key) : Type 0 where
   pub keeps : (i : ℕ) (s : State) → IsAt old i s → IsAt new i s
 
--- Each state's places rise.
+-- Each state's positions rise.
 pub record AreRising (ks : List Key) : Type 0 where
   pub rising : (i : ℕ) (s : State) → IsAt ks i s → IsRising s.positions
 

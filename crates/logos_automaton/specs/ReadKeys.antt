@@ -28,7 +28,7 @@ module _ (rules : List Rule) where
   abbrev pub seen_kind : ℕ → Kind
   seen_kind b = if list_any (λ rule. has_look rule.tree) rules then kind_of b else unseen
 
-  -- The place of the rule can have read the last byte.
+  -- The position of the rule can have read the last byte.
   abbrev pub HasRead : ℕ → Position → List ℕ → ℕ → Type 0
   HasRead leaf position before last =
       IsSomeAnd (slice_get rules leaf) (λ rule. Reads rule.tree (before ++ last ∷ []) 0 position (length before))

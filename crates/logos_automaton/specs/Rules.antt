@@ -13,11 +13,11 @@ AreRuleCores [] (t ∷ ts) = ⊥
 AreRuleCores (rule ∷ rules) [] = ⊥
 AreRuleCores (rule ∷ rules) (t ∷ ts) = IsCoreOf rule.tree t × AreRuleCores rules ts
 
--- No pattern asks a look.
+-- No pattern asks a look-around assertion.
 abbrev pub AreFree : List Core → Type 0
 AreFree [] = Unit {0}
 AreFree (t ∷ ts) = IsFree t × AreFree ts
 
--- Some tree has a look.
+-- Some tree has a look-around assertion.
 abbrev pub some_look : List Rule → Bool
 some_look rules = list_any (λ rule. has_look rule.tree) rules

@@ -1,5 +1,5 @@
 //! The bytes that a tree reads otherwise than the byte before them, found in one walk over it from
-//! the places that read the last byte. `alike` and the steps of trees ask for them.
+//! the positions that read the last byte. `alike` and the steps of trees ask for them.
 
 ghost use Rattle.std.specs.Prelude.{◌≡◌, ◌<◌, ◌^◌, ◌+◌, ◌*◌, ◌==◌, ℕ, IsTrue, IsFalse, length, slice_index};
 ghost use Rattle.logos_automaton.specs.Views.{byte_in, core_of, is_measured, reader_of, spelled, Has, IsFirstFrom, IsRising, GoesAlike, IsCopyAlike, MayLeave, MayPass, OpensAlike, SetsFlags};
@@ -147,8 +147,8 @@ fn open_if(entered: bool, node: &Node, marked: &mut [bool; 256]) -> bool
     open(node, marked)
 }
 
-/// Sets the flags of the bytes that a literal, from its places, reads otherwise than the byte
-/// before, and returns whether its last place is one of them.
+/// Sets the flags of the bytes that a literal, from its positions, reads otherwise than the byte
+/// before, and returns whether its last position is one of them.
 fn follow_literal(text: &[u8], marks: &[usize], base: usize, marked: &mut [bool; 256]) -> bool
     requires rising { IsRising marks.now }
     requires fits { base + length text.now < 2 ^ 64 }
@@ -173,8 +173,8 @@ fn follow_literal(text: &[u8], marks: &[usize], base: usize, marked: &mut [bool;
     has_mark(marks, base + (text.len() - 1))
 }
 
-/// Sets the flags of the bytes that a tree, not entered, from its places reads otherwise than the
-/// byte before, and returns whether it may be left.
+/// Sets the flags of the bytes that a tree, not entered, from its positions reads otherwise than
+/// the byte before, and returns whether it may be left.
 #[cycle(follow)]
 fn follow(node: &Node, marks: &[usize], base: usize, marked: &mut [bool; 256]) -> bool
     requires fits { base + core.width (core_of node.now) < 2 ^ 64 }
@@ -194,7 +194,7 @@ fn follow(node: &Node, marks: &[usize], base: usize, marked: &mut [bool; 256]) -
     follow_node(node, marks, base, marked)
 }
 
-/// Does what `follow` does for a tree that has these places of the set. A branch without one of
+/// Does what `follow` does for a tree that has these positions of the set. A branch without one of
 /// them is passed over.
 #[cycle(follow)]
 fn follow_marked(node: &Node, marks: &[usize], own: OwnPositions, marked: &mut [bool; 256]) -> bool
@@ -275,9 +275,9 @@ fn follow_node(node: &Node, marks: &[usize], base: usize, marked: &mut [bool; 25
     }
 }
 
-/// Sets the flags of the bytes that copies of a body, from their places, read otherwise than the
+/// Sets the flags of the bytes that copies of a body, from their positions, read otherwise than the
 /// byte before, and returns whether one of them may be left. If one may be, the body may be entered
-/// again. Copies with the same places are asked once.
+/// again. Copies with the same positions are asked once.
 #[cycle(follow)]
 fn follow_copies(body: &Node, copies: Copies, marks: &[usize], marked: &mut [bool; 256]) -> bool
     requires fits { copies.base + copies.each * copies.count < 2 ^ 64 }
@@ -302,7 +302,7 @@ fn follow_copies(body: &Node, copies: Copies, marks: &[usize], marked: &mut [boo
     any
 }
 
-/// Sets the flags of the bytes that a tree, from its places and entered or not, reads otherwise
+/// Sets the flags of the bytes that a tree, from its positions and entered or not, reads otherwise
 /// than the byte before.
 pub fn mark_tree(node: &Node, marks: &[usize], base: usize, entered: bool, marked: &mut [bool; 256])
     requires fits { base + core.width (core_of node.now) < 2 ^ 64 }

@@ -54,14 +54,14 @@ pub fn note(bytes: &mut Vec<u8>, byte: u8, is_one: bool) -> Result<(), AllocErro
     Ok(())
 }
 
-/// Returns whether looks can distinguish the bytes.
+/// Returns whether look-around assertions can distinguish the bytes.
 fn kinds_differ(one: u8, other: u8) -> bool
     ensures { IsFalse result → kind_of_byte one ≡ kind_of_byte other }
 {
     kind_of(one) != kind_of(other)
 }
 
-/// Sets the flags of the bytes that looks can distinguish from the byte before.
+/// Sets the flags of the bytes that look-around assertions can distinguish from the byte before.
 pub fn kind_bytes() -> [bool; 256]
     ensures { AreKindBytes result }
 {
@@ -82,8 +82,8 @@ pub fn add_bytes(bytes: &[u8], first: &mut [bool; 256])
     }
 }
 
-/// Sets the flags of the bytes that looks can distinguish from the byte before, if some tree has a
-/// look.
+/// Sets the flags of the bytes that look-around assertions can distinguish from the byte before, if
+/// some tree has a look-around assertion.
 pub fn first_by_kind(looks: bool, kinds: &[bool; 256]) -> [bool; 256]
     requires kinds { AreKindBytes kinds.now }
     ensures { (x : ℕ) → x + 1 < 256 → slice_index_or result (x + 1) false ≡ false →
@@ -92,7 +92,7 @@ pub fn first_by_kind(looks: bool, kinds: &[bool; 256]) -> [bool; 256]
     if looks { *kinds } else { [false; 256] }
 }
 
-/// Sets the flags of the bytes that looks, or the trees that are entered or have a place, can
+/// Sets the flags of the bytes that looks, or the trees that are entered or have a position, can
 /// distinguish from the byte before.
 pub fn first_bytes(trees: &Trees<'_>, marks: &[usize], entered: bool) -> [bool; 256]
     requires prepared { IsPrepared trees.now }

@@ -27,7 +27,7 @@ pub struct StepCache {
     pub steps: Vec<TreeSteps>,
 }
 
-/// A tree that has a place that read the last byte.
+/// A tree that has a position that read the last byte.
 #[derive(Clone, Copy)]
 pub struct LiveTree {
     /// The number of the tree.
@@ -163,12 +163,12 @@ pub struct StateSteps<'c> {
     pub lives: &'c [LiveTree],
     /// The steps to which these refer.
     pub steps: &'c [TreeSteps],
-    /// Whether some tree has a look.
+    /// Whether some tree has a look-around assertion.
     pub looks: bool,
 }
 
-/// Appends the places of a tree that read a byte, and returns whether the tree can be left before
-/// it.
+/// Appends the positions of a tree that read a byte, and returns whether the tree can be left
+/// before it.
 ///
 /// # Errors
 ///

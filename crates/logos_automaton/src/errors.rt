@@ -9,7 +9,7 @@ use std::alloc::{AllocError, AllocFailed};
 /// A fault of a list of leaves.
 #[derive(Debug, Drop)]
 pub enum GraphError {
-    /// A pattern can meet a look before its first byte.
+    /// A pattern can meet a look-around assertion before its first byte.
     NoUniversalStart,
     /// The leaf's pattern can match nothing.
     EmptyMatch(LeafId),

@@ -15,7 +15,7 @@ use std::alloc::{AllocError, Global};
 /// What an automaton remembers of the bytes read so far: the key of a state.
 #[derive(PartialEq, Eq, Hash, Drop)]
 pub struct Key {
-    /// The places that can have read the last byte, ascending.
+    /// The positions that can have read the last byte, ascending.
     pub positions: Vec<usize>,
     /// The kind of that byte, if it is remembered.
     pub kind: ByteKind,
@@ -24,8 +24,8 @@ pub struct Key {
     pub matches: Vec<usize>,
 }
 
-/// Returns what is remembered of a byte that is read at these places: its kind, if there are places
-/// and some tree has a look.
+/// Returns what is remembered of a byte that is read at these positions: its kind, if there are
+/// positions and some tree has a look-around assertion.
 pub fn next_kind(looks: bool, positions: &[usize], byte: u8) -> ByteKind
     ensures { result ≡ keys.next_kind looks positions.now byte }
 {

@@ -53,7 +53,7 @@ fn some_passable(branches: &[Hir]) -> bool
     false
 }
 
-/// Returns whether a tree can meet a look before its first byte.
+/// Returns whether a tree can meet a look-around assertion before its first byte.
 #[cycle(leads)]
 pub fn leads(hir: &Hir) -> bool
     ensures { result ≡ tree.leads (tree_of hir.now) }
@@ -67,8 +67,8 @@ pub fn leads(hir: &Hir) -> bool
     }
 }
 
-/// Returns whether one of the trees can meet a look before its first byte, and all trees before it
-/// can be passed.
+/// Returns whether one of the trees can meet a look-around assertion before its first byte, and all
+/// trees before it can be passed.
 #[cycle(leads)]
 fn leads_in_order(parts: &[Hir]) -> bool
     ensures { result ≡ tree.leads_in_order (trees (map tree_of parts.now)) }
@@ -84,7 +84,7 @@ fn leads_in_order(parts: &[Hir]) -> bool
     false
 }
 
-/// Returns whether one of the trees can meet a look before its first byte.
+/// Returns whether one of the trees can meet a look-around assertion before its first byte.
 #[cycle(leads)]
 fn some_leads(branches: &[Hir]) -> bool
     ensures { result ≡ tree.some_leads (trees (map tree_of branches.now)) }
@@ -97,7 +97,7 @@ fn some_leads(branches: &[Hir]) -> bool
     false
 }
 
-/// Returns whether a tree has a look.
+/// Returns whether a tree has a look-around assertion.
 #[cycle(has_look)]
 pub fn has_look(hir: &Hir) -> bool
     ensures { result ≡ positions.has_look (tree_of hir.now) }
@@ -110,7 +110,7 @@ pub fn has_look(hir: &Hir) -> bool
     }
 }
 
-/// Returns whether one of the trees has a look.
+/// Returns whether one of the trees has a look-around assertion.
 #[cycle(has_look)]
 fn some_has_look(hirs: &[Hir]) -> bool
     ensures { result ≡ positions.some_has_look (trees (map tree_of hirs.now)) }

@@ -73,9 +73,9 @@ fn end_of(trees: &Trees<'_>, states: &mut IndexSet<Key>, state: usize) -> Result
     Ok(target as u32)
 }
 
-/// Returns the target of a state by the end, if no tree has a look. The leaves that match before
-/// the end are those that match before a byte, so they are listed by `by_zero`, the target by the
-/// byte 0. The target by the end is added if it is new.
+/// Returns the target of a state by the end, if no tree has a look-around assertion. The leaves
+/// that match before the end are those that match before a byte, so they are listed by `by_zero`,
+/// the target by the byte 0. The target by the end is added if it is new.
 ///
 /// # Errors
 ///

@@ -21,7 +21,7 @@ pub struct RuleView<'h> {
     pub calls_back: bool,
 }
 
-/// Returns whether the tree of some rule can meet a look before its first byte.
+/// Returns whether the tree of some rule can meet a look-around assertion before its first byte.
 pub fn some_leads(rules: &[RuleView<'_>]) -> bool
     ensures { result ≡ faults.some_leads (rules_of rules.now) }
 {
@@ -45,7 +45,7 @@ pub fn some_passable(rules: &[RuleView<'_>]) -> bool
     false
 }
 
-/// Returns whether the tree of some rule has a look.
+/// Returns whether the tree of some rule has a look-around assertion.
 pub fn some_look(rules: &[RuleView<'_>]) -> bool
     ensures { result ≡ inner.some_look (rules_of rules.now) }
 {

@@ -12,7 +12,7 @@ use logos_positions::positions::tree::TreeStep;
 pub struct TreeState {
     /// The number of the tree.
     pub tree: usize,
-    /// The places of the tree that read the last byte, ascending.
+    /// The positions of the tree that read the last byte, ascending.
     pub positions: Vec<usize>,
     /// The kind of that byte, if it is remembered.
     pub kind: ByteKind,

@@ -10,10 +10,12 @@ pub struct Trees<'n> {
     pub alloc: Global,
     /// The trees.
     pub nodes: &'n [Node],
-    /// Where the places of each tree begin, and where those of the last tree end.
+    /// Where the positions of each tree begin, and where those of the last tree end.
     pub starts: &'n [usize],
-    /// Whether some tree has a look, so that states remember the kind of the last byte.
+    /// Whether some tree has a look-around assertion, so that states remember the kind of the last
+    /// byte.
     pub looks: bool,
-    /// Sets the flags of the bytes that looks can distinguish from the byte before.
+    /// Sets the flags of the bytes that look-around assertions can distinguish from the byte
+    /// before.
     pub kinds: &'n [bool; 256],
 }

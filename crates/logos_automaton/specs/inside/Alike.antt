@@ -19,7 +19,7 @@ MayPass (cat a b) = MayPass a × MayPass b
 MayPass (alt a b) = MayPass a ⊎ MayPass b
 MayPass (plus a) = MayPass a
 
--- The pattern can be left from the places M, if looks allow it.
+-- The pattern can be left from the positions M, if looks allow it.
 abbrev pub MayLeave : Core → (ℕ → Type 0) → Type 0
 MayLeave void M = ⊥
 MayLeave empty M = ⊥
@@ -41,7 +41,7 @@ OpensAlike (cat a b) x y = OpensAlike a x y × (MayPass a → OpensAlike b x y)
 OpensAlike (alt a b) x y = OpensAlike a x y × OpensAlike b x y
 OpensAlike (plus a) x y = OpensAlike a x y
 
--- Not entered, but from the places M, the pattern reads either byte alike.
+-- Not entered, but from the positions M, the pattern reads either byte alike.
 abbrev pub GoesAlike : Core → (ℕ → Type 0) → ℕ → ℕ → Type 0
 GoesAlike void M x y = Unit {0}
 GoesAlike empty M x y = Unit {0}
@@ -57,11 +57,11 @@ abbrev pub SetsFlags : (ℕ → ℕ → Type 0) → List Bool → List Bool → 
 SetsFlags Same old new = (byte : ℕ) → byte + 1 < 256 → slice_index_or new (byte + 1) false ≡ false →
     (slice_index_or old (byte + 1) false ≡ false) × Same byte (byte + 1)
 
--- A body reads either byte alike from the places M, and where it is entered anew after them.
+-- A body reads either byte alike from the positions M, and where it is entered anew after them.
 abbrev pub IsCopyAlike : Core → (ℕ → Type 0) → ℕ → ℕ → Type 0
 IsCopyAlike a M x y = GoesAlike a M x y × (MayLeave a M → OpensAlike a x y)
 
--- From these places the same ones read either byte.
+-- From these positions the same ones read either byte.
 abbrev pub AreReadAlike : List Core → (ℕ → Type 0) → Type 0 → ℕ → ℕ → Type 0
 AreReadAlike ts M entered x y = (test : Look → Bool) (q : ℕ) → StepsIn ts test x M entered q ↔ StepsIn ts test y M entered q
 
@@ -69,8 +69,8 @@ AreReadAlike ts M entered x y = (test : Look → Bool) (q : ℕ) → StepsIn ts 
 abbrev pub AreKindBytes : List Bool → Type 0
 AreKindBytes first = (byte : ℕ) → byte + 1 < 256 → slice_index_or first (byte + 1) false ≡ false → kind_of_byte byte ≡ kind_of_byte (byte + 1)
 
--- Each byte that the patterns, from these places, or looks distinguish from the byte before has its
--- flag set.
+-- Each byte that the patterns, from these positions, or looks distinguish from the byte before has
+-- its flag set.
 abbrev pub AreFirstBytes : List Core → Bool → (ℕ → Type 0) → Type 0 → List Bool → Type 0
 AreFirstBytes ts looks M entered first = (byte : ℕ) → byte + 1 < 256 → slice_index_or first (byte + 1) false ≡ false →
     AreReadAlike ts M entered byte (byte + 1) × (IsTrue looks → kind_of_byte byte ≡ kind_of_byte (byte + 1))
@@ -79,8 +79,8 @@ AreFirstBytes ts looks M entered first = (byte : ℕ) → byte + 1 < 256 → sli
 abbrev pub AreChangesOf : List ℕ → List ℕ → Type 0
 AreChangesOf by_byte changes = (x : ℕ) → x + 1 < 256 → (Has changes (x + 1) → ⊥) → slice_index by_byte x ≡ slice_index by_byte (x + 1)
 
--- Each byte whose flag is not set is read by the tree, from these places, and by looks, as the byte
--- before.
+-- Each byte whose flag is not set is read by the tree, from these positions, and by looks, as the
+-- byte before.
 abbrev pub AreFirstOf : List Node → Bool → ℕ → List ℕ → ℕ → List Bool → Type 0
 AreFirstOf nodes looks i positions base first = (node : Node) → node ≡ slice_index_or nodes i node → (byte : ℕ) → byte + 1 < 256 → slice_index_or first (byte + 1) false ≡ false →
     GoesAlike (core_of node) (λ q. Has positions (base + q)) byte (byte + 1) × (IsTrue looks → kind_of_byte byte ≡ kind_of_byte (byte + 1))

@@ -14,7 +14,7 @@ use Rattle.logos_positions.specs.Several.{AreStarts}
 abbrev pub cores_of : Trees → List Core
 cores_of trees = map core_of trees.nodes.now
 
--- The places of the trees have numbers, and what is known of the trees is right.
+-- The positions of the trees have numbers, and what is known of the trees is right.
 pub record IsPrepared (trees : Trees) : Type 0 where
   pub fits : width_of (cores_of trees) < 2 ^ 64
   pub measured : AreMeasured trees.nodes.now

@@ -15,7 +15,7 @@ use Rattle.logos_positions.specs.declared.node.Node.{Node}
 use Rattle.logos_positions.specs.declared.positions.look.ByteKind.{ByteKind}
 use Rattle.logos_positions.specs.declared.positions.tree.TreeStep.{TreeStep}
 
--- A step: the places that read the byte, and whether the tree can be left before it.
+-- A step: the positions that read the byte, and whether the tree can be left before it.
 pub record StepView : Type 0 where
   pub positions : List ℕ
   pub left : Bool
@@ -37,8 +37,8 @@ abbrev pub step_from : Option TreeSteps → ℕ → StepView
 step_from None x = viewed None
 step_from (Some steps) x = step_in steps.found.items steps.by_byte x
 
--- Where these places read the byte before, which is of this kind, the byte x makes this step on the
--- pattern t, whose places begin at `base`.
+-- Where these positions read the byte before, which is of this kind, the byte x makes this step on
+-- the pattern t, whose positions begin at `base`.
 abbrev pub Makes : Core → ByteKind → List ℕ → ℕ → ℕ → StepView → Type 0
 Makes t before positions base x step = IsStepOf t (test_at (record { before = before; after = Some x })) x positions base step.positions step.left
 
@@ -55,7 +55,7 @@ tree_view state = record { tree = state.tree; positions = state.positions.items;
 abbrev pub Keeps : List TreeSteps → List TreeSteps → Type 0
 Keeps old new = (i : ℕ) (steps : TreeSteps) → slice_get old i ≡ Some steps → slice_get new i ≡ Some steps
 
--- No tree from the number i on and below j has one of the places.
+-- No tree from the number i on and below j has one of the positions.
 pub record NoneLive (starts positions : List ℕ) (i j : ℕ) : Type 0 where
   pub order : i ≤ j
   pub none : (q : ℕ) → slice_index starts i ≤ q → q < slice_index starts j → Has positions q → ⊥
@@ -99,7 +99,7 @@ module _ (nodes : List Node) (starts : List ℕ) where
   abbrev pub AreAlmostCached : List TreeState → List TreeSteps → Type 0
   AreAlmostCached states all = AreCached states all ⊎ LacksLast states all
 
-  -- The steps with the index of the live tree are those of its tree from all these places.
+  -- The steps with the index of the live tree are those of its tree from all these positions.
   pub record IsLive (positions : List ℕ) (before : ByteKind) (all : List TreeSteps) (live : LiveTree) : Type 0 where
     pub there : live.tree < length nodes
     pub steps : TreeSteps
@@ -107,7 +107,7 @@ module _ (nodes : List Node) (starts : List ℕ) where
     pub make : (node : Node) → node ≡ slice_index_or nodes live.tree node → (x : ℕ) → x < 256 →
         Makes (core_of node) before positions (slice_index starts live.tree) x (step_from (Some steps) x)
 
-  -- These are the trees from the number i on and below j that have one of the places.
+  -- These are the trees from the number i on and below j that have one of the positions.
   abbrev pub AreLive : List ℕ → ByteKind → List TreeSteps → ℕ → List LiveTree → ℕ → Type 0
   AreLive positions before all i [] j = NoneLive starts positions i j
   AreLive positions before all i (live ∷ lives) j =
@@ -117,7 +117,7 @@ module _ (nodes : List Node) (starts : List ℕ) where
 abbrev pub step_of : List TreeSteps → LiveTree → ℕ → StepView
 step_of all live x = step_from (slice_get all live.steps) x
 
--- The places of all live trees that read the byte x.
+-- The positions of all live trees that read the byte x.
 abbrev pub positions_by : List TreeSteps → List LiveTree → ℕ → List ℕ
 positions_by all [] x = []
 positions_by all (live ∷ lives) x = (step_of all live x).positions ++ positions_by all lives x

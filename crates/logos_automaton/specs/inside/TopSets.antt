@@ -9,11 +9,11 @@ module _ (rules : List Rule) where
   highest_of [] = 0
   highest_of (leaf ∷ leaves) = max (priority_of rules leaf) (highest_of leaves)
 
-  -- Returns the errors of this priority.
+  -- The leaves with this priority.
   abbrev pub with_priority : ℕ → List ℕ → List ℕ
   with_priority priority leaves = filter (λ leaf. nat_eq (priority_of rules leaf) priority) leaves
 
-  -- Returns the errors of the highest priority.
+  -- The leaves with the highest priority.
   abbrev pub top_of : List ℕ → List ℕ
   top_of leaves = with_priority (highest_of leaves) leaves
 
