@@ -72,8 +72,8 @@ pub record Ends {C : Type 0} (callback : Callback) (old new : LexerValue C) : Ty
   pub to : new.to ≡ length new.input
   pub over : Runs old.code callback old.input old.to []
 
--- Code, input and callback stay. The last try entered as many states as are counted, at most two
--- more than there are bytes from the span's start on.
+-- Code, input and callback stay. The last attempt entered as many states as are counted, at most
+-- two more than there are bytes from the span's start on.
 pub record Keeps {C : Type 0} (old new : LexerValue C) : Type 0 where
   pub code : new.code ≡ old.code
   pub input : new.input ≡ old.input

@@ -1,5 +1,5 @@
 //! Reduces a table of targets and marks to the least one, with its states numbered by first visit,
-//! and gives evidence that any two of them differ.
+//! and provides evidence that any two of them differ. `logos_graph` calls it for each graph.
 
 #![tactic(auto)]
 

@@ -131,8 +131,8 @@ fn counted(code: &Code, part: &[u8]) -> SampleCounts {
     counts
 }
 
-/// Returns what a lexer meets in the try from a point of a part on, and where the next one begins.
-/// A match that is skipped is taken for one of two states, as of blanks.
+/// Returns what a lexer meets in the attempt from a point of a part on, and where the next one
+/// begins. A match that is skipped is taken for one of two states, as of blanks.
 fn met(code: &Code, part: &[u8], from: usize) -> (SampleCounts, usize)
     requires { from < length part.now }
     ensures past { from < result.1 }

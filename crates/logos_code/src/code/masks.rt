@@ -11,7 +11,7 @@ use std::alloc::{AllocError, Global};
 ///
 /// # Errors
 ///
-/// Returns an error if memory runs out.
+/// Returns `AllocError` if memory runs out.
 pub(super) fn masks_of(alloc: Global, parts: &CodeParts) -> Result<Vec<[u8; 32]>, AllocError>
     ensures { IfOk result (λ masks. AreMasks (code_of parts.now) masks.items) }
 {

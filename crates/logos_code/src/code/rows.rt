@@ -153,7 +153,7 @@ fn first_closing(used: MatchUse) -> u32
 ///
 /// # Errors
 ///
-/// Returns an error if memory runs out.
+/// Returns `AllocError` if memory runs out.
 pub(super) fn rows_of(alloc: Global, parts: &CodeParts) -> Result<Vec<u32>, AllocError>
     requires { IsSound (code_of parts.now) }
     ensures { IfOk result (λ rows. AreRows (code_of parts.now) rows.items) }
@@ -202,8 +202,8 @@ fn entry_at(parts: &CodeParts, state: &CodeState, byte: u8) -> u32
     entry_of_step(parts.step(state, byte))
 }
 
-/// Returns the row for the first byte of a try, from the rows of all states and the state in which
-/// tries begin. An entry of it leads to a state, closes a match or says nothing.
+/// Returns the row for the first byte of a match attempt, from the rows of all states and the state
+/// in which match attempts begin. An entry of it leads to a state, closes a match or says nothing.
 pub(super) fn first_row(rows: &[u32], root: usize) -> [u32; 256]
     requires { WIDTH * root + 256 ≤ length rows.now }
     ensures { IsFirstOf rows.now root result }

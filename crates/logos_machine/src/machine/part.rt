@@ -84,13 +84,13 @@ impl<'c, 's, 'i, C: Fn(LeafId, &[u8]) -> Action> Lexer<'c, 's, 'i, C> {
 #[derive(Clone, Copy)]
 enum Move {
     Enters(Status),
-    /// The try is over at this offset, with this last mark.
+    /// The attempt is over at this offset, with this last mark.
     Acts(Option<(LeafId, usize)>, usize),
     /// The match attempt comes to the end of the part, and can continue from there.
     Waits,
 }
 
-/// What a try finds in a part. The last numbers are how many states were entered.
+/// What a match attempt finds in a part. The last numbers are how many states were entered.
 #[derive(Clone, Copy)]
 enum Settled {
     /// A match of this leaf up to this offset.
