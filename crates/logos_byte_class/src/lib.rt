@@ -1,4 +1,4 @@
-//! Sets of bytes, the comparisons that test for them, and how they print.
+//! Sets of bytes, the comparisons that test for them, and their printed text.
 
 #![tactic(auto)]
 

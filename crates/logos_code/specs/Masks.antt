@@ -1,4 +1,4 @@
--- What contracts see of the masks of tests.
+-- The views of the masks of tests in contracts.
 use Rattle.std.specs.Prelude.{◌≡◌, ℕ, ◌+◌, ◌*◌, ◌/◌, ◌%◌, ◌<◌, Bool, List, [], length, slice_index_or}
 use Rattle.logos_code.specs.Bytes.{has_bit, passes_test}
 use Rattle.logos_code.specs.Code.{CodeValue}

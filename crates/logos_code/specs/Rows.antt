@@ -1,4 +1,4 @@
--- What contracts see of the rows of a code.
+-- The views of the rows of a code in contracts.
 use Rattle.std.specs.Prelude.{◌≡◌, ℕ, ◌+◌, ◌*◌, ◌/◌, ◌<◌, ◌≤◌, ◌⊎◌, true, false, List, [], length, Option, Some, None, slice_index, slice_get}
 use Rattle.logos_automaton.specs.Munch.{Use}
 use Rattle.logos_code.specs.Code.{CodeValue, CodeState, Mark, by_conditions}
@@ -115,14 +115,14 @@ pub record AreRows (code : CodeValue) (rows : List ℕ) : Type 0 where
 abbrev pub BeginsTry : ℕ → Type 0
 BeginsTry entry = (entry < 268435456) ⊎ (1073741824 ≤ entry)
 
--- The entry where it begins a try, or one that says nothing.
+-- The entry where it begins a match attempt, or one that says nothing.
 abbrev pub IsFirstEntry : ℕ → ℕ → Type 0
 IsFirstEntry entry first = ((first ≡ entry) ⊎ (2415919104 ≤ first)) × BeginsTry first
 
 abbrev pub IsFirstOf : List ℕ → ℕ → List ℕ → Type 0
 IsFirstOf rows root first = (length first ≡ 256) × ((b : ℕ) → b < 256 → IsFirstEntry (slice_index rows (272 * root + b)) (slice_index first b))
 
--- The entry of the first byte of a try.
+-- The entry of the first byte of a match attempt.
 abbrev pub IsFirst : CodeValue → ℕ → ℕ → Type 0
 IsFirst code b entry = IsEntry code (state_at code code.root) b entry × BeginsTry entry
 

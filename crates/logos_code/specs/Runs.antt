@@ -8,14 +8,14 @@ use Rattle.logos_code.specs.Code.{CodeValue, CodeState, Mark, Condition, by_comp
 use Rattle.logos_automaton.specs.Munch.{Found, ended, matched, failed}
 use Rattle.logos_code.specs.Items.{Callback, Item, Lexes, NextItem}
 
--- Where a try stands as it enters a state.
+-- Where a match attempt stands as it enters a state.
 pub record Status : Type 0 where
   pub state : ℕ
   pub offset : ℕ
   -- The last mark passed: its leaf, and where the match ends.
   pub context : Option (ℕ × ℕ)
 
--- A try goes on in another state, or it is over.
+-- A match attempt continues in another state, or it is over.
 pub data Turn : Type 0 where
   enters : Status → Turn
   acts : Option (ℕ × ℕ) → (offset : ℕ) → Turn
@@ -80,14 +80,14 @@ module _ (code : CodeValue) where
     Acts None offset (matched leaf to) = ⊥
     Acts None offset (failed to) = EndsError offset to
 
-    -- From a stand on, the try finds this, and enters this many states.
+    -- From a stand on, the attempt finds this, and enters this many states.
     pub data Goes : Status → Found → ℕ → Type 0 where
       goes_on : (at next : Status) (found : Found) (n : ℕ) → Does at (enters next) → Goes next found n → Goes at found (suc n)
       is_over : (at : Status) → Does at returns → Goes at ended 1
       acts_on : (at : Status) (context : Option (ℕ × ℕ)) (offset : ℕ) (found : Found) →
           Does at (acts context offset) → Acts context offset found → Goes at found 1
 
-    -- A try from the start finds this, and enters this many states.
+    -- A match attempt from the start finds this, and enters this many states.
     abbrev pub Attempts : Found → ℕ → Type 0
     Attempts = Goes (record { state = code.root; offset = start; context = None })
 

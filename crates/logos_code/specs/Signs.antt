@@ -1,4 +1,4 @@
--- What contracts see of the signs of a code.
+-- The views of the signs of a code in contracts.
 use Rattle.std.specs.Prelude.{◌≡◌, ℕ, ◌<◌, List, length, true, false, Option, Some, None, slice_index_or}
 use Rattle.logos_code.specs.Code.{CodeValue, Mark}
 use Rattle.logos_code.specs.CodeView.{state_at}

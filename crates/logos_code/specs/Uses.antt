@@ -1,4 +1,4 @@
--- What contracts see of the uses of leaves.
+-- The views of the uses of leaves in contracts.
 use Rattle.std.specs.Prelude.{◌≡◌, ℕ, List, map}
 use Rattle.logos_automaton.specs.Munch.{Use}
 use Rattle.logos_code.specs.CodeView.{code_of, IsValid}

@@ -127,7 +127,7 @@ pub struct CodeParts<'s> {
     pub jump_tables: Vec<[u32; 256]>,
     /// What becomes of the matches of each leaf, in the order of their numbers.
     pub leaves: Vec<CodeLeaf<'s>>,
-    /// The state in which each try begins.
+    /// The state in which each attempt begins.
     pub root: usize,
     /// Errors end between characters, and the input has to be UTF-8.
     pub utf8: bool,
@@ -138,7 +138,7 @@ pub struct CodeParts<'s> {
 #[derive(Drop)]
 pub struct Code<'s> {
     parts: CodeParts<'s>,
-    /// What each byte does at the start of a try.
+    /// What each byte does at the start of a match attempt.
     first: [u32; 256],
     /// What each byte does in each state, so that running the code takes one look a byte. `rows`
     /// describes the layout.
@@ -147,7 +147,7 @@ pub struct Code<'s> {
     masks: Vec<[u8; 32]>,
     /// The mark of each state.
     signs: Vec<Sign>,
-    /// The last mark that a try has passed, where it ends in each state.
+    /// The last mark that a match attempt has passed, where it ends in each state.
     last_marks: Vec<LastMark>,
     /// What becomes of the matches of each leaf.
     uses: Vec<LeafUse>,
@@ -217,7 +217,7 @@ impl<'s> Code<'s> {
 }
 
 impl Code<'_> {
-    /// Returns the number of the state in which each try begins.
+    /// Returns the number of the state in which each attempt begins.
     pub fn root(&self) -> usize
         ensures root { result ≡ self.now.root }
         ensures sound { IsSound self.now }
@@ -232,14 +232,14 @@ impl Code<'_> {
         self.parts.utf8
     }
 
-    /// Returns the entry of the first byte of a try. It leads to a state, closes a match or says
-    /// nothing.
+    /// Returns the entry of the first byte of a match attempt. It leads to a state, closes a match
+    /// or says nothing.
     #[inline(always)]
     pub fn first_entry(&self, byte: u8) -> u32
         ensures first { IsFirst self.now byte result }
         ensures sound { IsSound self.now }
     {
-        // A read of a field brings the invariant of the type into the proof.
+        // Reading a field brings the invariant of the type into the proof.
         let _ = &self.parts;
         self.first[byte as usize]
     }
@@ -322,8 +322,9 @@ impl Code<'_> {
         self.signs[state]
     }
 
-    /// Returns what is known of the last mark that a try has passed, where it ends in the state at
-    /// the offset. It spares a lexer a second walk, and may be `Unseen` or `Varies` of any state.
+    /// Returns what is known of the last mark that a match attempt has passed, where it ends in the
+    /// state at the offset. It spares a lexer a second walk, and may be `Unseen` or `Varies` of any
+    /// state.
     #[cold]
     #[inline(never)]
     pub fn last_mark(&self, row_start: usize) -> LastMark
@@ -332,7 +333,7 @@ impl Code<'_> {
         last_mark_at(&self.last_marks, row_start / WIDTH)
     }
 
-    /// Returns the offset of the state in which each try begins.
+    /// Returns the offset of the state in which each attempt begins.
     #[inline(always)]
     pub fn root_row_start(&self) -> usize
         ensures row_start { result ≡ WIDTH * self.now.root }

@@ -10,7 +10,7 @@ use logos_pattern::leaf::Callback;
 use logos_token::error::{Errors, Memory};
 use logos_token::token::{Ident, Tokens};
 
-/// Adds the argument `callback`. After an error the callback is unchanged.
+/// Sets the callback from the argument `callback`. After an error the callback is unchanged.
 pub(crate) fn add_callback<'s>(
     callback: &mut Option<Callback<'s>>,
     name: Ident<'s>,

@@ -1,5 +1,5 @@
--- Definitions that clauses cite: those of lower crates, and those of this one that name none of its
--- types.
+-- Definitions that contracts cite: those of lower crates, and those of this crate that name none of
+-- its types.
 pub use Rattle.logos_causes.specs.Sets.{HasSets}
 pub use Rattle.logos_codegen.specs.Source.{IsRefused}
 pub use Rattle.logos_layout.specs.Inner.{IsWithoutInner}

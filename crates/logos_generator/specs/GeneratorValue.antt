@@ -1,4 +1,4 @@
--- What contracts see of a generator, and what its code has of it.
+-- The views of a generator, and what its code has of it in contracts.
 use Rattle.std.specs.Prelude.{◌≡◌, ℕ, Bool, List, [], map, Option, option_map}
 use Rattle.logos_type.specs.TypeTrees.{type_tree}
 use Rattle.logos_pattern.specs.Leaf.{CallbackValue, callback_value, KindValue, kind_value}

@@ -62,7 +62,7 @@ module _ (tests : List (List Bool)) where
       (AreBranchesOf s edges branches)
       ((branch : Condition × ℕ) × (rest : List (Condition × ℕ)) × (branches ≡ branch ∷ rest) × IsBranchOf edge branch × AreBranchesOf s edges rest)
 
-  -- A table where there are more than two edges, else conditions.
+  -- A table where there are more than two edges, otherwise conditions.
   abbrev pub IsForkOf : ℕ → List Edge → Fork → Type 0
   IsForkOf s edges (by_conditions branches) = (length edges ≤ 2) × AreBranchesOf s edges branches
   IsForkOf s edges (by_table entries) = (2 < length edges) × (length entries ≡ 256) × ((b : ℕ) → b < 256 → slice_index_or entries b None ≡ leads_beside s edges b)

@@ -1,4 +1,4 @@
--- What contracts see of the states that a generator reads and makes.
+-- The views of the states that a generator reads and makes in contracts.
 use Rattle.std.specs.Prelude.{◌≡◌, ℕ, ◌<◌, ◌≤◌, ◌*◌, ◌==◌, ◌++◌, ◌∷◌, [], Bool, List, length, IsSomeAnd, Some, slice_get, MatchBool}
 use Rattle.std.specs.List.{All}
 use Rattle.logos_pattern.specs.declared.leaf.Leaf.{Leaf}

@@ -95,13 +95,13 @@ impl<'g, 's> Generator<'g, 's> {
         }
     }
 
-    /// Makes the code: from each point of each input it finds what the graph finds, and each try
-    /// enters at most two states more than there are bytes left. It keeps copies of what the
-    /// generator was given, and of the kinds and callbacks of the graph's leaves. Its tests and its
-    /// jump tables are numbered by first use, states ascending and the fast loop before the fork;
-    /// equal ones share a number. The generator's tests and jump tables are those of the code then,
-    /// whatever nodes it made before, so `render_luts` and `render_jump_tables` give the code's
-    /// tables.
+    /// Makes the code: from each point of each input it finds what the graph finds, and each
+    /// attempt enters at most two states more than there are bytes left. It keeps copies of what
+    /// the generator was given, and of the kinds and callbacks of the graph's leaves. Its tests and
+    /// its jump tables are numbered by first use, states ascending and the fast loop before the
+    /// fork; equal ones share a number. The generator's tests and jump tables are those of the code
+    /// then, whatever nodes it made before, so `render_luts` and `render_jump_tables` give the
+    /// code's tables.
     ///
     /// # Errors
     ///

@@ -1,5 +1,5 @@
-//! Laws of the definitions. The contract of each function is a law. To use one in a proof, call its
-//! function: the call does nothing.
+//! Laws of the definitions. The contract of each function is a law. A proof uses a law by calling
+//! its function, which does nothing.
 
 ghost use Rattle.std.specs.Prelude.{ℕ, ◌≤◌, Bool, false, List, length};
 ghost use Rattle.logos_generator.specs.Imports.{IsInput, Rule, Item, Items, AreInOrder, Parts, IsLeftOut, answers_of, GraphsYieldLexers, RunsAreItems, NextIsTheNext, ItemsAreOnce, ItemsGoOver, LexersAgree, RunsAreCut};

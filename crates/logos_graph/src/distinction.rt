@@ -22,7 +22,8 @@ fn state_after(table: &Table, s: usize, bytes: &[u8]) -> Option<usize>
     Some(at)
 }
 
-/// Returns the mark of a state, or of the one to which the end leads from it.
+/// Returns the mark of a state, or of the state to which the end leads from it if `at_end` is
+/// `true`.
 fn mark_with_end(table: &Table, s: usize, at_end: bool) -> Option<StateMarks>
     requires { s < size table.now }
     ensures { result ≡ mark_with_end table.now s at_end }
@@ -34,7 +35,7 @@ fn mark_with_end(table: &Table, s: usize, at_end: bool) -> Option<StateMarks>
     Some(table.mark(t))
 }
 
-/// Returns the mark to which bytes lead from a state, with the end after them or without.
+/// Returns the mark to which bytes lead from a state, with or without the end after them.
 fn mark_after(table: &Table, s: usize, bytes: &[u8], at_end: bool) -> Option<StateMarks>
     requires { s < size table.now }
     ensures { result ≡ mark_after table.now s bytes.now at_end }
@@ -43,14 +44,14 @@ fn mark_after(table: &Table, s: usize, bytes: &[u8], at_end: bool) -> Option<Sta
     mark_with_end(table, t, at_end)
 }
 
-/// Returns whether two marks differ, or exactly one is there.
+/// Returns whether two marks differ, or exactly one of them exists.
 fn differ(one: Option<StateMarks>, other: Option<StateMarks>) -> bool
     ensures { IsTrue result ↔ (one ≢ other) }
 {
     one != other
 }
 
-/// Returns the states to which two states lead by a symbol, if both lead somewhere.
+/// Returns the states to which two states lead on the symbol `k`, if both lead to one.
 fn both_targets(table: &Table, s: usize, t: usize, k: usize) -> Option<(usize, usize)>
     requires s_in { s < size table.now }
     requires t_in { t < size table.now }
@@ -62,7 +63,7 @@ fn both_targets(table: &Table, s: usize, t: usize, k: usize) -> Option<(usize, u
     Some((table.target(s, k)?, table.target(t, k)?))
 }
 
-/// Returns the two numbers, the lower one first.
+/// Returns the two numbers in ascending order.
 fn ordered(a: usize, b: usize) -> (usize, usize)
     requires { a ≢ b }
     ensures order { result.0 < result.1 }
@@ -71,7 +72,7 @@ fn ordered(a: usize, b: usize) -> (usize, usize)
     if a < b { (a, b) } else { (b, a) }
 }
 
-/// Returns the block whose split parted two states.
+/// Returns the block whose split separated two states.
 fn parted_at(reduced: &Reduction, s: usize, t: usize) -> usize
     requires evidence { YieldsEvidence reduced.now }
     requires s_in { s < size reduced.now.table }
@@ -89,8 +90,8 @@ fn parted_at(reduced: &Reduction, s: usize, t: usize) -> usize
     }
 }
 
-/// Returns whether the bytes, with the end after them or without, distinguish the two states.
-/// It takes no memory.
+/// Returns whether the bytes, with or without the end after them, distinguish the two states.
+/// Does not allocate.
 pub fn checks(reduced: &Reduction, s: usize, t: usize, bytes: &[u8], at_end: bool) -> bool
     requires s_in { s < size reduced.now.table }
     requires t_in { t < size reduced.now.table }
@@ -101,12 +102,12 @@ pub fn checks(reduced: &Reduction, s: usize, t: usize, bytes: &[u8], at_end: boo
     differ(one, other)
 }
 
-/// Returns bytes that distinguish two different states, fewer than there are states, and
+/// Returns bytes that distinguish two different states, fewer bytes than there are states, and
 /// whether the end follows them.
 ///
 /// # Errors
 ///
-/// `AllocError` where there is no memory for the bytes.
+/// Returns `AllocError` if memory runs out.
 pub fn evidence(
     alloc: Global,
     reduced: &Reduction,

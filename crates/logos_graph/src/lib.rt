@@ -1,4 +1,4 @@
-//! The graph of a lexer.
+//! Builds the graph of a lexer from its leaves. `logos_codegen` builds one for each source.
 
 #![tactic(auto)]
 

@@ -1,5 +1,5 @@
-//! Trees of patterns: what they hold, how they are built, their measures, and the sets of
-//! characters and of bytes in them.
+//! Trees of patterns: their nodes, their builders, their measures, and the sets of characters and
+//! of bytes in them.
 
 #![tactic(auto)]
 

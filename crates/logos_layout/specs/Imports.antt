@@ -1,4 +1,4 @@
--- Definitions that clauses cite.
+-- Definitions that contracts cite: those of lower crates.
 pub use Rattle.logos_layout.specs.Conditions.{attribute_text, condition_text, conditions_text, text_if}
 pub use Rattle.logos_layout.specs.Inner.{AreInner, IsInnerText, IsPlainly, IsWithoutInner, after_brackets, after_inner, after_mark, is_inner}
 pub use Rattle.logos_layout.specs.Layout.{ArePrinted, IsLaidOut, IsWrittenAs, SpellsSame}

@@ -1,4 +1,5 @@
--- Definitions that clauses cite: of lower crates, and those of this one that name no type of it.
+-- Definitions that contracts cite: those of lower crates, and those of this crate that name none of
+-- its types.
 pub use Rattle.logos_attribute.specs.LiteralViews.{literal_view}
 pub use Rattle.logos_attribute.specs.Reports.{AddsFault, IsReport}
 pub use Rattle.logos_definition.specs.DefinitionViews.{definition_view}

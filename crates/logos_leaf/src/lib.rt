@@ -1,4 +1,4 @@
-//! The leaves of an enum, which its definitions make.
+//! Makes the leaves of an enum from its definitions.
 
 #![tactic(auto)]
 

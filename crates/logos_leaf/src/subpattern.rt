@@ -27,21 +27,21 @@ use std::mem;
 pub struct Subpattern<'s> {
     name: Ident<'s>,
     /// The text of the pattern in a group that sets its flags, with each name of an earlier
-    /// subpattern replaced by the text of that.
+    /// subpattern replaced by the text of that subpattern.
     pattern: String,
 }
 
 /// The subpatterns of a lexer.
 #[derive(Drop)]
 pub struct Subpatterns<'s> {
-    /// The subpatterns, in the order in which their names came first.
+    /// The subpatterns, in the order in which their names first occur.
     list: Vec<Subpattern<'s>>,
-    /// For each name its index in the list.
+    /// For each name, its index in the list.
     slots: HashMap<&'s str, usize>,
     ghost found: { FindSlots (map stored_of list.items) slots.entries },
 }
 
-/// The flags by which the text of a subpattern is tested. The text sets its own.
+/// The flags with which the text of a subpattern is tested. The text sets its own flags.
 const TEST_MODE: ReadingMode = ReadingMode {
     is_literal: false,
     unicode: true,
@@ -104,7 +104,8 @@ pub fn pattern_text(alloc: Global, literal: &Literal<'_>) -> Result<String, Memo
     }
 }
 
-/// Returns the pattern text of a literal in a group that sets its flags, as other patterns use it.
+/// Returns the pattern text of a literal in a group that sets its flags, as other patterns contain
+/// it.
 pub(crate) fn wrapped(alloc: Global, literal: &Literal<'_>) -> Result<String, Memory>
     ensures { IfOk result (λ text. string_bytes text ≡ wrapped (literal_view literal.now).held) }
 {
@@ -129,7 +130,7 @@ fn report_name(name: Ident<'_>, errors: &mut Errors) -> Result<(), Memory>
     )
 }
 
-/// Reports a second subpattern of a name.
+/// Reports a second subpattern with the same name.
 fn report_second(name: Ident<'_>, errors: &mut Errors) -> Result<(), Memory>
     ensures { OnOk result
         (AddsFault (subpattern_twice (ident_slice name.entry)) errors.old errors.new) }
@@ -143,7 +144,7 @@ fn report_second(name: Ident<'_>, errors: &mut Errors) -> Result<(), Memory>
     )
 }
 
-/// Reports a second subpattern of a name, and the span of the first one.
+/// Reports a second subpattern with the same name, and the span of the first one.
 fn report_twice(name: Ident<'_>, former: Span, errors: &mut Errors) -> Result<(), Memory>
     ensures { OnOk result (errors.new ≡ errors.old
         ++ (subpattern_twice (ident_slice name.entry) ∷ previous former ∷ [])) }
@@ -203,7 +204,7 @@ impl<'s> Subpatterns<'s> {
         Some((subpattern.pattern.len(), subpattern.name.span))
     }
 
-    /// Adds a subpattern with a new name at the end. After an error the subpatterns are unchanged.
+    /// Appends a subpattern with a new name. After an error the subpatterns are unchanged.
     fn push(&mut self, subpattern: Subpattern<'s>) -> Result<(), Memory>
         requires { slot_in (names_of self.old) subpattern.name.text.now ≡ None }
         ensures ok { OnOk result
@@ -216,8 +217,8 @@ impl<'s> Subpatterns<'s> {
         Ok(())
     }
 
-    /// Puts a subpattern in place of the one that has its name, and returns that one. After an
-    /// error the subpatterns are unchanged.
+    /// Replaces the subpattern with the same name, and returns the former one. Appends the
+    /// subpattern if there is no such one. After an error the subpatterns are unchanged.
     fn put(&mut self, subpattern: Subpattern<'s>) -> Result<Option<Subpattern<'s>>, Memory>
         ensures former { IfOk result (λ former. option_map stored_of former
             ≡ stored_at (names_of self.old) subpattern.entry.name.text.now) }
@@ -232,7 +233,7 @@ impl<'s> Subpatterns<'s> {
         Ok(Some(mem::replace(&mut self.list[slot], subpattern)))
     }
 
-    /// Stores a subpattern in place of the one that has its name, and reports that one.
+    /// Stores a subpattern. Replaces and reports a former one with the same name.
     fn store(&mut self, name: Ident<'s>, pattern: String, errors: &mut Errors) -> Result<(), Memory>
         ensures { OnOk result (IsReport
             (stored_report (ident_slice name.entry) (string_bytes pattern) (names_of self.old))
@@ -245,7 +246,7 @@ impl<'s> Subpatterns<'s> {
         Ok(())
     }
 
-    /// Stores a subpattern, unless the mode refuses it, which is reported.
+    /// Stores a subpattern, unless the UTF-8 mode does not allow it; in that case reports it.
     fn store_tested(
         &mut self,
         refused: bool,
@@ -264,7 +265,7 @@ impl<'s> Subpatterns<'s> {
         self.store(named.0, pattern, errors)
     }
 
-    /// Tests the text of a subpattern, and stores it if it is a pattern that the mode allows.
+    /// Tests the text of a subpattern, and stores it if it is a pattern that the UTF-8 mode allows.
     fn test(
         &mut self,
         utf8_mode: bool,
@@ -331,12 +332,12 @@ impl<'s> Subpatterns<'s> {
     }
 
     /// Returns the subpatterns with these names and literals, in order. Each may use the ones
-    /// before it. A later one replaces an earlier one of the same name. One with a fault is left
-    /// out, and the fault is reported.
+    /// before it. A later one replaces an earlier one with the same name. Reports the faults, and
+    /// leaves out subpatterns with faults.
     ///
     /// # Errors
     ///
-    /// Returns `Memory` if memory runs out. The faults are then as before.
+    /// Returns `Memory` if memory runs out. The faults are then unchanged.
     pub fn new(
         alloc: Global,
         list: &[(Ident<'s>, Literal<'s>)],
@@ -355,12 +356,12 @@ impl<'s> Subpatterns<'s> {
     }
 
     /// Returns the text with each `(?&name)`, from the left, replaced by the text of that
-    /// subpattern. The texts that are put in are not searched for names. Returns `None` when a name
-    /// has no subpattern, and reports that at `span`, once for each use.
+    /// subpattern. The substituted texts are not searched for names. Returns `None` if a name has
+    /// no subpattern, and reports that at `span`, once for each use.
     ///
     /// # Errors
     ///
-    /// Returns `Memory` if memory runs out. The faults are then as before.
+    /// Returns `Memory` if memory runs out. The faults are then unchanged.
     pub fn subst_subpatterns(
         &self,
         alloc: Global,

@@ -1,4 +1,4 @@
-//! Leaves of variants, which their attributes define. `read_leaves` calls it for each variant.
+//! Makes the leaves of variants from their attributes. `read_leaves` calls it for each variant.
 
 ghost use Rattle.std.specs.Prelude.{◌≡◌, ◌++◌, IfOk, OnOk, map, option_map};
 ghost use Rattle.logos_leaf.specs.Imports.{option_to_list, tokens_of, texts, params_with, attribute_value, field_value, fields_value, in_parenthesis, variant_value, kind_value, names_of, parser_view, leaf_view, HoldsType, KindIs, TokenYields, RegexYields, AttributeYields, AttributesAdd, VariantAdds, VariantsAdd};
@@ -21,7 +21,7 @@ use logos_type_params::TypeParams;
 use std::alloc::AllocError;
 use std::collections::HashSet;
 
-/// The declared type parameters of an enum, and the names of those that hold themselves.
+/// The declared type parameters of an enum, and the names of those whose types contain them.
 #[derive(Clone, Copy)]
 pub struct Types<'p, 's> {
     pub params: &'p TypeParams<'s>,
@@ -46,8 +46,8 @@ fn value_kind<'s>(
     Ok(VariantKind::Value(name, got))
 }
 
-/// Returns the kind of a variant with these fields in parentheses with this span, and reports any
-/// number of fields but one.
+/// Returns the kind of a variant with these fields in the parentheses with this span. Reports the
+/// variant if it does not have exactly one field.
 fn tuple_kind<'s>(
     types: Types<'_, 's>,
     name: Ident<'s>,

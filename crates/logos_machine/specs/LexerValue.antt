@@ -1,4 +1,4 @@
--- What contracts see of a lexer.
+-- The views of a lexer in contracts.
 use Rattle.std.specs.Prelude.{◌≡◌, ℕ, ◌+◌, ◌-◌, ◌<◌, ◌≤◌, Bool, false, List, [], ◌∷◌, length, map, slice_get, slice_range, Option, option_map, IsTrue}
 use Rattle.std.specs.Option.{option_map_or, option_to_list}
 use denote.Param.Members.{Shared}
@@ -72,8 +72,8 @@ pub record Ends {C : Type 0} (callback : Callback) (old new : LexerValue C) : Ty
   pub to : new.to ≡ length new.input
   pub over : Runs old.code callback old.input old.to []
 
--- Code, input and callback stay. The last try entered as many states as are counted, at most two
--- more than there are bytes from the span's start on.
+-- Code, input and callback stay. The last attempt entered as many states as are counted, at most
+-- two more than there are bytes from the span's start on.
 pub record Keeps {C : Type 0} (old new : LexerValue C) : Type 0 where
   pub code : new.code ≡ old.code
   pub input : new.input ≡ old.input

@@ -7,7 +7,7 @@ use Rattle.logos_code.specs.Items.{Callback, Search, Item, token, error, MayAnsw
 use Rattle.logos_code.specs.Runs.{Status, enters, acts, looped, Does, Acts, Attempts, CodeFinds, Runs, RunsOn}
 use Rattle.logos_code.specs.declared.action.Action.{Action}
 
--- Where a try begins.
+-- Where a match attempt begins.
 abbrev pub first_status : CodeValue → ℕ → Status
 first_status code start = record { state = code.root; offset = start; context = None }
 
@@ -58,7 +58,7 @@ module _ (code : CodeValue) (bytes : List ℕ) (start seen : ℕ) where
     acts_within : (at : Status) (context : Option (ℕ × ℕ)) (offset : ℕ) (found : Found) → StopsWithin at →
         Does code bytes start at (acts context offset) → Acts code bytes start context offset found → EndsWithin found → GoesWithin at found 1
 
-  -- So does a try from the start.
+  -- So does a match attempt from the start.
   abbrev pub AttemptsWithin : Found → ℕ → Type 0
   AttemptsWithin = GoesWithin (first_status code start)
 

@@ -1,5 +1,5 @@
-//! Laws of the definitions. The contract of each function is a law. To use one in a proof, call its
-//! function: the call does nothing.
+//! Laws of the definitions. The contract of each function is a law. A proof uses a law by calling
+//! its function, which does nothing.
 
 ghost use Rattle.logos_machine.specs.Views.{answers_of, EndIsRun, NextAddsItem, PartsAreOfTheWhole, RunsGoLater, RunsGoOver, AttemptsAgree};
 
@@ -24,8 +24,8 @@ pub fn runs_go_over<C: Fn(LeafId, &[u8]) -> Action, D: Fn(LeafId, &[u8]) -> Acti
     ensures { RunsGoOver (answers_of C.Fn callback.now) (answers_of D.Fn other.now) }
 {}
 
-/// A try that looks at none but the first bytes of an input finds the same in each input that has
-/// these bytes.
+/// A match attempt that looks at none but the first bytes of an input finds the same in each input
+/// that has these bytes.
 pub fn attempts_agree()
     ensures { AttemptsAgree }
 {}

@@ -231,7 +231,7 @@ impl<'c, 's, 'i, C: Fn(LeafId, &[u8]) -> Action> Lexer<'c, 's, 'i, C> {
         &self.callback
     }
 
-    /// Returns how many states the last try entered, 0 before the first.
+    /// Returns how many states the last attempt entered, 0 before the first.
     pub fn steps(&self) -> usize
         ensures { result ≡ self.now.steps }
     {

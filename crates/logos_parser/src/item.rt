@@ -1,5 +1,5 @@
-//! Enums as they are written: attributes as runs of tokens, generic parameters, and variants with
-//! their fields and types.
+//! Enums as written: attributes as runs of tokens, generic parameters, and variants with their
+//! fields and types. Re-exports.
 
 pub use logos_enum::{
     Attribute, Field, Fields, ItemEnum, Parameter, ParameterKind, ReadError, Variant, read_enum,

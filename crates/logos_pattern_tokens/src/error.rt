@@ -1,4 +1,4 @@
-//! The faults of a pattern.
+//! The errors of reading a pattern, and the reasons why its readers stop.
 
 ghost use Rattle.std.specs.Prelude.{◌≡◌};
 ghost use Rattle.logos_pattern_tokens.specs.declared.error.Fault.TheVariants as faults;
@@ -7,7 +7,7 @@ ghost use Rattle.logos_pattern_tokens.specs.declared.error.PatternError.TheVaria
 
 use std::alloc::{AllocError, AllocFailed};
 
-/// What is wrong with a pattern.
+/// The kinds of faults in a pattern.
 #[derive(Clone, Copy, Debug, PartialEq, Eq)]
 pub enum Kind {
     /// A group, a bracket or a brace is still open at the end.
@@ -24,11 +24,11 @@ pub enum Kind {
     CountTooLarge,
     /// The flag `x` is not supported.
     FlagUnsupported,
-    /// What comes after `(?` is not a flag setting.
+    /// The text after `(?` is not a flag setting.
     FlagSyntax,
-    /// Look-around, or a group whose name is malformed or was given before.
+    /// Look-around, or a group whose name is malformed or occurs earlier.
     GroupSyntax,
-    /// A backslash comes before something that it cannot escape.
+    /// A backslash comes before a character that it cannot escape.
     EscapeUnknown,
     /// An escape by number has no digits, too few, or characters that are not digits.
     HexSyntax,
@@ -48,25 +48,26 @@ pub enum Kind {
     WordBoundaryForm,
 }
 
-/// Why a pattern was refused.
+/// The reasons why a text is not read as a pattern.
 #[derive(Debug, Drop)]
 pub enum PatternError {
     /// The text breaks the grammar. `at` is the byte offset of the fault in the text.
     Syntax { kind: Kind, at: usize },
-    /// Groups, brackets and operators nest too deeply.
+    /// Groups, brackets and operators are nested too deeply.
     LimitPatternNesting,
     /// Memory ran out.
     Memory,
 }
 
-/// Why no token could be read at the front of a text.
+/// The reasons why no token can be read at the front of a text.
 #[derive(Drop)]
 pub enum Fault {
     Syntax(Kind),
     Memory,
 }
 
-/// Why reading stopped. `left` is the number of characters from the fault to the end of the text.
+/// The reasons why reading stops. `left` is the number of characters from the fault to the end of
+/// the text.
 #[derive(Drop)]
 pub enum Stop {
     Syntax { kind: Kind, left: usize },

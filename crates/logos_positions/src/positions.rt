@@ -1,4 +1,4 @@
-//! Steps from the places of a set to those that read the next byte.
+//! Steps from the positions of a set to those that read the next byte.
 
 pub(crate) mod exits;
 pub mod look;

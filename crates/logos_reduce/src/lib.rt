@@ -1,5 +1,5 @@
 //! Reduces a table of targets and marks to the least one, with its states numbered by first visit,
-//! and keeps how these were parted.
+//! and records how these were separated. `logos_graph` calls it for each graph.
 
 #![tactic(auto)]
 

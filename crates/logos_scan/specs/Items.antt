@@ -1,4 +1,4 @@
--- What contracts see of the items of a run.
+-- The views of the items of a run in contracts.
 use Rattle.std.specs.Prelude.{ℕ}
 use Rattle.logos_code.specs.Items.{Callback, Item}
 use Rattle.logos_machine.specs.LexerValue.{LexerValue, Ends, Yields}

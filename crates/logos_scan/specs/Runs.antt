@@ -1,4 +1,4 @@
--- What contracts see of a run over the chunks of an input.
+-- The views of a run over the chunks of an input in contracts.
 use Rattle.std.specs.Prelude.{◌≡◌, ℕ, ◌+◌, ◌<◌, ◌≤◌, ◌⊎◌, min, List, length, drop, slice_index}
 use Rattle.logos_automaton.specs.Munch.{matched, failed, ended}
 use Rattle.logos_code.specs.Code.{CodeValue}
@@ -60,8 +60,8 @@ pub record IsChunk (rows input : List ℕ) (run : WithChunk) : Type 0 where
   pub room : HasRoom run.cursor.base
   pub whole : (row_start : ℕ) × Walked rows (drop run.cursor.base input) row_start run.chunk.entries run.low run.count run.row_start
 
--- The try that begins at the start stands before the byte of entry `at`, from where on the entries
--- are those of a walk.
+-- The attempt that begins at the start stands before the byte of entry `at`, from where on the
+-- entries are those of a walk.
 pub record IsRun (code : CodeValue) (rows input : List ℕ) (run : WithChunk) (start at : ℕ) : Type 0 where
   pub in_chunk : IsChunk rows input run
   pub near : at ≤ run.count
@@ -77,8 +77,8 @@ point_of run = min run.cursor.from run.count
 abbrev pub IsReady : Reading → WithChunk → Type 0
 IsReady reading run = IsRun reading.code.now reading.rows.now reading.input.now run (start_of run.cursor) (point_of run)
 
--- The try of a run, which begins at the start, stands before an entry that its cursor has passed,
--- or at the end of the chunk.
+-- The attempt of a run, which begins at the start, stands before an entry that its cursor has
+-- passed, or at the end of the chunk.
 pub record IsHeld (reading : Reading) (run : WithChunk) (start : ℕ) : Type 0 where
   pub at : ℕ
   pub is_at : IsRun reading.code.now reading.rows.now reading.input.now run start at
@@ -102,7 +102,8 @@ pub record IsOver (reading : Reading) (start : ℕ) (run : WithChunk) : Type 0 w
   pub after : run.cursor.from ≡ 4608
   pub skips : SkipsTo reading.code.now reading.input.now start run.cursor.word_start
 
--- What is taken: after matches that are skipped, what a try finds, and where the next one begins.
+-- What is taken: after matches that are skipped, what a match attempt finds, and where the next one
+-- begins.
 abbrev pub IsTaken : CodeValue → List ℕ → ℕ → Taken → ℕ → Type 0
 IsTaken code bytes from (Emits leaf span) next =
     SkipsTo code bytes from span.from × ((steps : ℕ) × Tried code bytes span.from (matched leaf.0 span.to) steps) × IsUse code leaf.0 IsEmitted × (next ≡ span.to)

@@ -21,8 +21,8 @@ pub enum Taken {
     Ends,
 }
 
-/// Returns what a try finds that begins at a point of the input, after matches that are skipped
-/// without a callback, and where the next one begins.
+/// Returns what a match attempt finds that begins at a point of the input, after matches that are
+/// skipped without a callback, and where the next one begins.
 pub(crate) fn tried(code: &Code, input: &[u8], start: usize) -> (Taken, usize)
     requires { start ≤ length input.now }
     ensures { IsTaken code.now input.now start result.0 result.1 }

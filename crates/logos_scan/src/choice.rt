@@ -107,7 +107,7 @@ pub fn rows_for<'c, 's>(
 }
 
 /// Returns where the first line begins that begins in a part of an input, after its first byte, or
-/// 0 if none does. Few tokens go on over a line end.
+/// 0 if none does. Few tokens continue over a line end.
 fn line_start(part: &[u8]) -> usize
     ensures { result ≤ length part.now }
 {
@@ -131,8 +131,8 @@ fn counted(code: &Code, part: &[u8]) -> SampleCounts {
     counts
 }
 
-/// Returns what a lexer meets in the try from a point of a part on, and where the next one begins.
-/// A match that is skipped is taken for one of two states, as of blanks.
+/// Returns what a lexer meets in the attempt from a point of a part on, and where the next one
+/// begins. A match that is skipped is taken for one of two states, as of blanks.
 fn met(code: &Code, part: &[u8], from: usize) -> (SampleCounts, usize)
     requires { from < length part.now }
     ensures past { from < result.1 }

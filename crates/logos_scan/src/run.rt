@@ -47,8 +47,8 @@ pub struct Loaded {
     pub row_start: usize,
 }
 
-/// A run over an input: what is known of its chunk, and where the next try begins. Its chunk stands
-/// apart, so that the compiler can hold the run in registers.
+/// A run over an input: what is known of its chunk, and where the next attempt begins. Its chunk
+/// stands apart, so that the compiler can hold the run in registers.
 #[derive(Clone, Copy, Drop)]
 pub struct Run {
     pub cursor: ChunkCursor,
@@ -103,7 +103,7 @@ fn load(reading: &Reading, base: usize, row_start: usize, chunk: &mut ChunkEntri
     loaded
 }
 
-/// Makes the try that begins at `start` again, by itself: it notes the marks that it passes.
+/// Makes the attempt that begins at `start` again, by itself: it notes the marks that it passes.
 #[cold]
 #[inline(never)]
 fn try_again(reading: &Reading, run: Run, chunk: &mut ChunkEntries, start: usize) -> (Taken, Run)
@@ -118,7 +118,7 @@ fn try_again(reading: &Reading, run: Run, chunk: &mut ChunkEntries, start: usize
     (taken, after)
 }
 
-/// Begins a try at a point of the input.
+/// Begins a match attempt at a point of the input.
 fn restarted(reading: &Reading, run: Run, chunk: &mut ChunkEntries, to: usize) -> Run
     requires reading { IsReading reading.now }
     requires chunk { IsChunk reading.now.rows.now reading.now.input.now (with_chunk chunk.old run) }
@@ -134,8 +134,8 @@ fn restarted(reading: &Reading, run: Run, chunk: &mut ChunkEntries, to: usize) -
     }
 }
 
-/// Begins a try at an entry of the chunk that is not passed, and steps again over the bytes from
-/// there on until the entries are those that stand.
+/// Begins a match attempt at an entry of the chunk that is not passed, and steps again over the
+/// bytes from there on until the entries are those that stand.
 fn repaired_from(reading: &Reading, run: Run, chunk: &mut ChunkEntries, from: usize) -> Run
     requires reading { IsReading reading.now }
     requires chunk { IsChunk reading.now.rows.now reading.now.input.now (with_chunk chunk.old run) }
@@ -166,7 +166,8 @@ fn repaired_from(reading: &Reading, run: Run, chunk: &mut ChunkEntries, from: us
     }
 }
 
-/// Goes on to the bytes from `base` on, where a try that begins at `start` stands in a row.
+/// Goes on to the bytes from `base` on, where a match attempt that begins at `start` stands in a
+/// row.
 #[inline(always)]
 fn filled(
     reading: &Reading,
@@ -231,7 +232,7 @@ impl Run {
         }
     }
 
-    /// Takes what the next try finds, after those that are skipped.
+    /// Takes what the next attempt finds, after those that are skipped.
     #[inline(always)]
     pub fn next(&mut self, reading: &Reading, chunk: &mut ChunkEntries) -> Taken
         requires reading { IsReading reading.now }
@@ -263,8 +264,8 @@ impl Run {
         }
     }
 
-    /// Takes what the try finds that begins at `start`, by itself. Only that try is called out of
-    /// line, and it is given a copy of the run, so that the compiler can hold this one in
+    /// Takes what the attempt finds that begins at `start`, by itself. Only that attempt is called
+    /// out of line, and it is given a copy of the run, so that the compiler can hold this one in
     /// registers.
     #[inline(always)]
     fn next_again(&mut self, reading: &Reading, chunk: &mut ChunkEntries, start: usize) -> Taken

@@ -1,4 +1,4 @@
-//! Reads a pattern's text by the grammar into the tree that it spells.
+//! Reads the text of a pattern into the tree that it spells by the grammar.
 
 #![tactic(auto)]
 

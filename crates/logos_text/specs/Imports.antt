@@ -1,5 +1,5 @@
--- Definitions that clauses cite: those of lower crates, and those of this one that name none of its
--- types.
+-- Definitions that contracts cite: those of lower crates, and those of this crate that name none of
+-- its types.
 pub use Rattle.logos_byte_class.specs.Bytes.{comparison_of}
 pub use Rattle.logos_code.specs.CodeView.{branch_of, code_of, condition_of, fork_of, state_of}
 pub use Rattle.logos_token.specs.Views.{tokens_of, tree_of}

@@ -36,7 +36,7 @@ pub struct Literal<'s> {
     pub span: Span,
 }
 
-/// A documentation comment, as it stands in the source. A line comment does not include the end of
+/// A documentation comment, as written in the source. A line comment does not include the end of
 /// its line.
 #[derive(Clone, Copy)]
 pub struct Doc<'s> {

@@ -1,4 +1,5 @@
-//! Finds the nodes of a directed graph that lie on a cycle.
+//! Finds the nodes of a directed graph that lie on a cycle. `logos_type_params` calls it for
+//! parameters whose types contain one another.
 
 ghost use Rattle.std.specs.Prelude.{true, false, ◌≡◌, ℕ, ◌<◌, ◌↔◌, List, IfOk, IsTrue, length, map, vec_len, slice_index_or};
 ghost use Rattle.logos_type_params.specs.cycles.Imports.{Leads};
@@ -9,13 +10,14 @@ mod reference;
 
 use std::alloc::{AllocError, Global};
 
-/// Returns for each node whether it lies on a cycle. `lists` has for each node, by its number, the
-/// numbers of the nodes to which its edges lead. Numbers of nodes that are not there lead nowhere.
+/// Returns for each node whether it lies on a cycle. `lists` has for each node, indexed by its
+/// number, the numbers of the nodes to which its edges lead. Numbers for which there is no node are
+/// ignored.
 ///
-/// Two walks find the components of the graph, and these are checked before the answer is read off
-/// them. This takes time linear in the numbers of nodes and edges. The check was never seen to
-/// fail. If it did, a walk from each node would give the same answer, in time that grows with the
-/// product of the two.
+/// Two traversals find the components of the graph, and the components are checked before the
+/// answer is read from them. This takes time linear in the numbers of nodes and edges. The check
+/// has never been observed to fail. If it fails, a traversal from each node computes the same
+/// answer, in time that grows with the product of the two numbers.
 ///
 /// # Errors
 ///

@@ -1,4 +1,4 @@
-//! Reads Rust types as they stand in an enum's fields and in attributes.
+//! Reads Rust types in an enum's fields and in attributes.
 
 #![tactic(auto)]
 

@@ -1,4 +1,4 @@
--- What is known while an argument is cut.
+-- Invariants that hold while an argument is split.
 use Rattle.std.specs.Prelude.{List, ◌∷◌, if◌then◌else◌}
 use Rattle.logos_token.specs.Tokens.{Token, TokenList, none, also}
 use Rattle.logos_token.specs.Punctuation.{is_alone}
@@ -10,7 +10,7 @@ abbrev pub first_run : TokenList → TokenList
 first_run none = none
 first_run (also token rest) = also token (up_to_comma rest)
 
--- After a name and a token that is not a name, literal or group.
+-- The pieces after a name and a token that is not a name, literal or group.
 abbrev pub after_mark : Slice → Token → TokenList → List Piece
 after_mark name token rest =
     if is_alone equals token then through_comma (λ run. named name (assigned run)) rest

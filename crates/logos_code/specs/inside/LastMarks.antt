@@ -29,7 +29,7 @@ Follows Varies from fast_loop = Unit {0}
 Follows Never from fast_loop = from ≡ Never
 Follows (Back leaf bytes) from fast_loop = (fast_loop ≡ None) × FollowsBack from leaf.0 bytes
 
--- No mark is passed as a try begins.
+-- No mark is passed as a match attempt begins.
 abbrev pub BeginsUnmarked : LastMark → Type 0
 BeginsUnmarked Unseen = Unit {0}
 BeginsUnmarked Varies = Unit {0}

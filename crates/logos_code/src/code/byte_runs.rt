@@ -148,7 +148,7 @@ fn exceptions_end(except: &[u8], byte: usize, end: usize) -> usize
     until
 }
 
-/// Returns `at` if it lies inside the run, else its end.
+/// Returns `at` if it lies inside the run, otherwise its end.
 fn cut(byte: usize, end: usize, at: usize) -> usize
     requires { byte < end }
     ensures after { byte < result }

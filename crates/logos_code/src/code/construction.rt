@@ -15,7 +15,7 @@ use std::alloc::{AllocError, Global};
 /// The tables of a code, which are made of its parts.
 #[derive(Drop)]
 struct CodeTables {
-    /// What each byte does at the start of a try.
+    /// What each byte does at the start of a match attempt.
     first: [u32; 256],
     rows: Vec<u32>,
     masks: Vec<[u8; 32]>,
@@ -51,7 +51,7 @@ fn tables_of(alloc: Global, parts: &CodeParts<'_>) -> Result<CodeTables, AllocEr
 ///
 /// # Errors
 ///
-/// Returns an error if memory runs out.
+/// Returns `AllocError` if memory runs out.
 pub fn make_code<'s>(alloc: Global, parts: CodeParts<'s>) -> Result<Code<'s>, AllocError>
     requires { IsValid parts }
     ensures { IfOk result (λ code. code ≡ code_of parts.entry) }

@@ -1,4 +1,4 @@
-//! Last marks: which mark a try has passed last, where it ends in a state.
+//! Last marks: which mark a match attempt has passed last, where it ends in a state.
 //!
 //! Where all ways to a state agree on it, a lexer need not note the marks that it passes. The last
 //! marks are searched for along the forks of all states, and then checked: only the check says that
@@ -11,7 +11,7 @@ use super::{CodeParts, CodeState, Condition, Fork, Mark, target_of};
 use logos_hir::leaf::LeafId;
 use std::alloc::{AllocError, Global};
 
-/// The last mark that a try has passed, where it ends in a state.
+/// The last mark that a match attempt has passed, where it ends in a state.
 #[derive(Clone, Copy, PartialEq, Eq)]
 pub enum LastMark {
     /// No way to the state was found.
@@ -20,7 +20,7 @@ pub enum LastMark {
     Varies,
     /// No mark was passed.
     Never,
-    /// The match of this leaf ends so many bytes before the end of the try.
+    /// The match of this leaf ends so many bytes before the end of the attempt.
     Back(LeafId, usize),
 }
 
@@ -37,7 +37,7 @@ struct Search {
 ///
 /// # Errors
 ///
-/// Returns an error if memory runs out.
+/// Returns `AllocError` if memory runs out.
 pub(super) fn last_marks_of(alloc: Global, parts: &CodeParts) -> Result<Vec<LastMark>, AllocError>
     requires { IsSound (code_of parts.now) }
     ensures { IfOk result (λ marks. AreLastMarks (code_of parts.now) marks.items) }
@@ -53,7 +53,7 @@ pub(super) fn last_marks_of(alloc: Global, parts: &CodeParts) -> Result<Vec<Last
 ///
 /// # Errors
 ///
-/// Returns an error if memory runs out.
+/// Returns `AllocError` if memory runs out.
 fn find(alloc: Global, parts: &CodeParts) -> Result<Vec<LastMark>, AllocError> {
     let mut search = Search {
         found: vec![in alloc; LastMark::Unseen; parts.states.len()]?,
@@ -120,7 +120,7 @@ impl Search {
         }
     }
 
-    /// Notes that a try can end in the state with this last mark.
+    /// Notes that a match attempt can end in the state with this last mark.
     fn find_more(&mut self, state: usize, mark: LastMark) -> Result<(), AllocError> {
         if state >= self.found.len() {
             return Ok(());
@@ -189,7 +189,7 @@ fn agree(parts: &CodeParts, marks: &[LastMark]) -> bool
     true
 }
 
-/// Returns whether this can be the last mark in the state in which tries begin.
+/// Returns whether this can be the last mark in the state in which match attempts begin.
 fn begins_unmarked(mark: LastMark) -> bool
     ensures { IsTrue result → BeginsUnmarked mark }
 {

@@ -11,7 +11,7 @@ use std::alloc::{AllocError, Global};
 ///
 /// # Errors
 ///
-/// Returns an error if memory runs out.
+/// Returns `AllocError` if memory runs out.
 pub(super) fn masks_of(alloc: Global, parts: &CodeParts) -> Result<Vec<[u8; 32]>, AllocError>
     ensures { IfOk result (λ masks. AreMasks (code_of parts.now) masks.items) }
 {
@@ -57,7 +57,7 @@ fn mask_entry(parts: &CodeParts, test: usize, first: usize) -> u8
         + mask_bit(parts.passes_test(test, (first + 112) as u8), 7)
 }
 
-/// Returns bit `k` alone if the byte passes, and else 0.
+/// Returns bit `k` alone if the byte passes, and otherwise 0.
 fn mask_bit(passes: bool, k: usize) -> u8
     requires { k < 8 }
     ensures is { result ≡ if passes then 2 ^ k else 0 }

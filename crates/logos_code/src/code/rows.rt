@@ -19,9 +19,9 @@
 //! | 9, `UNSAID` | nothing | does something that entries do not name |
 //!
 //! A match that ends after the byte is marked by the state to which the byte leads, and that state
-//! does nothing else. Where the match ends before the byte, bit `LATE` says whether the state
-//! itself marks it and the byte leads nowhere (0), or the byte leads to a state that marks it late
-//! and does nothing else (1). What is too large for an entry is `UNSAID`.
+//! does nothing else. Where the match ends before the byte, bit `LATE` is whether the state itself
+//! marks it and the byte leads nowhere (0), or the byte leads to a state that marks it late and
+//! does nothing else (1). What is too large for an entry is `UNSAID`.
 
 ghost use Rattle.std.specs.Prelude.{◌≡◌, ◌+◌, ◌*◌, ◌<◌, ◌≤◌, ◌⊎◌, false, ℕ, List, length, map, None, Some, option_map, IfOk, IfSome, slice_index, slice_index_or};
 ghost use Rattle.logos_code.specs.Views.{comparison_of, some_compares, passes_test, by_conditions, IsSound, NamesTest, NamesState, NamesCondition, NamesFork, NamesWhatIsThere, stays, target, passes, mark_of, condition_of, branch_of, fork_of, use_of, jumps_of, state_of, has_mask, code_of, closing, IsStepOf, first_halting, first_closing, IsUse, IsPlainUse, Says, IsHalting, IsEntry, IsRow, AreRows, IsFirstEntry, IsFirstOf};
@@ -153,7 +153,7 @@ fn first_closing(used: MatchUse) -> u32
 ///
 /// # Errors
 ///
-/// Returns an error if memory runs out.
+/// Returns `AllocError` if memory runs out.
 pub(super) fn rows_of(alloc: Global, parts: &CodeParts) -> Result<Vec<u32>, AllocError>
     requires { IsSound (code_of parts.now) }
     ensures { IfOk result (λ rows. AreRows (code_of parts.now) rows.items) }
@@ -202,8 +202,8 @@ fn entry_at(parts: &CodeParts, state: &CodeState, byte: u8) -> u32
     entry_of_step(parts.step(state, byte))
 }
 
-/// Returns the row for the first byte of a try, from the rows of all states and the state in which
-/// tries begin. An entry of it leads to a state, closes a match or says nothing.
+/// Returns the row for the first byte of a match attempt, from the rows of all states and the state
+/// in which match attempts begin. An entry of it leads to a state, closes a match or says nothing.
 pub(super) fn first_row(rows: &[u32], root: usize) -> [u32; 256]
     requires { WIDTH * root + 256 ≤ length rows.now }
     ensures { IsFirstOf rows.now root result }

@@ -1,5 +1,5 @@
-//! Signs: the marks of states, found by one look. `making` makes them, and the slow way of a try
-//! reads them.
+//! Signs: the marks of states, found by one look. `making` makes them, and the slow way of a match
+//! attempt reads them.
 
 ghost use Rattle.std.specs.Prelude.{◌≡◌, IfOk, map, option_map};
 ghost use Rattle.logos_code.specs.Views.{mark_of, code_of, mark_by, AreSigns};
@@ -24,7 +24,7 @@ pub enum Sign {
 ///
 /// # Errors
 ///
-/// Returns an error if memory runs out.
+/// Returns `AllocError` if memory runs out.
 pub(super) fn signs_of(alloc: Global, parts: &CodeParts) -> Result<Vec<Sign>, AllocError>
     ensures { IfOk result (λ signs. AreSigns (code_of parts.now) (map mark_by signs.items)) }
 {

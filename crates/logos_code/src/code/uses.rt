@@ -22,7 +22,7 @@ pub(crate) struct LeafUse {
 ///
 /// # Errors
 ///
-/// Returns an error if memory runs out.
+/// Returns `AllocError` if memory runs out.
 pub(super) fn uses_of(alloc: Global, parts: &CodeParts) -> Result<Vec<LeafUse>, AllocError>
     ensures { IfOk result (λ uses. map use_by uses.items ≡ map use_of parts.now.leaves.items) }
 {

@@ -1,4 +1,4 @@
--- Definitions that clauses cite, and that name types of this crate.
+-- Definitions that contracts cite, and that name types of this crate.
 pub use Rattle.logos_evidence.specs.search.Covering.{AreCovering, end_at}
 pub use Rattle.logos_evidence.specs.search.Rests.{more}
 pub use Rattle.logos_evidence.specs.declared.search.steps.InputStep.{InputStep}

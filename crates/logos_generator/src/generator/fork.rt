@@ -43,8 +43,8 @@ fn edge_back<'e>(edges: &'e [(ByteClass, State)], state: usize) -> Option<&'e By
     None
 }
 
-/// Makes the fork of a state, without the edge back to it: a table for more than two edges, else
-/// conditions.
+/// Makes the fork of a state, without the edge back to it: a table for more than two edges,
+/// otherwise conditions.
 pub(super) fn impl_fork(
     alloc: Global,
     tables: &mut NodeTables,

@@ -20,8 +20,8 @@ pub struct FastLoop {
     pub test: usize,
 }
 
-/// The macro that ends a try. After a match that is skipped, the next try begins in the state with
-/// this number.
+/// The macro that ends a match attempt. After a match that is skipped, the next attempt begins in
+/// the state with this number.
 #[derive(Clone, Copy, Debug, PartialEq, Eq)]
 pub struct TakeAction {
     pub restart: usize,
@@ -123,7 +123,7 @@ impl<'s> Generator<'_, 's> {
         Ok(leaf_made(leaf)?)
     }
 
-    /// Returns the macro that ends a try.
+    /// Returns the macro that ends a match attempt.
     pub fn take_action_macro(&self) -> TakeAction
         ensures { result ≡ record { restart = 0 } }
     {
@@ -157,7 +157,7 @@ impl<'s> Generator<'_, 's> {
 }
 
 /// Returns the number of the state to which a fork has no edge: the state itself if `ignore_self`
-/// holds, else a number that no state has.
+/// holds, otherwise a number that no state has.
 fn left_out(ignore_self: bool, state: usize) -> usize
     ensures { result ≡ left_out ignore_self state }
 {

@@ -75,7 +75,7 @@ fn entry_of(tests: &[[bool; 256]], j: usize, b: usize) -> u8
 }
 
 /// Returns the bit of test number `k` for the byte `b`: 1 if there is such a test and it holds,
-/// else 0.
+/// otherwise 0.
 fn bit_of(tests: &[[bool; 256]], k: usize, b: usize) -> u8
     requires { b < 256 }
     ensures { result ≡ (if tests_byte tests.now k b then 1 else 0) }

@@ -1,4 +1,4 @@
-//! Distinguishes two states of a graph by bytes. Callers ask for it, of graphs that are made.
+//! Distinguishes two states of a graph by bytes. Users of the library call it on a finished graph.
 
 ghost use Rattle.std.specs.Prelude.{◌≡◌, ◌≢◌, ◌<◌, ◌↔◌, [], IsTrue, IfOk, length};
 ghost use Rattle.logos_graph.specs.Imports.{Distinguishes, IsEvidence};
@@ -18,12 +18,12 @@ pub struct Telling {
 }
 
 impl Graph<'_> {
-    /// Returns bytes that distinguish two different states of this graph, fewer than it has states,
-    /// and whether the end follows them.
+    /// Returns bytes that distinguish two different states of this graph, fewer bytes than it has
+    /// states, and whether the end follows them.
     ///
     /// # Errors
     ///
-    /// `Memory` where there is none for the bytes.
+    /// Returns `Memory` if memory runs out.
     pub fn telling(&self, alloc: Global, s: State, t: State) -> Result<Telling, Memory>
         requires s_in { s.0 < length self.now.states }
         requires t_in { t.0 < length self.now.states }
@@ -35,8 +35,8 @@ impl Graph<'_> {
         Ok(Telling { bytes, at_end })
     }
 
-    /// Returns whether the bytes, with the end after them or without, distinguish two states of
-    /// this graph. It takes no memory.
+    /// Returns whether the bytes, with or without the end after them, distinguish two states of
+    /// this graph. Does not allocate.
     pub fn checks(&self, s: State, t: State, bytes: &[u8], at_end: bool) -> bool
         requires s_in { s.0 < length self.now.states }
         requires t_in { t.0 < length self.now.states }

@@ -1,4 +1,4 @@
--- Definitions that clauses cite.
+-- Definitions that contracts cite: those of lower crates.
 pub use Rattle.logos_attribute.specs.Pieces.{Piece, pieces}
 pub use Rattle.logos_enum.specs.Enum.{Reads}
 pub use Rattle.logos_enum.specs.EnumValues.{EnumValue}

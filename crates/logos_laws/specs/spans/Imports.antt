@@ -1,4 +1,4 @@
--- Definitions that clauses cite.
+-- Definitions that contracts cite.
 pub use Rattle.logos_token.specs.Faults.{Fault}
 pub use Rattle.logos_token.specs.Tokens.{TokenList}
 pub use Rattle.logos_token.specs.Spelling.{Spells}

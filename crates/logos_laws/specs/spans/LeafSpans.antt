@@ -7,15 +7,15 @@ use Rattle.logos_token.specs.Spans.{IsSpanOf}
 use Rattle.logos_attribute.specs.Callbacks.{view_span}
 use Rattle.logos_leaf.specs.Leaves.{LeafView}
 
--- The span reaches from one of these tokens to another one: it is that of neighbouring tokens, at
--- any depth.
+-- The span reaches from one of these tokens to another one: it is the span of neighboring tokens,
+-- at any depth.
 pub record IsRunSpan (tokens : TokenList) (span : Span) : Type 0 where
   pub run : TokenList
   pub is_run : IsRunOf run tokens
   pub whole : span ≡ run_span run
 
 -- The literal of a leaf is one of these tokens, at any depth, and its callback, if it has one,
--- stands in them.
+-- consists of them.
 pub record OccursIn (tokens : TokenList) (leaf : LeafView) : Type 0 where
   pub token : IsRunOf (also (literal leaf.source leaf.span) none) tokens
   pub callback : IfSome leaf.callback (λ callback. IsRunSpan tokens (view_span callback))

@@ -22,8 +22,8 @@ pub record IsFoldedLeaf (d : DefinitionView) (kind : KindValue) (leaf : Option L
 abbrev pub leaf_by : DefinitionView → KindValue → Option (Pattern × ℕ) → Option LeafView
 leaf_by d kind = option_map (λ p. leaf_with false d kind (pattern_tree p.0) p.1)
 
--- This is the leaf of a pattern with this text, if it has one. The subpatterns are put into the
--- text already.
+-- This is the leaf of a pattern with this text, if it has one. The subpatterns have already been
+-- substituted in the text.
 pub record IsWholeLeaf (d : DefinitionView) (kind : KindValue) (text : List ℕ) (leaf : Option LeafView) (old new : List Fault) : Type 0 where
   pub reading : Reading
   pub reads : Reads (is_string d.literal.held) d.ignore_case (chars text) reading

@@ -1,4 +1,4 @@
--- Reading of texts as patterns, and the faults of that.
+-- Reading texts as patterns, and the faults of that.
 use Rattle.std.specs.Prelude.{◌≡◌, ℕ, ◌<◌, Bool, List, [], ◌++◌, codes, Option, Some, None, chars, drop, slice_get, unwrap_or}
 use Rattle.std.specs.Fmt.{decimal}
 use Rattle.logos_lexeme.specs.declared.lexeme.Span.{Span}
@@ -17,21 +17,21 @@ use Rattle.logos_pattern_tokens.specs.Token.{Text}
 use Rattle.logos_hir.specs.Tree.{Tree}
 use Rattle.logos_attribute.specs.Reports.{fault, fault_with, only}
 
--- What reading a text as a pattern gives.
+-- The result of reading a text as a pattern.
 pub data Reading : Type 0 where
-  -- It spells this tree.
+  -- The text spells this tree.
   spelled : (tree : Tree) → Reading
-  -- It spells none; which fault is reported is left open, and so where it is written.
+  -- The text spells no tree. Any kind of fault and any detail can be reported for it.
   broken : (kind : Kind) (detail : PatternDetail) → Reading
-  -- It spells none within the limit, and a beginning of it nests deeper.
+  -- The text spells no tree within the limit, and a prefix of it is nested more deeply.
   too_deep : Reading
 
--- The text spells no tree within the nesting limit, and a beginning of it nests deeper.
+-- The text spells no tree within the nesting limit, and a prefix of it is nested more deeply.
 pub record PassesNesting (unicode ignore_case : Bool) (text : Text) : Type 0 where
   pub deeper : (depth : ℕ) → IsSpelled (first_flags unicode ignore_case) text depth → 250 < depth
   pub begins : IsTooDeep (first_flags unicode ignore_case) text
 
--- A kind of fault as faults of sources have it.
+-- The kind of a fault as the details of faults name it.
 abbrev pub detail_kind : Kind → PatternKind
 detail_kind kinds.Unclosed = details.Unclosed
 detail_kind kinds.Unopened = details.Unopened
@@ -60,12 +60,12 @@ byte_in text at = unwrap_or (slice_get text at) 0
 abbrev pub front_in : List ℕ → PatternFront
 front_in text = record { first = byte_in text 0; second = byte_in text 1; third = byte_in text 2; fourth = byte_in text 3 }
 
--- This is known of a fault of this kind in a text of these bytes.
+-- This is the detail of a fault of this kind in a text of these bytes.
 pub record IsDetail (kind : Kind) (text : List ℕ) (detail : PatternDetail) : Type 0 where
   pub of_kind : detail.kind ≡ detail_kind kind
   pub front : detail.front ≡ front_in (drop detail.at text)
 
--- The text spells no tree under these flags, and this is known of a fault of this kind in its
+-- The text spells no tree with these flags, and this is the detail of a fault of this kind in its
 -- bytes.
 pub record IsBroken (unicode ignore_case : Bool) (text : Text) (kind : Kind) (detail : PatternDetail) : Type 0 where
   pub unspelled : (depth : ℕ) → IsSpelled (first_flags unicode ignore_case) text depth → ⊥
@@ -73,7 +73,7 @@ pub record IsBroken (unicode ignore_case : Bool) (text : Text) (kind : Kind) (de
   pub spells : chars bytes ≡ text
   pub known : IsDetail kind bytes detail
 
--- Reading the text under these flags gives this.
+-- This is the result of reading the text with these flags.
 abbrev pub Reads : (unicode ignore_case : Bool) → Text → Reading → Type 0
 Reads unicode ignore_case text (spelled tree) = IsFound (first_flags unicode ignore_case) text tree
 Reads unicode ignore_case text (broken kind detail) = IsBroken unicode ignore_case text kind detail
@@ -85,7 +85,7 @@ tree_in (spelled tree) = Some tree
 tree_in (broken kind detail) = None
 tree_in too_deep = None
 
--- The name of a kind of fault, as messages print it.
+-- The name of a kind of fault in messages.
 abbrev pub kind_name : Kind → List ℕ
 kind_name kinds.Unclosed = codes "Unclosed"
 kind_name kinds.Unopened = codes "Unopened"
@@ -110,7 +110,7 @@ kind_name kinds.WordBoundaryForm = codes "WordBoundaryForm"
 abbrev pub regex_text : ℕ → Kind → List ℕ
 regex_text at kind = codes "regex fault at byte " ++ decimal at ++ codes ": " ++ kind_name kind
 
--- The fault of a pattern of which this is known. The span is that of its literal.
+-- The fault of a pattern with this detail. The span is the span of the pattern's literal.
 abbrev pub regex_fault : Kind → PatternDetail → Span → Fault
 regex_fault kind detail span = fault_with Regex (regex_text detail.at kind) span (Pattern detail)
 

@@ -25,7 +25,8 @@ abbrev pub pattern_text : Held → List ℕ
 pattern_text (of_text value) = escaped_text false value
 pattern_text (of_bytes value) = escaped_bytes false value
 
--- The text that opens the group of a subpattern, and sets its flags whatever those around it are.
+-- The text that opens the group of a subpattern, and sets its flags regardless of the flags around
+-- it.
 abbrev pub flags_of : Held → List ℕ
 flags_of (of_text value) = codes "(?u:"
 flags_of (of_bytes value) = codes "(?-u:"
@@ -40,7 +41,7 @@ subpattern_name name = fault_about SubpatternName (codes "Invalid subpattern nam
 abbrev pub subpattern_twice : Slice → Fault
 subpattern_twice name = fault_about SubpatternTwice (codes "Subpattern `") name (codes "` already exists")
 
--- The faults of a subpattern of this name, where an earlier one has it or none does.
+-- The faults of a second subpattern with this name, if an earlier one has the name.
 abbrev pub twice_faults : Slice → Option Stored → List Fault
 twice_faults name None = []
 twice_faults name (Some former) = subpattern_twice name ∷ previous former.span ∷ []
@@ -53,61 +54,62 @@ utf8_text sub =
 abbrev pub utf8_subpattern : NamedLiteral → Fault
 utf8_subpattern sub = fault Utf8Subpattern (utf8_text sub) sub.literal.token.span
 
--- A subpattern of this name with its text.
+-- A subpattern with this name and its text.
 abbrev pub stored_as : Slice → List ℕ → Stored
 stored_as name text = record { name = name.text; span = name.span; text = text }
 
--- The subpatterns with one more, which replaces the one of its name.
+-- The subpatterns with one more, which replaces the one with its name.
 abbrev pub put_stored : Stored → List Stored → List Stored
 put_stored s [] = s ∷ []
 put_stored s (x ∷ rest) = if bytes_eq s.name x.name then s ∷ rest else x ∷ put_stored s rest
 
--- Storing a subpattern of this name with this text.
+-- The report of storing a subpattern with this name and this text.
 abbrev pub stored_report : Slice → List ℕ → List Stored → Report (List Stored)
 stored_report name text names = with_faults (put_stored (stored_as name text) names) (twice_faults name (stored_at names name.text))
 
--- Storing a subpattern, unless the mode refuses its text.
+-- The report of storing a subpattern, unless the UTF-8 mode does not allow its text.
 abbrev pub tested_report : Bool → NamedLiteral → List ℕ → List Stored → Report (List Stored)
 tested_report refused sub text names = if refused then with_faults names (only (utf8_subpattern sub)) else stored_report sub.name text names
 
--- Adding a subpattern whose text spells this tree.
+-- The report of adding a subpattern whose text spells this tree.
 abbrev pub tree_report : Bool → NamedLiteral → List ℕ → List Stored → Tree → Report (List Stored)
 tree_report utf8_mode sub text names tree = tested_report (utf8_mode && not (is_text tree)) sub text names
 
--- Adding a subpattern, by what reading its text gives.
+-- The report of adding a subpattern, given the result of reading its text.
 abbrev pub reading_report : Bool → NamedLiteral → List ℕ → List Stored → Reading → Report (List Stored)
 reading_report utf8_mode sub text names (spelled tree) = tree_report utf8_mode sub text names tree
 reading_report utf8_mode sub text names (broken kind detail) = with_faults names (pattern_faults sub.literal.token.span (broken kind detail))
 reading_report utf8_mode sub text names too_deep = with_faults names (pattern_faults sub.literal.token.span too_deep)
 
--- Adding a subpattern by its text with the earlier ones put in, if all of them are found.
+-- The report of adding a subpattern, given its text with the earlier ones substituted, if all of
+-- them are found.
 abbrev pub text_report : Bool → Reading → NamedLiteral → List Stored → Option (List ℕ) → Report (List Stored)
 text_report utf8_mode reading sub names None = without_faults names
 text_report utf8_mode reading sub names (Some text) = reading_report utf8_mode sub text names reading
 
--- The text of a subpattern with the earlier ones put in, if all of them are found.
+-- The text of a subpattern with the earlier ones substituted, if all of them are found.
 abbrev pub test_report : NamedLiteral → List Stored → Report (Option (List ℕ))
 test_report sub names = subst_report names sub.literal.token.span (chars (wrapped sub.literal.held))
 
--- Adding a subpattern to the earlier ones.
+-- The report of adding a subpattern to the earlier ones.
 abbrev pub subpattern_report : Bool → Reading → NamedLiteral → List Stored → Report (List Stored)
 subpattern_report utf8_mode reading sub names =
     if is_name sub.name.text then and_then (test_report sub names) (text_report utf8_mode reading sub names)
     else with_faults names (only (subpattern_name sub.name))
 
--- The text that is test compiled, if one is.
+-- The text that is read as a test, if there is one.
 abbrev pub test_text : NamedLiteral → List Stored → Option (List ℕ)
 test_text sub names = if is_name sub.name.text then (test_report sub names).value else None
 
--- Adding a subpattern leads from the subpatterns before to those after, and its faults are added to
--- the list. `reading` is what reading its text gives, if the text is tested.
+-- Adding a subpattern changes the subpatterns from `before` to `after`, and adds its faults to the
+-- list. `reading` is the result of reading its text, if the text is tested.
 pub record IsAdded (utf8_mode : Bool) (sub : NamedLiteral) (before after : List Stored) (old new : List Fault) : Type 0 where
   pub reading : Reading
   pub reads : (text : List ℕ) → test_text sub before ≡ Some text → Reads true false (chars text) reading
   pub reports : IsReport (subpattern_report utf8_mode reading sub before) after old new
 
--- Adding subpatterns one after another leads from the subpatterns before to those after, and their
--- faults are added to the list.
+-- Adding subpatterns one after another changes the subpatterns from `before` to `after`, and adds
+-- their faults to the list.
 pub data AreAdded (utf8_mode : Bool) : List NamedLiteral → (before after : List Stored) → (old new : List Fault) → Type 0 where
   ended : {names : List Stored} {faults : List Fault} → AreAdded utf8_mode [] names names faults faults
   further : {sub : NamedLiteral} {rest : List NamedLiteral} {before middle after : List Stored} {old now new : List Fault} →

@@ -12,12 +12,12 @@ use Rattle.logos_attribute.specs.Reports.{Report, with_faults, without_faults, a
 abbrev pub is_word : ℕ → Bool
 is_word c = ((nat_lt 47 c && nat_lt c 58) || (nat_lt 64 c && nat_lt c 91)) || ((nat_lt 96 c && nat_lt c 123) || (c == 95))
 
--- The longest beginning of a text that has such characters alone.
+-- The longest prefix of a text that consists of such characters.
 abbrev pub word_front : List ℕ → List ℕ
 word_front [] = []
 word_front (c ∷ rest) = if is_word c then c ∷ word_front rest else []
 
--- The rest of the text after it.
+-- The rest of the text after that prefix.
 abbrev pub word_rest : List ℕ → List ℕ
 word_rest [] = []
 word_rest (c ∷ rest) = if is_word c then word_rest rest else c ∷ rest
@@ -28,12 +28,12 @@ closed [] rest = None
 closed name [] = None
 closed name (c ∷ rest) = if c == 41 then Some name else None
 
--- The name in `(?&name)`, if the text begins with that.
+-- The name in `(?&name)`, if the text begins with that form.
 abbrev pub reference : List ℕ → Option (List ℕ)
 reference (a ∷ b ∷ c ∷ rest) = if (a == 40) && ((b == 63) && (c == 38)) then closed (word_front rest) (word_rest rest) else None
 reference _ = None
 
--- A part of a text: a character that stands for itself, or the name of a subpattern that is used.
+-- A part of a text: a character that represents itself, or the name of a subpattern that is used.
 pub data Part : Type 0 where
   itself : (character : ℕ) → Part
   used : (name : List ℕ) → Part
@@ -50,16 +50,16 @@ pub record Stored : Type 0 where
   pub span : Span
   pub text : List ℕ
 
--- The subpattern of this name, if there is one.
+-- The subpattern with this name, if there is one.
 abbrev pub stored_at : List Stored → List ℕ → Option Stored
 stored_at [] name = None
 stored_at (s ∷ rest) name = if bytes_eq name s.name then Some s else stored_at rest name
 
--- The text of the subpattern of this name, if there is one.
+-- The text of the subpattern with this name, if there is one.
 abbrev pub text_of : List Stored → List ℕ → Option (List ℕ)
 text_of names name = option_map (λ s. s.text) (stored_at names name)
 
--- The bytes of characters.
+-- The UTF-8 bytes of characters.
 abbrev pub encoded : List ℕ → List ℕ
 encoded characters = flat_map encode_utf8 characters
 
@@ -74,7 +74,7 @@ put s text = record { text = s.text ++ text; complete = s.complete }
 abbrev pub subpattern_missing : Span → List ℕ → Fault
 subpattern_missing span name = fault SubpatternMissing ((codes "Subpattern `" ++ name) ++ codes "` not found") span
 
--- Adding the text that is stored for a name, if one is.
+-- The report of adding the text that is stored for a name, if there is one.
 abbrev pub name_report : Span → List ℕ → Substituted → Option (List ℕ) → Report Substituted
 name_report span name s (Some text) = without_faults (put s text)
 name_report span name s None = with_faults (record s { complete = false }) (only (subpattern_missing span name))
@@ -94,7 +94,7 @@ whole_text s = if s.complete then Some s.text else None
 abbrev pub nothing_yet : Substituted
 nothing_yet = record { text = []; complete = true }
 
--- The text of a pattern with each name replaced by the text that is stored for it. `span` is that
--- of the pattern's literal, at which missing names are reported.
+-- The text of a pattern with each name replaced by the text that is stored for it. `span` is the
+-- span of the pattern's literal, at which missing names are reported.
 abbrev pub subst_report : List Stored → Span → List ℕ → Report (Option (List ℕ))
 subst_report names span text = map_report whole_text (parts_report names span (parts 0 text) nothing_yet)

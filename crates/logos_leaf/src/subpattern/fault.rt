@@ -1,5 +1,5 @@
-//! Reading of texts as patterns, and the faults of that. `logos_leaf` reads the text of each leaf
-//! with it.
+//! Reads texts as patterns and reports their faults. `logos_leaf` reads the text of each leaf with
+//! it.
 
 ghost use Rattle.std.specs.Prelude.{◌≡◌, ◌++◌, chars, drop, IfOk, IfSome, OnOk, OnErr, option_map, string_bytes};
 ghost use Rattle.logos_leaf.specs.subpattern.Imports.{pattern_tree, source_of, is_token, token_of, AddsFault, byte_in, detail_kind, front_in, kind_name, regex_fault, regex_text, IsDetail, IsRead, ReportsError};
@@ -13,7 +13,7 @@ use logos_token::error::{
 use logos_token::token::Span;
 use std::alloc::{AllocError, Global};
 
-/// The flags by which a text is read as a pattern.
+/// The flags with which a text is read as a pattern.
 #[derive(Clone, Copy)]
 pub struct ReadingMode {
     /// The pattern is that of a `token`, not of a `regex`.
@@ -50,7 +50,7 @@ fn kind_name(kind: Kind) -> &'static str
     }
 }
 
-/// Returns a kind of fault as faults of sources have it.
+/// Returns the kind of a fault as the details of faults name it.
 fn detail_kind(kind: Kind) -> PatternKind
     ensures { result ≡ detail_kind kind }
 {
@@ -98,7 +98,7 @@ fn front_in(text: &[u8]) -> PatternFront
     }
 }
 
-/// Returns the bytes of a text from `at` on; none if it has no byte there.
+/// Returns the bytes of a text from `at` on, or no bytes if `at` is past its end.
 fn rest_from(text: &[u8], at: usize) -> &[u8]
     ensures { result.now ≡ drop at text.now }
 {
@@ -117,7 +117,7 @@ fn regex_text(alloc: Global, kind: Kind, at: usize) -> Result<String, AllocError
     Ok(text)
 }
 
-/// Reports a fault of a pattern, of which `detail` is known. `span` is that of its literal.
+/// Reports a fault of a pattern, with its detail. `span` is the span of the pattern's literal.
 fn report_regex(
     kind: Kind,
     detail: PatternDetail,
@@ -136,7 +136,7 @@ fn report_regex(
     )
 }
 
-/// Returns what is known of a fault at the byte offset `at` of a pattern's text.
+/// Returns the detail of a fault at the byte offset `at` of a pattern's text.
 fn detail_of(
     alloc: Global,
     kind: Kind,
@@ -182,12 +182,12 @@ fn report_error(
     }
 }
 
-/// Reads a text that was made of a literal as a pattern. Returns `None` when the text is not a
-/// pattern, and reports that at the literal.
+/// Reads the text that was made from a literal as a pattern. Reports a text that is not a pattern
+/// at the literal, and returns `None` for it.
 ///
 /// # Errors
 ///
-/// Returns `Memory` if memory runs out. The faults are then as before.
+/// Returns `Memory` if memory runs out. The faults are then unchanged.
 pub fn read_pattern<'s>(
     regex: &str,
     written: WrittenPattern<'_, '_, 's>,

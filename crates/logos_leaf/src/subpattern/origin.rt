@@ -1,5 +1,5 @@
-//! Where the bytes of a pattern's text are written: in its own literal, or in a subpattern that was
-//! put in. `fault` looks up the byte of each fault here.
+//! Finds where the bytes of a pattern's text are written: in its own literal, or in a subpattern
+//! that was substituted. `fault` looks up the byte of each fault here.
 
 use crate::subpattern::substitution::{TextPart, characters, encoded, part_at};
 use crate::subpattern::{Subpatterns, flags_of, pattern_text, wrapped};
@@ -8,43 +8,45 @@ use logos_token::error::{ByteOrigin, Memory};
 use logos_token::token::Span;
 use std::alloc::Global;
 
-/// The literal of a pattern, and how the text of the pattern was made of it.
+/// The literal of a pattern, and how the text of the pattern was made from it.
 #[derive(Clone, Copy)]
 pub struct WrittenPattern<'l, 'p, 's> {
     pub literal: &'l Literal<'s>,
     pub making: Making<'p, 's>,
 }
 
-/// How the text of a pattern was made of its literal.
+/// The ways in which the text of a pattern is made from its literal.
 #[derive(Clone, Copy)]
 pub enum Making<'p, 's> {
-    /// As the text of a pattern that matches the value of the literal alone.
+    /// As the text of a pattern that matches exactly the value of the literal.
     Escaped,
-    /// By putting subpatterns into the text that the literal spells.
+    /// By substituting subpatterns in the text that the literal spells.
     PutIn(&'p Subpatterns<'s>),
-    /// By putting subpatterns into that text in a group that sets its flags.
+    /// By substituting subpatterns in that text, in a group that sets its flags.
     Grouped(&'p Subpatterns<'s>),
 }
 
-/// What a part of a pattern's own text becomes.
+/// The extent of a part of a pattern's own text after the substitution.
 #[derive(Clone, Copy)]
 struct Extent {
-    /// The number of its bytes in the text with all subpatterns put in.
+    /// The number of bytes of the part in the text with all subpatterns substituted.
     whole: usize,
-    /// The number of its bytes in the pattern's own text.
+    /// The number of bytes of the part in the pattern's own text.
     own: usize,
-    /// The span of the name of the subpattern that is put in, at its definition.
+    /// The span of the name of the subpattern that is substituted, at its definition, if there is
+    /// one.
     put_in: Option<Span>,
 }
 
-/// A search for a byte of a pattern's text, after some parts.
+/// A search for a byte of a pattern's text, after some of its parts.
 #[derive(Clone, Copy)]
 struct OriginSearch {
-    /// The number of bytes from the end of these parts to the byte, with all subpatterns put in.
+    /// The number of bytes from the end of these parts to the byte, with all subpatterns
+    /// substituted.
     left: usize,
     /// The number of bytes of these parts in the pattern's own text.
     own: usize,
-    /// The name of the first subpattern that is put in, at its definition.
+    /// The span of the name of the first subpattern that is substituted, at its definition.
     put_in: Option<Span>,
 }
 
@@ -76,7 +78,7 @@ impl OriginSearch {
     }
 }
 
-/// Returns what a part becomes.
+/// Returns the extent of a part.
 fn extent_of(
     alloc: Global,
     subpatterns: &Subpatterns<'_>,
@@ -95,7 +97,7 @@ fn extent_of(
     }
 }
 
-/// Returns what the use of a subpattern becomes.
+/// Returns the extent of the use of a subpattern.
 fn used_extent(
     alloc: Global,
     subpatterns: &Subpatterns<'_>,
@@ -117,8 +119,8 @@ fn used_extent(
     }
 }
 
-/// Returns the origin of the byte at `at` of a text with all subpatterns put in. `characters` are
-/// those of the text without them.
+/// Returns the origin of the byte at `at` of a text with all subpatterns substituted. `characters`
+/// are the characters of the text before the substitution.
 fn origin_in(
     alloc: Global,
     subpatterns: &Subpatterns<'_>,
@@ -146,7 +148,7 @@ fn origin_in(
 }
 
 /// Returns the origin of the byte at `at` of the text that a literal spells with all subpatterns
-/// put in.
+/// substituted.
 fn put_in_origin(
     alloc: Global,
     literal: &Literal<'_>,
@@ -158,7 +160,8 @@ fn put_in_origin(
     origin_in(alloc, subpatterns, &characters, at)
 }
 
-/// Returns the origin of the byte at `at` of such a text in a group that sets its flags.
+/// Returns the origin of the byte at `at` of the text that a literal spells with all subpatterns
+/// substituted, in a group that sets its flags.
 fn grouped_origin(
     alloc: Global,
     literal: &Literal<'_>,
@@ -171,7 +174,7 @@ fn grouped_origin(
     Ok(without_group(literal, origin))
 }
 
-/// Returns an origin in a group around a text as one in that text.
+/// Returns the origin in the text inside a group, given an origin in the group.
 fn without_group(literal: &Literal<'_>, origin: ByteOrigin) -> ByteOrigin {
     let length = flags_of(literal).len();
     let own = match origin.own {

@@ -1,5 +1,4 @@
-//! Substitution of subpatterns in the text of a pattern. It runs for each subpattern and for each
-//! leaf.
+//! Substitutes subpatterns in the text of a pattern. It runs for each subpattern and for each leaf.
 
 ghost use Rattle.std.specs.Prelude.{◌≡◌, ℕ, List, ◌+◌, ◌<◌, ◌++◌, ◌∷◌, [], length, drop, option_map, chars, OnOk, IfOk, MatchOption, string_bytes};
 ghost use Rattle.logos_leaf.specs.subpattern.Views.{IsReport, AddsFault, is_word, word_front, word_rest, closed, reference, parts, encoded, subpattern_missing, subst_report, part_report, name_report, text_of, names_of, part_of, text_view};
@@ -13,20 +12,20 @@ use std::alloc::{AllocError, Global};
 /// A part of a pattern's text.
 #[derive(Clone, Copy)]
 pub(crate) enum TextPart<'a> {
-    /// A character that stands for itself.
+    /// A character that represents itself.
     Itself(char),
     /// The name of a subpattern that is used.
     Used(&'a [char]),
 }
 
-/// The subpatterns by their names, and the span at which missing ones are reported.
+/// The subpatterns, and the span at which missing ones are reported.
 #[derive(Clone, Copy)]
 struct Lookup<'p, 's> {
     subpatterns: &'p Subpatterns<'s>,
     span: Span,
 }
 
-/// The text so far, with subpatterns put in.
+/// The text so far, with its subpatterns substituted.
 #[derive(Drop)]
 struct Text {
     text: String,
@@ -41,7 +40,7 @@ fn is_word(c: char) -> bool
     ((('/' < c) & (c < ':')) | (('@' < c) & (c < '['))) | ((('`' < c) & (c < '{')) | (c == '_'))
 }
 
-/// Returns the longest word with which a text begins, and the rest.
+/// Returns the longest word at the start of a text, and the rest.
 fn word_in(text: &[char]) -> (&[char], &[char])
     ensures front { result.0.now ≡ word_front text.now }
     ensures rest { result.1.now ≡ word_rest text.now }
@@ -53,7 +52,7 @@ fn word_in(text: &[char]) -> (&[char], &[char])
     (&text[..end], &text[end..])
 }
 
-/// Returns the rest after `(?&`, if the text begins with it.
+/// Returns the rest of the text after `(?&`, if the text begins with it.
 fn after_opening(text: &[char]) -> Option<&[char]>
     ensures { MatchOption result
         (reference text.now ≡ None)
@@ -65,7 +64,7 @@ fn after_opening(text: &[char]) -> Option<&[char]>
     }
 }
 
-/// Returns the rest after `)`, if the text begins with it.
+/// Returns the rest of the text after `)`, if the text begins with it.
 fn after_closing(text: &[char]) -> Option<&[char]>
     ensures { MatchOption result
         ((name : List ℕ) → closed name text.now ≡ None)
@@ -75,7 +74,8 @@ fn after_closing(text: &[char]) -> Option<&[char]>
     if *first == ')' { Some(rest) } else { None }
 }
 
-/// Returns the name in `(?&name)` and the rest after it, if the text begins so.
+/// Returns the name in `(?&name)` and the rest of the text after it, if the text begins with that
+/// form.
 fn reference_at(text: &[char]) -> Option<(&[char], &[char])>
     ensures { MatchOption result
         (reference text.now ≡ None)
@@ -107,7 +107,7 @@ pub(crate) fn part_at(text: &[char]) -> Option<(TextPart<'_>, &[char])>
     Some((TextPart::Itself(*first), rest))
 }
 
-/// Returns the text of these characters.
+/// Returns the UTF-8 text of these characters.
 pub(crate) fn encoded(alloc: Global, characters: &[char]) -> Result<String, AllocError>
     ensures { IfOk result (λ text. string_bytes text ≡ encoded characters.now) }
 {
@@ -185,8 +185,8 @@ pub(crate) fn characters(alloc: Global, text: &str) -> Result<Vec<char>, AllocEr
     text.chars().collect(alloc)
 }
 
-/// Returns the text of these characters with each subpattern put in. Returns `None` when one is
-/// missing, which is reported.
+/// Returns the text of these characters with each subpattern substituted. Returns `None` if a
+/// subpattern is missing, and reports that.
 fn put_together(
     lookup: Lookup<'_, '_>,
     characters: &[char],
@@ -212,8 +212,8 @@ fn put_together(
     Ok(None)
 }
 
-/// Returns the text with each subpattern put in. Returns `None` when one is missing, which is
-/// reported at `span`.
+/// Returns the text with each subpattern substituted. Returns `None` if a subpattern is missing,
+/// and reports that at `span`.
 pub(crate) fn substituted(
     subpatterns: &Subpatterns<'_>,
     text: &str,

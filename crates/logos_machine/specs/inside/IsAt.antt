@@ -1,4 +1,4 @@
--- Where a try can stand in a sound code.
+-- Where a match attempt can stand in a sound code.
 use Rattle.std.specs.Prelude.{◌≡◌, ℕ, ◌+◌, ◌<◌, ◌≤◌, ◌⊎◌, List, length, Option, None, IfSome}
 use Rattle.logos_automaton.specs.Munch.{Found, ended, matched, failed}
 use Rattle.logos_code.specs.Code.{CodeValue}

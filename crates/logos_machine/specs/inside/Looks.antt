@@ -1,4 +1,4 @@
--- What contracts see of the fast way of a try.
+-- The views of the fast way of a match attempt in contracts.
 use Rattle.std.specs.Prelude.{◌≡◌, ℕ, ◌+◌, ◌-◌, ◌<◌, ◌≤◌, ◌⊎◌, List, length, drop, Option, Some}
 use Rattle.std.specs.List.{prefix_len}
 use Rattle.logos_automaton.specs.Munch.{Found, ended, matched, failed}
@@ -24,7 +24,7 @@ module _ (code : CodeValue) (bytes : List ℕ) (start : ℕ) where
   LeadsOn state offset stop next = (context : Option (ℕ × ℕ)) → (passed : Option (ℕ × ℕ)) ×
       Does code bytes start (record { state = state; offset = offset; context = context }) (enters (record { state = next; offset = stop + 1; context = passed }))
 
-  -- The try ends in the state with a match of the leaf up to the stop.
+  -- The attempt ends in the state with a match of the leaf up to the stop.
   abbrev pub EndsHere : (state offset stop leaf : ℕ) → Type 0
   EndsHere state offset stop leaf = (context : Option (ℕ × ℕ)) →
       Does code bytes start (record { state = state; offset = offset; context = context }) (acts (Some (leaf, stop)) stop)
@@ -50,7 +50,8 @@ module _ (code : CodeValue) (bytes : List ℕ) (start : ℕ) where
   Sees state offset stop Stuck = stop < length bytes → EndsStuck state offset stop
   Sees state offset stop Unsaid = Unit {0}
 
-  -- The try enters the state after so many others, and what goes on from there is the whole try.
+  -- The attempt enters the state after so many others, and what continues from there is the whole
+  -- attempt.
   pub record Comes (state offset before : ℕ) : Type 0 where
     pub context : Option (ℕ × ℕ)
     pub is_at : IsStatus code bytes start (record { state = state; offset = offset; context = context })
@@ -58,8 +59,8 @@ module _ (code : CodeValue) (bytes : List ℕ) (start : ℕ) where
     pub few : before + start ≤ offset
     pub goes_on : (found : Found) (n : ℕ) → Goes code bytes start (record { state = state; offset = offset; context = context }) found n → Attempts code bytes start found (before + n)
 
-  -- The try comes to the state after so many others, its fast loop ends at the stop, and the entry
-  -- says what the state does there.
+  -- The attempt comes to the state after so many others, its fast loop ends at the stop, and the
+  -- entry says what the state does there.
   pub record Reaches (state entry stop before : ℕ) : Type 0 where
     pub offset : ℕ
     pub comes : Comes state offset before
@@ -68,13 +69,13 @@ module _ (code : CodeValue) (bytes : List ℕ) (start : ℕ) where
     pub sees : (step : Step) → IsStepOf entry step → Sees state offset stop step
     pub row_start : LeadsToRowStart entry
 
-  -- A try finds this in so many states.
+  -- A match attempt finds this in so many states.
   pub record Tried (found : Found) (steps : ℕ) : Type 0 where
     pub attempts : Attempts code bytes start found steps
     pub within : StaysWithin code bytes start found
     pub few : steps ≤ (length bytes - start) + 2
 
-  -- What a try finds.
+  -- What a match attempt finds.
   abbrev pub IsOutcome : Outcome → Type 0
   IsOutcome (SkipsTo to) = (leaf : ℕ) × (steps : ℕ) × Tried (matched leaf to) steps × IsUse code leaf Skips
   IsOutcome (EmitsTo leaf to steps) = Tried (matched leaf.0 to) steps × IsUse code leaf.0 Emits

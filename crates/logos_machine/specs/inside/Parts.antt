@@ -1,4 +1,4 @@
--- What contracts see of a try on a part of an input.
+-- The views of a match attempt on a part of an input in contracts.
 use Rattle.std.specs.Prelude.{ℕ, ◌+◌, ◌-◌, ◌≤◌, List, length}
 use Rattle.logos_automaton.specs.Munch.{Found, matched, failed}
 use Rattle.logos_code.specs.Code.{CodeValue}
@@ -24,7 +24,7 @@ module _ (code : CodeValue) (part : List ℕ) (start : ℕ) where
     pub within : StaysWithin code part start found
     pub few : steps ≤ (length part - start) + 2
 
-  -- What a try finds in the part.
+  -- What a match attempt finds in the part.
   abbrev pub IsSettled : Settled → Type 0
   IsSettled (Matched leaf to steps) = TriedWithin (matched leaf.0 to) steps
   IsSettled (Failed to steps) = TriedWithin (failed to) steps

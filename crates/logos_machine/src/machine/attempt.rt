@@ -1,6 +1,6 @@
-//! The slow way of a try: state by state, with a note of the last mark passed. `walk` takes it
-//! where entries do not say which mark was passed last, and `part` for inputs whose rest is not
-//! known.
+//! The slow way of a match attempt: state by state, with a note of the last mark passed. `walk`
+//! takes it where entries do not say which mark was passed last, and `part` for inputs whose rest
+//! is not known.
 
 ghost use Rattle.std.specs.Prelude.{◌≡◌, ◌+◌, ◌-◌, ◌<◌, ◌≤◌, ℕ, max, length, slice_get, drop, option_map, IfSome, IsTrue, IsCharBoundary, ◌^◌, ◌↔◌};
 ghost use Rattle.logos_machine.specs.Views.{state_at, mark_by, Does, Attempts, EndsError, target, looped, marked, IsStatus, StaysWithin, context_of, status_of, turn_of, found_of};
@@ -15,7 +15,7 @@ const CONTINUES: u8 = 128;
 
 const LEADS: u8 = 192;
 
-/// Where a try stands as it enters a state.
+/// Where a match attempt stands as it enters a state.
 #[derive(Clone, Copy)]
 pub(super) struct Status {
     pub state: usize,
@@ -28,13 +28,13 @@ pub(super) struct Status {
 #[derive(Clone, Copy)]
 pub(super) enum Turn {
     Enters(Status),
-    /// The try is over at this offset, with this last mark.
+    /// The attempt is over at this offset, with this last mark.
     Acts(Option<(LeafId, usize)>, usize),
-    /// The input is over, and nothing was read in this try.
+    /// The input is over, and nothing was read in this attempt.
     Returns,
 }
 
-/// What a try finds.
+/// What a match attempt finds.
 #[derive(Clone, Copy)]
 pub(super) enum Found {
     Ended,
@@ -175,8 +175,8 @@ fn is_continuation(byte: u8) -> bool
     matches!(byte, 0x80..=0xBF)
 }
 
-/// Returns what is found from a point on, and how many states were entered, by a try that notes the
-/// marks passed.
+/// Returns what is found from a point on, and how many states were entered, by a match attempt that
+/// notes the marks passed.
 #[cold]
 #[inline(never)]
 pub(super) fn attempt_with_marks(code: &Code, input: &[u8], start: usize) -> (Found, usize)

@@ -1,5 +1,5 @@
-//! Fast loops: where the bytes end that pass a test. Both ways of a try call it in a state that has
-//! one.
+//! Fast loops: where the bytes end that pass a test. Both ways of a match attempt call it in a
+//! state that has one.
 
 ghost use Rattle.std.specs.Prelude.{◌≡◌, ◌+◌, ◌/◌, ◌%◌, ◌<◌, ◌≤◌, length, map, not, slice_index};
 ghost use Rattle.logos_machine.specs.Views.{mask_l, passes_test, NamesTest, StopsAt};

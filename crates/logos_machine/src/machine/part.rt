@@ -29,7 +29,8 @@ impl<'c, 's, 'i, C: Fn(LeafId, &[u8]) -> Action> Lexer<'c, 's, 'i, C> {
     ///
     /// After `More`, the lexer is after the matches that yield no item, with an empty span. The
     /// next match attempt has come to the end of the part, and more bytes or the end of the input
-    /// lead on from there. To go on, put more bytes after `remainder`, and make a lexer of these.
+    /// lead on from there. To continue, put more bytes after `remainder`, and make a lexer of
+    /// these.
     pub fn next_within(&mut self, last: bool) -> Within<'i>
         requires { TakesMatches C.Fn self.old.code self.old.callback }
         ensures keeps { KeepsGiven self.old self.new }
@@ -83,13 +84,13 @@ impl<'c, 's, 'i, C: Fn(LeafId, &[u8]) -> Action> Lexer<'c, 's, 'i, C> {
 #[derive(Clone, Copy)]
 enum Move {
     Enters(Status),
-    /// The try is over at this offset, with this last mark.
+    /// The attempt is over at this offset, with this last mark.
     Acts(Option<(LeafId, usize)>, usize),
-    /// The match attempt comes to the end of the part, and can go on from there.
+    /// The match attempt comes to the end of the part, and can continue from there.
     Waits,
 }
 
-/// What a try finds in a part. The last numbers are how many states were entered.
+/// What a match attempt finds in a part. The last numbers are how many states were entered.
 #[derive(Clone, Copy)]
 enum Settled {
     /// A match of this leaf up to this offset.

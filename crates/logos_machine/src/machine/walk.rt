@@ -1,4 +1,5 @@
-//! The fast way of a try: a look at an entry for each byte. `Lexer::next` calls it for each try.
+//! The fast way of a match attempt: a look at an entry for each byte. `Lexer::next` calls it for
+//! each attempt.
 
 ghost use Rattle.std.specs.Prelude.{◌≡◌, ◌<◌, ◌≤◌, ◌/◌, ◌%◌, length, slice_index_or};
 ghost use Rattle.logos_machine.specs.Views.{state_at, IsSound, IsEntry, IsRowStart, Reaches, LooksAhead, IsOutcome};
@@ -12,8 +13,8 @@ use logos_code::code::rows::{
 };
 use logos_hir::leaf::LeafId;
 
-/// What a try finds. The numbers after leaves are the end of the match and how many states were
-/// entered.
+/// What a match attempt finds. The numbers after leaves are the end of the match and how many
+/// states were entered.
 #[derive(Clone, Copy)]
 pub enum Outcome {
     /// A match up to this offset that is skipped.
@@ -48,9 +49,9 @@ pub fn attempt(code: &Code, input: &[u8], start: usize) -> Outcome
     end_of(code, input, start, last)
 }
 
-/// Returns what is found from a point on by a try that notes the marks passed. Only that try is
-/// called out of line: its result is in memory, and this one is made anew from it, so that the
-/// compiler can hold it in registers.
+/// Returns what is found from a point on by a match attempt that notes the marks passed. Only that
+/// attempt is called out of line: its result is in memory, and this one is made anew from it, so
+/// that the compiler can hold it in registers.
 #[inline(always)]
 fn attempt_slowly(code: &Code, input: &[u8], start: usize) -> Outcome
     requires { start ≤ length input.now }
@@ -63,8 +64,8 @@ fn attempt_slowly(code: &Code, input: &[u8], start: usize) -> Outcome
     }
 }
 
-/// Returns what a try finds that ends with this entry, where and after so many states, in the state
-/// at a point.
+/// Returns what a match attempt finds that ends with this entry, where and after so many states, in
+/// the state at a point.
 #[inline(always)]
 fn end_of(code: &Code, input: &[u8], start: usize, last: (u32, usize, usize, usize)) -> Outcome
     requires sound { IsSound code.now }
@@ -100,8 +101,8 @@ fn end_of(code: &Code, input: &[u8], start: usize, last: (u32, usize, usize, usi
     attempt_slowly(code, input, start)
 }
 
-/// Returns what a try finds that ends before a byte that leads nowhere. Where the last mark passed
-/// is known of its last state, the try need not be made again.
+/// Returns what a match attempt finds that ends before a byte that leads nowhere. Where the last
+/// mark passed is known of its last state, the attempt need not be made again.
 #[inline(always)]
 fn stuck(code: &Code, input: &[u8], start: usize, last: (u32, usize, usize, usize)) -> Outcome
     requires sound { IsSound code.now }
@@ -129,8 +130,8 @@ fn halted(entry: u32) -> (LeafId, usize)
     (LeafId((entry % LATE) as usize), (entry / LATE) as usize)
 }
 
-/// Returns the last entry of a try, where its byte is, how many states were entered before the one
-/// that has it, and the offset of this state.
+/// Returns the last entry of a match attempt, where its byte is, how many states were entered
+/// before the one that has it, and the offset of this state.
 #[inline(always)]
 fn walk(code: &Code, input: &[u8], start: usize, first: u32) -> (u32, usize, usize, usize)
     requires sound { IsSound code.now }

@@ -1,3 +1,3 @@
-//! The faults of a pattern.
+//! The errors of patterns, re-exported.
 
 pub use logos_pattern_tokens::error::{Kind, PatternError};

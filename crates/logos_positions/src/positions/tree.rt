@@ -1,5 +1,5 @@
-//! Steps on one tree of several, whose places stand one after another. `logos_automaton` calls it
-//! for the steps that it stores.
+//! Steps on one tree of several, whose positions are numbered consecutively. `logos_automaton`
+//! calls it for the steps that it stores.
 
 ghost use Rattle.std.specs.Prelude.{◌^◌, ◌<◌, ◌+◌, IsTrue, IfOk};
 ghost use Rattle.logos_positions.specs.Views.{IsRising, test_at, core_of, is_measured, IsStepOf};
@@ -12,13 +12,13 @@ use std::alloc::{AllocError, Global};
 /// The step of one tree by a byte.
 #[derive(PartialEq, Eq, Drop)]
 pub struct TreeStep {
-    /// The places of the tree that read the byte, ascending.
+    /// The positions of the tree that read the byte, ascending.
     pub positions: Vec<usize>,
     /// Whether the tree can be left before the byte.
     pub left: bool,
 }
 
-/// Makes the step of one tree, which is not entered here and whose places begin at `base`.
+/// Makes the step of one tree that is not entered and whose positions begin at `base`.
 ///
 /// # Errors
 ///

@@ -24,14 +24,14 @@ IsFew code = 272 * length code.states ≤ 1048576
 abbrev pub IsMany : CodeValue → Type 0
 IsMany code = 3855 < length code.states
 
--- A try that stands in the state before the byte stands after it in this one: the fast loop takes
--- the byte, or it leads there.
+-- A match attempt that stands in the state before the byte stands after it in this one: the fast
+-- loop takes the byte, or it leads there.
 abbrev pub TakesTo : CodeValue → ℕ → ℕ → ℕ → Type 0
 TakesTo code s b next =
     let loop = (state_at code s).fast_loop in
     ((stays code loop b ≡ true) × (next ≡ s)) ⊎ ((stays code loop b ≡ false) × (target code (state_at code s).fork b ≡ Some next))
 
--- The offset is that of the state in which a try stands after the byte.
+-- The offset is that of the state in which a match attempt stands after the byte.
 pub record Goes (code : CodeValue) (s b row_start : ℕ) : Type 0 where
   pub next : ℕ
   pub there : next < length code.states
@@ -54,8 +54,8 @@ HasUse entry Emits = (bit_at entry 30 ≡ 1) × (bit_at entry 29 ≡ 0)
 HasUse entry Skips = bit_at entry 30 ≡ 0
 HasUse entry CallsBack = (bit_at entry 30 ≡ 1) × (bit_at entry 29 ≡ 1)
 
--- The entry of a byte before which a match of the leaf ends, and after which the next try stands at
--- the offset.
+-- The entry of a byte before which a match of the leaf ends, and after which the next attempt
+-- stands at the offset.
 pub record IsEnded (entry leaf : ℕ) (used : MatchUse) (row_start : ℕ) : Type 0 where
   pub ended : bit_at entry 31 ≡ 1
   pub has_use : HasUse entry used
@@ -70,7 +70,7 @@ pub record EndsAs (code : CodeValue) (s b entry : ℕ) : Type 0 where
 
 -- The folded entry of a byte in a state. Without flags it names the offset of the state after the
 -- byte. With the flag of an end, a match of its leaf ends before the byte, and it names the offset
--- of the state after the byte in the try that begins there. With the other flag alone it says
+-- of the state after the byte in the attempt that begins there. With the other flag alone it says
 -- nothing.
 pub record IsFolded (code : CodeValue) (s b entry : ℕ) : Type 0 where
   pub goes : bit_at entry 31 ≡ 0 → bit_at entry 30 ≡ 0 → Goes code s b (row_start_of entry)

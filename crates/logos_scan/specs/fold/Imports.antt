@@ -1,4 +1,4 @@
--- Definitions that clauses cite, and that name no type of this crate.
+-- Definitions that contracts cite, and that name no type of this crate.
 pub use Rattle.logos_code.specs.CodeView.{state_at}
 pub use Rattle.logos_code.specs.Headline.{IsSound}
 pub use Rattle.logos_code.specs.Rows.{IsStepOf, LeadsToRowStart, Says, first_halting}

@@ -3,11 +3,11 @@ use Rattle.std.specs.Prelude.{◌≡◌, ℕ, zero, suc, ◌+◌, ◌-◌, ◌*�
 use Rattle.std.specs.Int.{bit_at}
 use Rattle.std.specs.Int.Count.{count_leading_zeros}
 
--- 1 at an entry at which there is something to do, and else 0.
+-- 1 at an entry at which there is something to do, and otherwise 0.
 abbrev pub token_bit : List ℕ → ℕ → ℕ
 token_bit trace k = bit_at (slice_index trace k) 30
 
--- 1 at an entry before whose byte a match ends, and else 0.
+-- 1 at an entry before whose byte a match ends, and otherwise 0.
 abbrev pub end_bit : List ℕ → ℕ → ℕ
 end_bit trace k = bit_at (slice_index trace k) 31
 
@@ -33,8 +33,8 @@ pub record IsLastEnd (trace : List ℕ) (from at last : ℕ) : Type 0 where
   pub ended : end_bit trace last ≡ 1
   pub none : NoEnd trace (last + 1) at
 
--- Where the try begins that stands before `at`: at the last end from `from` on, or where the one
--- began that stands before `from`.
+-- Where the attempt begins that stands before `at`: at the last end from `from` on, or where the
+-- one began that stands before `from`.
 abbrev pub StartsAt : (base : ℕ) (trace : List ℕ) (from start at now : ℕ) → Type 0
 StartsAt base trace from start at now = ((now ≡ start) × NoEnd trace from at) ⊎ ((last : ℕ) × IsLastEnd trace from at last × (now ≡ base + last))
 
@@ -56,8 +56,8 @@ pub record IsUnder (trace : List ℕ) (word from at bits : ℕ) : Type 0 where
   pub below : (i : ℕ) → i < 64 → from ≤ 64 * word + i → 64 * word + i < at → bit_at bits i ≡ end_bit trace (64 * word + i)
   pub above : (i : ℕ) → i < 64 → at ≤ 64 * word + i → bit_at bits i ≡ 0
 
--- Where the try begins that stands after ends of a word, by their bits: at the highest of them, or
--- where it began before.
+-- Where the attempt begins that stands after ends of a word, by their bits: at the highest of them,
+-- or where it began before.
 abbrev pub start_by : (here start bits : ℕ) → ℕ
 start_by here start zero = start
 start_by here start (suc bits) = here + (63 - count_leading_zeros 64 (suc bits))

@@ -1,4 +1,4 @@
--- What contracts see of a cursor, and of a chunk with its flags.
+-- The views of a cursor, and of a chunk with its flags in contracts.
 use Rattle.std.specs.Prelude.{◌≡◌, ℕ, ◌+◌, ◌-◌, ◌*◌, ◌^◌, ◌<◌, ◌≤◌, ◌⊎◌, List, slice_index, bit_and}
 use Rattle.logos_scan.specs.declared.walk.cursor.ChunkCursor.{ChunkCursor}
 use Rattle.logos_scan.specs.declared.walk.masks.ChunkEntries.{ChunkEntries}
@@ -19,11 +19,12 @@ pub record IsMarkedBeside (from to : ℕ) (chunk : ChunkEntries) : Type 0 where
 abbrev pub IsAt : List ℕ → ChunkCursor → Type 0
 IsAt trace cursor = Awaits trace cursor.word cursor.tokens cursor.ends cursor.from
 
--- Where the try begins that stands before an entry of the cursor's word, or before the next word.
+-- Where the attempt begins that stands before an entry of the cursor's word, or before the next
+-- word.
 abbrev pub start_at : ChunkCursor → ℕ → ℕ
 start_at cursor at = start_by (cursor.base + 64 * cursor.word) cursor.word_start (bit_and cursor.ends (2 ^ (at - 64 * cursor.word) - 1))
 
--- Where the try begins that stands before the cursor.
+-- Where the attempt begins that stands before the cursor.
 abbrev pub start_of : ChunkCursor → ℕ
 start_of cursor = start_at cursor cursor.from
 
@@ -38,8 +39,8 @@ pub record Passes (trace : List ℕ) (old new : ChunkCursor) : Type 0 where
   pub none : NoToken trace old.from new.from
   pub starts : StartsAt old.base trace old.from (start_of old) new.from (start_of new)
 
--- The cursor has passed the next entry at which there is something to do. The next try begins there
--- if a match ends before it.
+-- The cursor has passed the next entry at which there is something to do. The next attempt begins
+-- there if a match ends before it.
 pub record Finds (trace : List ℕ) (old new : ChunkCursor) (at : ℕ) : Type 0 where
   pub next : IsNext trace old.from at
   pub after : new.from ≡ at + 1

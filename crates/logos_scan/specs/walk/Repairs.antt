@@ -1,4 +1,4 @@
--- What contracts see of a repair.
+-- The views of a repair in contracts.
 use Rattle.std.specs.Prelude.{ℕ, ◌≤◌, List, length}
 use Rattle.logos_scan.specs.declared.walk.repair.Stretch.{Stretch}
 use Rattle.logos_scan.specs.declared.walk.repair.Repaired.{Repaired}

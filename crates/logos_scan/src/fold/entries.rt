@@ -69,8 +69,8 @@ fn step_at(code: &Code, state: usize, byte: u8) -> Step
     step_of(code.entry(WIDTH * state, byte))
 }
 
-/// Returns the offset of the state in which a try stands after the byte, if it is known that the
-/// byte keeps the try going.
+/// Returns the offset of the state in which a match attempt stands after the byte, if it is known
+/// that the byte keeps the attempt going.
 fn row_start_after(code: &Code, state: usize, byte: u8) -> Option<usize>
     requires few { IsFew code.now }
     requires sound { IsSound code.now }
@@ -110,8 +110,8 @@ fn flags(used: MatchUse) -> u32
     }
 }
 
-/// Returns the entry of a byte before which a match ends, and after which the next try stands at
-/// the offset.
+/// Returns the entry of a byte before which a match ends, and after which the next attempt stands
+/// at the offset.
 fn ended(leaf: LeafId, used: MatchUse, row_start: usize) -> u32
     requires leaf { leaf.0 < LEAVES_NAMED }
     requires row_start { row_start < ENTRIES }
@@ -120,8 +120,8 @@ fn ended(leaf: LeafId, used: MatchUse, row_start: usize) -> u32
     flags(used) + LEAF * leaf.0 as u32 + row_start as u32
 }
 
-/// Returns the entry of a byte that does not keep the try going, from the offset after the byte in
-/// a new try.
+/// Returns the entry of a byte that does not keep the attempt going, from the offset after the byte
+/// in a new try.
 fn fold_end(code: &Code, state: usize, byte: u8, row_start: usize) -> u32
     requires few { IsFew code.now }
     requires state { state < length code.now.states }

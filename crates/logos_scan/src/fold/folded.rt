@@ -70,7 +70,7 @@ impl<'c, 's> Folded<'c, 's> {
 ///
 /// # Errors
 ///
-/// Returns an error if memory runs out.
+/// Returns `AllocError` if memory runs out.
 fn fold_rows(alloc: Global, code: &Code, states: usize) -> Result<Vec<u32>, AllocError>
     requires few { IsFew code.now }
     requires states { states ≡ length code.now.states }

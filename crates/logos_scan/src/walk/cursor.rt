@@ -15,7 +15,7 @@ pub struct ChunkCursor {
     pub base: usize,
     /// The first entry that is not passed.
     pub from: usize,
-    /// Where the try begins in the input that stands before the first end of the word.
+    /// Where the attempt begins in the input that stands before the first end of the word.
     pub word_start: usize,
     word: usize,
     tokens: u64,
@@ -23,8 +23,8 @@ pub struct ChunkCursor {
 }
 
 impl ChunkCursor {
-    /// Returns the cursor before the entry `from` of a chunk, where a try stands that begins at
-    /// `start`.
+    /// Returns the cursor before the entry `from` of a chunk, where a match attempt stands that
+    /// begins at `start`.
     #[inline(always)]
     pub fn new(chunk: &ChunkEntries, base: usize, start: usize, from: usize) -> ChunkCursor
         requires marked { IsMarked chunk.now }
@@ -46,7 +46,7 @@ impl ChunkCursor {
         }
     }
 
-    /// Returns where the try begins that stands after ends of the word, by their bits.
+    /// Returns where the attempt begins that stands after ends of the word, by their bits.
     #[inline(always)]
     fn start_after(self, bits: u64) -> usize
         requires room { HasRoom self.base }
@@ -59,7 +59,7 @@ impl ChunkCursor {
         self.base + 64 * self.word + (63 - bits.leading_zeros() as usize)
     }
 
-    /// Returns where the try begins that stands before an entry of the word.
+    /// Returns where the attempt begins that stands before an entry of the word.
     #[inline(always)]
     pub fn start_before(self, at: usize) -> usize
         requires room { HasRoom self.base }
@@ -115,7 +115,7 @@ impl ChunkCursor {
     }
 
     /// Returns the next entry at which there is something to do, and passes it. If there is none,
-    /// all entries are passed, and the try that stands at the end begins at `word_start`.
+    /// all entries are passed, and the attempt that stands at the end begins at `word_start`.
     #[inline(always)]
     pub fn next(&mut self, chunk: &ChunkEntries) -> Option<usize>
         requires marked { IsMarked chunk.now }

@@ -1,4 +1,5 @@
--- Definitions that clauses cite: those of lower crates, and those of this one.
+-- Definitions that contracts cite: those of lower crates, and those of this crate that name none of
+-- its types.
 pub use Rattle.logos_answers.specs.Locations.{number_named, location_named}
 pub use Rattle.logos_host.specs.Failures.{status_of}
 pub use Rattle.logos_options.specs.ArgumentSteps.{option_value}

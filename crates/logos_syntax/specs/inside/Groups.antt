@@ -15,7 +15,7 @@ use Rattle.logos_syntax.specs.Grammar.{atom_tree, class_tree, captures, group_tr
 abbrev pub GroupPart : Type 0
 GroupPart = Tree × ℕ
 
--- The inside of an open group, as far as it was read.
+-- The inside of an open group, as far as it has been read.
 pub record Group : Type 0 where
   pub flags : Flags
   pub captured : Bool
@@ -27,7 +27,7 @@ pub record Group : Type 0 where
 
 pub record State : Type 0 where
   pub top : Group
-  -- The groups around it, the innermost first.
+  -- The groups around the innermost one, the innermost first.
   pub below : List Group
 
 abbrev pub fresh : Flags → Bool → ℕ → Group

@@ -9,7 +9,7 @@ pub enum Entry<'s> {
     Punct(Punct),
     Literal(Literal<'s>),
     Doc(Doc<'s>),
-    /// A group with the number of entries inside it. They are the next ones.
+    /// A group with the number of entries inside it, which follow it.
     Group {
         delimiter: Delimiter,
         span: Span,
@@ -21,7 +21,7 @@ impl Entry<'_> {
     ghost use Rattle.std.specs.Prelude.{◌≡◌};
     ghost use Rattle.logos_token.specs.ViewImports.{size_of};
 
-    /// Returns how many of the next entries belong to this one.
+    /// Returns the number of the next entries that belong to this one.
     pub fn size(&self) -> usize
         ensures { result ≡ size_of self.now }
     {

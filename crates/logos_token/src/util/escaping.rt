@@ -1,4 +1,4 @@
-//! Writes texts as the contents of string literals. Faults that show tokens write them with it.
+//! Escapes texts for string literals. Faults that show tokens escape them with it.
 
 ghost use Rattle.std.specs.Prelude.{◌≡◌, ◌++◌, OnOk, string_bytes};
 ghost use Rattle.logos_token.specs.Imports.{escaped_character, escaped};

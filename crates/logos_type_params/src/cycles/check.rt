@@ -1,4 +1,5 @@
-//! Checks the memberships of all nodes, and reads off them which nodes lie on a cycle.
+//! Checks the memberships of all nodes, and reads from them the nodes that lie on a cycle.
+//! `on_cycles` calls it on the result of the search.
 
 ghost use Rattle.std.specs.Prelude.{◌≡◌, ℕ, ◌<◌, ◌↔◌, Some, true, false, IfOk, IfSome, IsTrue, Contains, length, vec_len, slice_index_or};
 ghost use Rattle.logos_type_params.specs.cycles.Views.{slice_get, Leads, graph, Edge, Follows, GoesToward, ComesFrom, FollowAll, HasRoot, HasInner, IsPlaced, IsEvidence};
@@ -6,7 +7,8 @@ ghost use Rattle.logos_type_params.specs.cycles.Views.{slice_get, Leads, graph, 
 use crate::cycles::evidence::Membership;
 use std::alloc::{AllocError, Global};
 
-/// Returns the node to which an edge of `node` leads. `edge` is its index in the list of `node`.
+/// Returns the node to which an edge of `node` leads, where `edge` is the index of the edge in the
+/// list of `node`.
 fn target(lists: &[Vec<usize>], node: usize, edge: usize) -> Option<usize>
     ensures { IfSome result (λ to. Edge (graph lists.now) node to) }
 {
@@ -15,7 +17,8 @@ fn target(lists: &[Vec<usize>], node: usize, edge: usize) -> Option<usize>
     Some(*to)
 }
 
-/// Returns whether `node` is its own root, or its edge `toward` leads to a node nearer to the root.
+/// Returns whether `node` is its own root, or the edge `toward` of its membership leads to a node
+/// nearer to the root.
 fn goes_toward(
     lists: &[Vec<usize>],
     memberships: &[Membership],
@@ -64,7 +67,7 @@ fn comes_from(
     other.from_rank < membership.from_rank
 }
 
-/// Returns whether the node `to` is in a later component than `membership`, or in the same one.
+/// Returns whether the node `to` is in the component of `membership` or in a later one.
 fn follows(memberships: &[Membership], membership: Membership, to: usize) -> bool
     ensures { IsTrue result → (next : Membership) →
         slice_get memberships.now to ≡ Some next → Follows membership next }
@@ -75,8 +78,7 @@ fn follows(memberships: &[Membership], membership: Membership, to: usize) -> boo
     membership.order < next.order || membership.order == next.order && membership.root == next.root
 }
 
-/// Returns whether each of these nodes is in a later component than `membership`, or in the same
-/// one.
+/// Returns whether each of these nodes is in the component of `membership` or in a later one.
 fn follow_all(memberships: &[Membership], membership: Membership, targets: &[usize]) -> bool
     ensures { IsTrue result → FollowAll memberships.now membership targets.now }
 {
@@ -88,7 +90,7 @@ fn follow_all(memberships: &[Membership], membership: Membership, targets: &[usi
     true
 }
 
-/// Returns whether the membership of `node` is right.
+/// Returns whether the membership of `node` is correct.
 fn is_placed(lists: &[Vec<usize>], memberships: &[Membership], node: usize) -> bool
     ensures { IsTrue result → (membership : Membership) → slice_get memberships.now node ≡ Some membership →
         IsPlaced (graph lists.now) memberships.now node membership }
@@ -108,7 +110,7 @@ fn is_placed(lists: &[Vec<usize>], memberships: &[Membership], node: usize) -> b
     follow_all(memberships, *membership, list)
 }
 
-/// Returns whether the memberships of all nodes are right.
+/// Returns whether the memberships of all nodes are correct.
 pub(crate) fn is_evidence(lists: &[Vec<usize>], memberships: &[Membership]) -> bool
     ensures { IsTrue result → IsEvidence (graph lists.now) memberships.now }
 {

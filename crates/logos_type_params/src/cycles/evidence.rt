@@ -1,5 +1,5 @@
-//! Finds the membership of each node among the components of a graph. The functions here have no
-//! contracts: what they find is checked afterwards.
+//! Finds the membership of each node in the components of a graph. The functions here have no
+//! contracts, since `check` validates their result.
 
 mod backward_walk;
 mod forward_walk;
@@ -8,27 +8,27 @@ use crate::cycles::evidence::backward_walk::Backward;
 use crate::cycles::evidence::forward_walk::Forward;
 use std::alloc::{AllocError, Global};
 
-/// The membership of a node among the components of its graph. A component is a greatest set of
-/// nodes that all lead to one another.
+/// The membership of a node in a component of its graph. A component is a maximal set of nodes that
+/// all lead to one another.
 #[derive(Clone, Copy)]
 pub(crate) struct Membership {
-    /// The node that its component is named by.
+    /// The node that identifies the component.
     pub(crate) root: usize,
-    /// The number of its component. Edges between components lead to greater numbers.
+    /// The number of the component. Edges between components lead to greater numbers.
     pub(crate) order: usize,
-    /// The index of its edge that leads nearer to the root.
+    /// The index of the node's edge that leads nearer to the root.
     pub(crate) toward: usize,
-    /// Its distance to the root along those edges.
+    /// The distance from the node to the root along those edges.
     pub(crate) to_rank: usize,
-    /// A node that leads to it and is nearer to the root, on a path from the root.
+    /// A node that has an edge to this node and is nearer to the root, on a path from the root.
     pub(crate) from: usize,
-    /// The index of the edge of that node that leads to it.
+    /// The index of that edge among the edges of `from`.
     pub(crate) edge: usize,
-    /// Its distance from the root along that path.
+    /// The distance from the root to the node along that path.
     pub(crate) from_rank: usize,
 }
 
-/// Marks a node as met. Returns `false` if it was met before, or if there is no such node.
+/// Marks a node as visited. Returns `false` if it was visited before, or if there is no such node.
 fn meets(met: &mut [bool], node: usize) -> bool {
     let Some(met) = met.get_mut(node) else {
         return false;
@@ -40,8 +40,9 @@ fn meets(met: &mut [bool], node: usize) -> bool {
     true
 }
 
-/// Returns the membership of each node. A walk along the edges gives the order in which nodes are
-/// finished. Walks against the edges, from the last node of that order on, give the components.
+/// Returns the membership of each node. A forward traversal along the edges determines the order in
+/// which nodes are finished. Backward traversals against the edges, from the last node of that
+/// order on, determine the components.
 ///
 /// # Errors
 ///

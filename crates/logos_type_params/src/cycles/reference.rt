@@ -1,20 +1,21 @@
-//! Finds the nodes that lie on a cycle by a walk from each of them.
+//! Finds the nodes that lie on a cycle by a traversal from each of them. `on_cycles` falls back to
+//! it if the check fails.
 
 ghost use Rattle.std.specs.Prelude.{◌≡◌, ℕ, ◌<◌, ◌↔◌, [], ◌∷◌, true, false, IfOk, OnOk, IsTrue, Contains, length, vec_len, slice_index_or};
 ghost use Rattle.logos_type_params.specs.cycles.Views.{Leads, targets_of, Reaches, graph};
 
 use std::alloc::{AllocError, Global};
 
-/// The nodes found by a walk from one node.
+/// The nodes found by a traversal from one node.
 #[derive(Drop)]
 struct Traversal {
     /// For each node, whether it is found.
     found: Vec<bool>,
-    /// The nodes that are found and whose edges were not followed yet.
+    /// The nodes that are found and whose edges have not been followed yet.
     waiting: Vec<usize>,
 }
 
-/// Adds a node, unless it is found already or is not there.
+/// Adds a node, unless it is already found or there is no such node.
 fn add(traversal: &mut Traversal, to: usize) -> Result<(), AllocError>
     ensures { OnOk result (Reaches (to ∷ []) traversal.old.found.items traversal.old.waiting.items
         traversal.new.found.items traversal.new.waiting.items) }

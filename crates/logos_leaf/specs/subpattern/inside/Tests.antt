@@ -7,7 +7,8 @@ use Rattle.logos_leaf.specs.subpattern.PatternFaults.{Reading, Reads}
 use Rattle.logos_leaf.specs.subpattern.Substitution.{Stored}
 use Rattle.logos_leaf.specs.subpattern.Subpatterns.{reading_report}
 
--- A subpattern with this text was added. The earlier subpatterns are put into the text already.
+-- A subpattern with this text was added. The earlier subpatterns have already been substituted in
+-- the text.
 pub record IsTested (utf8_mode : Bool) (sub : NamedLiteral) (text : List ℕ) (before after : List Stored) (old new : List Fault) : Type 0 where
   pub reading : Reading
   pub reads : Reads true false (chars text) reading

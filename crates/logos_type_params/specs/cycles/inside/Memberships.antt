@@ -5,7 +5,7 @@ use Rattle.std.specs.declared.alloc.Global.{Global}
 use Rattle.logos_type_params.specs.cycles.Cycles.{targets_of}
 use Rattle.logos_type_params.specs.declared.cycles.evidence.Membership.{Membership}
 
--- The lists of a call as a graph.
+-- The lists of an argument as a graph.
 abbrev pub graph : List (Vec ℕ Global) → List (List ℕ)
 graph lists = map (λ list. list.items) lists
 
@@ -13,12 +13,12 @@ graph lists = map (λ list. list.items) lists
 abbrev pub Edge : List (List ℕ) → ℕ → ℕ → Type 0
 Edge graph from to = Contains (targets_of graph from) to
 
--- The second membership is in a later component, or in the same one.
+-- The second membership is in the component of the first or in a later one.
 abbrev pub Follows : Membership → Membership → Type 0
 Follows membership next = (membership.order < next.order)
     ⊎ ((membership.order ≡ next.order) × (membership.root ≡ next.root))
 
--- Each of these nodes is in a later component, or in the same one.
+-- Each of these nodes is in the component of the membership or in a later one.
 abbrev pub FollowAll : List Membership → Membership → List ℕ → Type 0
 FollowAll memberships membership targets = (to : ℕ) → Contains targets to → (next : Membership) →
     slice_get memberships to ≡ Some next → Follows membership next

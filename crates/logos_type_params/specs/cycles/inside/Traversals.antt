@@ -6,12 +6,12 @@ use Rattle.std.specs.List.{count_by}
 abbrev pub IsFound : List Bool → ℕ → Type 0
 IsFound found node = slice_index_or found node false ≡ true
 
--- How many nodes are not found, and how many wait.
+-- The number of nodes that are not found plus the number of nodes that are waiting.
 abbrev pub left_in : List Bool → List ℕ → ℕ
 left_in found waiting = count_by not found + length waiting
 
--- Each of the targets that is a node is found afterwards, and no other node is added. Those that
--- were added wait.
+-- Each of the targets that is a node is found afterwards, and no other node is added. The added
+-- nodes are waiting.
 pub record Reaches (targets : List ℕ) (found : List Bool) (waiting : List ℕ)
     (found' : List Bool) (waiting' : List ℕ) : Type 0 where
   pub same_length : length found' ≡ length found

@@ -1,4 +1,4 @@
-//! Walks against the edges, one for each component.
+//! Traverses a graph against its edges, once for each component.
 
 use crate::cycles::evidence::{Membership, meets};
 use std::alloc::{AllocError, Global};
@@ -11,16 +11,16 @@ struct Arrow {
     edge: usize,
 }
 
-/// The state of the walks against the edges.
+/// The state of the traversals against the edges.
 #[derive(Drop)]
 pub(crate) struct Backward {
-    /// The memberships of the nodes; those that were met have their components.
+    /// The memberships of the nodes. The nodes that were visited have their components.
     pub(crate) memberships: Vec<Membership>,
     /// The edges that lead to each node.
     arrows: Vec<Vec<Arrow>>,
-    /// For each node, whether it was met.
+    /// For each node, whether it was visited.
     met: Vec<bool>,
-    /// The nodes that were met, in the order in which they were.
+    /// The nodes that were visited, in the order of the visits.
     order: Vec<usize>,
 }
 
@@ -44,7 +44,7 @@ fn no_arrows(alloc: Global, len: usize) -> Result<Vec<Vec<Arrow>>, AllocError> {
 }
 
 impl Backward {
-    /// Returns the state before the first walk.
+    /// Returns the state before the first traversal.
     ///
     /// # Errors
     ///
@@ -67,8 +67,8 @@ impl Backward {
         })
     }
 
-    /// Puts `node` into the component of `root`, unless it was met before. `edge` is its edge that
-    /// leads nearer to the root.
+    /// Adds `node` to the component of `root`, unless it was visited before. `edge` is the index of
+    /// its edge that leads nearer to the root.
     fn membership(
         &mut self,
         node: usize,
@@ -90,7 +90,7 @@ impl Backward {
         Ok(())
     }
 
-    /// Returns how many edges lead to a node.
+    /// Returns the number of edges that lead to a node.
     fn arrow_count(&self, node: usize) -> usize {
         match self.arrows.get(node) {
             Some(row) => row.len(),
@@ -103,7 +103,7 @@ impl Backward {
         self.arrows.get(node)?.get(at).copied()
     }
 
-    /// Puts the nodes that lead to `node` into its component.
+    /// Adds the nodes that lead to `node` to its component.
     fn spread(&mut self, node: usize, root: usize, start: usize) -> Result<(), AllocError> {
         for at in 0..self.arrow_count(node) {
             if let Some(arrow) = self.arrow(node, at) {
@@ -113,8 +113,8 @@ impl Backward {
         Ok(())
     }
 
-    /// Visits the nodes that were met from the index `start` on, and puts those that lead to them
-    /// into the component.
+    /// Visits the nodes at the index `start` and after it in the order, and adds those that lead to
+    /// them to the component.
     fn finish(&mut self, root: usize, start: usize) -> Result<(), AllocError> {
         let mut at = start;
         while let Some(node) = self.order.get(at).copied() {
@@ -124,7 +124,7 @@ impl Backward {
         Ok(())
     }
 
-    /// Walks from each of these nodes, the last one first.
+    /// Traverses the graph from each of these nodes, the last one first.
     ///
     /// # Errors
     ///

@@ -1,32 +1,33 @@
-//! A walk along the edges, which finishes a node after all nodes to which it leads.
+//! Traverses a graph along its edges, and finishes a node after all nodes to which it leads.
 
 use crate::cycles::evidence::{Membership, meets};
 use std::alloc::{AllocError, Global};
 
-/// A node on the path, some of whose edges are still to be followed.
+/// A node on the path, some of whose edges have not been followed yet.
 #[derive(Clone, Copy)]
 struct PathNode {
     node: usize,
-    /// The index of its next edge.
+    /// The index of the next edge to follow.
     next: usize,
 }
 
-/// The state of the walk along the edges.
+/// The state of the traversal along the edges.
 #[derive(Drop)]
 pub(crate) struct Forward {
-    /// For each node the edge through which it was met, and the length of the path then.
+    /// For each node the edge through which it was visited, and the length of the path at that
+    /// time.
     pub(crate) memberships: Vec<Membership>,
-    /// The nodes that are finished, in the order in which they were.
+    /// The nodes that are finished, in the order in which they were finished.
     pub(crate) left: Vec<usize>,
-    /// For each node, whether it was met.
+    /// For each node, whether it was visited.
     met: Vec<bool>,
-    /// The path from the start to the current node. Each node on it was met through an edge of the
-    /// one before.
+    /// The path from the start to the current node. Each node on it was visited through an edge of
+    /// the one before.
     path: Vec<PathNode>,
 }
 
-/// Returns the greatest number of steps that a walk can take: one for each edge, and one to finish
-/// each node.
+/// Returns the greatest number of steps of a traversal: one for each edge, and one to finish each
+/// node.
 fn steps_along(lists: &[Vec<usize>]) -> usize {
     let mut steps = lists.len();
     for list in lists {
@@ -36,7 +37,7 @@ fn steps_along(lists: &[Vec<usize>]) -> usize {
 }
 
 impl Forward {
-    /// Returns the state before the walk through `len` nodes.
+    /// Returns the state before the traversal of `len` nodes.
     ///
     /// # Errors
     ///
@@ -61,7 +62,7 @@ impl Forward {
         })
     }
 
-    /// Follows an edge. Adds the node to which it leads to the path, unless it was met before.
+    /// Follows an edge. Adds the node to which it leads to the path, unless it was visited before.
     fn follow(&mut self, from: usize, edge: usize, to: usize) -> Result<(), AllocError> {
         if !meets(&mut self.met, to) {
             return Ok(());
@@ -76,7 +77,7 @@ impl Forward {
         Ok(())
     }
 
-    /// Follows the next edge of the node that was last on the path, or finishes the node.
+    /// Follows the next edge of the last node on the path, or finishes the node.
     fn step(&mut self, lists: &[Vec<usize>], frame: PathNode) -> Result<(), AllocError> {
         let Some(list) = lists.get(frame.node) else {
             return Ok(());
@@ -92,7 +93,7 @@ impl Forward {
         self.follow(frame.node, frame.next, *to)
     }
 
-    /// Walks until the path is empty, for at most `steps` steps.
+    /// Continues until the path is empty, for at most `steps` steps.
     fn finish(&mut self, lists: &[Vec<usize>], steps: usize) -> Result<(), AllocError> {
         for _ in 0..steps {
             let Some(frame) = self.path.pop() else {
@@ -103,7 +104,7 @@ impl Forward {
         Ok(())
     }
 
-    /// Walks from each node that was not met.
+    /// Traverses the graph from each node that was not visited.
     ///
     /// # Errors
     ///
