@@ -237,7 +237,7 @@ fn add_group(
     Ok(())
 }
 
-/// Returns whether a body has another meaning without the brackets around it.
+/// Returns whether a body means something else without the brackets around it.
 fn loses_brackets(delimiter: Delimiter, inside: Tokens<'_, '_>) -> bool {
     match delimiter {
         Delimiter::Bracket => true,

@@ -251,7 +251,7 @@ fn push_made(
     Ok(())
 }
 
-/// Appends the leaves of a lexer or its examples, in the requested form.
+/// Appends the leaves of a lexer or its examples, in the form that is asked for.
 fn push_form(
     alloc: Global,
     pages: &mut Pages,
