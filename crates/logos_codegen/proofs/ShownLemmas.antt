@@ -33,7 +33,7 @@ rules_shown : (leaves : List LeafView) → rules_of_views leaves ≡ map rule_sh
 rules_shown [] = refl
 rules_shown (leaf ∷ leaves) = rw (rule_is_shown leaf, rules_shown leaves) refl
 
--- leaves that are shown alike stand for the same rules
+-- leaves that are shown alike have the same rules
 pub same_rules : (leaves others : List LeafView) → map shown leaves ≡ map shown others → rules_of_views leaves ≡ rules_of_views others
 same_rules leaves others e = rules_shown leaves ∙ ap (map rule_shown) e ∙ sym (rules_shown others)
 
