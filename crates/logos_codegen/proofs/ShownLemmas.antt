@@ -1,5 +1,5 @@
--- Leaves that differ only in where the names of their variants lie stand for the same rules, have
--- the same faults and give tokens of the same kinds.
+-- Leaves that differ only in the spans of the names of their variants have the same rules, the same
+-- faults and tokens of the same kinds.
 use Rattle.std.proofs.Common.{◌≡◌, ℕ, Bool, true, false, not, List, [], ◌∷◌, ◌++◌, map, flat_map, codes, Option, Some, None, is_some, refl, sym, ◌∙◌, ap, if◌then◌else◌}
 use Rattle.logos_token.specs.declared.error.fault_code.FaultCode.TheVariants.{Utf8Pattern}
 use Rattle.logos_token.specs.Faults.{Fault as SourceFault}
