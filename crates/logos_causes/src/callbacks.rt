@@ -1,5 +1,5 @@
 //! Warnings for callbacks: tokens that a callback loses, and tokens that were probably not meant as
-//! a callback.
+//! a callback. Used by `explanation`.
 
 use logos_pattern::leaf::{Callback, InlineCallback, Leaf};
 use logos_report::Warning;

@@ -1,4 +1,4 @@
-//! Whether an enum derives `Logos` by its name alone, and thus through an import.
+//! Whether an enum derives `Logos` by its name alone, and thus through an import. Used by `finder`.
 
 use logos_strip::helpers::{is_comma, is_macro_entry};
 use logos_token::token::{Delimiter, TokenTree, Tokens};

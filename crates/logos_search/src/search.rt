@@ -1,4 +1,4 @@
-//! The search for a shortest input.
+//! The search for a shortest input. Used by `cover` and `logos_evidence`.
 
 ghost use Rattle.std.specs.Prelude.{◌≡◌, IfOk, MatchOption};
 ghost use Rattle.logos_search.specs.Shortest.{IsShortest, NoneLeads};

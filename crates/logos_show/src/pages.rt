@@ -1,4 +1,4 @@
-//! The lexers of a file, as tables.
+//! The lexers of a file, as tables. Used by `comparison`, `program` and `stream`.
 
 ghost use Rattle.std.specs.Prelude.{IfErr};
 ghost use Rattle.logos_show.specs.Orders.{IsNoMisuse};

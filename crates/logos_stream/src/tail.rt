@@ -1,4 +1,4 @@
-//! The lexable prefix of the bytes that were read.
+//! The lexable prefix of the bytes that were read. Used by `window`.
 
 ghost use Rattle.std.specs.Prelude.{◌≡◌, ◌≤◌, ◌↔◌, length, false, IsTrue, IsCharBoundary};
 ghost use Rattle.logos_stream.specs.Views.{IsTail};

@@ -1,5 +1,5 @@
 //! Entries of `derive` that name the derive macro and are ignored, since the enum is not found or
-//! the entry is unknown.
+//! the entry is unknown. Used by `logos_file_warnings`.
 
 use crate::warning_list::fixed_warning;
 use logos_report::Warning;
