@@ -1,4 +1,4 @@
--- Definitions that clauses cite: of lower crates.
+-- Definitions of lower crates that clauses cite.
 pub use Rattle.logos_machine.specs.LexerValue.{TakesMatches, answers_of, begun, item_of}
 pub use Rattle.logos_machine.specs.Streams.{item_later}
 pub use Rattle.std.specs.Coded.{codes}

@@ -1,4 +1,4 @@
--- Definitions that clauses cite: of lower crates.
+-- Definitions of lower crates that clauses cite.
 pub use Rattle.logos_enum.specs.AttributeValues.{attribute_value}
 pub use Rattle.logos_enum.specs.EnumValues.{enum_value, variant_value}
 pub use Rattle.logos_token.specs.Views.{tokens_of}
