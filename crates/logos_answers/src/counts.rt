@@ -1,4 +1,4 @@
-//! Counts the items of each kind.
+//! Counts the items of each kind. Used by `notes` and `logos_items`.
 
 ghost use Rattle.std.specs.Prelude.{◌≡◌, ◌<◌, length, option_map};
 ghost use Rattle.logos_answers.specs.Imports.{Gains, code_variant, count_line, goes_on, is_same_name, line_after, sum_after, time_line, title_line, variant_line};

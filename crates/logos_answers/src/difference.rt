@@ -1,4 +1,5 @@
-//! The findings of two lexers at an input on which they differ.
+//! The findings of two lexers at an input on which they differ. Used by `callbacks`,
+//! `logos_records` and `logos_show`.
 
 use crate::matches::{bytes_between, push_first};
 use crate::names::variant_at;

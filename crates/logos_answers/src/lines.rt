@@ -1,4 +1,4 @@
-//! The line of an item.
+//! The line of an item. Used by `logos_items`.
 
 ghost use Rattle.std.specs.Prelude.{◌≡◌, ◌<◌, ◌≤◌, ◌+◌, length};
 

@@ -1,4 +1,4 @@
-//! A line and a column in an argument.
+//! A line and a column in an argument. Used by `logos_questions`.
 
 ghost use Rattle.std.specs.Prelude.{◌≡◌, Some};
 ghost use Rattle.logos_answers.specs.Locations.{digits_after, number_named, location_named, location_of, positive, with_digit};

@@ -1,4 +1,4 @@
-//! The names of leaves.
+//! The names of leaves. Used by `logos_records`.
 
 ghost use Rattle.std.specs.Prelude.{◌≡◌, option_map};
 ghost use Rattle.logos_answers.specs.Imports.{Gains, leaf_name, leaf_text, name_at, variant_name, variant_text};

@@ -1,4 +1,4 @@
-//! The offset of a line and a column.
+//! The offset of a line and a column. Used by `logos_show`.
 
 ghost use Rattle.std.specs.Prelude.{◌≡◌, ◌↔◌, ℕ, IsTrue, MatchOption, false};
 ghost use Rattle.logos_answers.specs.Imports.{IsOffsetOf, continues};

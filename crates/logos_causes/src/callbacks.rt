@@ -1,5 +1,5 @@
 //! Warnings for callbacks: tokens that a callback loses, and tokens that were probably not meant as
-//! a callback.
+//! a callback. Used by `explanation`.
 
 use logos_pattern::leaf::{Callback, InlineCallback, Leaf};
 use logos_report::Warning;
@@ -16,7 +16,7 @@ pub(crate) enum CallbackOwner {
     ErrorType,
 }
 
-/// Adds the warnings for the callbacks of these leaves of a source.
+/// Adds the warnings of the callbacks of these leaves of a source.
 pub(crate) fn add_callbacks(
     alloc: Global,
     source: &str,
@@ -30,7 +30,7 @@ pub(crate) fn add_callbacks(
     Ok(())
 }
 
-/// Adds the warnings for a callback, if there is one.
+/// Adds the warnings of a callback, if there is one.
 pub(crate) fn add_callback(
     alloc: Global,
     source: &str,
@@ -172,7 +172,7 @@ fn is_path_part(tree: TokenTree<'_, '_>) -> bool {
     }
 }
 
-/// Adds the warnings for a closure.
+/// Adds the warnings of a closure.
 fn add_closure(
     alloc: Global,
     source: &str,
@@ -196,7 +196,7 @@ fn after_bars<'t, 's>(closure: Tokens<'t, 's>) -> Tokens<'t, 's> {
     closure.rest().rest().rest()
 }
 
-/// Adds the warnings for the body of a closure, whose text begins in the source at an offset.
+/// Adds the warnings of the body of a closure, whose text begins in the source at an offset.
 fn add_body(
     offset: usize,
     body: Tokens<'_, '_>,
@@ -211,8 +211,7 @@ fn add_body(
 
 const BRACES: &str = "put all of the body in braces";
 
-/// Adds the warning for a body that begins with a group, if tokens follow it or its brackets are
-/// significant.
+/// Adds the warning of a body that begins with a group, if more follows or its brackets matter.
 fn add_group(
     offset: usize,
     group: Group<'_, '_>,
@@ -238,7 +237,7 @@ fn add_group(
     Ok(())
 }
 
-/// Returns whether a body has another meaning without the brackets around it.
+/// Returns whether a body means something else without the brackets around it.
 fn loses_brackets(delimiter: Delimiter, inside: Tokens<'_, '_>) -> bool {
     match delimiter {
         Delimiter::Bracket => true,
@@ -259,7 +258,7 @@ fn has_comma(run: Tokens<'_, '_>) -> bool {
     false
 }
 
-/// Adds the warning for a body that begins with the type of its value.
+/// Adds the warning of a body that begins with the type of its value.
 fn add_type(
     offset: usize,
     body: Tokens<'_, '_>,
@@ -305,7 +304,7 @@ fn add_escape(tree: TokenTree<'_, '_>, warnings: &mut Vec<Warning>) -> Result<()
     }
 }
 
-/// Returns a span relative to an offset as a span of the source.
+/// Returns a span that counts from an offset as one of the source.
 fn moved(span: Span, offset: usize) -> Span {
     Span {
         from: span.from.saturating_add(offset),

@@ -120,7 +120,7 @@ fn explain_misread(alloc: Global, error: ReadError) -> Result<Explained, Memory>
     }
 }
 
-/// Returns the explanation of the enum that a source spells, which has this span.
+/// Returns what is known of the enum that a source spells, which has this span.
 fn explain_item(
     alloc: Global,
     source: &str,
@@ -148,8 +148,8 @@ fn known_warnings(
     }
 }
 
-/// Returns the clues about the faults of the enum that a source spells, which has this span. Adds
-/// the warnings for its callbacks.
+/// Returns what is known of the faults of the enum that a source spells, which has this span. Adds
+/// the warnings of its callbacks.
 fn clues_in(
     alloc: Global,
     source: &str,
@@ -228,8 +228,8 @@ fn clues_of(alloc: Global, graph: &Graph<'_>) -> Result<Clues, AllocError>
     })
 }
 
-/// Returns the warnings for a lexer without faults: those for its callbacks, including the one for
-/// errors, and those for leaves that are never found. `source` is the text of its enum.
+/// Returns the warnings of a lexer without faults: those of its callbacks, of which one may be for
+/// errors, and those of leaves that are never found. `source` is the text of its enum.
 ///
 /// # Errors
 ///

@@ -1,4 +1,4 @@
-//! The patterns that can examine the bytes before their start.
+//! The patterns that can examine the bytes before their start. Used by `explanation`.
 
 ghost use Rattle.std.specs.Prelude.{◌≡◌, ◌∷◌, []};
 ghost use Rattle.logos_causes.specs.Imports.{some_leads, rule_of};

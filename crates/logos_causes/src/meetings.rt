@@ -1,4 +1,4 @@
-//! The clues about the sets of ambiguous leaves of a graph.
+//! The clues about the sets of ambiguous leaves of a graph. Used by `explanation`.
 
 ghost use Rattle.std.specs.Prelude.{◌≡◌, ◌≤◌, ◌++◌, ◌∷◌, [], IfOk, IsTrue, OnOk, length, map};
 ghost use Rattle.std.specs.List.Sorted.{IsStrictlyIncreasing};

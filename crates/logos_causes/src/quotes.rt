@@ -1,4 +1,4 @@
-//! Formats inputs for messages.
+//! Formats inputs for messages. Used by `meetings` and `shadowed_leaves`.
 
 use logos_page::Page;
 use std::str;

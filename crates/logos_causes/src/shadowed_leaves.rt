@@ -1,4 +1,4 @@
-//! Leaves that are never found, with the leaves that hide them.
+//! Leaves that are never found, with the leaves that hide them. Used by `explanation`.
 
 use crate::names::{name_of, text_with};
 use crate::quotes::push_quoted;

@@ -1,4 +1,4 @@
-//! The request of `logos_cli`, read from its arguments.
+//! The request of `logos_cli`, read from its arguments. Used by `batch` and `program`.
 
 ghost use Rattle.std.specs.Prelude.{◌≡◌, IfErr, IfOk, None, Some, is_some, map, option_map, string_bytes};
 ghost use Rattle.logos_cli.specs.Views.{arguments_value, requested, file_given, is_folder, named_shape, order_given, order_value, placed, request_given, request_value, shape_named, status_of};

@@ -8,8 +8,8 @@ use Rattle.logos_commands.specs.declared.command.Command.{Command}
 use Rattle.logos_commands.specs.declared.command.Command.TheVariants.{Text, Items, Diagram, Export, Strip}
 
 -- The request of the arguments: the generated code of the lexer in a file; the items of an input;
--- the state diagram of the lexer, printed or in a file; or the enum without what belongs to the
--- derive macro.
+-- the state diagram of the lexer, printed or in a file; or the enum without the derive and its
+-- attributes.
 pub data Requested : Type 0 where
   requests_text : (file : List ℕ) → (shape : Config) → Requested
   requests_items : (file input : List ℕ) → (shape : Config) → Requested

@@ -1,4 +1,4 @@
-//! The path of the file to which `export` writes a state diagram.
+//! The path of the file to which `export` writes a state diagram. Used by `outcome`.
 
 ghost use Rattle.std.specs.Prelude.{◌≡◌, IfErr, IfOk, option_copied, string_bytes};
 ghost use Rattle.logos_commands.specs.Views.{with_separator, destination, extension, file_at, file_in, refusal_by, FailsAt, IsNoMisuse};

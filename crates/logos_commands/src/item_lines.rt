@@ -1,4 +1,5 @@
 //! The command `lex`: a line for each item of an input, written in blocks while the input is lexed.
+//! Used by `command` and `program`.
 
 ghost use Rattle.std.specs.Prelude.{◌≡◌, ◌++◌, ◌+◌, ◌<◌, ◌≤◌, ℕ, List, [], IfErr, OnOk, IsTrue, IsUtf8, vec_len, vec_capacity};
 ghost use Rattle.logos_commands.specs.Views.{Appends, Keeps, TakesMatches, Action as Answer, answers_of, item_of, WritesLines, emits, line_of, AppendsFront, status_of, IsNoMisuse, IsOutputFailure, IsTornBy, PrintsItems, PrintsItemsOf, RefusesInput, RefusesItems};

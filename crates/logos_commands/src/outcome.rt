@@ -1,4 +1,4 @@
-//! The outcomes of commands. Each is complete before any of it is written.
+//! The outcomes of commands. Each is complete before any of it is written. Used by `program`.
 
 ghost use Rattle.std.specs.Prelude.{◌≡◌, ◌≢◌, ◌++◌, ◌∷◌, [], IfErr, IfOk, option_map, string_bytes};
 ghost use Rattle.logos_commands.specs.Views.{ident_slice, mermaid_of, OccurInOrder, texts_of, export_destination, file_at, EndsWithLine, FailsAt, IsNoMisuse, effect_of, status_of, IsLeft, IsPart, IsPartOf, ReadsSource, prints, shape_of, RefusesExport, RefusesLexer, RefusesStripping};

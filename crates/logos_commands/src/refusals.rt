@@ -1,5 +1,5 @@
 //! Refusals as failures whose text `logos` prints: a line for each fault, or the reason that a
-//! diagram is not exported.
+//! diagram is not exported. Used by `diagram_path`, `item_lines` and `outcome`.
 
 ghost use Rattle.std.specs.Prelude.{◌≡◌, ◌++◌, IfOk, OnOk, string_bytes};
 ghost use Rattle.logos_commands.specs.Views.{IsNoMisuse, IsRefusalOf, IsUnexportedBy, export_line, fault_head, fault_line, fault_lines, fault_of, faults_of, flat_map, line_character, on_one_line};

@@ -1,4 +1,4 @@
-//! Steps of an automaton, and the leaves that its states list.
+//! Steps of an automaton, and the leaves that its states list. Used by `losses` and `meetings`.
 
 ghost use Rattle.std.specs.Prelude.{◌≡◌, option_map, slice_get};
 ghost use Rattle.logos_automaton.specs.DfaView.{dfa_of};

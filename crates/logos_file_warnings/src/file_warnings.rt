@@ -73,8 +73,8 @@ pub fn add_text(
     add_warnings(offset, warnings, warned)
 }
 
-/// Adds the warnings for the lexer of an enum, whose text begins at an offset of a file. It may
-/// have a callback for errors.
+/// Adds the warnings of the lexer of an enum, whose text begins at an offset of a file. It may have
+/// a callback for errors.
 pub fn add_lexer(
     text: &str,
     offset: usize,
@@ -86,7 +86,7 @@ pub fn add_lexer(
     add_warnings(offset, warnings, warned)
 }
 
-/// Adds the warnings for entries of `derive` that are ignored in a file with these enums.
+/// Adds the warnings of entries of `derive` that are passed over in a file with these enums.
 pub fn add_passed(
     text: &str,
     found: &[FoundEnum],

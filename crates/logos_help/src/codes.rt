@@ -1,5 +1,5 @@
 //! The help for a fault, chosen by its code. `docs/FAULTS.md` has the same words, and
-//! `tests/lints/faults.py` compares them.
+//! `tests/lints/faults.py` compares them. Used by `adding`.
 
 ghost use Rattle.std.specs.Prelude.{option_map};
 ghost use Rattle.logos_help.specs.Patterns.{IsHelp};

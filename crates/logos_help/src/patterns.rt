@@ -1,5 +1,5 @@
 //! The help for a fault in a pattern, chosen by its kind and by the bytes at it. `docs/FAULTS.md`
-//! has the same words, and `tests/lints/faults.py` compares them.
+//! has the same words, and `tests/lints/faults.py` compares them. Used by `codes`.
 
 ghost use Rattle.std.specs.Prelude.{◌≡◌};
 ghost use Rattle.logos_help.specs.Patterns.{boundary_help, escape_help, escapes, flag_help, group_help, is_digit, looks_ahead, looks_back, opens_with, pattern_help, refers_back};

@@ -1,5 +1,5 @@
 //! The help for a fault, chosen by the text at its span. `docs/FAULTS.md` has the same words, and
-//! `tests/lints/faults.py` compares them.
+//! `tests/lints/faults.py` compares them. Used by `codes`.
 
 use crate::sight::{Sight, between_quotes};
 

@@ -19,7 +19,7 @@ reason_text reasons.ReadOnly = codes ": the file system is read-only"
 reason_text reasons.Taken = codes ": all names for a new file beside it are taken"
 reason_text reasons.Other = []
 
--- What is wrong with the arguments, and the invalid argument.
+-- The reason that the arguments are invalid, and the invalid argument.
 abbrev pub misuse_line : List ℕ → List ℕ → List ℕ
 misuse_line what [] = codes "error: " ++ (what ++ codes "\n")
 misuse_line what (byte ∷ word) = codes "error: " ++ (what ++ (codes " `" ++ ((byte ∷ word) ++ codes "`\n")))

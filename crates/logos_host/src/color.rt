@@ -1,4 +1,4 @@
-//! When a text has colors.
+//! When a text has colors. Used by `logos_cli` and `logos_options`.
 
 ghost use Rattle.std.specs.Prelude.{◌≡◌};
 ghost use Rattle.logos_host.specs.Colors.{color_named, has_colors};

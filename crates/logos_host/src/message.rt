@@ -60,7 +60,7 @@ fn write_not_text<E: Write>(path: &str, valid_up_to: usize, err: &mut E) -> io::
     writeln!(err, ": it is not UTF-8 at byte {valid_up_to}")
 }
 
-/// Writes what is wrong with the arguments, and the usage.
+/// Writes the reason that the arguments are invalid, and the usage.
 fn write_misuse<E: Write>(what: &str, word: &str, usage: &str, err: &mut E) -> io::Result<()>
     ensures { OnOk result (Appends (E.contents err.old) (E.contents err.new)
         (misuse_line what.now word.now ++ usage.now)) }
@@ -69,7 +69,7 @@ fn write_misuse<E: Write>(what: &str, word: &str, usage: &str, err: &mut E) -> i
     err.write_all(usage.as_bytes())
 }
 
-/// Writes what is wrong with the arguments.
+/// Writes the reason that the arguments are invalid.
 fn write_misuse_line<E: Write>(what: &str, word: &str, err: &mut E) -> io::Result<()>
     ensures { OnOk result (Appends (E.contents err.old) (E.contents err.new)
         (misuse_line what.now word.now)) }

@@ -1,4 +1,4 @@
-//! The paths of files.
+//! The paths of files. Used by `logos_cli`, `logos_commands` and `logos_expand`.
 
 ghost use Rattle.std.specs.Prelude.{◌≡◌};
 ghost use Rattle.logos_host.specs.Imports.{file_name};

@@ -1,4 +1,4 @@
-//! The messages of failures in `logos`: one line, without a reason.
+//! The messages of failures in `logos`: one line, without a reason. Used by `logos_commands`.
 
 ghost use Rattle.std.specs.Prelude.{◌++◌, OnOk, codes};
 ghost use Rattle.logos_host.specs.Views.{Appends, plain_message_of};

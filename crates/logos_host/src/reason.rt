@@ -1,4 +1,4 @@
-//! Why a file cannot be read or written.
+//! Why a file cannot be read or written. Used by `logos_commands` and `logos_items`.
 
 ghost use Rattle.std.specs.Prelude.{◌≡◌};
 ghost use Rattle.logos_host.specs.Messages.{reason_text};

@@ -1,4 +1,4 @@
-//! The files of the system, for programs that read sources.
+//! The files of the system, for programs that read sources. Used by `logos_cli`.
 
 use crate::comparison::{ComparableFiles, Occurrence};
 use crate::files::{FileError, Files};

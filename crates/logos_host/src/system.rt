@@ -1,4 +1,4 @@
-//! The files of the system.
+//! The files of the system. Used by `source_disk`, `logos_program` and `logos_show`.
 
 use crate::atomic_file::write_whole;
 use crate::comparison::{ComparableFiles, Occurrence};

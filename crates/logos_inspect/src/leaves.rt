@@ -1,4 +1,4 @@
-//! The rows of leaves in a table.
+//! The rows of leaves in a table. Used by `logos_answers`, `logos_records` and `logos_show`.
 
 ghost use Rattle.std.specs.Prelude.{◌≡◌, ◌↔◌, IsTrue, IfOk, Some, option_map, option_copied};
 ghost use Rattle.logos_inspect.specs.Views.{location_at, held, IsRowOf, IsTextAt, ShowsCallback, default_priority, held_priority, moved, variant_name};

@@ -1,4 +1,4 @@
-//! The leaves that a graph marks.
+//! The leaves that a graph marks. Used by `logos_causes`.
 
 ghost use Rattle.std.specs.Prelude.{◌≡◌, ℕ, ◌<◌, ◌⊎◌, ◌↔◌, IfOk, length, option_map};
 ghost use Rattle.logos_inspect.specs.Imports.{leaf_number, state_type_of, AreMarks, IsSet, Marks, AddsMark};

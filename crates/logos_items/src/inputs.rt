@@ -1,4 +1,4 @@
-//! Writes all items of an input in blocks.
+//! Writes all items of an input in blocks. Used by `items`.
 
 ghost use Rattle.std.specs.Prelude.{IfErr};
 ghost use Rattle.logos_items.specs.Imports.{IsNoMisuse, TakesMatches};

@@ -1,4 +1,5 @@
 //! The lines of items: those that are not yet written, the names of leaves in them, and the counts.
+//! Used by `items`, `streams` and `logos_show`.
 
 ghost use Rattle.std.specs.Prelude.{◌≡◌, ◌++◌, OnOk};
 ghost use Rattle.logos_items.specs.Imports.{totals_text};

@@ -1,4 +1,4 @@
-//! The items of an input, one JSON object for each.
+//! The items of an input, one JSON object for each. Used by `logos_show`.
 
 ghost use Rattle.std.specs.Prelude.{IfErr};
 ghost use Rattle.logos_items.specs.Imports.{IsNoMisuse, TakesMatches};

@@ -1,4 +1,4 @@
-//! The items of standard input, one line for each, written as they are found.
+//! The items of standard input, one line for each, written as they are found. Used by `logos_show`.
 
 ghost use Rattle.std.specs.Prelude.{◌<◌, IfErr};
 ghost use Rattle.logos_items.specs.Imports.{IsNoMisuse, KeepsCode, TakesMatches, unread_length};

@@ -1,4 +1,4 @@
-//! Lines of JSON that are appended to.
+//! Lines of JSON that are appended to. Used by `logos_messages` and `logos_records`.
 
 ghost use Rattle.std.specs.Prelude.{◌≡◌, ◌↔◌, ◌∷◌, [], true, IfOk, IsOk, IsTrue, decimal, option_map};
 ghost use Rattle.logos_json.specs.Imports.{Ends, Finishes, Gains, bool_member, byte_tokens, bytes_member, flat_map, list_member, maybe_bytes, maybe_number, maybe_text, null_member, number_member, text_member, begin_array, begin_object, boolean, end_array, end_object, key, null, number, string};

@@ -40,9 +40,9 @@ pub fn texts_occur_alike()
         OccurInReport texts whole ↔ OccurInText texts whole }
 {}
 
-/// A tree that is built from parts, from branches or from a repetition, in its simplest form,
-/// matches exactly what the parts match one after another, what one of the branches matches, or
-/// what the repetition matches.
+/// A tree that is built from parts, from branches or from a repetition, in its simplest form, has
+/// exactly the matches of the parts one after another, of one of the branches, or of the
+/// repetition.
 pub fn builders_change_no_match()
     ensures parts { (parts : List Tree) (bytes : List ℕ) (from to : ℕ) →
         Matches (concat_of parts) bytes from to ↔ MatchesInOrder (trees parts) bytes from to }

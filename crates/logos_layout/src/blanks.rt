@@ -1,4 +1,4 @@
-//! Where a line has blanks between its lexemes.
+//! The blanks between the lexemes of a line. Called by `state`.
 
 use crate::classes::{LexemeClass, Role};
 use logos_token::token::Delimiter;

@@ -1,4 +1,5 @@
-//! The classes of lexemes, which determine the layout around them.
+//! The classes of lexemes, which determine the layout around them. Used by `blanks`, `line_breaks`
+//! and `state`.
 
 use logos_token::token::{Delimiter, Spacing};
 

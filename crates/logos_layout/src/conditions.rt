@@ -1,4 +1,4 @@
-//! The conditions under which an item is compiled.
+//! The conditions under which an item is compiled. Used by `logos_expand`.
 
 ghost use Rattle.std.specs.Prelude.{◌≡◌, ◌++◌, OnOk, codes, string_bytes};
 ghost use Rattle.logos_layout.specs.Imports.{after_word, attribute_text, condition_text, conditions_text, text_if, tokens_of, tree_of};

@@ -1,4 +1,4 @@
-//! Puts the lexemes of a text into lines.
+//! Puts the lexemes of a text into lines. Used by `layout`.
 
 use crate::classes::{LexemeClass, Punctuation, Role, class_of_name, role_of};
 use crate::layout::{Note, Setting};

@@ -1,4 +1,4 @@
-//! Lines that are filled word by word.
+//! Lines that are filled word by word. Used by `line_breaks` and `state`.
 
 use logos_token::error::Memory;
 use std::alloc::Global;

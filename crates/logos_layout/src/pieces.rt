@@ -1,4 +1,5 @@
-//! The lexemes and the gaps of a text, one after another.
+//! The lexemes and the gaps of a text, one after another. Used by `line_breaks`, `plain_comments`
+//! and `without_derive`.
 
 ghost use Rattle.std.specs.Prelude.{◌<◌, IfSome, length};
 

@@ -1,4 +1,4 @@
-//! Puts inner documentation and attributes into plain comments.
+//! Puts inner documentation and attributes into plain comments. Used by `inner_attributes`.
 //!
 //! The output is untrusted: its caller checks that it spells no tokens.
 

@@ -1,5 +1,5 @@
 //! The state of a layout: the properties of the lexemes so far that determine the separator before
-//! the next one.
+//! the next one. Used by `line_breaks`.
 
 use crate::blanks::is_blank;
 use crate::classes::{LexemeClass, Role};

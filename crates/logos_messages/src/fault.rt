@@ -1,4 +1,4 @@
-//! The line of a fault.
+//! The line of a fault. Used by `messages` and `notes`.
 
 ghost use Rattle.std.specs.Prelude.{◌≡◌, false, IfOk, IfSome, OnOk, option_map, string_bytes};
 ghost use Rattle.logos_messages.specs.Imports.{YieldsMessage, PutsFault, OccurInOrder, fault_head, fault_of, fault_texts};

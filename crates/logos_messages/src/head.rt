@@ -1,4 +1,4 @@
-//! The beginning of the line of a fault.
+//! The beginning of the line of a fault. Used by `fault`, `rest_line` and `warnings`.
 
 ghost use Rattle.std.specs.Prelude.{◌≡◌, ◌++◌, [], ◌∷◌, codes, if◌then◌else◌};
 ghost use Rattle.logos_messages.specs.Imports.{Gains, code_member, error_tokens, fault_head, fault_of, level_of, message_tokens, name_of};

@@ -1,4 +1,4 @@
-//! Lines of a file, and the columns of a span in them.
+//! Lines of a file, and the columns of a span in them. Used by `spans`.
 
 ghost use Rattle.std.specs.Prelude.{◌≡◌, [], ◌∷◌};
 ghost use Rattle.logos_messages.specs.Imports.{Gains, YieldsLineList, YieldsLines, marked_tokens};

@@ -1,4 +1,5 @@
-//! The faults of a source, one line for each, but at most 50 of one code.
+//! The faults of a source, one line for each, but at most 50 of one code. Used by `logos_expand`
+//! and `logos_show`.
 
 ghost use Rattle.std.specs.Prelude.{◌≡◌, ◌≤◌, ◌<◌, ◌+◌, ◌++◌, List, ℕ, IfOk, OnErr, OnOk, length, take};
 ghost use Rattle.logos_json.specs.Lines.{LinesValue};

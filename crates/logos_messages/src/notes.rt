@@ -1,4 +1,4 @@
-//! The notes and the help of a fault.
+//! The notes and the help of a fault. Used by `fault`, `rest_line` and `warnings`.
 
 ghost use Rattle.std.specs.Prelude.{◌≡◌, [], ◌∷◌, option_map, string_bytes};
 ghost use Rattle.logos_messages.specs.Imports.{Gains, YieldsNoteList, YieldsNotes, list_member, note_tokens, nothing_tokens};

@@ -1,4 +1,4 @@
-//! The line with the number of faults of a code that are left out.
+//! The line with the number of faults of a code that are left out. Used by `messages`.
 
 ghost use Rattle.std.specs.Prelude.{◌≡◌, ◌++◌, ◌∷◌, [], false, IfOk, OnOk, codes, decimal, string_bytes};
 ghost use Rattle.logos_messages.specs.Imports.{Gains, PutsRest, OccurInOrder, left_out_tokens, rest_line};

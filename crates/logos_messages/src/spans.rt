@@ -1,4 +1,4 @@
-//! The spans of a fault or a warning.
+//! The spans of a fault or a warning. Used by `fault` and `warnings`.
 
 ghost use Rattle.std.specs.Prelude.{◌≡◌, [], ◌∷◌, List, Some, None, codes, option_map};
 ghost use Rattle.logos_messages.specs.Imports.{Gains, YieldsOther, YieldsSpan, YieldsSpanList, bytes_tokens, label_tokens, locations_tokens};

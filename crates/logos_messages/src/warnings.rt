@@ -1,4 +1,4 @@
-//! The warnings of a part of a file, one line for each.
+//! The warnings of a part of a file, one line for each. Used by `logos_file_warnings`.
 
 ghost use Rattle.std.specs.Prelude.{◌≡◌, ◌++◌, ℕ, List, false, IfOk, IfSome, OnErr, OnOk, option_map, string_bytes};
 ghost use Rattle.logos_messages.specs.Imports.{AreWarnings, Gains, YieldsMessage, YieldsNoteList, YieldsNotes, PutsWarning, PutsWarnings, OccurInOrder, shown_of, warning_head, warning_texts};

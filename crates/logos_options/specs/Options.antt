@@ -87,7 +87,7 @@ word_of option = (row_of option).word
 abbrev pub takes_value : OptionName → Bool
 takes_value option = (row_of option).has_value
 
--- What an option does.
+-- The effect of an option.
 abbrev pub role_of : OptionName → OptionRole
 role_of option = (row_of option).role
 

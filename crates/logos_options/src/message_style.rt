@@ -1,4 +1,5 @@
-//! The style of messages: the settings `--color` and `--message-format`.
+//! The style of messages: the settings `--color` and `--message-format`. Used by `logos_cli` and
+//! `logos_questions`.
 
 ghost use Rattle.std.specs.Prelude.{◌≡◌, IfErr, IfOk, None, Some, option_map};
 ghost use Rattle.logos_options.specs.Imports.{color_given, format_given, settings_value, status_of, style_given};

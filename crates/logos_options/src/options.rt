@@ -27,7 +27,7 @@ pub enum OptionName {
 /// The number of options.
 pub(crate) const OPTIONS: usize = 15;
 
-/// What an option does.
+/// The effect of an option.
 #[derive(Clone, Copy, Debug, PartialEq, Eq)]
 pub enum OptionRole {
     /// Sets something. It is given at most once.
@@ -291,7 +291,7 @@ impl OptionName {
         ROWS[self as usize].has_value
     }
 
-    /// Returns what the option does.
+    /// Returns the effect of the option.
     pub(crate) fn role(self) -> OptionRole
         ensures { result ≡ role_of self }
     {

@@ -1,4 +1,4 @@
-//! The programs that have options.
+//! The programs that have options. Used by `logos_cli`, `logos_questions` and `logos_show`.
 
 ghost use Rattle.std.specs.Prelude.{◌≡◌};
 ghost use Rattle.logos_options.specs.Imports.{cli_takes, show_takes};

@@ -1,4 +1,5 @@
-//! The version of a program, and the line that names its commit.
+//! The version of a program, and the line that names its commit. Used by `logos_cli` and
+//! `logos_show`.
 
 ghost use Rattle.std.specs.Prelude.{◌≡◌, ◌-◌, IfErr, drop, length};
 ghost use Rattle.logos_options.specs.Imports.{IsNoMisuse, commit_line, is_commit_line, is_hex_digit, list_all, status_of};

@@ -1,4 +1,4 @@
-//! The JSON object for a comparison of two lexers.
+//! The JSON object for a comparison of two lexers. Used by `logos_show`.
 
 ghost use Rattle.std.specs.Prelude.{◌≡◌, ◌++◌, ◌∷◌, [], codes, false, true};
 ghost use Rattle.logos_records.specs.Imports.{Gains, Puts, bool_member, bytes_member, object, finding_member, mode_member};

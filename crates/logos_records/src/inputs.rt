@@ -1,4 +1,4 @@
-//! The JSON objects for inputs that together take all edges of a graph.
+//! The JSON objects for inputs that together take all edges of a graph. Used by `logos_show`.
 
 ghost use Rattle.std.specs.Prelude.{◌≡◌, ◌∷◌, [], IfOk, map};
 ghost use Rattle.logos_records.specs.Imports.{flat_map, AreInputRecords, Puts, PutsInputs, input_lines, object};

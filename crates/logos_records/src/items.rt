@@ -1,4 +1,4 @@
-//! The JSON object for an item.
+//! The JSON object for an item. Used by `logos_items`.
 
 ghost use Rattle.std.specs.Prelude.{◌≡◌, ◌∷◌, []};
 ghost use Rattle.logos_records.specs.Views.{Gains, Puts, object, item_members, kind_members, location_members};

@@ -1,4 +1,4 @@
-//! The JSON objects for leaves, and for the cost of a lexer.
+//! The JSON objects for leaves, and for the cost of a lexer. Used by `logos_show`.
 
 ghost use Rattle.std.specs.Prelude.{◌≡◌, ◌∷◌, []};
 ghost use Rattle.logos_records.specs.Imports.{Gains, Puts, object, cost_members, leaf_members, leaf_objects, name_members, shape_members};

@@ -1,4 +1,5 @@
-//! The JSON objects for the matches from an offset of an input.
+//! The JSON objects for the matches from an offset of an input. Used by `examples` and
+//! `logos_show`.
 
 ghost use Rattle.std.specs.Prelude.{◌≡◌, ◌≤◌, IfOk, OnOk, Some, length};
 ghost use Rattle.logos_records.specs.Imports.{flat_map, AllStart, AreMatchRecords, Gains, IsBytes, IsGraphOf, Puts, PutsMatches, rules_of, end_members, match_lines, named_leaf};

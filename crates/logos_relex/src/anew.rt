@@ -14,7 +14,7 @@ use std::alloc::Global;
 /// The length of the window of a chunk, unless a former chunk determines it.
 const WINDOW: usize = 4096;
 
-/// What follows the new chunks.
+/// The chunks or the items after the new chunks.
 #[derive(Drop)]
 pub(crate) enum After {
     /// The former chunks from this one on, with the items after them.
@@ -23,7 +23,7 @@ pub(crate) enum After {
     Last(Vec<ItemAt>),
 }
 
-/// New chunks, and what follows them.
+/// New chunks, and the chunks or the items after them.
 #[derive(Drop)]
 pub(crate) struct Anew {
     pub chunks: Vec<Chunk>,

@@ -1,4 +1,5 @@
-//! Chunks: the items of a few thousand bytes, determined by the bytes of a window alone.
+//! Chunks: the items of a few thousand bytes, determined by the bytes of a window alone. Used by
+//! `anew`, `borders` and `lexed`.
 
 ghost use Rattle.std.specs.Prelude.{◌≡◌, ◌<◌, ◌≤◌, length, map, take, IfOk, IfErr, IfSome};
 ghost use Rattle.logos_relex.specs.Views.{Runs, answers_of, offset_of, item_at, IsChunk, IsInput, IsRefused, SettlesUpTo, TakesMatches};

@@ -1,4 +1,5 @@
-//! The faults of a whole file, part by part. The parts share the count of shown faults.
+//! The faults of a whole file, part by part. The parts share the count of shown faults. Used by
+//! `logos_derive`, `logos_expand` and `logos_messages`.
 
 ghost use Rattle.std.specs.Prelude.{◌≡◌, ◌++◌, ◌+◌, ◌<◌, ◌^◌, ◌-◌, length, min};
 ghost use Rattle.logos_page.specs.Pages.{PageValue};

@@ -1,4 +1,5 @@
-//! The lines under a fault: the rest of its message, its second span, and its help.
+//! The lines under a fault: the rest of its message, its second span, and its help. Used by
+//! `logos_messages`.
 
 ghost use Rattle.std.specs.Prelude.{[]};
 ghost use Rattle.logos_page.specs.Pages.{Shows};

@@ -1,5 +1,5 @@
 //! Faults of a graph: one report for each set of ambiguous leaves, and the patterns that can
-//! examine the bytes before their start.
+//! examine the bytes before their start. Used by `faults`.
 
 ghost use Rattle.std.specs.Prelude.{◌∷◌, [], nat_lt, if◌then◌else◌};
 ghost use Rattle.logos_report.specs.Views.{fault_of, fault_texts, listed_texts, Shows, location_line, next_value};

@@ -1,5 +1,5 @@
 //! The shown part of a line: all of it, or about 140 columns around a location in it. Only bytes
-//! near the location are examined, however long the line is.
+//! near the location are examined, however long the line is. Used by `frame`.
 
 ghost use Rattle.std.specs.Prelude.{◌≡◌, []};
 ghost use Rattle.logos_page.specs.Pages.{Shows};

@@ -1,4 +1,4 @@
-//! Whether an enum derives `Logos`.
+//! Whether an enum derives `Logos`. Used by `finder`.
 
 ghost use Rattle.std.specs.Prelude.{◌≡◌, ◌<◌, ◌||◌, false, true, MatchOption};
 ghost use Rattle.logos_rust_file.specs.Imports.{count_of, tokens_of, begins_list, derives, derives_after, derives_in, lists_macro};

@@ -1,10 +1,10 @@
-//! Whether an enum derives `Logos` by its name alone, and thus through an import.
+//! Whether an enum derives `Logos` by its name alone, and thus through an import. Used by `finder`.
 
 use logos_strip::helpers::{is_comma, is_macro_entry};
 use logos_token::token::{Delimiter, TokenTree, Tokens};
 use logos_token::util::after_word;
 
-/// Returns whether a `derive` in front of an enum lists `Logos` without a path.
+/// Returns whether a `derive` before an enum lists `Logos` without a path.
 pub(crate) fn derives_by_name(item: Tokens<'_, '_>) -> bool {
     let mut rest = item;
     for _ in 0..item.count() {

@@ -1,4 +1,4 @@
-//! The lexers of a file, as tables.
+//! The lexers of a file, as tables. Used by `comparison`, `program` and `stream`.
 
 ghost use Rattle.std.specs.Prelude.{IfErr};
 ghost use Rattle.logos_show.specs.Orders.{IsNoMisuse};
@@ -251,7 +251,7 @@ fn push_made(
     Ok(())
 }
 
-/// Appends the leaves of a lexer or its examples, in the requested form.
+/// Appends the leaves of a lexer or its examples, in the form that is asked for.
 fn push_form(
     alloc: Global,
     pages: &mut Pages,

@@ -10,7 +10,7 @@ use Rattle.logos_stream.specs.declared.item.StreamItem.TheVariants.{Token, Error
 use Rattle.logos_stream.specs.declared.front.Front.{Front}
 use Rattle.logos_stream.specs.declared.front.Front.TheVariants.{Item as First, Waits, Ends}
 
--- Where the span of an item starts.
+-- The start of the span of an item.
 abbrev pub start_of : StreamItem → ℕ
 start_of (Token leaf span) = span.from
 start_of (Error leaf span) = span.from

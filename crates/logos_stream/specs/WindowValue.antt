@@ -64,7 +64,7 @@ pub record IsWindow (utf8 : Bool) (part : List ℕ) (most : ℕ) (is_over : Bool
   pub bound : most ≡ limit
   pub wanted : least ≤ limit
 
--- What a move without reading leaves unchanged: the window moves within the bytes that it has.
+-- A move without reading: the window moves within the bytes that it has.
 pub record GoesPast {R : Type 0} (to : ℕ) (old new : WindowValue R) : Type 0 where
   pub utf8 : new.utf8 ≡ old.utf8
   pub reader : new.reader ≡ old.reader

@@ -1,4 +1,4 @@
-//! Items of a stream.
+//! Items of a stream. Used by `logos_items`.
 
 ghost use Rattle.std.specs.Prelude.{◌≡◌, ◌+◌, ◌<◌, ◌^◌, List, ℕ};
 ghost use Rattle.logos_stream.specs.Views.{item_later, end_of, item_with, start_of};

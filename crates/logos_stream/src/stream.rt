@@ -1,4 +1,4 @@
-//! A stream: a reader, and the items of its bytes.
+//! A stream: a reader, and the items of its bytes. Used by `items` and `logos_items`.
 
 ghost use Rattle.std.specs.Prelude.{◌≡◌, ◌<◌, IfOk, OnErr};
 ghost use Rattle.logos_stream.specs.Views.{answers_of, at_start, unread_length, DoesNext, KeepsCode, ReadsOn, StaysUnread, TakesMatches};

@@ -1,9 +1,9 @@
-//! The lexable prefix of the bytes that were read.
+//! The lexable prefix of the bytes that were read. Used by `window`.
 
 ghost use Rattle.std.specs.Prelude.{◌≡◌, ◌≤◌, ◌↔◌, length, false, IsTrue, IsCharBoundary};
 ghost use Rattle.logos_stream.specs.Views.{IsTail};
 
-/// The lexable prefix of some bytes that were read, and what follows it.
+/// The lexable prefix of some bytes that were read, and whether the bytes after it are invalid.
 #[derive(Clone, Copy)]
 pub(crate) struct Tail {
     /// The length of the lexable prefix: all bytes, or the longest prefix that is UTF-8.

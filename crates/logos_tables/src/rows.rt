@@ -1,4 +1,4 @@
-//! The rows of all states, with each distinct row once. Made first by `lexer`.
+//! The rows of all states, with each distinct row once. Used by `made`.
 
 ghost use Rattle.std.specs.Prelude.{◌≡◌, ℕ, ◌<◌, ◌++◌, ◌∷◌, [], IfOk, OnOk, length, vec_len, slice_index, slice_index_or};
 ghost use Rattle.logos_tables.specs.Imports.{AreRows, AreWide, rows_at};

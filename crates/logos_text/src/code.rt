@@ -1,4 +1,4 @@
-//! Prints a whole code. `logos_codegen` calls it.
+//! Prints a whole code. Called by `logos_codegen`.
 
 ghost use Rattle.std.specs.Prelude.{IfOk, OnOk, string_bytes};
 ghost use Rattle.logos_text.specs.Views.{printed_type, type_tree, code_of, BeginsWith, IsFront, opening_text, short_core, Adds, Grows, OccurInOrder, texts_in, texts_of, around_value};

@@ -1,4 +1,4 @@
-//! Attributes, classified by their names.
+//! Attributes, classified by their names. Used by `mistakes` and `other_attributes`.
 
 ghost use Rattle.std.specs.Prelude.{◌≡◌, ◌↔◌, IsTrue, MatchOption, None, Some, map};
 ghost use Rattle.logos_warnings.specs.Views.{attribute_value, enum_value, variant_value, tokens_of, begins_with_colon, begins_with_helper, is_helper_path, is_helper_segment, is_qualified, name_in, name_of, HasHelper, HasHelpers, IsHelper, VariantsHave};

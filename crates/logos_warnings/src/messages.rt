@@ -1,4 +1,4 @@
-//! The warnings for mistakes.
+//! The warnings for mistakes. Used by `logos_causes`, `logos_derive` and `logos_file_warnings`.
 
 ghost use Rattle.std.specs.Prelude.{◌≡◌, IfOk};
 ghost use Rattle.logos_warnings.specs.Views.{mistake_value, span_of};

@@ -1,5 +1,5 @@
 //! Entries of `derive` that name the derive macro and are ignored, since the enum is not found or
-//! the entry is unknown.
+//! the entry is unknown. Used by `logos_file_warnings`.
 
 use crate::warning_list::fixed_warning;
 use logos_report::Warning;
@@ -13,8 +13,8 @@ const MESSAGE: &str = "this derive of `Logos` is passed over";
 const HELP: &str =
     "write `derive(Logos)` or `derive(logos::Logos)` on an enum outside of functions and macros";
 
-/// Returns a warning for each `derive` in a file that lists the derive macro under any path and is
-/// outside of the spans `found`, which are those of the enums that derive it, in order.
+/// Returns a warning for each `derive` in a file that lists the derive macro, by any path, and that
+/// stands in none of these spans: those of the enums that are found to derive it, in order.
 ///
 /// # Errors
 ///

@@ -1,4 +1,4 @@
-//! Probable mistakes in an enum that are not faults.
+//! Probable mistakes in an enum that are not faults. Used by `messages` and `origin`.
 
 ghost use Rattle.std.specs.Prelude.{◌≡◌, IfOk, None, OnOk, Some, [], map};
 ghost use Rattle.logos_warnings.specs.Views.{attribute_value, enum_value, variant_value, tokens_of, mistake_value, is_conditional, is_useless, name_of, AreMistakes, AreOfLexer, AttributeAdds, LacksPatterns, RunAdds, VariantAdds, VariantsAdd, NamesAdd, ForgetsDerive};

@@ -1,5 +1,5 @@
 //! Attributes of an enum and of its variants that a lexer ignores for reasons other than their
-//! names: those of older lexers, and those under a condition.
+//! names: those of older lexers, and those under a condition. Used by `messages`.
 
 use crate::attributes::name_of;
 use crate::helper::is_helper_name;

@@ -1,4 +1,5 @@
-//! Warnings with a message, a span and optionally a help.
+//! Warnings with a message, a span and optionally a help. Used by `logos_causes` and
+//! `logos_file_warnings`.
 
 ghost use Rattle.std.specs.Prelude.{◌≡◌, IfOk, string_bytes};
 

@@ -1,4 +1,4 @@
--- Each byte has one place in the order.
+-- Each byte occurs once in the order.
 use Rattle.std.proofs.Common.{◌≡◌, ℕ, ◌+◌, ◌-◌, ◌<◌, ◌≤◌, ◌⊎◌, inl, inr, arith}
 use Rattle.std.proofs.lemmas.Bool.{cases_lt}
 use Rattle.logos_evidence.specs.search.inside.Order.{IsByteAt}

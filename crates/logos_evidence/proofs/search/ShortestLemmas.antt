@@ -11,7 +11,7 @@ use Rattle.logos_evidence.specs.declared.search.visits.Visit.{Visit}
 use Rattle.logos_evidence.proofs.search.ListLemmas.{there}
 use Rattle.logos_evidence.proofs.search.VisitLemmas.{met_on}
 
--- what was at a place is there still
+-- the elements keep their indices
 kept : (ks : List PendingPoint) (ws : List Visit) (ms : List PendingPoint) (vs : List Visit) → Grows ks ws ms vs → (i : ℕ) (s : PendingPoint) → i < length ks →
     slice_get ms i ≡ Some s → slice_get ks i ≡ Some s
 kept ks ws ms vs g i s l e =

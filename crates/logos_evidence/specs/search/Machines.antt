@@ -1,4 +1,4 @@
--- Machines that read bytes: points, and where bytes lead from them.
+-- Machines that read bytes: points, and the steps by bytes from them.
 use Rattle.std.specs.Prelude.{◌≡◌, ℕ, ◌<◌, Bool, true, List, [], ◌∷◌, Option, Some, All, IsTrue, IsUtf8, option_and_then}
 use Rattle.logos_evidence.specs.declared.search.point.Point.{Point}
 

@@ -1,4 +1,5 @@
-//! The order in which bytes are searched, which makes the inputs that are found easy to read.
+//! The order in which bytes are searched, which makes the inputs that are found easy to read. Used
+//! by `cover` and `visits`.
 
 ghost use Rattle.std.specs.Prelude.{◌<◌};
 ghost use Rattle.logos_evidence.specs.search.inside.Order.{IsByteAt};

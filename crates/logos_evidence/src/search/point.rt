@@ -1,4 +1,4 @@
-//! Machines that read bytes, and their points.
+//! Machines that read bytes, and their points. Used by `logos_evidence`.
 
 /// A point that a machine can reach. Each machine defines the meaning of the fields.
 #[derive(Clone, Copy, PartialEq, Eq, Hash)]

@@ -1,4 +1,4 @@
-//! The steps that a machine takes on its way over an input.
+//! The steps that a machine takes on its way over an input. Used by `cover`.
 
 ghost use Rattle.std.specs.Prelude.{◌≡◌, ◌⊎◌, false, IfOk, OnOk, Contains};
 ghost use Rattle.logos_evidence.specs.search.Views.{Adds, InputStep as Taken};

@@ -1,4 +1,4 @@
-//! UTF-8 byte by byte.
+//! UTF-8 byte by byte. Used by `cover` and `visits`.
 
 ghost use Rattle.std.specs.Prelude.{◌≡◌, ◌++◌, OnOk};
 ghost use Rattle.logos_evidence.specs.search.Rests as rests;

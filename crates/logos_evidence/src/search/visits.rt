@@ -1,4 +1,5 @@
-//! The points that were visited, breadth first, and how each was first reached.
+//! The points that were visited, breadth first, and how each was first reached. Used by `cover` and
+//! `search`.
 
 ghost use Rattle.std.specs.Prelude.{◌≡◌, ◌+◌, ◌<◌, ◌∷◌, [], ℕ, IfOk, OnOk, Option, Some, length, slice_get};
 ghost use Rattle.logos_evidence.specs.search.Views.{more, PendingPoint as At};

@@ -1,4 +1,4 @@
--- Texts that stand in order.
+-- Texts that occur in order.
 use Rattle.std.proofs.Common.{ℕ, List, [], ◌∷◌}
 use Rattle.logos_page.specs.Pages.{OccurInOrder as OccurInReport}
 use Rattle.logos_text.specs.Occurrence.{OccurInOrder as OccurInText}

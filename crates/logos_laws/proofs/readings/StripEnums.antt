@@ -122,7 +122,7 @@ word_within (also (literal text span) more) e = cc
 word_within (also (doc text span) more) e = cc
 word_within (also (group delimiter span inside) more) e = cc
 
--- a word comes first before braces
+-- the tokens before braces begin with a word
 word_before : (head : TokenList) (span : Span) (inside : TokenList) → begins_word (append head (also (group Brace span inside) none)) ≡ true → begins_word head ≡ true
 word_before none span inside e = cc
 word_before (also (identifier text at) head) span inside e = refl
@@ -174,7 +174,7 @@ enum_stays tokens value (reads {attributes = attributes} {rest = rest} front it)
     let from : Back middle rest = announced_part (Back middle) (back_rests middle) middle rest (back_self middle) front.announced in
     enum_with tokens attributes middle value value.variants k.0 refl (attributes_at Enum tokens attributes middle tt front.occur) (word_comes middle rest front.announced) (ends_back value.variants middle rest from k.1)
 
--- ---- The same by the parts.
+-- ---- The result of stripping, part by part.
 
 pub enum_sound : (tokens remaining : TokenList) (value : EnumValue) → EnumStays value tokens remaining → remaining ≡ stripped tokens
 enum_sound tokens remaining value e =

@@ -164,7 +164,7 @@ value_stays (also (punctuation c spacing span) more) rest u e = go (c == comma) 
         let g : reading tt (from_comma more) ≡ reading u rest = rw f at e in
         subst (Uncut (also (punctuation c spacing span) more)) (same-rest tt u (from_comma more) rest g) (one_stayed (punctuation c spacing span) more (from_comma more) f (until_comma more))
 
--- a run that stands there as it is
+-- a run that stays unchanged
 pub no_number : (later : TokenSpot) (run rest : TokenList) (u : Unit {0}) → IsLate later → reading tt run ≡ reading u rest → NumberStays later run rest
 no_number later run rest u l e =
     let same : run ≡ rest = same-rest tt u run rest e in subst (NumberStays later run) same (record { after = later; late = l; front = none; numbered = refl; is = refl; stays = refl })

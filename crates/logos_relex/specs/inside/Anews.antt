@@ -24,7 +24,7 @@ pub record IsMet (former : Lexed) (replaced_to : ℕ) (left : List ℕ) (start i
   pub after : replaced_to ≤ bytes_of (take index former.chunks.items)
   pub left_is : bytes_of (take index former.chunks.items) + length left ≡ former.length
 
--- What follows the new chunks.
+-- The chunks or the items after the new chunks.
 abbrev pub Follows : CodeValue → Callback → Lexed → ℕ → List ℕ → ℕ → After → Type 0
 Follows code callback former replaced_to left start (Former index) = IsMet former replaced_to left start index
 Follows code callback former replaced_to left start (Last last) = Runs code callback left 0 (map (item_at left) last.items) × (IsTrue code.utf8 → IsUtf8 left)

@@ -21,7 +21,7 @@ none_read count h = ⊎_elim (λ p. p.1) (λ p. absurd (let f : false ≡ true =
 no_bytes : (n : ℕ) (xs : List ℕ) → n ≡ 0 → take n xs ≡ []
 no_bytes n xs e = ap (λ k. take k xs) e
 
--- what was read stands after what was held
+-- the bytes that were read follow those that were held
 pub read_adds : {R : Type 0} (remaining : R → Option (List ℕ)) (reader next : R) (items after : List ℕ) (held count before : ℕ) (over : Bool) →
     held + count ≤ length after → length after ≡ length items → take held after ≡ take held items →
     Consumes (remaining reader) (remaining next) (slice_range after held (held + count)) → (count ≡ 0 → IsAtEnd (remaining next)) →
