@@ -12,8 +12,8 @@ use logos_machine::machine::{Item, Lexer};
 use logos_walk::masks::ChunkEntries;
 use std::alloc::{AllocError, Global};
 
-/// Returns all items of the input of a lexer that stands at its start, in order: by chunks where
-/// that likely takes less time.
+/// Returns all items of the input of a lexer that is at its start, in order. The input is scanned
+/// by chunks if that likely takes less time.
 ///
 /// # Errors
 ///
@@ -33,7 +33,7 @@ pub fn items<'i, C: Fn(LeafId, &[u8]) -> Action + Drop>(
     }
 }
 
-/// Returns all items of an input, in order, by chunks.
+/// Returns all items of an input, in order, by scanning chunks.
 ///
 /// # Errors
 ///

@@ -1,5 +1,5 @@
-//! Walks over folded rows: a chunk of bytes at once, in six blocks side by side and without a
-//! branch for each byte, and the bits that say where its tries end.
+//! Walks over folded rows: a chunk of bytes at once, in six parallel blocks and without a branch
+//! for each byte, and the bit masks of the entries at which attempts end.
 
 #![tactic(auto)]
 
