@@ -1,4 +1,4 @@
--- A code value, which defines what a lexer does in each state.
+-- A code value, which defines the steps of a lexer in each state.
 use Rattle.std.specs.Prelude.{ℕ, Bool, List, Option}
 use Rattle.logos_automaton.specs.Munch.{Use}
 use Rattle.logos_byte_class.specs.Bytes.{Comparison}

@@ -1,4 +1,4 @@
-//! Code values, which define what a lexer does in each state. `logos_generator` makes them, and
+//! Code values, which define the steps of a lexer in each state. `logos_generator` makes them, and
 //! `logos_machine` and the printers of generated code read them.
 
 ghost use Rattle.std.specs.Prelude.{◌≡◌, ◌*◌, ◌<◌, ◌/◌, length, option_map, option_copied, IfSome};

@@ -1,4 +1,4 @@
-//! Code values, which define what a lexer does in each state, and the definition of their runs.
+//! Code values, which define the steps of a lexer in each state, and the definition of their runs.
 
 #![tactic(auto)]
 

@@ -1,5 +1,5 @@
 //! Scans of an input that process a chunk at once, and yield the results of its match attempts.
-//! `logos_codegen` re-exports it, and the programs lex files with it.
+//! `logos_codegen` and the programs lex inputs with it.
 
 #![tactic(auto)]
 

@@ -119,7 +119,7 @@ abbrev mutual
 abbrev pub written_tree : Flags → Branches → Tree
 written_tree flags bs = alternation_of (branch_list flags bs)
 
--- ---- what the flags allow.
+-- ---- the tokens that the flags allow.
 
 abbrev mutual
   pub BranchesFit : Flags → Branches → Type 0
@@ -137,7 +137,7 @@ abbrev mutual
   PieceFits flags (group opening bs) = BranchesFit (inner_flags opening flags) bs
   PieceFits flags (repeated p op) = PieceFits flags p
 
--- ---- how many groups, brackets and repetitions are around one point, at most.
+-- ---- the greatest number of groups, brackets and repetitions around one point.
 
 abbrev mutual
   pub branches_depth : Branches → ℕ

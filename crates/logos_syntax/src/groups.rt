@@ -271,7 +271,7 @@ impl Groups {
         Ok(())
     }
 
-    /// Adds a bracket by its set.
+    /// Adds a bracket with the set `found`.
     pub(crate) fn class(
         &mut self,
         alloc: Global,

@@ -27,7 +27,7 @@ pub enum LastMark {
 /// A search for the last marks of all states.
 #[derive(Drop)]
 struct Search {
-    /// The last mark found so far for each state.
+    /// The last mark that has been found for each state.
     found: Vec<LastMark>,
     /// The states whose last mark has changed since their targets were updated.
     open: Vec<usize>,

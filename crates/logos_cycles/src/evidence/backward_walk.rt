@@ -7,7 +7,7 @@ use std::alloc::{AllocError, Global};
 #[derive(Clone, Copy)]
 struct Arrow {
     from: usize,
-    /// The index of the edge among those of `from`.
+    /// The index of the edge among the edges of `from`.
     edge: usize,
 }
 

@@ -74,7 +74,7 @@ impl<'s> Parser<'s> {
         unless_failed!(self, self.types.generics(&mut self.errors))
     }
 
-    /// Like `get_type`, but does not check whether the parser has failed.
+    /// Returns the type that `get_type` returns, without checking whether the parser has failed.
     fn written_type(&mut self, written: &TypeExpr<'s>, span: Span) -> Result<TypeExpr<'s>, Memory>
         ensures got { IfOk result (λ got. GetsUnheld self.old.types (type_tree written.now) span
             self.old.errors self.new.errors (type_tree got)) }

@@ -124,7 +124,7 @@ fn digits_end(source: &str, from: usize) -> usize
     end
 }
 
-/// The digits read so far: their count and the number that they write.
+/// The digits that have been read: their number and the number that they spell.
 #[derive(Clone, Copy)]
 struct Digits {
     count: u32,

@@ -117,7 +117,7 @@ fn exits_literal(text: &[u8], marks: &[usize], spot: TreeSpot) -> bool
 }
 
 /// Returns whether a repetition can be left, given at least these copies of its body, and at most
-/// `most` if there is such a bound.
+/// `most` if it is not `None`.
 #[cycle(exits)]
 fn exits_repeat(
     body: &Node,

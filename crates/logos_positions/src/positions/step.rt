@@ -380,8 +380,8 @@ fn step_node(
     }
 }
 
-/// Steps on a repetition: at least these copies of its body, and at most `most` if there is such a
-/// bound.
+/// Steps on a repetition: at least these copies of its body, and at most `most` if it is not
+/// `None`.
 ///
 /// # Errors
 ///

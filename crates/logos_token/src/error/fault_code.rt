@@ -241,7 +241,7 @@ const NAMES: [&str; 75] = [
 ];
 
 impl FaultCode {
-    /// Returns the name of the code, as it is printed.
+    /// Returns the name of the code, as printed.
     pub fn name(self) -> &'static str
         ensures { result.now ≡ name_of self }
     {

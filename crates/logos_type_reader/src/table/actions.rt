@@ -171,7 +171,7 @@ fn open_type<'t, 's>(stage: Stage, run: Tokens<'t, 's>) -> Result<Beginning<'t, 
     })
 }
 
-/// Returns the first token of a type that begins as `start` says.
+/// Returns the first token of a type with the beginning `start`.
 pub(super) fn begin_by<'t, 's>(
     start: FirstEntry,
     run: Tokens<'t, 's>,

@@ -19,7 +19,7 @@ pub(crate) enum PathKind {
 pub(crate) enum BoundKind {
     /// In a list. `+` can join another bound if the flag is `true`.
     Listed(bool),
-    /// In parentheses inside such a list.
+    /// In the parentheses of a bound in such a list.
     Enclosed(bool),
 }
 
@@ -209,7 +209,7 @@ pub(crate) enum Prefix {
     Group(Delimiter),
 }
 
-/// The next action. It names no tokens, so it is equal for all runs that begin alike.
+/// The next action. It refers to no tokens, so it is equal for all runs that begin alike.
 #[derive(Clone, Copy)]
 pub(crate) enum TableEntry {
     /// End the construct that was begun.
