@@ -1,4 +1,5 @@
-//! Reads numbers and booleans in an attribute's argument. The reader of definitions calls it.
+//! Reads numbers and booleans in an attribute's argument. The readers of definitions and options
+//! call it.
 
 ghost use Rattle.std.specs.Prelude.{◌≡◌};
 ghost use Rattle.logos_attribute.specs.Imports.{all_ascii_digits, tokens_of, decimal, number_in, boolean_named, boolean_in};

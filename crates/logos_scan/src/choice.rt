@@ -17,7 +17,7 @@ const SAMPLE: usize = 512;
 /// The number of bytes of all samples.
 const SAMPLED: usize = PARTS * SAMPLE;
 
-/// The number of bytes at the start of a part in which its sample is taken.
+/// The number of bytes at the start of a part that its sample is taken from.
 const SPREAD: usize = 2 * SAMPLE;
 
 /// The greatest number of errors of a sample that count, since a sample that begins within a quote

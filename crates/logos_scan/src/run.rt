@@ -136,7 +136,7 @@ fn restarted(reading: &Reading, run: Run, chunk: &mut ChunkEntries, to: usize) -
 }
 
 /// Begins a match attempt at an entry of the chunk that has not been passed, and steps again over
-/// the bytes from there on until an entry is unchanged.
+/// the bytes from there on until a byte leads to the same row as before.
 fn repaired_from(reading: &Reading, run: Run, chunk: &mut ChunkEntries, from: usize) -> Run
     requires reading { IsReading reading.now }
     requires chunk { IsChunk reading.now.rows.now reading.now.input.now (with_chunk chunk.old run) }

@@ -25,8 +25,8 @@ pub struct Repaired {
     pub stop: usize,
 }
 
-/// Steps again over the bytes of a stretch from another row on, until an entry equals the one in
-/// the trace.
+/// Steps again over the bytes of a stretch from another row on, until a byte leads to the same row
+/// as in the trace.
 pub fn repair(
     rows: &[u32],
     text: &[u8],

@@ -1,4 +1,4 @@
-//! Steps from the positions that read one byte to those that read the next byte. `all` and `tree`
+//! Steps from the positions that read one byte to those that read the next byte. `tree` and `trees`
 //! call it for each tree.
 
 ghost use Rattle.std.specs.Prelude.{max, ◌≡◌, ℕ, ◌+◌, ◌-◌, ◌*◌, ◌^◌, ◌<◌, ◌≤◌, ◌⊎◌, IsTrue, IfOk, OnOk, IfSome, ◌↔◌, Bool, false, Option, Some, List, length, slice_get, slice_index};
