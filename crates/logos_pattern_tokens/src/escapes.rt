@@ -170,7 +170,7 @@ fn fixed_at(width: usize, text: &[char]) -> Result<(Atom, &[char]), Fault>
     Ok((Atom::Character(c), rest))
 }
 
-/// Reads two hexadecimal digitsas the value of a byte.
+/// Reads two hexadecimal digits as the value of a byte.
 ///
 /// # Errors
 ///

@@ -24,7 +24,8 @@ use Rattle.logos_syntax.specs.Written.{Branches, first, next, Items, nothing, pi
 abbrev pub one_of : Flags → Set → Tree
 one_of flags set = if flags.unicode then one_char_of set else one_byte_of set
 
--- The number alone. If `i` is on, also the numbers that differ from it only in case.
+-- The set that contains only the number. If `i` is on, it also contains the numbers that differ
+-- from it only in case.
 abbrev pub same_as : Flags → ℕ → Set
 same_as flags c = case_closure flags (only_chars (λ d. d == c))
 

@@ -73,7 +73,7 @@ fn raw_opening(content: Content, source: &str, at: usize) -> Option<Opening>
     Some(Opening::Raw(content, count as u8))
 }
 
-/// Returns the string that opens after a `b` or `c`or directly at `at`.
+/// Returns the string that opens after a `b` or `c`, or directly at `at`.
 #[tactic(auto, unfolding(crate::specs::LexemeOpenings::string_opening))]
 fn string_opening(content: Content, source: &str, at: usize) -> Option<Opening>
     requires { at ≤ length source.now + 1 }
