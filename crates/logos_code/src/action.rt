@@ -1,4 +1,4 @@
-//! The actions that callbacks return.
+//! The actions that callbacks return. Callers of a lexer return them from their callbacks.
 
 /// The action for a match that a callback returns.
 #[derive(Clone, Copy, Debug, PartialEq, Eq)]

@@ -1,4 +1,5 @@
-//! The tree of a pattern. The names are those of regex-syntax.
+//! The tree of a pattern. The names are those of regex-syntax. `builder` makes trees, and
+//! `logos_positions` and `logos_automaton` read them.
 
 ghost use Rattle.std.specs.Prelude.{◌≡◌};
 

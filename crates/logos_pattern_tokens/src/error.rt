@@ -1,4 +1,5 @@
-//! The errors of reading a pattern, and the reasons why its readers stop.
+//! The errors of reading a pattern, and the reasons why its readers stop. All readers of this crate
+//! and of `logos_syntax` return them.
 
 ghost use Rattle.std.specs.Prelude.{◌≡◌};
 ghost use Rattle.logos_pattern_tokens.specs.declared.error.Fault.TheVariants as faults;

@@ -1,4 +1,4 @@
-//! Steps over bytes, one after another.
+//! Steps over bytes, one after another. `blocks`, `guess` and `repair` walk with it.
 //!
 //! Folded rows are rows of 256 entries. A row is identified by its row offset, the index of its
 //! first entry. The lowest twenty bits of the entry of a byte are the offset of the next row. Its

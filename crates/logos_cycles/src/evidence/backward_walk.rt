@@ -1,4 +1,5 @@
-//! Traverses a graph against its edges, once for each component.
+//! Traverses a graph against its edges, once for each component. `evidence` calls it after the
+//! forward traversal.
 
 use crate::evidence::{Membership, meets};
 use std::alloc::{AllocError, Global};

@@ -1,4 +1,4 @@
-//! The tokens inside brackets.
+//! The tokens inside brackets. `bracket::reader` returns them.
 
 use logos_hir::property::{AsciiKind, PerlKind};
 use logos_hir::sets::operands::SetOperator;

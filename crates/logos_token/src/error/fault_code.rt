@@ -1,4 +1,4 @@
-//! The codes of faults.
+//! The codes of faults. Every crate that adds a fault to an `Errors` names one.
 
 ghost use Rattle.std.specs.Prelude.{◌≡◌, Some};
 ghost use Rattle.logos_token.specs.ViewImports.{name_of};

@@ -1,4 +1,4 @@
-//! Turns an action into the next step, with the tokens after it.
+//! Turns an action into the next step, with the tokens after it. `table` calls it for each action.
 
 ghost use Rattle.std.specs.Prelude.{◌≡◌, Ok};
 ghost use Rattle.logos_type_reader.specs.Views.{tokens_of, inside_of, sign_of, opens, closes, keeps, to, outside_of, spot_of, IsFirst, IsStep, lead_sign, after_lead, opens_first, opens_type, acts, begun};

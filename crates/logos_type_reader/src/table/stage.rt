@@ -1,4 +1,5 @@
-//! The stages inside a type, and the steps that can follow at each.
+//! The stages inside a type, and the steps that can follow at each. All modules of `table` and the
+//! reader of types use them.
 
 use logos_token::token::{Delimiter, Spacing, Span, Tokens};
 use logos_type::TypeToken;
