@@ -5,7 +5,7 @@ use Rattle.logos_token.specs.Faults.{Fault}
 use Rattle.logos_attribute.specs.Reports.{Report, without_faults, and_then, IsReport}
 use Rattle.logos_attribute.specs.inside.Steps.{Completes}
 
--- two steps that list faults, one behind the other
+-- two steps that list faults, one after the other
 pub listed_then : (old middle new before after : List Fault) → middle ≡ old ++ before → new ≡ middle ++ after → new ≡ old ++ (before ++ after)
 listed_then old middle new before after e f = f ∙ (ap (λ (xs : List Fault). xs ++ after) e ∙ append_assoc old before after)
 

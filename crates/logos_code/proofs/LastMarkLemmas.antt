@@ -163,7 +163,7 @@ module _ (code : CodeValue) (sound : IsSound code) (marks : List LastMark) (agre
           go (Some b) e = by_byte b (target code state.fork b) refl e
           go None e = by_end fresh e
 
-    -- what a try passed that ends here
+    -- what a match attempt passed that ends here
     module _ (passed : Option (ℕ × ℕ)) (offset : ℕ) where
       acted : acts (passed_of at) (stop_of at) ≡ acts passed offset → Holds (last_mark_at marks at.state) passed offset
       acted e =

@@ -266,7 +266,7 @@ module _ (code : CodeValue) (state : CodeState) where
   pub last_unsaid : IsLastEntry code state 2415919104
   last_unsaid = record { says = only_step (SaysAtEnd code state) 2415919104 Unsaid (inl (omega arith)) tt tt; last = omega arith }
 
-  -- the entry of a byte that does not stay leads on or ends the try
+  -- the entry of a byte that does not stay leads on or ends the attempt
   pub entry_moves : (b entry : ℕ) → IsEntry code state b entry → stays code state.fast_loop b ≡ false → (entry < 268435456) ⊎ (536870912 ≤ entry)
   entry_moves b entry is out = ⊎_elim (λ h. h) (λ h. absurd (clash h)) (either entry)
     where

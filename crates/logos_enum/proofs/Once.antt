@@ -135,7 +135,7 @@ no-front run (without front middle h e) attributes rest f =
     let k : ◌≡◌ {A = Option TokenList} None (Some rest) = sym e ∙ (ap announced_in m ∙ f.announced) in
     cc
 
--- a front is found where `enum` stands behind the attributes
+-- a front is found where `enum` stands after the attributes
 pub front-match : (run attributes middle : TokenList) (result : Option (Tokens × Tokens)) → Attributes run (Ok (attributes, middle)) →
     MatchOption result (announced_in middle ≡ None) (λ read. (tokens_of read.0 ≡ attributes) × (announced_in middle ≡ Some (tokens_of read.1))) →
     MatchOption result (NoFront run) (λ read. IsFront run (tokens_of read.0) (tokens_of read.1))

@@ -125,7 +125,7 @@ module _ (content : Content) (bytes : List ℕ) (at : ℕ) where
   character-one m n (escaped {held} e) (unescaped f b w) = absurd (f (escape-backslash bytes at content m held e))
   character-one m n (escaped {held = xs} e) (escaped {held = ys} f) = (IsEscape-one bytes at content m n xs ys e f).0
 
-  -- a piece of a string is an escape behind a backslash that no line break follows, and else stands
+  -- a piece of a string is an escape after a backslash that no line break follows, and else stands
   -- for itself
 
   module _ (escapes : Bool) where

@@ -1,4 +1,4 @@
--- The laws of lexemes: what stands at a place ends behind it, between characters, and is one; a
+-- The laws of lexemes: what stands at an offset ends after it, between characters, and is one; a
 -- fault stands where none does.
 use Rattle.std.proofs.Common.{◌≡◌, ℕ, ◌<◌, ◌≤◌, List, length, IsUtf8, refl, sym, ◌∙◌, subst, arith}
 use Rattle.std.specs.Str.{IsCharBoundary}
@@ -49,7 +49,7 @@ no_suffix bytes (Punctuation spacing) end other = refl
 no_suffix bytes (Opening delimiter) end other = refl
 no_suffix bytes (Closing delimiter) end other = refl
 
--- what stands at a place is not empty, and stands in the source
+-- what stands at an offset is not empty, and stands in the source
 pub next_advances : {bytes : List ℕ} {from : ℕ} {kind : LexemeKind} {to : ℕ} → IsNext bytes from kind to → (from < to) × (to ≤ length bytes)
 next_advances {bytes} {from} {kind} {to} n = (omega (arith, Ends-after bytes from (opening_at bytes from) n.end n.ends, suffixed-le bytes kind n.end to n.suffixed), n.within)
 

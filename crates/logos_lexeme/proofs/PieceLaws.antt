@@ -1,4 +1,4 @@
--- The piece that stands at a place is the one that the rules of pieces allow there.
+-- The piece that stands at an offset is the one that the rules of pieces allow there.
 use Rattle.std.proofs.Common.{◌≡◌, ◌≢◌, ℕ, ◌+◌, ◌-◌, ◌<◌, ◌≤◌, ◌==◌, ◌&&◌, not, nat_lt, nat_le, inl, inr, Bool, true, false, Option, Some, None, MatchOption, List, length, drop, get_or, slice_range, get_or-drop, refl, sym, ◌∙◌, ap, arith}
 use lib.Utf8.{scalar}
 use Rattle.std.proofs.lemmas.Bool.{cases_lt, cases_Bool, false≢true, eqb-true, eq-eqb, leb-true, le-leb, ltb-true, lt-ltb, cond_both, and_from, and_parts, or_left, or_right, not_from_true, not_from_false}
@@ -22,7 +22,7 @@ tells-same : (P Q : ℕ → List ℕ → Type 0) → ((next : ℕ) (held : List 
 tells-same P Q on back None t = λ next held q. t next held (back next held q)
 tells-same P Q on back (Some f) t = on f.1 f.0 t
 
--- a run ends at the first place that does not pass
+-- a run ends at the first offset that does not pass
 module _ (test : ℕ → Bool) (bytes : List ℕ) (from : ℕ) (none : test 0 ≡ false) where
   stops : test (get_or bytes (from + run_length test bytes from) 0) ≡ false
   stops = elim (cases_lt (run_length test bytes from) (length (drop from bytes))) [

@@ -71,7 +71,7 @@ module _ (code : CodeValue) (sound : IsSound code) (bytes : List ℕ) (s : ℕ) 
       }
 
 module _ (code : CodeValue) (sound : IsSound code) (bytes : List ℕ) (start : ℕ) (starts : start ≤ length bytes) where
-  -- a try begins in the root
+  -- a match attempt begins in the root
   pub comes_first : Comes code bytes start code.root start 0
   comes_first = record {
     context = None;

@@ -34,8 +34,8 @@ module _ (uses : List Use) (callback : Callback) (part rest : List ℕ) (from to
   may_front leaf answer m = subst (λ (l : List ℕ). MayAnswer uses callback part leaf l answer) (sym (range_front part rest from to order fits)) m
 
 module _ {C : Type 0} (callback : Callback) (old : LexerValue C) where
-  -- what goes on from here, after matches without an item, goes on after the last item, whatever
-  -- follows the part
+  -- what continues from here, after matches without an item, continues after the last item,
+  -- whatever follows the part
   pub record GoesOnWithin (from : ℕ) : Type 0 where
     pub after : old.to ≤ from
     pub within : from ≤ length old.input

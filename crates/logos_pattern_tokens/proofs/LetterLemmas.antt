@@ -129,7 +129,7 @@ step_of s t c is = from (eqb c 45) refl is
     from true e h = at_dash (eqb-true c 45 e) s.on refl h
     from false e h = at_letter (with_letter s.change s.on c) refl h
 
--- letters behind the dash
+-- letters after the dash
 record Off (s : Letters) (letters : Text) (change : Change) : Type 0 where
   turns : Turns s.change false letters change
   some : s.pending ≡ true → 0 < length letters

@@ -16,12 +16,12 @@ use Rattle.logos_scan.specs.declared.attempts.Taken.{Taken}
 use Rattle.logos_scan.specs.declared.attempts.Taken.TheVariants.{Emits as TakenEmits, CallsBack as TakenCallsBack, Fails as TakenFails, Ends as TakenEnds}
 
 module _ {C : Type 0} (callback : Callback) (old : LexerValue C) where
-  -- what goes on goes on after what is skipped
+  -- what continues continues after what is skipped
   pub goes_skips : (from to : ℕ) → GoesOn callback old from → SkipsTo old.code old.input from to → GoesOn callback old to
   goes_skips from to g (skips_none at) = g
   goes_skips from to g (skips_then first mid end leaf steps s tried is) = goes_past_skip callback old mid end leaf steps (goes_skips first mid g s) tried is
 
-  -- it goes on from where it begins
+  -- it continues from where it begins
   pub goes_first : old.to ≤ length old.input → GoesOn callback old old.to
   goes_first within = record {
     after = omega arith;
@@ -30,7 +30,7 @@ module _ {C : Type 0} (callback : Callback) (old : LexerValue C) where
     passed = λ item end r. r;
   }
 
-  -- how many states a try entered does not matter
+  -- how many states a match attempt entered does not matter
   same_span : (from to n : ℕ) (item : Item) → HasSpan (moved old from to n) item → HasSpan (moved old from to 0) item
   same_span from to n (token leaf a b slice) h = h
   same_span from to n (error leaf a b slice) h = h

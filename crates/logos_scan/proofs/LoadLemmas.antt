@@ -156,7 +156,7 @@ module _ (code : CodeValue) (rows : List ℕ) (folded : AreFolded code rows) (in
   abbrev entries : List ℕ
   entries = run.chunk.entries
 
-  -- the try that stands before an entry
+  -- the attempt that stands before an entry
   holds_at : (start at : ℕ) (r : IsRun code rows input run start at) → Holds code rows folded input are base run.count run.row_start entries (let c = r.in_chunk in c.within) start at r.before
   holds_at start at r =
       let s = r.is_at in
@@ -266,7 +266,7 @@ module _ (code : CodeValue) (rows : List ℕ) (folded : AreFolded code rows) (in
         by_use Skips has is = absurd (omega (arith, has, t))
         by_use CallsBack has is = absurd (let o = has.1 in omega (arith, o, b))
 
-    -- the next try stands after it
+    -- the next attempt stands after it
     pub found_next : IsRun code rows input run (base + at) (at + 1)
     found_next =
         let c = r.in_chunk in

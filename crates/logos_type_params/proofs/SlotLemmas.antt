@@ -85,7 +85,7 @@ module _ {X : Type 0} where
   pub placed_set : (entry : Bor Text × X) (es : Rows X) (slots : List (Bor Text × ℕ)) (i : ℕ) → ArePlaced es slots → slot_in es entry.0.now ≡ Some i → ArePlaced (slice_set es i entry) slots
   placed_set entry es slots i are h q = are q ∙ same_slots entry es i h q.now
 
-  -- a new one has the place behind all others
+  -- a new one has the place after all others
   slot_last : (entry : Bor Text × X) (es : Rows X) (q : Text) → slot_in es q ≡ None → bytes_eq q entry.0.now ≡ true → slot_in (es ++ entry ∷ []) q ≡ Some (length es)
   slot_last entry [] q h e = rw e refl
   slot_last entry (x ∷ es) q h e = let l = slot_none q x es h in rw l.0 (ap (λ (r : Option ℕ). option_map suc r) (slot_last entry es q l.1 e))

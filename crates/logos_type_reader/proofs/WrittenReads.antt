@@ -36,7 +36,7 @@ dots_no : (c : ℕ) (p : Spacing) (s : Span) (rest : TokenList) → (c == 46) �
 dots_no c Joint s (also (punctuation d Joint t) (also (punctuation f q u) rest)) e = rw e refl
 dots_no c p s rest e = refl
 
--- a punctuation with which nothing goes on: a comma, `>` or `;` lengthens no type
+-- a punctuation with which nothing continues: a comma, `>` or `;` lengthens no type
 record Idle (c : ℕ) : Type 0 where
   angle : (c == 60) ≡ false
   colon : (c == 58) ≡ false
@@ -217,7 +217,7 @@ path_begins plus text s run e = go (bytes_eq text (codes "dyn")) (bytes_eq text 
     go false false false false false true h e = cc
     go false false false false false false true e = cc
 
--- the path goes on there
+-- the path continues there
 angled_on : {levels : ℕ} {kind : PathKind} {run rest : TokenList} {parts : List Tree} → Angled levels kind run parts rest → goes_on run ≡ true
 angled_on (plain a) = refl
 angled_on (turbofish a) = refl
@@ -636,7 +636,7 @@ same_next k (part (a_still_type e h) a f) = part (a_still_type (k ∙ e) h) a f
 same_next k (part (still_tokens e) a f) = part (still_tokens (k ∙ e)) a f
 same_next k (part (a_nest e h) a f) = part (a_nest (k ∙ e) h) a f
 
--- a type of parts has a first token, and the parts behind it
+-- a type of parts has a first token, and the parts after it
 pub data Begun : ℕ → Bool → TokenList → List Tree → TokenList → Type 0 where
   begun : {levels : ℕ} {plus : Bool} {run rest : TokenList} {s : Sign} {spot : Spot} {parts : List Tree} → name_of run ≡ None → begin plus run ≡ starts false s spot → AreParts levels false spot parts rest →
       Begun levels plus run (sign s ∷ parts) rest

@@ -105,7 +105,7 @@ walked_apart rows text p trace new from to q at entry out e w =
 pub walked_at : (rows text : List ℕ) (p : ℕ) (trace : List ℕ) (from to : ℕ) → to ≡ from → Walked rows text p trace from to p
 walked_at rows text p trace from to e = subst (λ k. Walked rows text p trace from k p) (sym e) (walked_none rows text p trace from)
 
--- what another walk left stands behind a step that comes to the place that it names
+-- what another walk left stands after a step that comes to the place that it names
 pub walked_again : (rows text : List ℕ) (p guess : ℕ) (trace new : List ℕ) (from at to q r end : ℕ) → from ≤ at → at < to → at < length trace
     → new ≡ set trace at (entry_at rows text at q) → r ≡ row_start_of (entry_at rows text at q)
     → row_start_of (slice_index trace at) ≡ r

@@ -196,7 +196,7 @@ step_missing all live x s found at same none =
     ap (λ o. step_from o x) (read_at all live.steps s at)
     ∙ ap viewed (ap (λ fs. slice_get fs (slice_index s.now.by_byte x)) (sym same) ∙ slice_get_past found (slice_index s.now.by_byte x) (read_past found (slice_index s.now.by_byte x) none))
 
--- the places of a live tree's step are added, or there is no such step
+-- the positions of a live tree's step are added, or there is no such step
 pub push_some : (all : List TreeSteps) (live : LiveTree) (x : ℕ) (s : Bor TreeSteps) (found : List TreeStep) (t : Bor TreeStep) (old new added : List ℕ) → IsItemAt all live.steps (Some s) → found ≡ s.now.found.items →
     IsItemAt found (slice_index s.now.by_byte x) (Some t) → added ≡ t.now.positions.items → new ≡ old ++ added → new ≡ old ++ (step_of all live x).positions
 push_some all live x s found t old new added at same here is made =

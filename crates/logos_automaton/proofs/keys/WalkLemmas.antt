@@ -247,7 +247,7 @@ done_more P Q old mid new n m one rest marks h = record {
     cases : (k : ℕ) {R : Type 0} → (k < n → R) → (k ≡ n → R) → (n < k → R) → R
     cases k f g h = ⊎_elim f (λ u. ⊎_elim g h u) (three k n)
 
--- a row of a class leads nowhere by a byte that does not go on with a character
+-- a row of a class leads nowhere by a byte that does not continue with a character
 pub follow_low : (t : CharacterTable) (q b : ℕ) → b < 0x80 → (reader_of t).follow q b ≡ None
 follow_low t q b lt = let e : nat_le 0x80 b ≡ false = grind (arith, nat_tests) in rw e refl
 

@@ -14,7 +14,8 @@ use Rattle.logos_hir.proofs.tree.Laws.{passes}
 use Rattle.logos_automaton.specs.Munch.{Rule, RuleMatches}
 use Rattle.std.specs.List.{list_any}
 
--- From the place d of a and the place e of b on, k bytes are the same, and the byte after them too.
+-- From the position d of a and the position e of b on, k bytes are the same, and the byte after
+-- them too.
 pub record AreAlike (a b : List ℕ) (d e k : ℕ) : Type 0 where
   pub spans : (i j : ℕ) → i ≤ j → j ≤ k → slice_range a (d + i) (d + j) ≡ slice_range b (e + i) (e + j)
   pub bytes : (i : ℕ) → i ≤ k → slice_get a (d + i) ≡ slice_get b (e + i)
@@ -43,7 +44,7 @@ and_rest : (a b : Bool) → IsTrue a → (a && b) ≡ false → b ≡ false
 and_rest true b t e = e
 and_rest false b t e = absurd (cc)
 
--- the place is not the first one, or nothing leads
+-- the position is not the first one, or nothing leads
 abbrev Free : ℕ → Bool → Type 0
 Free i leading = (0 < i) ⊎ (leading ≡ false)
 

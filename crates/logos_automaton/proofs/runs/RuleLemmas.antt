@@ -35,7 +35,7 @@ tree_size [] i d lt = absurd (omega arith)
 tree_size (h ∷ views) zero d lt = let e = size_of-cons (rule_of h) (rules_of views) in omega (arith, e)
 tree_size (h ∷ views) (suc i) d lt = let k = tree_size views i d (omega arith) in let e = size_of-cons (rule_of h) (rules_of views) in omega (arith, e, k)
 
--- the places are not many more than the size
+-- the positions are not many more than the size
 pub rules_width : (rules : List Rule) (ts : List Core) → AreRuleCores rules ts → width_of ts ≤ 2 ^ 16 * size_of rules
 rules_width [] [] h = omega arith
 rules_width [] (t ∷ ts) h = absurd h

@@ -1,5 +1,5 @@
-//! Declares the generic parameters of an enum, and replaces them in types. `logos_leaf` and
-//! `logos_parser` call it.
+//! Declares the generic parameters of an enum, and replaces them in types. `logos_leaf` calls
+//! `parse_generic` for each parameter.
 
 ghost use Rattle.std.specs.Prelude.{OnOk, ◌≡◌, ◌++◌, [], IfOk, OnErr, option_map, true};
 ghost use Rattle.logos_definition.specs.Views.{AddsFault, run_span, tokens_of, type_tree, IsReport, ident_slice, generics, generics_of, missing_types, GetsUnheld, const_generic, parameter_report, parser_view, HasNotFailed};

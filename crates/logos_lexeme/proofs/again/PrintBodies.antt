@@ -147,7 +147,7 @@ continuing-114 : is_continuing 114 ≡ true
 unfolding is_continuing
 continuing-114 = rw (is_xid_continue-ascii 114 (omega arith)) refl
 
--- behind a number there is no suffix
+-- after a number there is no suffix
 no_suffix_by : (based : Bool) (bytes : List ℕ) (at to : ℕ) (o : Option ℕ) → IsLast (GoesOn based bytes) at → Names bytes at o → MatchOption o (to ≡ at) (λ n. Run (Passes is_continuing bytes) (past bytes n) to) → to ≡ at
 no_suffix_by based bytes at to o last (raw t) r = absurd (let l = (raw_parts bytes at t).0 in last (past bytes at) (letter_at based bytes at (ap is_continuing (character-ascii bytes at (omega arith) ∙ l) ∙ continuing-114)))
 no_suffix_by based bytes at to o last (plain_name t) r = absurd (last (past bytes at) (letter_at based bytes at (start-continuing (character bytes at) t)))

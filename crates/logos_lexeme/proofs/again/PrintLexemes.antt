@@ -85,7 +85,7 @@ module _ (bytes : List ℕ) (at : ℕ) where
   long o end (apostrophes content) r f = omega (arith, IsQuoted-after 39 bytes (at + prefix_of content + 1) end r)
   long o end (character_between e) r f = let g = r.after in let m = past-moves bytes (at + 1) in omega arith
 
--- how what stands at a place opens
+-- how what stands at an offset opens
 pub data Opens (bytes : List ℕ) (at : ℕ) : Opening → Type 0 where
   by_literal : (o : Opening) → literal_at bytes at ≡ Some o → Opens bytes at o
   by_comment : (o : Opening) → literal_at bytes at ≡ None → comment_opening bytes at ≡ Some o → Opens bytes at o
@@ -264,7 +264,7 @@ module _ (a b : List ℕ) (p q k : ℕ) (w : Window a b p q k) (bound : IsCharBo
   unfolding comment_opening
   block_there e f l is = rw (w.same p q (omega arith) (omega arith) (omega arith) ∙ e, w.same (p + 1) (q + 1) (omega arith) (omega arith) (omega arith) ∙ f, block_doc a b p q k w (p + 2) (q + 2) (omega arith) (omega arith) (omega arith) ∙ is) refl
 
-  -- what stands behind a line is its end
+  -- what stands after a line is its end
   abbrev LineEnds : Type 0
   LineEnds = (get_or b (q + k) 0 ≡ 10) ⊎ (q + k ≡ length b)
 

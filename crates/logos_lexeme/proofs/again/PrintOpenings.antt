@@ -15,7 +15,7 @@ use Rattle.logos_lexeme.specs.declared.lexeme.openings.Opening.TheVariants.{Numb
 use Rattle.logos_lexeme.proofs.CharacterLaws.{inside_from_byte}
 use Rattle.logos_lexeme.proofs.again.PrintWindows.{Window, blank_fails, same_past, past_within}
 
--- so many `#` stand in a row, and another byte behind them
+-- so many `#` stand in a row, and another byte after them
 hashes_are : (bytes : List ℕ) (at n : ℕ) → ((i : ℕ) → i < n → get_or bytes (at + i) 0 ≡ 35) → get_or bytes (at + n) 0 ≢ 35 → at ≤ length bytes → hashes bytes at ≡ n
 unfolding hashes
 hashes_are bytes at n all other inside =
@@ -52,7 +52,7 @@ head_end bytes from (Apostrophes content) = from + prefix_of content + 2
 head_end bytes from Character = past bytes (from + 1) + 1
 head_end bytes from _ = from + 1
 
--- what opens, if anything does, opens in front of a place
+-- what opens, if anything does, opens in front of an offset
 abbrev Heads : List ℕ → ℕ → ℕ → Option Opening → Type 0
 Heads bytes from to o = (opening : Opening) → o ≡ Some opening → head_end bytes from opening ≤ to
 
@@ -66,7 +66,7 @@ abbrev raw_test : List ℕ → ℕ → ℕ → Bool
 raw_test bytes at count = nat_le count 255 && (get_or bytes (at + count) 0 == 34)
 
 module _ (a b : List ℕ) (p q k : ℕ) (w : Window a b p q k) where
-  -- `#` up to the window's end, and none behind it
+  -- `#` up to the window's end, and none after it
   hashes_cut : (x y : ℕ) → x + q ≡ y + p → p ≤ x → x ≤ p + k → p + k ≤ x + hashes a x → y + hashes b y ≡ q + k
   hashes_cut x y e low high long =
       let n = q + k - y in
@@ -163,7 +163,7 @@ module _ (a b : List ℕ) (p q k : ℕ) (w : Window a b p q k) where
     | inr l ↦ bytes_blank (let f = w.filled in omega arith) ∙ sym (bytes_late l fit)
   ]
 
-  -- the byte behind a character
+  -- the byte after a character
   quote_same : (x y : ℕ) → x + q ≡ y + p → p ≤ x → x ≤ p + k → (x ≡ p + k → (get_or a x 0 == 39) ≡ false) → (get_or b y 0 == 39) ≡ (get_or a x 0 == 39)
   quote_same x y e low high last = elim (eq-or-lt_of_le high) [
     | inl f ↦ blank_fails a b p q k w (λ c. c == 39) refl refl refl y (omega arith) ∙ sym (last f)

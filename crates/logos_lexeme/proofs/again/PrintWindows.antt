@@ -1,4 +1,4 @@
--- Two texts that have the same bytes at two places, and a space, a line feed or nothing behind them
+-- Two texts that have the same bytes at two offsets, and a space, a line feed or nothing after them
 -- in the second text.
 use Rattle.std.proofs.Common.{◌≡◌, ℕ, ◌+◌, ◌-◌, ◌<◌, ◌≤◌, ◌⊎◌, inl, inr, Bool, false, List, ◌∷◌, ◌++◌, length, get_or, take, drop, slice_range, IsUtf8, encode_utf8, length-append, sym, ◌∙◌, ap, arith, take-append-drop, ext_get_or}
 use Rattle.std.proofs.lemmas.List.{get_or_past}
@@ -37,7 +37,7 @@ pub record Window (a b : List ℕ) (p q k : ℕ) : Type 0 where
   pub blank : (get_or b (q + k) 0 ≡ 32) ⊎ ((get_or b (q + k) 0 ≡ 10) ⊎ (q + k ≡ length b))
 
 module _ (a b : List ℕ) (p q k : ℕ) (w : Window a b p q k) where
-  -- a test that a space, a line feed and 0 fail fails behind the window
+  -- a test that a space, a line feed and 0 fail fails after the window
   pub blank_fails : (test : ℕ → Bool) → test 32 ≡ false → test 10 ≡ false → test 0 ≡ false → (y : ℕ) → y ≡ q + k → test (get_or b y 0) ≡ false
   blank_fails test s l n y e = rw e (elim w.blank [
     | inl f ↦ ap test f ∙ s
@@ -47,7 +47,7 @@ module _ (a b : List ℕ) (p q k : ℕ) (w : Window a b p q k) where
     ]
   ])
 
-  -- the byte behind the window is no other one
+  -- the byte after the window is no other one
   pub blank_byte : (y : ℕ) → y ≡ q + k → (get_or b y 0 ≡ 32) ⊎ ((get_or b y 0 ≡ 10) ⊎ (get_or b y 0 ≡ 0))
   blank_byte y e = rw e (elim w.blank [
     | inl f ↦ inl f

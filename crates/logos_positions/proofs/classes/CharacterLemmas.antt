@@ -309,7 +309,7 @@ left_known zero has (b ∷ bs) h = absurd h
 left_known (suc n) has (b ∷ bs) h = let r = left_known n (after_byte n has b) bs h.2 in (r.0, r.1, (h.0, h.1, r.2))
 
 -- The bytes begin a character of the class, and more end it, exactly if the automaton stands at a
--- place with some offset after them.
+-- position with some offset after them.
 pub beginnings_are_read : (c : ℕ → Bool) → IsOfScalars c → (bs : List ℕ) → IsBeginningOf c bs ↔ Reads IsBegun c bs
 beginnings_are_read c proper bs = (
   λ w. Reads-map (IsOpenWith (length w.rest)) IsBegun (λ n f h. (omega (arith, h.0, w.unended), h.1)) c bs

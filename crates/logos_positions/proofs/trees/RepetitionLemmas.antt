@@ -15,7 +15,7 @@ use Rattle.logos_positions.proofs.trees.CopyLemmas.{TurnReads, repeated-turns, t
 use Rattle.logos_positions.proofs.trees.RepeatLemmas.{Pieces-map, repeated-of_Pieces, Pieces-of_repeated}
 use Rattle.logos_positions.proofs.trees.WidthLemmas.{width-repeated}
 
--- a place in a copy, without the copy's number
+-- a position in a copy, without the copy's number
 abbrev copy_number : ℕ → ℕ → (Position → Option ℕ) → Position → Option ℕ
 copy_number w count f (byte_of n) = None
 copy_number w count f (member bytes) = None

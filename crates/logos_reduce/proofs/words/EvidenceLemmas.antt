@@ -299,7 +299,7 @@ module _ (r : Reduction) (h : HistoryOf r) where
       go (inl y) = one s hs y.0
       go (inr y) = one t ht y.1
 
-  -- the climb goes on
+  -- the climb continues
   pub climbed : (s t low high a b : ℕ) → s < size r.table → t < size r.table → ArePlaced r h s t low high → a < b →
       ((a ≡ (split_at r.splits.items high).parent) × (b ≡ low)) ⊎ ((a ≡ low) × (b ≡ (split_at r.splits.items high).parent)) → ArePlaced r h s t a b
   climbed s t low high a b hs ht x o same = go x.placed same

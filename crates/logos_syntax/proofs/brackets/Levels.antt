@@ -13,7 +13,7 @@ use Rattle.logos_syntax.specs.bracket.Meaning.{set_or_complement, item_set, lead
 use Rattle.logos_syntax.specs.inside.BracketStack.{BracketFrame, Frames, fresh_frame, value, whole, close, bracket_step}
 use Rattle.logos_syntax.specs.inside.BracketStack.{with_before}
 
--- a bracket that is open: the operands before the last one, with the operator behind them, and the
+-- a bracket that is open: the operands before the last one, with the operator after them, and the
 -- last one
 pub record Level : Type 0 where
   pub negated : Bool

@@ -73,7 +73,7 @@ inside_fits flags (Some bs) its jts g f = (f.0, g f.1)
 piece_fits : (flags : Flags) (l : Level) (p : Piece) → PieceFits (level_flags flags l) p → BranchesFit flags (level_inside l) → BranchesFit flags (level_inside (with_piece l p))
 piece_fits flags l p g f = inside_fits flags l.before l.items (piece l.items p) (λ h. (h, g)) f
 
--- how a step goes on with what is read
+-- how a step continues with what is read
 record Adds (flags : Flags) (p : Slot) (t : Token) (z : Slot) : Type 0 where
   tokens : tokens_of z ≡ tokens_of p ++ t ∷ []
   fits : SlotFits flags p → TokenFits (state_of flags p).top.flags t → SlotFits flags z

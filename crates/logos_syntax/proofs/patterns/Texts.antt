@@ -123,7 +123,7 @@ reads_on flags text rest after s u names others r g = record {
   has = subst (HasNames others) (sym (names_more [] r.tokens g.token)) g.has;
 }
 
--- what stands behind what is read, in a pattern
+-- what stands after what is read, in a pattern
 record Later (flags : Flags) (rest : Text) (s : State) (names : List Text) (written : Branches) : Type 0 where
   more : List Token
   cut : Cuts rest more []

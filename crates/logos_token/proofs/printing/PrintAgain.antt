@@ -96,7 +96,7 @@ same_lexeme a b (Closing d) s t e f = refl
 abbrev pub HasNoSpace : List ℕ → Type 0
 HasNoSpace a = (kind : LexemeKind) (from to : ℕ) → IsCharBoundary a from → IsNext a from kind to → kind ≢ Gap → is_space (character a from) ≡ false
 
--- the pieces of the printed text from a place on
+-- the pieces of the printed text from an offset on
 record Remade (a b : List ℕ) (q : ℕ) (pieces : List Piece) : Type 0 where
   news : List Piece
   filled : Pieces b q news (length b)
@@ -106,8 +106,8 @@ record Begins (a b : List ℕ) (q : ℕ) (pieces : List Piece) : Type 0 where
   remade : Remade a b q pieces
   no_space : is_space (character b q) ≡ false
 
--- where a `'` stands directly before a place of the second text, one stands directly before that of
--- the first, and another lexeme begins there
+-- where a `'` stands directly before an offset of the second text, one stands directly before that
+-- of the first, and another lexeme begins there
 abbrev IsAfter : List ℕ → List ℕ → ℕ → ℕ → List Piece → Type 0
 IsAfter a b p q pieces = follows_apostrophe b q ≡ true → (follows_apostrophe a p ≡ true) × Follows pieces
 

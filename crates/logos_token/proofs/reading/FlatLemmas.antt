@@ -29,7 +29,7 @@ tokens-from_flat tokens entries is = let P : List EntryValue → Type 0 = λ es.
 pub flat-from_flat : (tokens : TokenList) (entries : List EntryValue) → flat tokens ≡ entries → flat (trees_of (length entries) entries) ≡ entries
 flat-from_flat tokens entries is = ap flat (tokens-from_flat tokens entries is) ∙ is
 
--- a group's entry, in front of those inside it and of those behind it
+-- a group's entry, in front of those inside it and of those after it
 pub record OpensRun (delimiter : Delimiter) (span : Span) (size : ℕ) (entries : List EntryValue) : Type 0 where
   pub within : size ≤ length entries
   pub inside : flat (trees_of size (take size entries)) ≡ take size entries

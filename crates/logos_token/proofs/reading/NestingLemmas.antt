@@ -89,9 +89,9 @@ most_open-append (closes delimiter to ∷ front) back (innermost ∷ around) beh
     omega (arith, closed-most_open front back around behind (suc (length around) - 1) (is_partner innermost.0 delimiter) e (most_open-append front back around behind) is)
 
 -- The tokens of lexemes: a stack of groups that are begun, innermost first, and the tokens read
--- behind them.
+-- after them.
 
--- a group that is begun: the tokens in front of it, its delimiter, and the place where it stands
+-- a group that is begun: the tokens in front of it, its delimiter, and the offset where it stands
 record OpenGroup : Type 0 where
   before : TokenList
   delimiter : Delimiter

@@ -29,7 +29,7 @@ abbrev mutual
   RunCut text none = Unit {0}
   RunCut text (also token rest) = TokenCut text token × RunCut text rest
 
--- a lexeme begins and ends between characters, as far as its places are known
+-- a lexeme begins and ends between characters, as far as its offsets are known
 abbrev LexemeCut : List ℕ → Lexeme → Type 0
 LexemeCut text (leaf token) = TokenCut text token
 LexemeCut text (opens delimiter from) = IsCharBoundary text from
