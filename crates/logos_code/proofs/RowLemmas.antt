@@ -1,4 +1,4 @@
--- Rows, and what a state does by its row.
+-- Rows, and the turn of a state by its row.
 use Rattle.std.proofs.Common.{◌≡◌, ℕ, zero, suc, ◌+◌, ◌*◌, ◌-◌, ◌/◌, ◌%◌, ◌<◌, ◌≤◌, ◌⊎◌, inl, inr, ⊎_elim, ◌++◌, true, false, IfSome, List, length, take, drop, get_or, slice_index, slice_get, Option, Some, None, refl, sym, ap, subst, ◌∙◌, arith, length-drop, Fits, w8}
 use Rattle.std.proofs.Math.Facts.{Fits-lt-pow}
 use Rattle.std.proofs.lemmas.List.{length-map, get_or-map, get_or-drop, get_or_append_left, get_or-append-add, take_all}

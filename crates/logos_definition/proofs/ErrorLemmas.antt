@@ -1,4 +1,4 @@
--- What `error(..)` gives, by what is read in it.
+-- The result of `error(..)`, by the result of reading its type.
 use Rattle.std.proofs.Common.{◌≡◌, ◌≢◌, List, true, Option, Some, None}
 use Rattle.std.specs.Prelude.{option_map}
 use Rattle.logos_lexeme.specs.declared.lexeme.Span.{Span}

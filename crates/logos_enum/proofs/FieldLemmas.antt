@@ -1,4 +1,4 @@
--- Fields, and what holds them.
+-- Fields, and their groups.
 use Rattle.std.proofs.Common.{◌≡◌, inl, inr, true, false, Some, None, Err}
 use Rattle.logos_token.specs.Tokens.{TokenList, append}
 use Rattle.logos_type_reader.specs.declared.reader.TypeFault.{TypeFault}

@@ -1,4 +1,4 @@
--- Where a match attempt goes, and the entries that say it.
+-- The state of a match attempt after a byte, and the entries that represent it.
 use Rattle.std.proofs.Common.{◌≡◌, ◌≢◌, ℕ, ◌+◌, ◌-◌, ◌*◌, ◌%◌, ◌<◌, ◌≤◌, ◌⊎◌, inl, inr, ⊎_elim, true, false, List, ◌++◌, length, length-append, set, get_or-set_same, get_or-set_other, get_or-append-add, replicate, Some, refl, sym, ap, subst, ◌∙◌, arith, slice_index}
 use Rattle.std.proofs.lemmas.List.{get_or_append_left, get_or-replicate}
 use Rattle.std.proofs.lemmas.Nat.{and_mask}

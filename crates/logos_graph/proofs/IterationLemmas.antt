@@ -1,4 +1,4 @@
--- The iterator over the states of a graph gives each of them once, in order.
+-- The iterator over the states of a graph returns each of them once, in order.
 use Rattle.std.proofs.Common.{◌≡◌, ◌∙◌, ℕ, ◌+◌, ◌<◌, arith, length, get_or}
 use Rattle.std.specs.List.{range_with_len}
 use Rattle.std.specs.Iterator.{YieldsFirstBy}

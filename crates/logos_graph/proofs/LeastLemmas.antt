@@ -1,5 +1,5 @@
--- A word of symbols that distinguishes two states of a table gives bytes, with the end after them
--- or not, that distinguish the states of the graph.
+-- A word of symbols that distinguishes two states of a table yields bytes, with or without the end
+-- after them, that distinguish the states of the graph.
 use Rattle.std.proofs.Common.{◌≡◌, ◌≢◌, ℕ, ◌<◌, ◌≤◌, ◌⊎◌, inl, inr, Bool, true, false, List, [], ◌∷◌, length, Option, Some, None, option_map, refl, sym, ◌∙◌, ap, arith}
 use Rattle.std.proofs.lemmas.Bool.{cases_lt}
 use Rattle.std.proofs.lemmas.List.Elements.{All-cons, All-nil}

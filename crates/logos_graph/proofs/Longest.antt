@@ -1,4 +1,4 @@
--- The finished graph finds what maximal munch finds.
+-- The finished graph has the results of maximal munch.
 use Rattle.std.proofs.Common.{◌≡◌, ◌↔◌, ℕ, zero, suc, ◌+◌, ◌<◌, ◌≤◌, ◌⊎◌, inl, inr, Bool, true, false, ◌||◌, option_and_then, List, [], ◌∷◌, length, take, drop, Option, Some, None, IsTrue, IsFalse, refl, sym, ◌∙◌, subst, arith, take-append-drop, length-take-le}
 use Rattle.std.proofs.lemmas.List.Elements.{All-cons, All-nil, All-drop}
 use Rattle.std.proofs.lemmas.Bool.{cases_lt}

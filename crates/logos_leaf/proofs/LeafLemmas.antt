@@ -1,4 +1,4 @@
--- What a definition makes, by what its text is.
+-- The leaf of a definition, by the result of reading its text.
 use Rattle.std.proofs.Common.{◌≡◌, ◌∙◌, ℕ, List, [], ◌++◌, Option, Some, None, refl, sym, ap, append-nil}
 use Rattle.std.specs.Str.{chars}
 use Rattle.logos_token.specs.Faults.{Fault}

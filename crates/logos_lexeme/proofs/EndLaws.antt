@@ -1,4 +1,5 @@
--- What opens at an offset ends after it, between characters, and at one offset alone.
+-- A lexeme or gap that opens at an offset ends after it, between characters, and at only one
+-- offset.
 use Rattle.std.proofs.Common.{◌≡◌, ◌≢◌, ℕ, ◌+◌, ◌-◌, ◌<◌, ◌≤◌, ◌⊎◌, inl, inr, Bool, true, false, cond, ◌&&◌, nat_eq, List, length, get_or, Option, Some, None, IsUtf8, MatchOption, refl, sym, ◌∙◌, ap, arith}
 use Rattle.std.proofs.lemmas.Bool.{cases_lt, and_parts, eqb-true, false≢true}
 use Rattle.std.proofs.lemmas.Str.{IsCharBoundary-end, IsCharBoundary-after_ascii}

@@ -1,5 +1,5 @@
--- The laws of lexemes: what stands at an offset ends after it, between characters, and is one; a
--- fault stands where none does.
+-- The laws of lexemes: a lexeme or gap at an offset ends after it, between characters, and is
+-- unique; a fault is at each offset without one.
 use Rattle.std.proofs.Common.{◌≡◌, ℕ, ◌<◌, ◌≤◌, List, length, IsUtf8, refl, sym, ◌∙◌, subst, arith}
 use Rattle.std.specs.Str.{IsCharBoundary}
 use Rattle.logos_lexeme.specs.LexemeOpenings.{opening_at}

@@ -1,4 +1,4 @@
--- What opens at an offset, by cases.
+-- The lexemes and gaps that open at an offset, by cases.
 use Rattle.std.proofs.Common.{◌≡◌, ◌≢◌, ℕ, ◌+◌, ◌<◌, ◌≤◌, ◌==◌, ◌&&◌, nat_le, not, min, inl, inr, Option, Some, None, unwrap_or, option_map, is_some, MatchOption, List, length, get_or, drop, get_or-drop, length-drop, sym, ◌∙◌, ap, arith, add-zero}
 use Rattle.std.specs.List.{prefix_len}
 use Rattle.std.proofs.lemmas.Bool.{cases_lt, eqb-true, eq-eqb, false≢true, cond_both, and_parts}

@@ -1,4 +1,4 @@
--- The piece that stands at an offset is the one that the rules of pieces allow there.
+-- The piece at an offset is the one that the rules of pieces allow there.
 use Rattle.std.proofs.Common.{◌≡◌, ◌≢◌, ℕ, ◌+◌, ◌-◌, ◌<◌, ◌≤◌, ◌==◌, ◌&&◌, not, nat_lt, nat_le, inl, inr, Bool, true, false, Option, Some, None, MatchOption, List, length, drop, get_or, slice_range, get_or-drop, refl, sym, ◌∙◌, ap, arith}
 use lib.Utf8.{scalar}
 use Rattle.std.proofs.lemmas.Bool.{cases_lt, cases_Bool, false≢true, eqb-true, eq-eqb, leb-true, le-leb, ltb-true, lt-ltb, cond_both, and_from, and_parts, or_left, or_right, not_from_true, not_from_false}

@@ -1,5 +1,5 @@
--- A match attempt that looks at none but the first bytes finds the same in each input that has
--- them.
+-- A match attempt that examines only the first bytes has the same result in each input that begins
+-- with them.
 use Rattle.std.proofs.Common.{◌≡◌, ◌∙◌, ℕ, zero, suc, ◌+◌, ◌<◌, ◌≤◌, ◌⊎◌, inl, inr, ⊎_elim, Bool, true, false, cond, eqb, ◌&&◌, ◌==◌, IsSome, IsTrue, IsCharBoundary, List, [], ◌∷◌, ◌++◌, length, take, drop, Option, Some, None, slice_get, refl, sym, ap, subst, arith}
 use Rattle.std.proofs.lemmas.List.{append-nil, take-append-drop, drop-append-le, length-append, length-take-le, length-drop, get_or_append_left}
 use Rattle.std.proofs.lemmas.List.Folds.{length-prefix_len, prefix_len-append}

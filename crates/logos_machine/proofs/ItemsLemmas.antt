@@ -1,4 +1,4 @@
--- From item to item: what completes the run after the items so far completes the whole run.
+-- From item to item: the items so far, followed by the rest of a run, are a whole run.
 use Rattle.std.proofs.Common.{◌≡◌, ℕ, Bool, true, false, List, [], ◌∷◌, ◌++◌, append_assoc, append-nil, MatchBool}
 use Rattle.logos_automaton.specs.Munch.{Use}
 use Rattle.logos_code.specs.Code.{CodeValue}

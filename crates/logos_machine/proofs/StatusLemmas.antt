@@ -1,4 +1,4 @@
--- In a sound code each step of a match attempt leads to a place where it can stand.
+-- In a sound code each step of a match attempt leads to a status that is possible there.
 use Rattle.std.proofs.Common.{◌≡◌, ◌≢◌, ℕ, ◌+◌, ◌-◌, ◌<◌, ◌≤◌, ◌⊎◌, inl, inr, ⊎_elim, Bool, true, false, ◌&&◌, ◌==◌, IsTrue, IfSome, IsSomeAnd, List, length, drop, Option, Some, None, slice_get, refl, sym, ◌∙◌, subst, arith, length-drop, if◌then◌else◌}
 use Rattle.std.specs.Option.{option_map_or}
 use Rattle.std.proofs.lemmas.List.Folds.{length-prefix_len}

@@ -1,4 +1,4 @@
--- What a state does, by what is known of the place where its fast loop ends.
+-- The turn of a state, by the byte at which its fast loop ends.
 use Rattle.std.proofs.Common.{◌≡◌, ◌≢◌, ℕ, ◌+◌, ◌<◌, ◌⊎◌, [], ◌∷◌, inl, inr, ⊎_elim, Bool, true, false, ◌&&◌, ◌==◌, IsTrue, IfSome, List, drop, Option, Some, None, option_map, slice_get, refl, sym, ap, ◌∙◌, arith}
 use Rattle.std.proofs.lemmas.Bool.Decides.{eqb_tells}
 use Rattle.logos_code.specs.Code.{CodeValue, CodeState, Fork, Mark, by_conditions, by_table}

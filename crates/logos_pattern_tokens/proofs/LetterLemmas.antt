@@ -1,4 +1,4 @@
--- Flag settings: what is read is written there, and what is written is read.
+-- Flag settings: settings that are read are written there, and settings that are written are read.
 use Rattle.std.proofs.Common.{◌≡◌, ℕ, ◌<◌, ◌⊎◌, inl, inr, Bool, true, false, cond, eqb, [], ◌∷◌, ◌++◌, length, Option, Some, None, option_map, refl, sym, ap, subst, ◌∙◌, arith, append-nil}
 use Rattle.std.proofs.lemmas.Bool.{eqb-true}
 use Rattle.logos_pattern_tokens.specs.declared.token.Change.{Change}

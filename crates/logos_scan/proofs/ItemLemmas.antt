@@ -1,4 +1,4 @@
--- Items by what a run takes.
+-- Items by the results that a scan takes.
 use Rattle.std.proofs.Common.{◌≡◌, ℕ, ◌<◌, ◌≤◌, List, [], ◌∷◌, length, None, refl, slice_range, arith}
 use Rattle.logos_automaton.specs.Munch.{matched, failed, ended}
 use Rattle.logos_code.specs.declared.action.Action.{Action}

@@ -1,4 +1,4 @@
--- A run by the entries of a chunk: from one entry to a later one, and past what is there.
+-- A scan by the entries of a chunk: from one entry to a later one, and past the pending ones.
 use Rattle.std.proofs.Common.{◌≡◌, ℕ, zero, suc, ◌+◌, ◌-◌, ◌*◌, ◌<◌, ◌≤◌, inl, inr, List, length, drop, get_or, slice_index, refl, sym, ap, subst, ◌∙◌, arith, get_or-drop}
 use Rattle.std.specs.Int.{bit_at}
 use Rattle.std.proofs.lemmas.Nat.Bits.{bit_at-lt, bit_at-zero}

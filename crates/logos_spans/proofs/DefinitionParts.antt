@@ -1,4 +1,4 @@
--- The literals and the callbacks of definitions stand in the tokens of their attributes.
+-- The literals and the callbacks of definitions occur in the tokens of their attributes.
 use Rattle.std.proofs.Common.{◌≡◌, ◌==◌, Bool, true, false, List, [], ◌∷◌, ◌++◌, Option, Some, None, if◌then◌else◌, codes, sym, subst, option_map}
 use Rattle.std.specs.Str.{bytes_eq}
 use Rattle.logos_token.specs.Faults.{Fault}

@@ -1,4 +1,4 @@
--- The literals and the callbacks of leaves stand in the tokens of their enum.
+-- The literals and the callbacks of leaves occur in the tokens of their enum.
 use Rattle.std.proofs.Common.{◌≡◌, Bool, true, false, ℕ, List, [], ◌∷◌, ◌++◌, IsUtf8, Option, Some, None, Ok, if◌then◌else◌, sym, subst}
 use Rattle.std.specs.Prelude.{All, IfSome}
 use Rattle.std.specs.Option.{option_to_list}

@@ -1,5 +1,5 @@
--- What rules in turn read of a run of tokens, and what they leave of it, for any property of runs
--- that each rest of one has.
+-- The rests of a run of tokens after rules that are applied in turn, for any property of runs that
+-- each rest of one has.
 use Rattle.std.proofs.Common.{◌==◌, Bool, true, false, List, Ok, Err, if◌then◌else◌, subst}
 use Rattle.logos_token.specs.Tokens.{Token, TokenList, identifier, punctuation, literal, doc, group, none, also, append, IsRestOf}
 use Rattle.logos_token.proofs.reading.SpanLemmas.{Each}

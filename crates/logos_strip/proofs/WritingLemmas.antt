@@ -1,4 +1,4 @@
--- What is left, tree by tree.
+-- The tokens that remain, tree by tree.
 use Rattle.std.proofs.Common.{◌≡◌, List, [], ◌∷◌, ◌++◌, Option, Some, None, refl, sym, ◌∙◌, ap}
 use Rattle.logos_token.specs.Tokens.{Token, punctuation, TokenList, none, also, append}
 use Rattle.logos_token.specs.Views.{tree_of}

@@ -1,4 +1,4 @@
--- Lists of parts that are the same, one by one.
+-- Lists of parts that are equal, one by one.
 use Rattle.std.proofs.Common.{◌≡◌, ◌↔◌, IsTrue, ℕ, ◌<◌, ◌≤◌, ◌+◌, Bool, List, [], ◌∷◌, length, get_or, drop, map, Vec, Global, refl, sym, ap, ◌∙◌, arith}
 use Rattle.std.proofs.Math.ListN.{drop_of_length-le}
 use Rattle.logos_type.specs.declared.type_expr.TypePart.{TypePart}

@@ -1,4 +1,4 @@
--- DeclaredNames in front of others, and what follows for those that are checked, copied and asked.
+-- Declared names before others, and the consequences for those that are checked and copied.
 use Rattle.std.proofs.Common.{◌≡◌, ℕ, ◌⊎◌, ◌↔◌, inl, List, [], ◌∷◌, ◌++◌, ◌||◌, Bool, true, false, not, Option, Some, None, Bor, refl, sym, ap, ◌∙◌, subst, append_assoc, append-nil, true≢false, IsTrue, if◌then◌else◌, cond, inr, Result, Ok, Err}
 use Rattle.std.specs.Prelude.{OnOk, IsOk}
 use Rattle.std.specs.Str.{bytes_eq}

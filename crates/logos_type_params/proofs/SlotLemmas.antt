@@ -1,4 +1,4 @@
--- Values that are found by their texts, and what changes where one is added or replaced.
+-- Values that are found by their texts, and the changes when one is added or replaced.
 use Rattle.std.proofs.Common.{◌≡◌, ℕ, zero, suc, ◌<◌, List, [], ◌∷◌, ◌++◌, length, get_or, slice_set, Bool, true, false, if◌then◌else◌, cond, Option, Some, None, option_map, IfSome, Bor, refl, sym, ap, ◌∙◌, arith, subst, map, true≢false}
 use Rattle.std.specs.Map.{lookup}
 use Rattle.std.specs.Str.{bytes_eq}

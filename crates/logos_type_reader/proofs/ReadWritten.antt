@@ -1,4 +1,4 @@
--- What is read as a type is written.
+-- A run that is read as a type is a written type.
 use Rattle.std.proofs.Common.{◌≡◌, ℕ, ◌-◌, ◌<◌, List, [], ◌∷◌, ◌++◌, Bool, true, false, not, ◌||◌, ◌&&◌, ◌==◌, bytes_eq, codes, if◌then◌else◌, Option, Some, None, refl, sym, ◌∙◌, subst, append_assoc, ◌≢◌, ◌⊎◌, inl, inr}
 use Rattle.std.proofs.lemmas.Bool.Decides.{eqb_tells}
 use Rattle.std.proofs.lemmas.Slice.Eq.{bytes_eq-Decides}

@@ -1,4 +1,4 @@
--- A run begins with one type at most, what refuses it excludes one, and it has a type or a fault.
+-- A run begins with at most one type, a fault excludes a type, and there is a type or a fault.
 use Rattle.std.proofs.Common.{◌≡◌, ℕ, ◌-◌, ◌+◌, ◌<◌, ◌||◌, List, [], ◌∷◌, ◌++◌, Bool, true, false, Option, Some, None, refl, sym, ap, ◌∙◌, subst, arith}
 use Rattle.logos_token.specs.Tokens.{TokenList, none as no_token_left, also as and_token, append, count_of, rest_of, run_span}
 use Rattle.logos_type_reader.specs.declared.table.stage.Stage.{Stage}

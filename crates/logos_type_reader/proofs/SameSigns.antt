@@ -1,4 +1,4 @@
--- Runs that begin with the same sign, and what the tests of the table say of them.
+-- Runs that begin with the same sign, and the results of the tests of the table for them.
 use Rattle.std.proofs.Common.{◌≡◌, ℕ, ◌+◌, Bool, true, false, refl, sym, ap, ◌∙◌, arith}
 use Rattle.logos_lexeme.specs.declared.lexeme.Span.{Span}
 use Rattle.logos_lexeme.specs.declared.lexeme.Spacing.{Spacing}

@@ -1,4 +1,4 @@
--- What states make of bytes, by the steps of their live trees.
+-- The transitions of states on bytes, by the steps of their live trees.
 use Rattle.std.proofs.Common.{Bor, zero, suc, ◌≡◌, ℕ, ◌+◌, ◌<◌, ◌≤◌, ◌↔◌, Bool, true, false, IsTrue, List, [], ◌∷◌, ◌++◌, None, Some, append_assoc, add-one, drop, drop-cons, get_or, length, map, slice_get, slice_index, if◌then◌else◌, refl, sym, ap, ap₂, ◌∙◌, subst, true≢false, arith}
 use Rattle.std.proofs.Math.ListN.{drop_of_length-le}
 use Rattle.std.proofs.lemmas.Option.{slice_get_read, slice_get_past}

@@ -1,4 +1,4 @@
--- What literals hold in a window they hold in the second text too.
+-- Literals with contents in a window have the same contents in the second text.
 use Rattle.std.proofs.Common.{◌≡◌, ℕ, ◌+◌, ◌-◌, ◌<◌, ◌≤◌, ◌==◌, ◌&&◌, ◌||◌, nat_le, inl, inr, Bool, true, false, List, length, get_or, filter, Option, MatchOption, refl, sym, ◌∙◌, ap, subst, arith}
 use Rattle.std.proofs.lemmas.Bool.{cases_lt, cases_Bool, false≢true, and_parts, eqb-true, leb-true, or_cases}
 use Rattle.std.specs.Char.{is_ascii_digit}

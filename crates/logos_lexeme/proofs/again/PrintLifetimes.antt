@@ -1,5 +1,5 @@
--- The names of lifetimes: a `'` stands directly before each, and no literal opens where an
--- identifier stands alone.
+-- The names of lifetimes: there is a `'` directly before each, and no literal opens where an
+-- identifier is alone.
 use Rattle.std.proofs.Common.{◌≡◌, ◌≢◌, ℕ, ◌+◌, ◌-◌, ◌<◌, ◌≤◌, ◌⊎◌, ◌==◌, ◌&&◌, nat_lt, nat_le, inl, inr, true, false, List, get_or, Option, Some, None, MatchOption, refl, sym, ◌∙◌, ap, subst, arith}
 use Rattle.std.proofs.lemmas.Bool.{cases_Bool, and_parts, and_from, and_left, and_right, eqb-true, ne_eqb, lt-ltb, leb-true, false≢true, cond-false, cond-true, cond_both}
 use Rattle.std.proofs.lemmas.Bool.Decides.{nat_tests}

@@ -1,5 +1,5 @@
--- Two texts that have the same bytes at two offsets, and a space, a line feed or nothing after them
--- in the second text.
+-- Two texts with equal bytes from two offsets on, and with a space, a line feed or nothing after
+-- them in the second text.
 use Rattle.std.proofs.Common.{◌≡◌, ℕ, ◌+◌, ◌-◌, ◌<◌, ◌≤◌, ◌⊎◌, inl, inr, Bool, false, List, ◌∷◌, ◌++◌, length, get_or, take, drop, slice_range, IsUtf8, encode_utf8, length-append, sym, ◌∙◌, ap, arith, take-append-drop, ext_get_or}
 use Rattle.std.proofs.lemmas.List.{get_or_past}
 use Rattle.std.proofs.lemmas.List.Edits.{length-between, get_or-between}

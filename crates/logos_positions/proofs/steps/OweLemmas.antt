@@ -1,4 +1,4 @@
--- Steps on copies and on literals, with what is still to be made.
+-- Steps on copies and on literals, with the steps that have not been made.
 use Rattle.std.proofs.Common.{◌≡◌, ℕ, zero, suc, ◌+◌, ◌-◌, ◌*◌, ◌<◌, ◌≤◌, ◌||◌, ◌==◌, Bool, true, false, IsTrue, List, length, drop, get_or, drop-cons, add-one, refl, sym, ap, ◌∙◌, subst, arith}
 use Rattle.std.proofs.Math.Nat.{mul-le-mul_left}
 use Rattle.logos_positions.specs.Core.{Core, byte_in, cat, width}

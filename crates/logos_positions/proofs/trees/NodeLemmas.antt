@@ -1,4 +1,4 @@
--- What each form of a node stands for.
+-- The core pattern of each form of a node.
 use Rattle.std.proofs.Common.{◌≡◌, ℕ, ◌+◌, ◌<◌, ◌≤◌, Bool, true, ◌&&◌, ◌==◌, nat_lt, nat_le, Option, Some, None, Vec, Box, Global, sym, ap, ◌∙◌, eqb-true, arith, suc, ◌-◌, ◌*◌, length}
 use Rattle.std.proofs.lemmas.Bool.{and_parts}
 use Rattle.std.proofs.lemmas.Bool.Decides.{nat_tests}

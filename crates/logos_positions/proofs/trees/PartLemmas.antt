@@ -1,4 +1,4 @@
--- Which written-out pattern stands for parts and for branches.
+-- The core patterns of parts and of branches.
 use Rattle.std.proofs.Common.{◌≡◌, ℕ, suc, ◌+◌, ◌-◌, ◌<◌, ◌≤◌, Bool, true, false, ◌||◌, List, Option, Some, None, option_map, nat_lt, if◌then◌else◌, ◌⊎◌, inl, inr, ⊎_elim, lt-ltb, le-ltb, refl, sym, ap, ◌∙◌, subst, arith}
 use Rattle.std.proofs.lemmas.Option.{same_Some}
 use Rattle.logos_hir.specs.Tree as tree

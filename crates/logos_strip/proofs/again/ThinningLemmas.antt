@@ -1,5 +1,5 @@
--- The lexemes of what is left are those of the whole, where some are left out, and commas in front
--- of these are alone.
+-- The lexemes of the remaining tokens are those of the whole, where some are left out, and commas
+-- before these are alone.
 use Rattle.std.proofs.Common.{◌≡◌, ◌==◌, ℕ, not, Bool, true, false, List, [], ◌∷◌, ◌++◌, Option, Some, None, refl, sym, ◌∙◌, subst, append_assoc, if◌then◌else◌}
 use Rattle.std.proofs.lemmas.Bool.{false≢true, true≢false, eqb-true}
 use Rattle.logos_lexeme.specs.declared.lexeme.Span.{Span}

@@ -1,4 +1,4 @@
--- What is read so far is a beginning of a pattern, and how deep it is.
+-- The part of the text that has been read is a prefix of a pattern, and its nesting depth.
 use Rattle.std.proofs.Common.{◌≡◌, ℕ, suc, ◌+◌, ◌<◌, max, List, [], ◌∷◌, ◌++◌, true, length, Some, Result, Ok, Err, IfErr, refl, sym, ap, subst, ◌∙◌, arith}
 use Rattle.logos_pattern_tokens.specs.declared.error.Fault.{Fault}
 use Rattle.logos_pattern_tokens.specs.declared.error.Fault.TheVariants as faults

@@ -1,4 +1,4 @@
--- What the parser reads is a pattern, and each pattern is read.
+-- A text that the parser reads is a pattern, and each pattern is read.
 use Rattle.std.proofs.Common.{◌≡◌, ◌≤◌, false, List, [], ◌∷◌, ◌++◌, Option, Some, None, refl, sym, ap, subst, ◌∙◌, arith, append_assoc, append-nil, option_map, IfSome}
 use Rattle.logos_pattern_tokens.specs.declared.token.Flags.{Flags}
 use Rattle.logos_pattern_tokens.specs.declared.token.Operator.{Operator}

@@ -1,5 +1,5 @@
--- The printed text of tokens from their lexemes, and tokens from lexemes that are the same spans
--- aside.
+-- The printed text of tokens from their lexemes, and tokens from lexemes that are equal apart from
+-- their spans.
 use Rattle.std.proofs.Common.{◌≡◌, ℕ, Bool, true, false, List, [], ◌∷◌, ◌++◌, map, fold, refl, sym, ◌∙◌, ap, append_assoc, append-nil}
 use Rattle.std.proofs.lemmas.Bool.{true≢false}
 use Rattle.logos_lexeme.specs.declared.lexeme.Span.{Span}

@@ -1,4 +1,4 @@
--- The lexemes of a source have what the printing of its tokens asks for.
+-- The lexemes of a source have the properties that printing its tokens requires.
 use Rattle.std.proofs.Common.{◌≡◌, ◌≢◌, ℕ, ◌+◌, ◌-◌, ◌<◌, ◌≤◌, ◌⊎◌, ◌==◌, ◌&&◌, ◌||◌, not, inl, inr, Bool, true, false, cond, List, [], ◌∷◌, ◌++◌, length, get_or, take, slice_range, Option, Some, None, is_some, IsUtf8, encode_utf8, refl, sym, ◌∙◌, ap, subst, arith, get_or-take, length-take-le}
 use Rattle.std.proofs.lemmas.Bool.{cases_lt, cases_Bool, and_parts, or_cases, eqb-true, false≢true, true≢false}
 use Rattle.std.proofs.lemmas.List.Edits.{between_more, between_none}

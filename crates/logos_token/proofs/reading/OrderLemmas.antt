@@ -1,4 +1,4 @@
--- Where the tokens that a source spells stand in it.
+-- The tokens that a source spells occur in it in order.
 use Rattle.std.proofs.Common.{◌≡◌, ℕ, ◌+◌, ◌-◌, ◌<◌, ◌≤◌, ◌⊎◌, inl, inr, List, [], ◌∷◌, ◌++◌, length, slice_index, slice_range, arith, sym, ◌∙◌, subst, ap, refl}
 use Rattle.std.proofs.lemmas.List.{append-nil}
 use Rattle.logos_lexeme.specs.declared.lexeme.Span.{Span}

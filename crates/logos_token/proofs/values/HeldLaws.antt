@@ -1,4 +1,4 @@
--- What a literal holds as a function of its text is what the rules of its pieces say.
+-- The value of a literal as a function of its text is the value by the rules of its pieces.
 use Rattle.std.proofs.Common.{◌≡◌, ◌≢◌, ℕ, zero, suc, ◌+◌, ◌-◌, ◌<◌, ◌≤◌, ◌==◌, ◌||◌, inl, inr, nat_le, Bool, true, false, Option, Some, None, option_map, List, [], ◌++◌, length, drop, get_or, get_or-drop, refl, sym, ◌∙◌, ap, subst, arith, string_bytes}
 use Rattle.std.specs.List.{prefix_len}
 use Rattle.std.specs.Option.{option_and_then}
