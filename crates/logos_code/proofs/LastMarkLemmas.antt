@@ -117,7 +117,7 @@ module _ (code : CodeValue) (sound : IsSound code) (marks : List LastMark) (agre
     abbrev fresh : Bool
     fresh = at.state == code.root && stop_of at == start
 
-    -- the stand after a byte, or after the end
+    -- the status after a byte, or after the end
     abbrev after : ℕ → Status
     after t = record { state = t; offset = stop_of at + 1; context = passed_of at }
 

@@ -27,7 +27,7 @@ contains_none y (k, lt, e) = absurd (omega arith)
 pub contains_past : (xs : List ℕ) (k y : ℕ) → length xs ≤ k → Contains (drop k xs) y → ⊥
 contains_past xs k y past (i, lt, e) = absurd (let l = length-drop k xs in omega (arith, l, lt, past))
 
--- what reading at a membership says
+-- the membership that is read
 pub read_at : {X : Type 0} (xs : List X) (i : ℕ) (r : Bor X) → IsItemAt xs i (Some r) → slice_get xs i ≡ Some r.now
 read_at xs i r h = slice_get_read xs (length xs) i r.now refl h.3.0 h.1
 

@@ -26,7 +26,7 @@ use Rattle.logos_enum.specs.Enum.Reads.{reads, refuses, unannounced}
 use Rattle.logos_enum.proofs.TypeLaws.{one_type, no_type, one_type_fault}
 use Rattle.logos_enum.proofs.Once.{Once, once-by, once-given, once-then, once-listed, once-attributes, one-front, reading, failing, succeeding, same-value, same-rest, same-error, read-or-fail, no-front}
 
--- the same front of a run, before the same rest
+-- equal fronts of a run, before equal rests
 front-of : (run front other rest : TokenList) → run ≡ append front rest → run ≡ append other rest → front ≡ other
 front-of run front other rest e f = one-front front other rest (sym e ∙ f)
 

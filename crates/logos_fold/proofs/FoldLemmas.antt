@@ -57,7 +57,7 @@ folded_goes code s b row_start few g =
       omega (arith, same, there, is),
     )
 
--- an entry that says nothing
+-- an entry that does not describe its step
 pub folded_token : (code : CodeValue) (s b row_start : ℕ) → row_start < 1048576 → row_start + 255 < 272 * length code.states →
     IsFolded code s b (1073741824 + row_start) × IsWithin code (row_start_of (1073741824 + row_start))
 folded_token code s b row_start small within =

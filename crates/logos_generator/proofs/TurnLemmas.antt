@@ -101,7 +101,7 @@ module _ (code : CodeValue) (graph : List GraphState) where
     are_rest : (at : ℕ) → IsBytes (drop at bytes)
     are_rest at = All-drop (λ b. b < 256) at bytes are
 
-    -- a place that a match attempt can stand at, in this state
+    -- a status that is possible in this state
     abbrev pub Bound : GraphState → ℕ → Type 0
     Bound state at = (at ≤ length bytes) ⊎ ((at ≡ length bytes + 1) × (state.eoi ≡ None))
 

@@ -34,7 +34,7 @@ rule_order [] leaf bytes from to m = absurd m
 rule_order (rule ∷ rules) zero bytes from to m = matches_order rule.tree bytes from to m
 rule_order (rule ∷ rules) (suc leaf) bytes from to m = rule_order rules leaf bytes from to m
 
--- what the last mark says of munch
+-- the meaning of the last mark for maximal munch
 abbrev Says : List Rule → List ℕ → ℕ → Option (ℕ × ℕ) → Type 0
 Says rules bytes from None = NoMatch rules bytes from
 Says rules bytes from (Some m) = IsBest rules bytes from m.1 m.0

@@ -171,7 +171,7 @@ bool_false false true z h e = absurd cc
 bool_false false false true h e = absurd cc
 bool_false false false false h e = (refl, refl)
 
--- what the end of the search for a column tells
+-- the meaning of the end of the search for a column
 pub search_ended : (b r c : ℕ) → ends_search b r c ≡ true → (continues b ≡ false) × (((r == c) ≡ true) ⊎ ((b == 10) ≡ true))
 search_ended b r c h = bool_true (continues b) (r == c) (b == 10) h
 

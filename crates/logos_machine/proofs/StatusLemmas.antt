@@ -86,7 +86,7 @@ module _ (code : CodeValue) (sound : IsSound code) (bytes : List ℕ) (start : �
     in_bytes : at.offset ≤ length bytes → offset ≤ length bytes
     in_bytes h = omega (arith, loop_fits)
 
-    -- a byte stands there, or the end
+    -- there is a byte, or the end
     byte_in : (b : ℕ) → slice_get bytes offset ≡ Some b → offset < length bytes
     byte_in b e = slice_get_within bytes offset b e
 

@@ -46,7 +46,7 @@ module _ {C : Type 0} (callback : Callback) (old : LexerValue C) where
     finds_within : (rest : List ℕ) → MayFollow old.code rest → CodeFinds old.code (old.input ++ rest) from found
     finds_within rest follows = (steps, attempts_whatever_follows old.code old.input rest from steps found follows t.attempts)
 
-  -- past a match that gives no item
+  -- past a match without an item
   pub passes_within : (from to leaf steps : ℕ) (answer : Action) → GoesOnWithin from → TriedWithin old.code old.input from (matched leaf to) steps →
       MayAnswer old.code.leaves callback old.input leaf (slice_range old.input from to) answer → items_of old.code.leaves callback old.input answer leaf from to ≡ [] → GoesOnWithin to
   passes_within from to leaf steps answer i t may is =

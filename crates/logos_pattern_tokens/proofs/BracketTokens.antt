@@ -216,7 +216,7 @@ name_front : (t : Text) (kind : AsciiKind) → ascii_named t ≡ Some kind → (
 name_front [] kind e tail = absurd cc
 name_front (c ∷ t) kind e tail = (c, t ++ tail, refl, apart (λ k. ascii_named (k ∷ t)) c 94 kind e refl)
 
--- the text, which stands after a bracket, makes it the front of a class
+-- the text after a bracket makes it the front of a class
 record ClassAt (token : BracketToken) (text rest : Text) : Type 0 where
   name : Text
   kind : AsciiKind

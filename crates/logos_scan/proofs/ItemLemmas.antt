@@ -59,7 +59,7 @@ module _ {C : Type 0} (callback : Callback) (old : LexerValue C) where
     item_calls_back leaf answer item t may is =
         uncounted from to n item (yields_item callback old from to n (moved old from to n) refl leaf answer item (goes_skips start from on skips) t may is)
 
-    -- it gives none
+    -- it has none
     pub goes_calls_back : (leaf : ℕ) (answer : Action) → Tried old.code old.input from (matched leaf to) n →
         MayAnswer old.code.leaves callback old.input leaf (slice_range old.input from to) answer → items_of old.code.leaves callback old.input answer leaf from to ≡ [] → GoesOn callback old to
     goes_calls_back leaf answer t may is = goes_past callback old from to leaf n answer (goes_skips start from on skips) t may is

@@ -37,7 +37,7 @@ use Rattle.logos_spans.proofs.EnumParts.{VariantParts, EnumParts, enum_parts, sp
 use Rattle.logos_spans.proofs.HeadParts.{IfRun}
 use Rattle.logos_spans.proofs.DefinitionParts.{DefinitionParts, IfDefinition, attribute_definition, SkipParts, reads_attribute}
 
--- the leaf, if there is one, stands in these tokens
+-- the leaf, if there is one, occurs in these tokens
 abbrev IfLeaf : TokenList → Option LeafView → Type 0
 IfLeaf tokens None = Unit {0}
 IfLeaf tokens (Some leaf) = OccursIn tokens leaf

@@ -19,7 +19,7 @@ back_has In rests (also token front) rest h = back_has In rests front rest (rest
 pub left_has : (In : TokenList → Type 0) → Rests In → (run rest : TokenList) → IsRestOf run rest → In run → In rest
 left_has In rests run rest r h = back_has In rests r.front rest (subst In r.is h)
 
--- nothing is asked of a value
+-- nothing is required of a value
 abbrev pub Anything : {A : Type 0} → A → Type 0
 Anything value = Unit {0}
 

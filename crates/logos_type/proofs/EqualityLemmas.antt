@@ -7,7 +7,7 @@ use Rattle.logos_type.specs.Parts.{Tree, whole, still, Trees, trees, none, also,
 use Rattle.logos_type.proofs.PartTrees.{tree-Whole, tree-Still}
 use Rattle.logos_type.proofs.PartLemmas.{list_front}
 
--- the same are what is left of two lists
+-- the rests of two lists are equal
 abbrev pub SameFrom : ℕ → List TypePart → List TypePart → Type 0
 SameFrom k xs ys = map tree_of (drop k xs) ≡ map tree_of (drop k ys)
 

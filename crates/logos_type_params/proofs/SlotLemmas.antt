@@ -56,7 +56,7 @@ module _ {X : Type 0} where
   slot_within t (e ∷ es) zero h = omega arith
   slot_within t (e ∷ es) (suc i) h = let r = slot_within t es i (slot_later t e es i h).1 in omega (arith, r)
 
-  -- what stands at the place, and that nothing is found without one
+  -- the value at the index, and no value without one
   pub found_at : (t : Text) (es : Rows X) (i : ℕ) (d : Bor Text × X) → slot_in es t ≡ Some i → lookup (λ (k : Bor Text). bytes_eq t k.now) es ≡ Some (get_or es i d).1
   found_at t [] i d h = absurd cc
   found_at t (e ∷ es) zero d h = rw (slot_first t e es h) refl
@@ -107,7 +107,7 @@ module _ {X : Type 0} where
   within_by t es None h = tt
   within_by t es (Some i) h = slot_within t es i (sym h)
 
--- the types stand at the places of their names
+-- the types are at the indexes of their names
 pub placed : (t : Text) (es : Entries) (i : ℕ) → slot_in es t ≡ Some i → OccursAt (map param_value es) t i
 placed t [] i h = absurd cc
 placed t (e ∷ es) zero h = eq_sym e.0.now t ∙ slot_first t e es h

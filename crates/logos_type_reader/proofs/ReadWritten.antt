@@ -22,8 +22,7 @@ use Rattle.logos_type_reader.specs.Reading.{IsType, just_name, formed, IsMove, a
 use Rattle.logos_type_reader.specs.Written.{Ending, plain_named, may_follow, name_ending, begins_mut, begins_parameter, begins_for, Lifetimes, in_angles, LifetimeList, no_lifetime, last_lifetime, lifetimes, Written, a_name, a_form, Form, path, rooted, qualified, borrowed, borrowed_for, slice, array, tuple, trait_object, bound_function, function, pointer_const, pointer_mut, Referent, shared, mutable, Listed as ListedTypes, nothing, single, several, Qualified, of_type, of_trait, AnyPath, from_name, from_root, Path, last, longer, Longer, member, angled, angled_member, called, giving, Angled, plain, turbofish, Arguments, finished, final, further, Argument, a_lifetime, a_literal, empty_braces, braces, a_type, a_binding, Bounds, one_bound, last_bound, plus_after, bounds, Bound, lifetime_bound, trait_bound, enclosed, Questioned, unquestioned, questioned, Trait, unbound, for_all, Function, not_safe, safe, Linked, linked, linked_as, unlinked, Taking, takes_only, takes_and_yields, Parameters, no_parameter, last_parameter, parameters, Parameter, unnamed, with_name}
 use Rattle.logos_type_reader.proofs.WrittenReads.{name_is}
 
--- What stands at each place, up to the end of what was begun: parts that are read from a run, and
--- the rest.
+-- The construct at each stage, up to its end: parts that are read from a run, and the rest.
 abbrev Parts : Type 1
 Parts = TokenList → List Tree → TokenList → Type 0
 
@@ -90,7 +89,7 @@ data AfterOutput (levels : ℕ) : TokenList → List Tree → TokenList → Type
   output : {s t : Span} {p : Spacing} {run rest : TokenList} {r : Tree} {e : Ending} → Written levels false run r rest e → may_follow e rest ≡ true →
       AfterOutput levels (also (punctuation 45 Joint s) (also (punctuation 62 p t) run)) (sign arrow ∷ r ∷ []) rest
 
--- in parentheses, with what stands after them
+-- in parentheses, and the tokens after them
 data Among (levels : ℕ) (After : Parts) (after : TokenList) : TokenList → List Tree → TokenList → Type 0 where
   among : {run rest : TokenList} {front back : List Tree} → ListedTypes levels run front → After after back rest → Among levels After after run (front ++ (sign (closing Parenthesis) ∷ back)) rest
 
@@ -120,7 +119,7 @@ data AtPointer (levels : ℕ) : TokenList → List Tree → TokenList → Type 0
   at_const : {s : Span} {run rest : TokenList} {parts : List Tree} → LastType levels false run parts rest → AtPointer levels (also (identifier (codes "const") s) run) (sign (word (codes "const")) ∷ parts) rest
   at_mut : {s : Span} {run rest : TokenList} {parts : List Tree} → LastType levels false run parts rest → AtPointer levels (also (identifier (codes "mut") s) run) (sign (word (codes "mut")) ∷ parts) rest
 
--- after the `>` of a qualified path, and after what stands in front of it
+-- after the `>` of a qualified path, and after the tokens before it
 data AtSelfClosed (levels : ℕ) : TokenList → List Tree → TokenList → Type 0 where
   self_closed : {s t : Span} {p : Spacing} {run rest : TokenList} {parts : List Tree} {e : Ending} → Path levels OfType run parts rest e → may_follow e rest ≡ true →
       AtSelfClosed levels (also (punctuation 58 Joint s) (also (punctuation 58 p t) run)) (sign colons ∷ parts) rest
@@ -450,7 +449,7 @@ unquestioned_then (then_after w f a) = then_after (unquestioned w) f a
 questioned_then : {levels : ℕ} {After : Parts} {s : Span} {p : Spacing} {run rest : TokenList} {parts : List Tree} → Then (Trait levels) After run parts rest → Then (Questioned levels) After (also (punctuation 63 p s) run) (sign (mark 63) ∷ parts) rest
 questioned_then (then_after w f a) = then_after (questioned w) f a
 
--- a bound, and what stands after it
+-- a bound, and the tokens after it
 bound_then : {levels : ℕ} {plus : Bool} {run middle rest : TokenList} {front back : List Tree} {e : Ending} → Bound levels run front middle e → may_follow e middle ≡ true → AfterBound levels plus middle back rest → Last (Bounds levels plus) run (front ++ back) rest
 bound_then {levels} {run = run} {rest = rest} {front = front} w f only_bound = subst (λ (ts : List Tree). Last (Bounds levels false) run ts rest) (sym (append-nil front)) (ending (one_bound w) f)
 bound_then {levels} {run = run} {rest = rest} {front = front} {e = e} w f (bound_last n) =
@@ -1310,7 +1309,7 @@ stage_is plus text a b c d f g = rw (a, b, c, d, f, g) refl
 path_word : (levels : ℕ) (plus : Bool) (text : List ℕ) (s : Span) (rest : TokenList) → table.word_stage plus text ≡ stage.Named Plain → is_reserved text ≡ false → name_of (also (identifier text s) rest) ≡ None → WordForm levels plus text s rest
 path_word levels plus text s rest e r n parts q h = named_form r n (let k : Good levels (stage.Named Plain) rest None parts q = subst (λ (x : Stage). Good levels x rest None parts q) e h in k)
 
--- a test of words, with what it says
+-- a test of words, and the meaning of its result
 reported : (P : Type 0) (b : Bool) → (b ≡ true → P) → (b ≡ false → P) → P
 reported P true f g = f refl
 reported P false f g = g refl

@@ -75,7 +75,7 @@ or_same {a} {b} {c} {d} e f = ap (λ (x : Bool). x || b) e ∙ ap (λ (x : Bool)
 append_same : {xs ys zs ws : List Tree} → xs ≡ zs → ys ≡ ws → xs ++ ys ≡ zs ++ ws
 append_same {xs} {ys} {zs} {ws} e f = ap (λ (x : List Tree). x ++ ys) e ∙ ap (λ (x : List Tree). zs ++ x) f
 
--- what the parts of a type are the same as
+-- the parts of a type equal these
 abbrev SameParts : Bool → Spot → List Tree → TokenList → Type 0
 SameParts b spot ps rest = (m : ℕ) (c : Bool) (qs : List Tree) (other : TokenList) → AreParts m c spot qs other → (b ≡ c) × (ps ≡ qs) × (rest ≡ other)
 

@@ -233,7 +233,7 @@ append_none (also t rest) = ap (λ (x : TokenList). also t x) (append_none rest)
 pub at_start_is : {run left : TokenList} → IsAt start run left → run ≡ left
 at_start_is at_start = refl
 
--- what the first of a front says of a run
+-- the meaning of the first token of a front for a run
 pub record FirstToken (t : Token) (front : Front) (run left : TokenList) : Type 0 where
   pub rest : TokenList
   pub is : run ≡ also t rest

@@ -120,7 +120,7 @@ type_begins : {levels : ℕ} {plus : Bool} {run rest : TokenList} {t : Tree} {e 
 type_begins (a_name a r) = with_word
 type_begins (a_form a f) = form_begins f
 
--- what is asked for where a type begins
+-- the first step where a type begins
 list_needs : (outside : TokenList) → {run : TokenList} → Begins run → next_at stage.List run (Some outside) ≡ needs true stage.ListEnd
 unfolding next_at
 list_needs outside with_word = refl
@@ -293,7 +293,7 @@ further_is : (run : TokenList) → begins_bound run ≡ true → next_at stage.F
 unfolding next_at
 further_is run e = rw e refl
 
--- what the table says at each of these places
+-- the entries of the table at each of these stages
 rooted_begins : (plus : Bool) (s t : Span) (p : Spacing) (run : TokenList) → begin plus (also (punctuation 58 Joint s) (also (punctuation 58 p t) run)) ≡ starts false colons (at (stage.Colons Plain false) run None)
 unfolding begin
 rooted_begins plus s t p run = refl

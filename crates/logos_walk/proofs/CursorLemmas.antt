@@ -166,7 +166,7 @@ pub by_some : (here start bits : ℕ) → 0 < bits → start_by here start bits 
 by_some here start zero h = absurd (omega (arith, h))
 by_some here start (suc bits) h = refl
 
--- the attempt that stands before an entry begins at one point
+-- the attempt that is active before an entry begins at one point
 pub starts_same : (base : ℕ) (trace : List ℕ) (from start at a b : ℕ) → StartsAt base trace from start at a → StartsAt base trace from start at b → a ≡ b
 starts_same base trace from start at a b one other = elim one [
   | inl m ↦ elim other [
@@ -323,7 +323,7 @@ next_later trace from mid at le none n = record {
   first = none_later trace from mid at none n.first;
 }
 
--- the same base
+-- the bases are equal
 pub starts_from : (base other : ℕ) (trace : List ℕ) (from start at now : ℕ) → base ≡ other → StartsAt base trace from start at now → StartsAt other trace from start at now
 starts_from base other trace from start at now e s = subst (λ b. StartsAt b trace from start at now) e s
 

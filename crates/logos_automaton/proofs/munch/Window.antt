@@ -172,7 +172,7 @@ alike_within pre w post k f = record {
         let y : 0 + j - i ≡ j - i = omega arith in
         rw (p, r, z, y) (take-append-le (j - i) (drop i w) post (omega arith))
 
--- the same of a rule's match from the start of a text within another
+-- the match of a rule from the start of a text, within another text
 rules_shift : (rules : List Rule) (leaf : ℕ) (a b : List ℕ) (d e k : ℕ) → AreAlike a b d e k → IsFalse (list_any (λ rule. leads rule.tree) rules) →
     RuleMatches rules leaf a (d + 0) (d + k) → RuleMatches rules leaf b (e + 0) (e + k)
 rules_shift [] leaf a b d e k h f m = m

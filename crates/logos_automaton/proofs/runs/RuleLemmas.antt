@@ -42,7 +42,7 @@ rules_width [] (t ∷ ts) h = absurd h
 rules_width (rule ∷ rules) [] h = absurd h
 rules_width (rule ∷ rules) (t ∷ ts) h = let k = rules_width rules ts h.1 in let s = h.0.small in let e = size_of-cons rule rules in omega (arith, e, k, s)
 
--- where no tree has a look, no pattern asks one
+-- if no tree has a look-around assertion, no pattern has one
 pub rules_free : (rules : List Rule) (ts : List Core) → AreRuleCores rules ts → some_look rules ≡ false → AreFree ts
 rules_free [] [] h e = tt
 rules_free [] (t ∷ ts) h e = absurd h

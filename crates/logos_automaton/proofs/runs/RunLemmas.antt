@@ -19,7 +19,7 @@ use Rattle.logos_positions.proofs.steps.StepLemmas.{iff_trans, iff_sym}
 use Rattle.logos_positions.proofs.steps.SteppedLemmas.{Exits-void, Steps-void}
 use Rattle.logos_automaton.proofs.munch.Window.{before_at}
 
--- a pattern without a look does not ask which ones hold
+-- a pattern without look-around assertions does not depend on which of them hold
 pub Exits-free : (t : Core) → IsFree t → (f g : Look → Bool) (M : ℕ → Type 0) (d : Type 0) → Exits t f M d → Exits t g M d
 Exits-free void h f g M d x = x
 Exits-free empty h f g M d x = x
@@ -135,7 +135,7 @@ module _ (w : List ℕ) where
   none_marked [] q h = h
   none_marked (t ∷ ts) q h = ⊎_elim (λ u. u.1) (λ u. none_marked ts (q - width t) u.1) h
 
-  -- The state tells which positions have read the byte before m, and what looks see of that byte.
+  -- The state determines which positions have read the byte before m, and the kind of that byte.
   pub record IsAfter (ts : List Core) (m : ℕ) (s : State) : Type 0 where
     pub set : IsSet s.positions (width_of ts)
     pub has : (q : ℕ) → Has s.positions q ↔ MarkedIn ts w m q

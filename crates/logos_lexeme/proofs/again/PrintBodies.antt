@@ -194,7 +194,7 @@ module _ (a b : List ℕ) (p q k : ℕ) (w : Window a b p q k) where
     stop = blank_stops based;
   }
 
-  -- the letter of a base stands in the window
+  -- the letter of a base is in the window
 
   base_letter : (c : ℕ) → (((c == 120) || (c == 111)) || (c == 98)) ≡ true → is_continuing c ≡ true
   unfolding is_continuing

@@ -16,7 +16,7 @@ use Rattle.logos_lexeme.proofs.CharacterLaws.{past-ascii, character-ascii}
 use Rattle.logos_lexeme.proofs.OpeningLaws.{at_least, at_most}
 use Rattle.logos_lexeme.proofs.again.PrintNames.{Names, raw, plain, nothing, names, raw_parts, start-34, start-35, start-39, continuing-34, continuing-35, continuing-39}
 
--- what stands directly before an offset
+-- the character directly before an offset
 
 pub follows-none : (bytes : List ℕ) → follows_apostrophe bytes 0 ≡ false
 unfolding follows_apostrophe
@@ -29,7 +29,7 @@ follows-other bytes at c e other =
     let one : at + 1 - 1 ≡ at = omega arith in
     and_right (nat_lt 0 (at + 1)) (get_or bytes (at + 1 - 1) 0 == 39) (ap (λ i. get_or bytes i 0 == 39) one ∙ ap (λ d. d == 39) e ∙ other)
 
--- the same byte
+-- the bytes are equal
 pub follows-same : (a b : List ℕ) (x y : ℕ) → 0 < x → get_or b (y - 1) 0 ≡ get_or a (x - 1) 0 → follows_apostrophe b y ≡ true → follows_apostrophe a x ≡ true
 unfolding follows_apostrophe
 follows-same a b x y ahead same e =

@@ -15,7 +15,7 @@ use Rattle.logos_lexeme.specs.declared.lexeme.openings.Opening.TheVariants.{Numb
 use Rattle.logos_lexeme.proofs.CharacterLaws.{inside_from_byte}
 use Rattle.logos_lexeme.proofs.again.PrintWindows.{Window, blank_fails, same_past, past_within}
 
--- so many `#` stand in a row, and another byte after them
+-- this number of `#` is followed by another byte
 hashes_are : (bytes : List ℕ) (at n : ℕ) → ((i : ℕ) → i < n → get_or bytes (at + i) 0 ≡ 35) → get_or bytes (at + n) 0 ≢ 35 → at ≤ length bytes → hashes bytes at ≡ n
 unfolding hashes
 hashes_are bytes at n all other inside =
@@ -39,7 +39,7 @@ all_hashes : (bytes : List ℕ) (at i : ℕ) → i < hashes bytes at → get_or 
 unfolding hashes
 all_hashes bytes at i l = eqb-true (get_or bytes (at + i) 0) 35 (ap (λ c. c == 35) (sym (get_or-drop at bytes i 0)) ∙ prefix_len_passes (λ c. c == 35) (drop at bytes) i 0 l)
 
--- the same test with the same answers
+-- the two tests have the same results
 cond_same : {A : Type 0} (t : Bool) (x y z v : A) → (t ≡ true → x ≡ z) → (t ≡ false → y ≡ v) → cond t x y ≡ cond t z v
 cond_same true x y z v f g = f refl
 cond_same false x y z v f g = g refl

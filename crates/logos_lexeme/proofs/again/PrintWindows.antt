@@ -18,15 +18,15 @@ head_of_text front rest text utf8 filled e =
     let head : chars_of text ≡ f.0 ∷ (chars_of f.1 ++ chars_of rest) = whole ∙ ap (λ xs. xs ++ chars_of rest) cs in
     ap (λ (xs : List ℕ). get_or xs 0 0) head ∙ sym (ap (λ (xs : List ℕ). get_or xs 0 0) cs)
 
--- the first character stands inside
+-- the first character is inside
 head_fits : (front : List ℕ) → IsUtf8 front → 0 < length front → len_utf8 (get_or (chars_of front) 0 0) ≤ length front
 head_fits front utf8 filled =
     let f = first_char front utf8 filled in
     let c : get_or (chars_of front) 0 0 ≡ f.0 = ap (λ (xs : List ℕ). get_or xs 0 0) (chars_past_char front f.1 f.0 utf8 f.2) in
     rw c (omega (arith, ap length f.2, length-append (encode_utf8 f.0) f.1, length-encode f.0))
 
--- the bytes of the first text from `p` are those of the second one from `q`, so many of them, and
--- there the window ends
+-- this number of bytes of the first text from `p` on are those of the second one from `q` on, and
+-- the window ends there
 pub record Window (a b : List ℕ) (p q k : ℕ) : Type 0 where
   pub utf8 : IsUtf8 a
   pub ends : IsCharBoundary a (p + k)

@@ -42,7 +42,7 @@ Spells-snoc : (bytes text : List ℕ) (x i m : ℕ) → Spells bytes text i m �
 Spells-snoc bytes [] x i m h is = (subst (λ k. slice_get bytes k ≡ Some x) h is, ap suc h)
 Spells-snoc bytes (b ∷ text) x i m h is = (h.0, Spells-snoc bytes text x (suc i) m h.1 is)
 
--- what stands between two positions is one text
+-- the bytes between two points are one text
 Spells-one : (bytes text other : List ℕ) (i j : ℕ) → Spells bytes text i j → Spells bytes other i j → text ≡ other
 Spells-one bytes [] [] i j f g = refl
 Spells-one bytes [] (b ∷ other) i j f g = absurd (omega (arith, f, Spells-end bytes other (suc i) j g.1))

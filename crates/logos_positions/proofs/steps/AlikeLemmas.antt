@@ -222,7 +222,7 @@ stays_any true entered left e = refl
 stays_any false true left e = refl
 stays_any false false left e = e
 
--- the steps on more copies, where the first one stands at the number `done`
+-- the steps on more copies, the first of which has the number `done`
 pub repeated_here : (test : Look → Bool) (x : ℕ) (marks : List ℕ) (a : Core) (base w done : ℕ) (before one new : List ℕ) (start each : ℕ) (entered enters left : Bool) (n : ℕ) →
     start ≡ base + w * done → each ≡ w → enters ≡ entered → w ≡ width a → IsSet before (base + w * done) →
     Stepped a test x marks before one (base + w * done) entered left →

@@ -79,7 +79,7 @@ module _ (test : Look → Bool) (xs : List ℕ) (a : Core) (w base : ℕ) (is : 
       rw e (iff_trans (front_step b (done + n) count left left (omega arith) (same n (omega arith)))
       (front_more b n done count left (omega arith) (λ k lt. same k (omega (arith, lt)))))
 
-  -- the same of at most so many copies; `any` says that the whole can be left before
+  -- a repetition of at most this number of copies; `any` is whether the whole can be left before
   abbrev OrAt : ℕ → ℕ → Bool → Bool → Type 0
   OrAt n done any left = IsTrue any ⊎ ExitsAt (up_to n a) done left
 

@@ -99,8 +99,8 @@ module _ (bytes : List ℕ) (a : Core) (m : ℕ) where
   copies-plus i q k (cut, pieces, reads) =
       Reads-from bytes a (Begins bytes a (At i)) cut q m (i, refl, Many-add (Matches bytes a) k i i cut none pieces) reads
 
-  -- the position p of a repetition reads: after some number of pieces, a position of the copy that
-  -- stands for the next one
+  -- the position p of a repetition reads: after some number of pieces, a position of the copy of
+  -- the next one
   abbrev pub TurnReads : ℕ → Option ℕ → ℕ → ℕ → Type 0
   TurnReads least most i p =
       (k q : ℕ) × IfSome most (λ n. k < n) × (p ≡ width a * min k (count_of least most - 1) + q) × CopyReads i k q

@@ -89,7 +89,7 @@ module _ (bytes : List ℕ) where
     λ h. (suc i, (record { byte = b; is = h.0; within = eq-eqb b b refl }, refl), (spelled_matches text (suc i) j).1 h.1),
   )
 
-  -- the position p of a literal reads exactly if the text up to its byte stands there
+  -- the position p of a literal reads exactly if the text up to its byte is there
   spelled_reads : (text : List ℕ) (i p m : ℕ) → core.Reads bytes (spelled text) (At i) p m → (p < length text) × Spells bytes (take (suc p) text) i m
   spelled_reads [] i p m h = absurd h
   spelled_reads (b ∷ text) i zero m (inl (lt, (z, (k, e, (is_in, end))))) =

@@ -58,7 +58,7 @@ pub record IsStage (r : Reduction) (h : HistoryOf r) (s t : ℕ) (bytes : List �
   pub apart : h.at time left ≢ h.at time right
   pub short : length bytes + count_blocks (size r.table) (h.at time) ≤ size r.table
 
--- the same with another history
+-- the lemma above with another history
 abbrev pub with_history : (r : Reduction) → YieldsEvidence r → HistoryOf r → YieldsEvidence r
 with_history r x h = record { history = h; some = x.some; states = x.states; different = x.different; ends = x.ends }
 

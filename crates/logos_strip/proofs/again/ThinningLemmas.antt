@@ -65,7 +65,7 @@ abbrev pub first_stays : Scope → TokenSpot → TokenList → Bool
 first_stays scope spot none = true
 first_stays scope spot (also token rest) = not (goes scope spot (also token rest))
 
--- only a comma stands in front of what goes
+-- only a comma is before the removed tokens
 
 if_goes : (scope : Scope) (rest : TokenList) (found : Bool) (other : TokenSpot) → goes scope other rest ≡ false → goes scope (if found then Open else other) rest ≡ true → found ≡ true
 if_goes scope rest true other e f = refl

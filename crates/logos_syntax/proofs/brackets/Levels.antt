@@ -82,7 +82,7 @@ close_level l (over k outer) = Some (record { level = with_members outer (nested
 abbrev pub starting : Bool → Lead → Stack → Slot
 starting negated lead k = record { level = record { negated = negated; lead = lead; before = None; members = nobody }; stack = k }
 
--- the same step on brackets
+-- the corresponding step on brackets
 abbrev pub advance : Slot → BracketToken → Option Slot
 advance p (Item item) = Some (record p { level = with_members p.level (member p.level.members item) })
 advance p (Open negated lead) = Some (starting negated lead (over p.stack p.level))

@@ -206,7 +206,7 @@ fits_at flags (Open n d ∷ xs) ys t f = fits_at flags xs ys t f
 fits_at flags (Operator op ∷ xs) ys t f = fits_at flags xs ys t f
 fits_at flags (Close ∷ xs) ys t f = fits_at flags xs ys t f
 
--- an item that may not stand there
+-- an element that is not allowed there
 pub no_fit : (flags : Flags) (negated : Bool) (lead : Lead) (text here after : Text) (p : Slot) (item : ItemOf) → HasWalked negated lead text here p → bracket_token_at here ≡ Some (Item item, after) → item_fits flags item ≡ false →
     Refuted (λ b. BracketFits flags b → ⊥) negated lead text
 no_fit flags negated lead text here after p item h e unfit inside rest k fit =

@@ -48,7 +48,7 @@ stack_tokens (over k l opening) = (stack_tokens k ++ branches_tokens (level_insi
 abbrev pub tokens_of : Slot → List Token
 tokens_of p = stack_tokens p.stack ++ branches_tokens (level_inside p.level)
 
--- what is read may stand where it stands
+-- the tokens that are read are allowed where they occur
 abbrev pub StackFits : Flags → Stack → Type 0
 StackFits flags bottom = Unit {0}
 StackFits flags (over k l opening) = StackFits flags k × BranchesFit (front_flags flags k) (level_inside l)

@@ -26,7 +26,7 @@ use Rattle.logos_lexeme.proofs.again.PrintFacts.{visible_no_space, start_large, 
 use Rattle.logos_token.proofs.printing.PrintDelimiters.{IsDelimiter, opening, closing, is_delimiter}
 use Rattle.logos_token.proofs.printing.PrintAgain.{HasNoSpace}
 
--- how a lexeme stands at an offset
+-- the occurrence of a lexeme at an offset
 data Form (a : List ℕ) (p : ℕ) (kind : LexemeKind) (to : ℕ) : Type 0 where
   literal_form : kind ≡ Literal → Form a p kind to
   doc_form : kind ≡ Doc → p + 2 ≤ to → Form a p kind to

@@ -6,7 +6,7 @@ use Rattle.logos_lexeme.specs.declared.lexeme.Span.{Span}
 use Rattle.logos_lexeme.specs.declared.lexeme.Delimiter.{Delimiter}
 use Rattle.logos_token.specs.Flat.{EntryValue, group_entry, flat, flat_token, trees_of}
 
--- the flat form of tokens gives the tokens back
+-- the tokens of the flat form of tokens are these tokens
 pub trees-flat : (tokens : TokenList) (n : ℕ) → length (flat tokens) ≤ n → trees_of n (flat tokens) ≡ tokens
 trees-flat none zero h = refl
 trees-flat none (suc n) h = refl

@@ -42,7 +42,7 @@ most_open-least n (leaf token ∷ rest) = most_open-least n rest
 most_open-least n (opens delimiter from ∷ rest) = omega (arith, most_open-least (n + 1) rest)
 most_open-least n (closes delimiter to ∷ rest) = omega arith
 
--- tokens open as many more delimiters as their groups stand inside one another
+-- tokens open as many more delimiters as the depth of their groups
 pub most_open-lexemes : (tokens : TokenList) (n : ℕ) (more : List Lexeme) → most_open n (lexemes tokens ++ more) ≡ max (n + depth_of tokens) (most_open n more)
 most_open-lexemes none n more = omega (arith, most_open-least n more)
 most_open-lexemes (also (identifier text span) rest) n more = omega (arith, most_open-lexemes rest n more)
