@@ -7,7 +7,7 @@ use Rattle.logos_code.specs.declared.code.last_marks.LastMark.{LastMark}
 use Rattle.logos_code.specs.declared.code.last_marks.LastMark.TheVariants.{Unseen, Varies, Never, Back}
 
 module _ (code : CodeValue) (bytes : List ℕ) (start : ℕ) where
-  -- The states that an attempt passes: the first status, and each status to which one leads.
+  -- The statuses of an attempt: the first one, and each status to which one leads.
   pub data Stood : Status → Type 0 where
     first_status : Stood (record { state = code.root; offset = start; context = None })
     next_status : (at next : Status) → Stood at → Does code bytes start at (enters next) → Stood next

@@ -48,7 +48,7 @@ const NOTHING: SampleCounts = SampleCounts {
     states: 0,
 };
 
-/// Returns whether a run by chunks likely takes less time on the input than a lexer. Any result is
+/// Returns whether a scan by chunks likely takes less time on the input than a lexer. Any result is
 /// correct, since both find the same items.
 ///
 /// The time of a scan is the same for each byte, and less for a token than that of a lexer, which

@@ -276,7 +276,7 @@ impl CodeParts<'_> {
         }
     }
 
-    /// Returns the step for a byte that changes the state.
+    /// Returns the step for a byte that does not pass the test of the fast loop.
     fn step_out(&self, state: &CodeState, byte: u8) -> Step
         requires there { NamesWhatIsThere (code_of self.now)
             (state_of self.now.jump_tables.items state.now) }

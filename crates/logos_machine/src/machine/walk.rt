@@ -66,8 +66,8 @@ fn attempt_slowly(code: &Code, input: &[u8], start: usize) -> Outcome
 }
 
 /// Returns the outcome of an attempt that ends at entry `last`. The numbers of `last` are the
-/// entry, the offset of its byte, the number of states that were entered, and the row offset of the
-/// state.
+/// entry, the offset of its byte, the number of states that were entered before its state, and the
+/// row offset of the state.
 #[inline(always)]
 fn end_of(code: &Code, input: &[u8], start: usize, last: (u32, usize, usize, usize)) -> Outcome
     requires sound { IsSound code.now }
